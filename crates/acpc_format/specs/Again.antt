@@ -1,5 +1,5 @@
--- The hands that are read again of plays that were written: the canonical scripts as letters say them, the values, and the kept
--- notes.
+-- The hands that are read again of plays that were written: the canonical scripts as letters say
+-- them, the values, and the kept notes.
 use Rattle.std.specs.Prelude.{ℕ, ◌+◌, ◌-◌, ◌==◌, Bool, bytes_eq, if◌then◌else◌, List, [], ◌∷◌, ◌++◌, map, slice_index_or, decimal, Option, Some, None}
 use Rattle.std.specs.List.{flat_map}
 use Rattle.play_event.specs.declared.event.Spelled.TheVariants as spelled
@@ -21,38 +21,47 @@ use Rattle.acpc_writing.specs.Names.{is_spelled_hand, is_spelled_name}
 use Rattle.acpc_reading.specs.Logs.{HandSaid}
 use Rattle.first_fault.specs.Numbers.{kept_number}
 
--- A move as its letter says it: without its seat, a call without its chips, and a raise by the chips of the whole hand, or by
--- the unit where the game has a limit. A bring-in has no letter.
+-- A move as its letter says it: without its seat, a call without its chips, and a raise by the
+-- chips of the whole hand, or by the unit where the game has a limit. A bring-in has no letter.
 abbrev pub move_again : Bool → Act → ℕ → List Said
 move_again no_limit Folded total = said.Fold None ∷ []
 move_again no_limit Called total = said.Call None None ∷ []
-move_again no_limit Raised total = said.Raise None (if no_limit then spelled.HandTotal total else spelled.Unit) ∷ []
+move_again no_limit Raised total =
+    said.Raise None (if no_limit then spelled.HandTotal total else spelled.Unit) ∷ []
 move_again no_limit BroughtIn total = []
 
 -- a move, where it is one of a street
 abbrev pub move_on : Bool → ℕ → Move → ℕ → List Said
-move_on no_limit street move total = if move.street == street then move_again no_limit move.act total else []
+move_on no_limit street move total =
+    if move.street == street then move_again no_limit move.act total else []
 
 -- the moves of a street, the oldest first, by those of the hand, the newest first
 unfoldable pub moves_again : Bool → Setup → ℕ → List Move → List Said
 moves_again no_limit setup street [] = []
 moves_again no_limit setup street (move ∷ before) =
-    moves_again no_limit setup street before ++ move_on no_limit street move (hand_total setup move before)
+    moves_again no_limit setup street before
+    ++ move_on no_limit street move (hand_total setup move before)
 
 -- one street of the canonical script: its deals, and its moves as letters say them
 abbrev pub street_again : Bool → Setup → List TracedPlace → List Move → ℕ → List Said
-street_again no_limit setup placed moves street = deals_said setup placed street ++ moves_again no_limit setup street moves
+street_again no_limit setup placed moves street =
+    deals_said setup placed street ++ moves_again no_limit setup street moves
 
 -- the canonical script of hold'em without its showdown, the moves as letters say them
 abbrev pub script_again : Bool → Trace → List Said
 script_again no_limit trace =
-    flat_map (street_again no_limit trace.setup (core_said trace).places (plain_moves (core_said trace).moves)) (1 ∷ 2 ∷ 3 ∷ 4 ∷ [])
+    flat_map
+    (street_again no_limit trace.setup (core_said trace).places
+    (plain_moves (core_said trace).moves))
+    (1 ∷ 2 ∷ 3 ∷ 4 ∷ [])
 
 -- events with the numbers of their letters, of which the first has this number; deals have 0
 abbrev pub numbered_from : ℕ → List Said → List Numbered
 numbered_from n [] = []
 numbered_from n (event ∷ rest) =
-    if is_move event then (kept_number n, event) ∷ numbered_from (n + 1) rest else (0, event) ∷ numbered_from n rest
+    if is_move event
+    then (kept_number n, event) ∷ numbered_from (n + 1) rest
+    else (0, event) ∷ numbered_from n rest
 
 -- a name that a line spells; one that it does not spell is none
 abbrev pub kept_name : Option (List ℕ) → Option (List ℕ)
@@ -63,10 +72,14 @@ kept_name (Some name) = if is_spelled_name name then Some name else None
 abbrev pub name_again : Notes → ℕ → Option (List ℕ)
 name_again notes seat = kept_name (slice_index_or notes.names (seat - 1) None)
 
--- the kept number of the hand at a place of its file, from 0: one that has no spelling, or is that place, is none
+-- the kept number of the hand at a place of its file, from 0: one that has no spelling, or is that
+-- place, is none
 abbrev pub kept_hand : ℕ → Option (List ℕ) → Option (List ℕ)
 kept_hand place None = None
-kept_hand place (Some text) = if is_spelled_hand text then (if bytes_eq text (decimal place) then None else Some text) else None
+kept_hand place (Some text) =
+    if is_spelled_hand text
+    then (if bytes_eq text (decimal place) then None else Some text)
+    else None
 
 -- the hand that is read again of the play at a place of its file, from 0
 abbrev pub hand_again : Bool → ℕ → Play → HandSaid
@@ -80,4 +93,5 @@ hand_again no_limit place play = record {
 -- the hands that are read again of plays, of which the first is at this place
 abbrev pub hands_again : Bool → ℕ → List Play → List HandSaid
 hands_again no_limit place [] = []
-hands_again no_limit place (play ∷ rest) = hand_again no_limit place play ∷ hands_again no_limit (place + 1) rest
+hands_again no_limit place (play ∷ rest) =
+    hand_again no_limit place play ∷ hands_again no_limit (place + 1) rest

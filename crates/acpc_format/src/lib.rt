@@ -1,5 +1,5 @@
-//! The logs of the competition: bytes are read as records under a game, and plays are written as lines that read as their
-//! hands again.
+//! The logs of the competition: bytes are read as records under a game, and plays are written as
+//! lines that read as their hands again.
 #![tactic(auto)]
 
 mod laws;

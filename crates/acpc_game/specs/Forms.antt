@@ -30,10 +30,12 @@ abbrev pub is_unused : Bool → GameKey → Bool
 is_unused true keys.RaiseSize = true
 is_unused _ _ = false
 
--- a key with its numbers, which are as many as the key has; sizes of raises of a game without limit are passed over, however many
+-- a key with its numbers, which are as many as the key has; sizes of raises of a game without limit
+-- are passed over, however many
 unfoldable pub form_with : Bool → GameKey → List (List ℕ) → Option Form
 form_with no_limit key words =
-    if is_unused no_limit key then (if nat_lt 0 (length words) then Some (keys.UnusedSizes, []) else None)
+    if is_unused no_limit key
+    then (if nat_lt 0 (length words) then Some (keys.UnusedSizes, []) else None)
     else if has_count key (length words) then Some (key, words)
     else None
 
@@ -46,7 +48,8 @@ numbers_behind no_limit key behind =
 
 -- a key, =, and numbers
 abbrev pub key_and_numbers : Bool → List (List ℕ) → Option Form
-key_and_numbers no_limit (front ∷ behind ∷ []) = option_and_then (λ key. numbers_behind no_limit key behind) (key_before front)
+key_and_numbers no_limit (front ∷ behind ∷ []) =
+    option_and_then (λ key. numbers_behind no_limit key behind) (key_before front)
 key_and_numbers no_limit parts = None
 
 -- the form of a line of a game that has a limit or none, if it has one

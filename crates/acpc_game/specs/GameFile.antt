@@ -1,4 +1,5 @@
--- What a game file says: its entries, line by line, and the game that they come to, or the first fault.
+-- What a game file says: its entries, line by line, and the game that they come to, or the first
+-- fault.
 use Rattle.std.specs.Prelude.{ℕ, ◌+◌, ◌==◌, Bool, true, false, not, nat_lt, nat_le, max, ◌&&◌, ◌||◌, if◌then◌else◌, List, [], ◌∷◌, ◌++◌, length, replicate, find, slice_index, codes, Option, Some, None, Result, Ok, Err}
 use Rattle.std.specs.List.{list_all, list_any}
 use Rattle.std.specs.Option.{option_map, option_map_or}
@@ -43,10 +44,12 @@ found key entries = find (is_of key) entries
 abbrev pub has_key : GameKey → List EntrySaid → Bool
 has_key key entries = list_any (is_of key) entries
 
--- a key may stand after these entries: GAMEDEF before all others, and each other key once, until END GAMEDEF
+-- a key may stand after these entries: GAMEDEF before all others, and each other key once, until
+-- END GAMEDEF
 abbrev pub may_stand : GameKey → List EntrySaid → Bool
 may_stand keys.Begin entries = length entries == 0
-may_stand key entries = nat_lt 0 (length entries) && (not (has_key keys.End entries) && not (has_key key entries))
+may_stand key entries =
+    nat_lt 0 (length entries) && (not (has_key keys.End entries) && not (has_key key entries))
 
 -- the number that a word says, if it is not too great for its key
 unfoldable pub number_said : ℕ → ℕ → List ℕ → Result ℕ AcpcFault
@@ -55,24 +58,32 @@ number_said line most word = option_map_or Ok (number_of most word) (too_great l
 -- these numbers, and those of the words behind them
 unfoldable pub numbers_after : ℕ → ℕ → List ℕ → List (List ℕ) → Result (List ℕ) AcpcFault
 numbers_after line most numbers [] = Ok numbers
-numbers_after line most numbers (word ∷ words) = number_said line most word >>= λ number. numbers_after line most (numbers ++ number ∷ []) words
+numbers_after line most numbers (word ∷ words) =
+    number_said line most word >>= λ number. numbers_after line most (numbers ++ number ∷ []) words
 
 -- the entries with one more, if its key may stand there
 unfoldable pub entries_with : List EntrySaid → ℕ → Option Form → Result (List EntrySaid) AcpcFault
 entries_with entries line None = bad_shape line
 entries_with entries line (Some (key, words)) =
     if may_stand key entries
-    then (numbers_after line (most_of key) [] words >>= λ numbers. Ok (entries ++ (record { key = key; line = line; numbers = numbers }) ∷ []))
+    then (numbers_after line (most_of key) [] words
+    >>= λ numbers.
+    Ok (entries ++ (record { key = key; line = line; numbers = numbers }) ∷ []))
     else bad_shape line
 
 -- the entries after one more line of a game that has a limit or none
-unfoldable pub entries_after_line : Bool → List EntrySaid → ℕ → List ℕ → Result (List EntrySaid) AcpcFault
-entries_after_line no_limit entries line text = if is_passed_over text then Ok entries else entries_with entries line (form_of no_limit text)
+unfoldable pub entries_after_line : Bool → List EntrySaid → ℕ → List ℕ
+    → Result (List EntrySaid) AcpcFault
+entries_after_line no_limit entries line text =
+    if is_passed_over text then Ok entries else entries_with entries line (form_of no_limit text)
 
 -- the entries after more lines, the first of which has this number
-unfoldable pub entries_after : Bool → List EntrySaid → ℕ → List (List ℕ) → Result (List EntrySaid) AcpcFault
+unfoldable pub entries_after : Bool → List EntrySaid → ℕ → List (List ℕ)
+    → Result (List EntrySaid) AcpcFault
 entries_after no_limit entries line [] = Ok entries
-entries_after no_limit entries line (text ∷ texts) = entries_after_line no_limit entries line text >>= λ more. entries_after no_limit more (line + 1) texts
+entries_after no_limit entries line (text ∷ texts) =
+    entries_after_line no_limit entries line text
+    >>= λ more. entries_after no_limit more (line + 1) texts
 
 -- some line says that the game has no limit
 abbrev pub says_no_limit : List (List ℕ) → Bool
@@ -80,7 +91,8 @@ says_no_limit lines = list_any (is_word (codes "nolimit")) lines
 
 -- the entries of the lines of a game that has a limit or none, and how many lines there are
 abbrev pub entries_in : Bool → List (List ℕ) → Result (List EntrySaid × ℕ) AcpcFault
-entries_in no_limit lines = entries_after no_limit [] 1 lines >>= λ entries. Ok (entries, length lines)
+entries_in no_limit lines =
+    entries_after no_limit [] 1 lines >>= λ entries. Ok (entries, length lines)
 
 -- the entries of a file, and how many lines it has
 abbrev pub entries_said : List ℕ → Result (List EntrySaid × ℕ) AcpcFault
@@ -107,7 +119,8 @@ is_no_limit _ = false
 
 -- the game has no limit
 abbrev pub has_no_limit : List EntrySaid → Bool
-has_no_limit entries = option_map_or (λ entry. is_no_limit entry.key) (found keys.Limit entries) false
+has_no_limit entries =
+    option_map_or (λ entry. is_no_limit entry.key) (found keys.Limit entries) false
 
 -- the keys that every game file has
 abbrev pub needed : List GameKey
@@ -119,14 +132,17 @@ needed =
 abbrev pub is_for_all : GameKey → List EntrySaid → Bool
 is_for_all key entries = length (numbers_at key entries) == number_at keys.NumPlayers entries
 
--- nothing is missing: in no limit the stacks are needed, in a limit game the sizes of raises, and stacks may stand
+-- nothing is missing: in no limit the stacks are needed, in a limit game the sizes of raises, and
+-- stacks may stand
 unfoldable pub is_whole : List EntrySaid → Bool
 is_whole entries =
     list_all (λ key. has_key key entries) needed
     && (has_key (if has_no_limit entries then keys.Stack else keys.RaiseSize) entries
-    && (is_for_all keys.Blind entries && (not (has_key keys.Stack entries) || is_for_all keys.Stack entries)))
+    && (is_for_all keys.Blind entries
+    && (not (has_key keys.Stack entries) || is_for_all keys.Stack entries)))
 
--- the line that a fault of the whole names, in a file with so many lines: that of END GAMEDEF, or the last one, or 1
+-- the line that a fault of the whole names, in a file with so many lines: that of END GAMEDEF, or
+-- the last one, or 1
 abbrev pub end_line : ℕ → List EntrySaid → ℕ
 end_line count entries = option_map_or (λ entry. entry.line) (found keys.End entries) (max 1 count)
 
@@ -138,7 +154,10 @@ default_stack = 2147483647
 
 -- the stacks of the players: those that are said, or the default one for each
 abbrev pub stacks_at : List EntrySaid → List ℕ
-stacks_at entries = if has_key keys.Stack entries then numbers_at keys.Stack entries else replicate (length (numbers_at keys.Blind entries)) default_stack
+stacks_at entries =
+    if has_key keys.Stack entries
+    then numbers_at keys.Stack entries
+    else replicate (length (numbers_at keys.Blind entries)) default_stack
 
 -- the numbers are these four
 abbrev pub are_four : ℕ → ℕ → ℕ → ℕ → List ℕ → Bool
@@ -149,7 +168,8 @@ are_four a b c d _ = false
 abbrev pub has_short_stack : List ℕ → List ℕ → Bool
 has_short_stack [] blinds = false
 has_short_stack (stack ∷ stacks) [] = false
-has_short_stack (stack ∷ stacks) (blind ∷ blinds) = (stack == 0 || nat_lt stack blind) || has_short_stack stacks blinds
+has_short_stack (stack ∷ stacks) (blind ∷ blinds) =
+    (stack == 0 || nat_lt stack blind) || has_short_stack stacks blinds
 
 -- there are two players, and the second blind is above the first
 abbrev pub is_reversed : List ℕ → Bool
@@ -159,9 +179,15 @@ is_reversed _ = false
 -- the last place, from 1, at which a number stands in a list, or 0
 abbrev pub last_place : ℕ → List ℕ → ℕ
 last_place number [] = 0
-last_place number (n ∷ rest) = if nat_lt 0 (last_place number rest) then last_place number rest + 1 else if n == number then 1 else 0
+last_place number (n ∷ rest) =
+    if nat_lt 0 (last_place number rest)
+    then last_place number rest + 1
+    else if n == number
+    then 1
+    else 0
 
--- the seat that opens the first round: the one after the last of the greatest blinds, and with two seats the second
+-- the seat that opens the first round: the one after the last of the greatest blinds, and with two
+-- seats the second
 abbrev pub first_player : List ℕ → ℕ
 first_player blinds =
     if length blinds == 2 then 2
@@ -175,8 +201,12 @@ are_sizes _ = false
 
 -- a number of players, rounds or cards that is not played; each with the key that shows it
 abbrev pub other_cards : List EntrySaid → List (Bool × GameKey)
-other_cards entries =
-    (not (nat_le 2 (number_at keys.NumPlayers entries) && nat_le (number_at keys.NumPlayers entries) 10), keys.NumPlayers)
+other_cards entries = (
+  not
+      (nat_le 2 (number_at keys.NumPlayers entries)
+      && nat_le (number_at keys.NumPlayers entries) 10),
+  keys.NumPlayers,
+)
     ∷ (not (number_at keys.NumRounds entries == 4), keys.NumRounds)
     ∷ (not (number_at keys.NumSuits entries == 4), keys.NumSuits)
     ∷ (not (number_at keys.NumRanks entries == 13), keys.NumRanks)
@@ -186,18 +216,35 @@ other_cards entries =
 
 -- chips that are not played; each with the key that shows them
 abbrev pub other_chips : List EntrySaid → List (Bool × GameKey)
-other_chips entries =
-    (has_short_stack (stacks_at entries) (numbers_at keys.Blind entries), if has_key keys.Stack entries then keys.Stack else keys.Blind)
+other_chips entries = (
+  has_short_stack (stacks_at entries) (numbers_at keys.Blind entries),
+  if has_key keys.Stack entries then keys.Stack else keys.Blind,
+)
     ∷ (is_reversed (numbers_at keys.Blind entries), keys.Blind)
-    ∷ (not (are_four (first_player (numbers_at keys.Blind entries)) 1 1 1 (numbers_at keys.FirstPlayer entries)), keys.FirstPlayer)
+    ∷ (
+      not
+          (are_four (first_player (numbers_at keys.Blind entries)) 1 1 1
+          (numbers_at keys.FirstPlayer entries)),
+      keys.FirstPlayer,
+    )
     ∷ (has_no_limit entries && greatest (numbers_at keys.Blind entries) == 0, keys.Blind)
-    ∷ (not (has_no_limit entries) && not (are_sizes (numbers_at keys.RaiseSize entries)), keys.RaiseSize)
-    ∷ (not (has_no_limit entries) && (nat_lt 0 (greatest (numbers_at keys.Blind entries)) && nat_lt (greatest (numbers_at keys.Blind entries)) (slice_index (numbers_at keys.RaiseSize entries) 0)), keys.RaiseSize)
+    ∷ (
+      not (has_no_limit entries) && not (are_sizes (numbers_at keys.RaiseSize entries)),
+      keys.RaiseSize,
+    )
+    ∷ (
+      not (has_no_limit entries)
+          && (nat_lt 0 (greatest (numbers_at keys.Blind entries))
+          && nat_lt (greatest (numbers_at keys.Blind entries))
+          (slice_index (numbers_at keys.RaiseSize entries) 0)),
+      keys.RaiseSize,
+    )
     ∷ []
 
 -- the key that shows that the game is not played
 unfoldable pub first_unsupported : List EntrySaid → Option GameKey
-first_unsupported entries = or_else (first_where (other_cards entries)) (first_where (other_chips entries))
+first_unsupported entries =
+    or_else (first_where (other_cards entries)) (first_where (other_chips entries))
 
 -- ---- the game
 
@@ -212,7 +259,8 @@ pub record GameSaid : Type 0 where
 
 -- the size of a raise at a place of the four, in a limit game; else 0
 abbrev pub size_at : ℕ → List EntrySaid → ℕ
-size_at place entries = if has_no_limit entries then 0 else slice_index (numbers_at keys.RaiseSize entries) place
+size_at place entries =
+    if has_no_limit entries then 0 else slice_index (numbers_at keys.RaiseSize entries) place
 
 -- the game that the entries of a whole file say
 abbrev pub game_by : List EntrySaid → GameSaid
@@ -229,7 +277,8 @@ game_by entries = record {
 unfoldable pub game_at_end : ℕ → List EntrySaid → Result GameSaid AcpcFault
 game_at_end count entries =
     if is_whole entries
-    then option_map_or (λ key. Err (faults.UnsupportedGame (kept_number (line_at key entries)) 1)) (first_unsupported entries) (Ok (game_by entries))
+    then option_map_or (λ key. Err (faults.UnsupportedGame (kept_number (line_at key entries)) 1))
+    (first_unsupported entries) (Ok (game_by entries))
     else bad_shape (end_line count entries)
 
 -- what the bytes of a game file say: the one game, or the first fault

@@ -17,7 +17,8 @@ kind_text no_limit = if no_limit then codes "nolimit\n" else codes "limit\n"
 
 -- the players and the rounds
 unfoldable pub counts_text : ℕ → List ℕ
-counts_text players = key_line (codes "numPlayers") (players ∷ []) ++ key_line (codes "numRounds") (4 ∷ [])
+counts_text players =
+    key_line (codes "numPlayers") (players ∷ []) ++ key_line (codes "numRounds") (4 ∷ [])
 
 -- the stacks and the blinds
 unfoldable pub rows_text : List ℕ → List ℕ → List ℕ
@@ -25,13 +26,16 @@ rows_text stacks blinds = key_line (codes "stack") stacks ++ key_line (codes "bl
 
 -- whether there is a limit, the players, the rounds, the stacks and the blinds
 unfoldable pub chips_text : GameSaid → List ℕ
-chips_text game = kind_text game.no_limit ++ (counts_text (length game.stacks) ++ rows_text game.stacks game.blinds)
+chips_text game =
+    kind_text game.no_limit
+    ++ (counts_text (length game.stacks) ++ rows_text game.stacks game.blinds)
 
 -- the sizes of raises of a limit game
 unfoldable pub sizes_text : GameSaid → List ℕ
 sizes_text game =
     if game.no_limit then []
-    else key_line (codes "raiseSize") (game.small_raise ∷ game.small_raise ∷ game.big_raise ∷ game.big_raise ∷ [])
+    else key_line (codes "raiseSize")
+    (game.small_raise ∷ game.small_raise ∷ game.big_raise ∷ game.big_raise ∷ [])
 
 -- the first seats of the rounds
 unfoldable pub first_text : List ℕ → List ℕ
@@ -53,4 +57,6 @@ cards_text = codes "numSuits = 4\nnumRanks = 13\nnumHoleCards = 2\nnumBoardCards
 -- the bytes of the game file of a game
 unfoldable pub game_text : GameSaid → List ℕ
 game_text game =
-    codes "GAMEDEF\n" ++ (chips_text game ++ (sizes_text game ++ (turns_text game ++ (cards_text ++ codes "END GAMEDEF\n"))))
+    codes "GAMEDEF\n"
+    ++ (chips_text game
+    ++ (sizes_text game ++ (turns_text game ++ (cards_text ++ codes "END GAMEDEF\n"))))

@@ -8,8 +8,9 @@ use Rattle.chip_ledger.specs.Sizes.{is_size}
 abbrev pub are_chips : List ℕ → Bool
 are_chips amounts = list_all (λ chips. nat_le chips MOST_CHIPS) amounts
 
--- The sizes of raises fit the greatest blind: in no limit there is a blind and no size; in a limit game there are two
--- sizes, and a blind is no less than the first of them.
+-- The sizes of raises fit the greatest blind: in no limit there is a blind and no size; in a limit
+-- game there are two sizes, and a blind is no less than the first of them.
 abbrev pub has_fitting_sizes : Bool → ℕ → ℕ → ℕ → Bool
 has_fitting_sizes true blind small big = nat_lt 0 blind && (small == 0 && big == 0)
-has_fitting_sizes false blind small big = is_size small && (is_size big && (blind == 0 || nat_le small blind))
+has_fitting_sizes false blind small big =
+    is_size small && (is_size big && (blind == 0 || nat_le small blind))

@@ -39,7 +39,8 @@ chip_key_named word =
 abbrev pub key_named : List ℕ → Option GameKey
 key_named word = or_else (card_key_named word) (chip_key_named word)
 
--- where a key stands in the one spelling; limit and nolimit have one place, and so have sizes that are used or not
+-- where a key stands in the one spelling; limit and nolimit have one place, and so have sizes that
+-- are used or not
 abbrev pub key_place : GameKey → ℕ
 key_place keys.Begin = 0
 key_place keys.Limit = 1

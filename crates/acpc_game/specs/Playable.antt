@@ -6,9 +6,17 @@ use Rattle.acpc_game.specs.GameFile.{EntrySaid, number_at, numbers_at, stacks_at
 
 -- the players, stacks, blinds, raises and sizes of a game are those of a hand that can be played
 pub record IsPlayable (entries : List EntrySaid) : Type 0 where
-  pub players : nat_le 2 (number_at keys.NumPlayers entries) && nat_le (number_at keys.NumPlayers entries) 10 ≡ true
+  pub players :
+      nat_le 2 (number_at keys.NumPlayers entries) && nat_le (number_at keys.NumPlayers entries) 10
+      ≡ true
   pub stacked : has_short_stack (stacks_at entries) (numbers_at keys.Blind entries) ≡ false
   pub in_order : is_reversed (numbers_at keys.Blind entries) ≡ false
   pub blind : has_no_limit entries && greatest (numbers_at keys.Blind entries) == 0 ≡ false
-  pub sizes : not (has_no_limit entries) && not (are_sizes (numbers_at keys.RaiseSize entries)) ≡ false
-  pub first_size : not (has_no_limit entries) && (nat_lt 0 (greatest (numbers_at keys.Blind entries)) && nat_lt (greatest (numbers_at keys.Blind entries)) (slice_index (numbers_at keys.RaiseSize entries) 0)) ≡ false
+  pub sizes :
+      not (has_no_limit entries) && not (are_sizes (numbers_at keys.RaiseSize entries)) ≡ false
+  pub first_size :
+      not (has_no_limit entries)
+      && (nat_lt 0 (greatest (numbers_at keys.Blind entries))
+      && nat_lt (greatest (numbers_at keys.Blind entries))
+      (slice_index (numbers_at keys.RaiseSize entries) 0))
+      ≡ false

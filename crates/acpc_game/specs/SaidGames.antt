@@ -11,7 +11,8 @@ are_caps caps = length caps == 4 && list_all (λ cap. nat_le cap 4294967295) cap
 
 -- The rows, chips, sizes and caps of a game are those of a game that is played: 2 to 10 seats, as
 -- many blinds as stacks, amounts that may be stated, no stack that is 0 or below its blind, no
--- second blind of two above the first, sizes that fit, and a cap for each of the four rounds or none.
+-- second blind of two above the first, sizes that fit, and a cap for each of the four rounds or
+-- none.
 pub record IsGame (game : GameSaid) : Type 0 where
   pub least : 2 ≤ length game.stacks
   pub most : length game.stacks ≤ 10

@@ -18,8 +18,8 @@ pub fn is_passed_over(line: &[u8]) -> bool
     line.is_empty() || line[0] == b'#'
 }
 
-/// The key of a line, and the text of its numbers, where the line has the form of one. Sizes of raises of a game that has no
-/// limit have no text: their numbers are passed over.
+/// The key of a line, and the text of its numbers, where the line has the form of one. Sizes of
+/// raises of a game that has no limit have no text: their numbers are passed over.
 #[tactic(auto, unfolding(crate::specs::Forms::form_of))]
 pub fn read_form(no_limit: bool, line: &[u8]) -> Option<(GameKey, &[u8])>
     ensures fits { IfSome result (λ found. (list_all are_digits_said (words_of found.1.now) ≡ true)
@@ -109,7 +109,8 @@ fn numbers_of(no_limit: bool, key: GameKey, behind: &[u8]) -> Option<(GameKey, &
     form_with(no_limit, key, count, behind)
 }
 
-// A key with so many numbers, which are as many as the key has; sizes of raises of a game without limit are passed over.
+// A key with so many numbers, which are as many as the key has; sizes of raises of a game without
+// limit are passed over.
 #[tactic(auto, unfolding(crate::specs::Forms::form_with))]
 fn form_with(no_limit: bool, key: GameKey, count: usize, behind: &[u8]) -> Option<(GameKey, &[u8])>
     requires digits { list_all are_digits_said (words_of behind.now) ≡ true }

@@ -7,8 +7,9 @@ ghost use Rattle.chip_ledger.specs.SeatRow.{amounts_in};
 
 use chip_ledger::SeatRow;
 
-/// Two-card hold'em of four rounds with these stacks, blinds and sizes of raises. Amounts are chips; the first
-/// seat is the first after the button, and with two seats the one with the greater blind.
+/// Two-card hold'em of four rounds with these stacks, blinds and sizes of raises. Amounts are
+/// chips; the first seat is the first after the button, and with two seats the one with the greater
+/// blind.
 #[derive(Clone, Copy, Debug, PartialEq, Eq)]
 pub struct Game {
     /// Whether bets have no limit.

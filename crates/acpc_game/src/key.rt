@@ -89,8 +89,8 @@ pub fn is_word(name: &str, text: &[u8]) -> bool
 }
 
 impl GameKey {
-    /// Where the key stands in the one spelling; `limit` and `nolimit` have one place, and so have sizes of raises that are used
-    /// or not.
+    /// Where the key stands in the one spelling; `limit` and `nolimit` have one place, and so have
+    /// sizes of raises that are used or not.
     pub fn place(self) -> u8
         ensures { result ≡ key_place self }
     {

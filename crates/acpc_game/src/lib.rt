@@ -1,4 +1,5 @@
-//! A game file is read as the one game that it says, or its first fault is named; a game is written in one spelling.
+//! A game file is read as the one game that it says, or its first fault is named; a game is written
+//! in one spelling.
 #![tactic(auto)]
 
 mod entry;

@@ -25,8 +25,9 @@ use std::alloc::Global;
 /// The stack of each player of a limit game that says none.
 const DEFAULT_STACK: u64 = 2_147_483_647;
 
-/// The game that a game file says. Of its faults those of single lines come first, in the order of the lines, then
-/// those of the whole, and last that the game is not played here. The byte of a fault is always 1.
+/// The game that a game file says. Of its faults those of single lines come first, in the order of
+/// the lines, then those of the whole, and last that the game is not played here. The byte of a
+/// fault is always 1.
 pub fn read_game(alloc: Global, bytes: &[u8]) -> Result<Game, AcpcFault>
     ensures { Answers game_in result (game_said bytes.now) }
 {

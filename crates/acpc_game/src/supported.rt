@@ -1,4 +1,5 @@
-//! Of a game file whose lines are right, what is wrong with the whole is named, or why the game is not played.
+//! Of a game file whose lines are right, what is wrong with the whole is named, or why the game is
+//! not played.
 ghost use Rattle.std.specs.Prelude.{◌≡◌, ◌≤◌, ◌&&◌, nat_lt, length, map, slice_index};
 ghost use Rattle.std.specs.List.{list_all};
 ghost use Rattle.chip_ledger.specs.Greatest.{greatest as greatest_said};

@@ -14,7 +14,8 @@ use Rattle.acpc_text.specs.Letters.{Letter, scan}
 use Rattle.acpc_reading.specs.declared.step.BettingStep.{BettingStep}
 use Rattle.acpc_reading.specs.declared.step.BettingStep.TheVariants as steps
 
--- the betting so far: its steps, the round that the next letter is of, and how many moves the hand and the file have
+-- the betting so far: its steps, the round that the next letter is of, and how many moves the hand
+-- and the file have
 pub record Bets : Type 0 where
   pub steps : List BettingStep
   pub round : ℕ
@@ -29,25 +30,40 @@ no_bets file_moves = record { steps = []; round = 1; moves = 0; file_moves = fil
 unfoldable pub with_move : Bets → ℕ → BettingStep → Result Bets LineFault
 with_move bets at step =
     if nat_le MOST_MOVES bets.moves then wrong (whats.TooMany quantities.Moves) at
-    else if nat_le MOST_FILE_MOVES bets.file_moves then wrong (whats.TooMany quantities.FileMoves) at
-    else Ok (record { steps = bets.steps ++ step ∷ []; round = bets.round; moves = bets.moves + 1; file_moves = bets.file_moves + 1 })
+    else if nat_le MOST_FILE_MOVES bets.file_moves
+    then wrong (whats.TooMany quantities.FileMoves) at
+    else Ok
+    (record {
+      steps = bets.steps ++ step ∷ [];
+      round = bets.round;
+      moves = bets.moves + 1;
+      file_moves = bets.file_moves + 1;
+    })
 
 -- a letter that has no digits behind it
 unfoldable pub bare_said : Bets → ℕ → List ℕ → BettingStep → Result Bets LineFault
-bare_said bets at digits step = if length digits == 0 then with_move bets at step else wrong whats.BadBetting (at + 1)
+bare_said bets at digits step =
+    if length digits == 0 then with_move bets at step else wrong whats.BadBetting (at + 1)
 
 -- a raise to the total that its digits say
 unfoldable pub raise_said : Bets → ℕ → List ℕ → Result Bets LineFault
 raise_said bets at digits =
     if length digits == 0 then wrong whats.BadBetting (at + 1)
-    else option_map_or (λ total. with_move bets at (steps.RaiseTo total)) (number_of MOST_CHIPS digits) (wrong whats.AmountLimit (at + 1))
+    else option_map_or (λ total. with_move bets at (steps.RaiseTo total))
+    (number_of MOST_CHIPS digits) (wrong whats.AmountLimit (at + 1))
 
 -- a stroke, which begins the next of at most four rounds
 unfoldable pub stroke_said : Bets → ℕ → List ℕ → Result Bets LineFault
 stroke_said bets at digits =
     if nat_le 4 bets.round then wrong whats.BadBetting at
     else if length digits == 0
-    then Ok (record { steps = bets.steps ++ steps.NextRound ∷ []; round = bets.round + 1; moves = bets.moves; file_moves = bets.file_moves })
+    then Ok
+    (record {
+      steps = bets.steps ++ steps.NextRound ∷ [];
+      round = bets.round + 1;
+      moves = bets.moves;
+      file_moves = bets.file_moves;
+    })
     else wrong whats.BadBetting (at + 1)
 
 -- a letter and its digits, at this byte: f, c, r or a stroke; a raise of no limit has digits
@@ -55,7 +71,8 @@ unfoldable pub letter_said : Bool → Bets → ℕ → Letter → Result Bets Li
 letter_said no_limit bets at (letter, digits) =
     if letter == 102 then bare_said bets at digits steps.Fold
     else if letter == 99 then bare_said bets at digits steps.Call
-    else if letter == 114 then (if no_limit then raise_said bets at digits else bare_said bets at digits steps.Raise)
+    else if letter == 114
+    then (if no_limit then raise_said bets at digits else bare_said bets at digits steps.Raise)
     else if letter == 47 then stroke_said bets at digits
     else wrong whats.BadBetting at
 
@@ -63,9 +80,12 @@ letter_said no_limit bets at (letter, digits) =
 unfoldable pub bets_after : Bool → Bets → ℕ → List Letter → Result Bets LineFault
 bets_after no_limit bets at [] = Ok bets
 bets_after no_limit bets at (letter ∷ letters) =
-    letter_said no_limit bets at letter >>= λ more. bets_after no_limit more (at + 1 + length letter.1) letters
+    letter_said no_limit bets at letter
+    >>= λ more. bets_after no_limit more (at + 1 + length letter.1) letters
 
 -- the betting field, which begins at this byte
 unfoldable pub betting_said : Bool → ℕ → ℕ → List ℕ → Result Bets LineFault
 betting_said no_limit file_moves at text =
-    if nat_lt 0 (length (scan text).0) then wrong whats.BadBetting at else bets_after no_limit (no_bets file_moves) at (scan text).1
+    if nat_lt 0 (length (scan text).0)
+    then wrong whats.BadBetting at
+    else bets_after no_limit (no_bets file_moves) at (scan text).1

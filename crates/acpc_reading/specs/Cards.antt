@@ -21,7 +21,8 @@ use Rattle.first_fault.specs.Numbers.{kept_number}
 
 -- these slots, if they are so many and all of them known
 abbrev pub only_known : ℕ → List Slot → Option (List Slot)
-only_known count cards = if length cards == count && not (list_any is_unknown cards) then Some cards else None
+only_known count cards =
+    if length cards == count && not (list_any is_unknown cards) then Some cards else None
 
 -- so many known slots
 unfoldable pub known_said : ℕ → List ℕ → Option (List Slot)
@@ -33,7 +34,8 @@ board_said count text = option_map known_cards (known_said count text)
 
 -- the hole cards of a seat: two known ones, or nothing where they are unknown
 unfoldable pub hole_said : List ℕ → Option (List Slot)
-hole_said text = if length text == 0 then Some (slots.Unknown ∷ slots.Unknown ∷ []) else known_said 2 text
+hole_said text =
+    if length text == 0 then Some (slots.Unknown ∷ slots.Unknown ∷ []) else known_said 2 text
 
 -- no cards are read
 abbrev pub bad_cards : {A : Type 0} → ℕ → Result A LineFault
@@ -41,15 +43,19 @@ bad_cards at = wrong whats.BadCards at
 
 -- the events with the deal of a seat's hole cards
 unfoldable pub hole_after : ℕ → List Numbered → ℕ → List ℕ → Result (List Numbered) LineFault
-hole_after at events seat part = option_map_or (λ cards. Ok (events ++ (0, said.Hole seat cards) ∷ [])) (hole_said part) (bad_cards at)
+hole_after at events seat part =
+    option_map_or (λ cards. Ok (events ++ (0, said.Hole seat cards) ∷ [])) (hole_said part)
+    (bad_cards at)
 
 -- the same of more seats, from this one on
-unfoldable pub holes_after : ℕ → List Numbered → ℕ → List (List ℕ) → Result (List Numbered) LineFault
+unfoldable pub holes_after : ℕ → List Numbered → ℕ → List (List ℕ)
+    → Result (List Numbered) LineFault
 holes_after at events seat [] = Ok events
-holes_after at events seat (part ∷ parts) = hole_after at events seat part >>= λ more. holes_after at more (seat + 1) parts
+holes_after at events seat (part ∷ parts) =
+    hole_after at events seat part >>= λ more. holes_after at more (seat + 1) parts
 
--- the script so far: its events, the number of the next letter, how many cards the next board deal has, and the cards
--- of the rounds that are left
+-- the script so far: its events, the number of the next letter, how many cards the next board deal
+-- has, and the cards of the rounds that are left
 pub record Written : Type 0 where
   pub events : List Numbered
   pub number : ℕ
@@ -58,20 +64,36 @@ pub record Written : Type 0 where
 
 -- one more letter, which leaves its seat unsaid
 abbrev pub with_letter : Written → Said → Written
-with_letter so_far move = record { events = so_far.events ++ (kept_number so_far.number, move) ∷ []; number = so_far.number + 1; size = so_far.size; boards = so_far.boards }
+with_letter so_far move =
+    record {
+      events = so_far.events ++ (kept_number so_far.number, move) ∷ [];
+      number = so_far.number + 1;
+      size = so_far.size;
+      boards = so_far.boards;
+    }
 
 -- the board deal before the next round
 unfoldable pub next_round : ℕ → Written → List (List ℕ) → Result Written LineFault
 next_round at so_far [] = bad_cards at
 next_round at so_far (board ∷ boards) =
-    option_map_or (λ cards. Ok (record { events = so_far.events ++ (0, said.Board cards) ∷ []; number = so_far.number; size = 1; boards = boards })) (board_said so_far.size board) (bad_cards at)
+    option_map_or
+    (λ cards.
+    Ok
+    (record {
+      events = so_far.events ++ (0, said.Board cards) ∷ [];
+      number = so_far.number;
+      size = 1;
+      boards = boards;
+    }))
+    (board_said so_far.size board) (bad_cards at)
 
 -- one more step: a letter with its number, or a board deal
 unfoldable pub step_after : ℕ → Written → BettingStep → Result Written LineFault
 step_after at so_far steps.Fold = Ok (with_letter so_far (said.Fold None))
 step_after at so_far steps.Call = Ok (with_letter so_far (said.Call None None))
 step_after at so_far steps.Raise = Ok (with_letter so_far (said.Raise None spelled.Unit))
-step_after at so_far (steps.RaiseTo total) = Ok (with_letter so_far (said.Raise None (spelled.HandTotal total)))
+step_after at so_far (steps.RaiseTo total) =
+    Ok (with_letter so_far (said.Raise None (spelled.HandTotal total)))
 step_after at so_far steps.NextRound = next_round at so_far so_far.boards
 
 -- the same of more steps
@@ -91,10 +113,13 @@ dealt events boards = record { events = events; number = 1; size = 3; boards = b
 unfoldable pub steps_said : ℕ → Written → List BettingStep → Result (List Numbered) LineFault
 steps_said at so_far bets = steps_after at so_far bets >>= without_rest at
 
--- The cards field at this byte, with the hole cards in front of its first stroke, and a part for each further round.
-unfoldable pub script_said : ℕ → List BettingStep → ℕ → List (List ℕ) → Result (List Numbered) LineFault
+-- The cards field at this byte, with the hole cards in front of its first stroke, and a part for
+-- each further round.
+unfoldable pub script_said : ℕ → List BettingStep → ℕ → List (List ℕ)
+    → Result (List Numbered) LineFault
 script_said players bets at [] = bad_cards at
 script_said players bets at (holes ∷ boards) =
     if length (parts_of 124 holes) == players
-    then (holes_after at [] 1 (parts_of 124 holes) >>= λ events. steps_said at (dealt events boards) bets)
+    then (holes_after at [] 1 (parts_of 124 holes)
+    >>= λ events. steps_said at (dealt events boards) bets)
     else wrong whats.SeatCount at

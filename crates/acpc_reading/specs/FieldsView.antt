@@ -16,4 +16,7 @@ fields_in fields = record {
 
 -- the fields are short enough for their places to be counted
 abbrev pub HasRoom : FieldsSaid → Type 0
-HasRoom fields = length fields.state + length fields.hand + length fields.betting + length fields.cards + length fields.values + length fields.names < 2 ^ 63
+HasRoom fields =
+    length fields.state + length fields.hand + length fields.betting + length fields.cards
+    + length fields.values + length fields.names
+    < 2 ^ 63

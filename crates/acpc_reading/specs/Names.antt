@@ -14,24 +14,32 @@ use Rattle.chip_ledger.specs.SeatsSaid.{default_name}
 
 -- a name as a note: the empty one, and p with the number of the seat, are none
 abbrev pub name_note : ℕ → List ℕ → Option (List ℕ)
-name_note seat text = if length text == 0 || bytes_eq text (default_name seat) then None else Some text
+name_note seat text =
+    if length text == 0 || bytes_eq text (default_name seat) then None else Some text
 
 -- the name of a seat, which begins at this byte
 unfoldable pub name_said : ℕ → ℕ → List ℕ → Result (Option (List ℕ)) LineFault
 name_said seat at text =
     if is_utf8 text
-    then (if nat_lt MOST_TEXT_BYTES (length text) then wrong (whats.TooMany quantities.TextBytes) at else Ok (name_note seat text))
+    then (if nat_lt MOST_TEXT_BYTES (length text)
+    then wrong (whats.TooMany quantities.TextBytes) at
+    else Ok (name_note seat text))
     else wrong whats.LineShape at
 
 -- the names with more of them, the first of which is this seat's and begins at this byte
-unfoldable pub names_after : List (Option (List ℕ)) → ℕ → ℕ → List (List ℕ) → Result (List (Option (List ℕ))) LineFault
+unfoldable pub names_after : List (Option (List ℕ)) → ℕ → ℕ → List (List ℕ)
+    → Result (List (Option (List ℕ))) LineFault
 names_after names seat at [] = Ok names
-names_after names seat at (part ∷ parts) = name_said seat at part >>= λ name. names_after (names ++ name ∷ []) (seat + 1) (at + length part + 1) parts
+names_after names seat at (part ∷ parts) =
+    name_said seat at part
+    >>= λ name. names_after (names ++ name ∷ []) (seat + 1) (at + length part + 1) parts
 
 -- the names field, which begins at this byte
 unfoldable pub names_said : ℕ → ℕ → List ℕ → Result (List (Option (List ℕ))) LineFault
 names_said players at text =
-    if length (parts_of 124 text) == players then names_after [] 1 at (parts_of 124 text) else wrong whats.SeatCount at
+    if length (parts_of 124 text) == players
+    then names_after [] 1 at (parts_of 124 text)
+    else wrong whats.SeatCount at
 
 -- the most digits of a number of a hand
 abbrev pub most_hand_digits : ℕ
@@ -41,7 +49,8 @@ most_hand_digits = 18
 abbrev pub most_hand : ℕ
 most_hand = 999999999999999999
 
--- a number of a hand as a note, in decimal digits without leading zeros: its place in its file, from 0, is none
+-- a number of a hand as a note, in decimal digits without leading zeros: its place in its file,
+-- from 0, is none
 abbrev pub hand_note : ℕ → ℕ → Option (List ℕ)
 hand_note place number = if number == place then None else Some (decimal number)
 
@@ -49,5 +58,6 @@ hand_note place number = if number == place then None else Some (decimal number)
 unfoldable pub hand_said : ℕ → ℕ → List ℕ → Result (Option (List ℕ)) LineFault
 hand_said place at text =
     if are_digits text && nat_le (length text) most_hand_digits
-    then option_map_or (λ number. Ok (hand_note place number)) (number_of most_hand text) (wrong whats.LineShape at)
+    then option_map_or (λ number. Ok (hand_note place number)) (number_of most_hand text)
+    (wrong whats.LineShape at)
     else wrong whats.LineShape at

@@ -39,7 +39,8 @@ code_of false = game_codes.FT
 abbrev pub least_bet : Game → ℕ
 least_bet game = if game.no_limit then greatest (amounts_in game.blinds) else 0
 
--- a setup is that of a game: its stacks and blinds, no antes and no rakes, the sizes of raises, and the least bet
+-- a setup is that of a game: its stacks and blinds, no antes and no rakes, the sizes of raises, and
+-- the least bet
 pub record IsSetupOf (game : Game) (setup : Setup) : Type 0 where
   pub code : setup.code ≡ code_of game.no_limit
   pub stacks : setup.stacks ≡ game.stacks
@@ -53,7 +54,8 @@ pub record IsSetupOf (game : Game) (setup : Setup) : Type 0 where
   pub min_bet : setup.min_bet ≡ least_bet game
   pub rakes : (pot : ℕ) → rake_of setup.rakes pot ≡ 0
 
--- the rules of a game: betting always reopens, no fold is free, and raises are as many as the caps allow
+-- the rules of a game: betting always reopens, no fold is free, and raises are as many as the caps
+-- allow
 abbrev pub rules_of : Game → Rules
 rules_of game = record { reopen = reopen.Always; free_fold = false; caps = game.caps }
 
@@ -77,8 +79,8 @@ pub record NotesNames (notes : Notes) : Type 0 where
   pub time : notes.time ≡ None
   pub zone : notes.zone ≡ None
 
--- what is read of a hand is one of its game: it has the setup and the rules of the game, states and notes what a line
--- says and nothing else, and is sound
+-- what is read of a hand is one of its game: it has the setup and the rules of the game, states and
+-- notes what a line says and nothing else, and is sound
 pub record IsOfGame (game : Game) (hand : Record) : Type 0 where
   pub setup : IsSetupOf game hand.setup
   pub rules : hand.rules ≡ rules_of game

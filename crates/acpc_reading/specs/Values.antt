@@ -23,26 +23,34 @@ signed false number = pos number
 unfoldable pub whole_said : Bool → ℕ → List ℕ → Result ℤ LineFault
 whole_said is_negative at digits =
     if are_digits digits
-    then option_map_or (λ number. Ok (signed is_negative number)) (number_of MOST_AMOUNT digits) (wrong whats.AmountLimit at)
+    then option_map_or (λ number. Ok (signed is_negative number)) (number_of MOST_AMOUNT digits)
+    (wrong whats.AmountLimit at)
     else wrong whats.BadValue at
 
 -- digits, and a point and one or more zeros behind them or nothing
 abbrev pub unsigned_said : Bool → ℕ → List (List ℕ) → Result ℤ LineFault
 unsigned_said is_negative at (digits ∷ []) = whole_said is_negative at digits
-unsigned_said is_negative at (digits ∷ zeros ∷ []) = if are_zeros zeros then whole_said is_negative at digits else wrong whats.BadValue at
+unsigned_said is_negative at (digits ∷ zeros ∷ []) =
+    if are_zeros zeros then whole_said is_negative at digits else wrong whats.BadValue at
 unsigned_said is_negative at parts = wrong whats.BadValue at
 
 -- a value, which begins at this byte; - stands in front of a negative one
 abbrev pub value_said : ℕ → List ℕ → Result ℤ LineFault
 value_said at [] = wrong whats.BadValue at
-value_said at (first ∷ rest) = if first == 45 then unsigned_said true at (parts_of 46 rest) else unsigned_said false at (parts_of 46 (first ∷ rest))
+value_said at (first ∷ rest) =
+    if first == 45
+    then unsigned_said true at (parts_of 46 rest)
+    else unsigned_said false at (parts_of 46 (first ∷ rest))
 
 -- the values with more of them, the first of which begins at this byte
 unfoldable pub values_after : List ℤ → ℕ → List (List ℕ) → Result (List ℤ) LineFault
 values_after values at [] = Ok values
-values_after values at (part ∷ parts) = value_said at part >>= λ value. values_after (values ++ value ∷ []) (at + length part + 1) parts
+values_after values at (part ∷ parts) =
+    value_said at part >>= λ value. values_after (values ++ value ∷ []) (at + length part + 1) parts
 
 -- the values field, which begins at this byte
 unfoldable pub values_said : ℕ → ℕ → List ℕ → Result (List ℤ) LineFault
 values_said players at text =
-    if length (parts_of 124 text) == players then values_after [] at (parts_of 124 text) else wrong whats.SeatCount at
+    if length (parts_of 124 text) == players
+    then values_after [] at (parts_of 124 text)
+    else wrong whats.SeatCount at

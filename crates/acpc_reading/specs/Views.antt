@@ -6,7 +6,13 @@ use Rattle.acpc_reading.specs.Betting.{Bets}
 
 -- the betting so far
 abbrev pub bets_in : ReadBetting → Bets
-bets_in betting = record { steps = betting.steps.items; round = betting.round; moves = betting.moves; file_moves = betting.file_moves }
+bets_in betting =
+    record {
+      steps = betting.steps.items;
+      round = betting.round;
+      moves = betting.moves;
+      file_moves = betting.file_moves;
+    }
 
 -- the values of the seats of a row
 abbrev pub nets_in : NetRow → List ℤ

@@ -27,7 +27,8 @@ use std::alloc::Global;
 const USUAL_LINE: usize = 32;
 
 /// The records that a log says under its game, one for each line of a hand, in order; or the first
-/// fault, with its line and byte. Each record is sound, and has the setup and the rules of the game.
+/// fault, with its line and byte. Each record is sound, and has the setup and the rules of the
+/// game.
 pub fn read(alloc: Global, game: &Game, bytes: &[u8]) -> Result<Records, AcpcFault>
     ensures reads { Answers (map record_said) result (reading game.now bytes.now) }
     ensures sound { IfOk result (AllByRecursion (IsOfGame game.now)) }
@@ -131,7 +132,8 @@ fn read_line(
     read_hand_of(alloc, game, records, betting, &fields)
 }
 
-// The hand of some fields behind others. Its record is made where it is kept: it has a thousand bytes.
+// The hand of some fields behind others. Its record is made where it is kept: it has a thousand
+// bytes.
 #[tactic(auto, unfolding(crate::specs::Logs::hand_of))]
 fn read_hand_of(
     alloc: Global,

@@ -32,16 +32,21 @@ abbrev pub in_line : {A : Type 0} → ℕ → Result A LineFault → Result A Ac
 in_line line (Ok said) = Ok said
 in_line line (Err fault) = Err (fault_in_line line fault)
 
--- What a reader returned, seen by a view, is what the reading gives, unless memory ran out. A reading never gives Memory.
+-- What a reader returned, seen by a view, is what the reading gives, unless memory ran out. A
+-- reading never gives Memory.
 abbrev pub Answers : {X Y : Type 0} → (X → Y) → Result X AcpcFault → Result Y AcpcFault → Type 0
 Answers view (Ok x) reading = reading ≡ Ok (view x)
 Answers view (Err faults.Memory) reading = Unit {0}
 Answers view (Err (faults.LineShape line byte)) reading = reading ≡ Err (faults.LineShape line byte)
-Answers view (Err (faults.BadBetting line byte)) reading = reading ≡ Err (faults.BadBetting line byte)
+Answers view (Err (faults.BadBetting line byte)) reading =
+    reading ≡ Err (faults.BadBetting line byte)
 Answers view (Err (faults.BadCards line byte)) reading = reading ≡ Err (faults.BadCards line byte)
 Answers view (Err (faults.BadValue line byte)) reading = reading ≡ Err (faults.BadValue line byte)
 Answers view (Err (faults.SeatCount line byte)) reading = reading ≡ Err (faults.SeatCount line byte)
 Answers view (Err (faults.GameShape line byte)) reading = reading ≡ Err (faults.GameShape line byte)
-Answers view (Err (faults.UnsupportedGame line byte)) reading = reading ≡ Err (faults.UnsupportedGame line byte)
-Answers view (Err (faults.AmountLimit line byte)) reading = reading ≡ Err (faults.AmountLimit line byte)
-Answers view (Err (faults.TooMany quantity line byte)) reading = reading ≡ Err (faults.TooMany quantity line byte)
+Answers view (Err (faults.UnsupportedGame line byte)) reading =
+    reading ≡ Err (faults.UnsupportedGame line byte)
+Answers view (Err (faults.AmountLimit line byte)) reading =
+    reading ≡ Err (faults.AmountLimit line byte)
+Answers view (Err (faults.TooMany quantity line byte)) reading =
+    reading ≡ Err (faults.TooMany quantity line byte)

@@ -8,7 +8,8 @@ Letter = ℕ × List ℕ
 
 -- one more byte in front: a digit, or a letter that takes the digits
 abbrev pub onto : ℕ → List ℕ × List Letter → List ℕ × List Letter
-onto b scanned = if is_digit b 10 then (b ∷ scanned.0, scanned.1) else ([], (b, scanned.0) ∷ scanned.1)
+onto b scanned =
+    if is_digit b 10 then (b ∷ scanned.0, scanned.1) else ([], (b, scanned.0) ∷ scanned.1)
 
 -- the digits at the front of a text, and behind them the letters with their digits
 abbrev pub scan : List ℕ → List ℕ × List Letter

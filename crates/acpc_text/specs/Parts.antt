@@ -1,4 +1,5 @@
--- Texts that are cut at a sign: a file at newlines, a line at colons, a field at bars and strokes, numbers at spaces.
+-- Texts that are cut at a sign: a file at newlines, a line at colons, a field at bars and strokes,
+-- numbers at spaces.
 use Rattle.std.specs.Prelude.{ℕ, ◌-◌, ◌==◌, Bool, bytes_eq, if◌then◌else◌, List, [], ◌∷◌, length, take, map, slice_index}
 use Rattle.std.specs.List.{slice_split}
 
@@ -8,7 +9,8 @@ parts_of sign text = slice_split (λ b. b == sign) text
 
 -- a line without the carriage return at its end, if there is one
 abbrev pub without_return : List ℕ → List ℕ
-without_return line = if slice_index line (length line - 1) == 13 then take (length line - 1) line else line
+without_return line =
+    if slice_index line (length line - 1) == 13 then take (length line - 1) line else line
 
 -- parts, without the last one if it is empty
 abbrev pub without_empty_end : List (List ℕ) → List (List ℕ)

@@ -8,7 +8,8 @@ use first_fault::Quantity;
 /// What is wrong with a line.
 #[derive(Clone, Copy, Debug, PartialEq, Eq)]
 pub enum LineFaultKind {
-    /// A line of a log is no state, has another number of fields, no number of a hand, or a name that is no text.
+    /// A line of a log is no state, has another number of fields, no number of a hand, or a name
+    /// that is no text.
     LineShape,
     BadBetting,
     BadCards,
@@ -31,8 +32,8 @@ pub struct LineFault {
     pub byte: u64,
 }
 
-/// Why a log or a game file is not read. Lines, and the bytes of a line, are counted from 1; a number that is
-/// greater than 4294967295 is told as 4294967295.
+/// Why a log or a game file is not read. Lines, and the bytes of a line, are counted from 1; a
+/// number that is greater than 4294967295 is told as 4294967295.
 #[derive(Clone, Copy, Debug, PartialEq, Eq)]
 pub enum AcpcFault {
     LineShape {

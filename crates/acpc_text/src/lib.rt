@@ -1,4 +1,5 @@
-//! What logs and game files share: lines and their parts, digits behind letters, and faults with their line and byte.
+//! What logs and game files share: lines and their parts, digits behind letters, and faults with
+//! their line and byte.
 #![tactic(auto)]
 
 mod fault;

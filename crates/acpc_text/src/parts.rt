@@ -1,4 +1,5 @@
-//! A text is cut at a sign: a file at newlines, a line at colons, a field at bars and strokes, numbers at spaces.
+//! A text is cut at a sign: a file at newlines, a line at colons, a field at bars and strokes,
+//! numbers at spaces.
 ghost use Rattle.std.specs.Prelude.{◌≡◌, ◌+◌, ◌<◌, ◌≤◌, ◌==◌, ◌⊎◌, [], ◌∷◌, false, length, slice_index, IfSome};
 ghost use Rattle.std.specs.List.{position_or_len};
 ghost use Rattle.std.specs.Option.{option_map_or};

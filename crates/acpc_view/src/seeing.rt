@@ -1,4 +1,5 @@
-//! A seat sees its own cards, the boards of the rounds that have begun and, at the end, shown cards.
+//! A seat sees its own cards, the boards of the rounds that have begun and, at the end, shown
+//! cards.
 ghost use Rattle.std.specs.Prelude.{◌≡◌, ◌==◌, ◌++◌, ◌∷◌, [], if◌then◌else◌, map, IfOk, OnOk};
 ghost use Rattle.std.specs.List.{list_any};
 ghost use Rattle.acpc_view.specs.View.{has_begun as has_begun_said, is_seen_by, seen_places as seen_places_said, sees_seat};

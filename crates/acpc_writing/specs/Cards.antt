@@ -1,4 +1,5 @@
--- The cards of a line: the hole cards of each seat, and behind a stroke those of the board for each further round.
+-- The cards of a line: the hole cards of each seat, and behind a stroke those of the board for each
+-- further round.
 use Rattle.std.specs.Prelude.{ℕ, if◌then◌else◌, List, [], ◌++◌, Some, None}
 use Rattle.std.specs.List.{flat_map, list_any}
 use Rattle.card_set.specs.Known.{is_unknown}
@@ -11,7 +12,9 @@ use Rattle.acpc_writing.specs.Seats.{for_seats}
 -- the hole cards of a seat, or nothing where one of them is unknown
 abbrev pub hole_text : List TracedPlace → ℕ → List ℕ
 hole_text placed seat =
-    if list_any is_unknown (dealt_slots placed (Some seat) 1) then [] else spelling (dealt_slots placed (Some seat) 1)
+    if list_any is_unknown (dealt_slots placed (Some seat) 1)
+    then []
+    else spelling (dealt_slots placed (Some seat) 1)
 
 -- the hole cards of so many seats
 unfoldable pub holes_text : List TracedPlace → ℕ → List ℕ

@@ -18,12 +18,13 @@ no_limit_of codes.NT = Some true
 no_limit_of codes.FT = Some false
 no_limit_of _ = None
 
--- the sizes of bets fit the greatest blind: in no limit the least bet is that blind, and else the small bet is no more than it,
--- where there is a blind
+-- the sizes of bets fit the greatest blind: in no limit the least bet is that blind, and else the
+-- small bet is no more than it, where there is a blind
 abbrev pub is_sized_by_blind : Bool → Setup → Bool
 is_sized_by_blind no_limit setup =
     if no_limit then setup.min_bet == greatest (amounts_in setup.blinds)
-    else greatest (amounts_in setup.blinds) == 0 || nat_le setup.small_bet (greatest (amounts_in setup.blinds))
+    else greatest (amounts_in setup.blinds) == 0
+    || nat_le setup.small_bet (greatest (amounts_in setup.blinds))
 
 -- the game with these stacks, blinds and sizes
 abbrev pub game_with : Bool → Setup → GameSaid
@@ -55,4 +56,6 @@ pub record MakesGame (no_limit : Bool) (setup : Setup) : Type 0 where
   pub few_blinds : are_chips (amounts_in setup.blinds) ≡ true
   pub stacked : has_short_stack (amounts_in setup.stacks) (amounts_in setup.blinds) ≡ false
   pub in_order : is_reversed (amounts_in setup.blinds) ≡ false
-  pub sizes : has_fitting_sizes no_limit (greatest (amounts_in setup.blinds)) setup.small_bet setup.big_bet ≡ true
+  pub sizes :
+      has_fitting_sizes no_limit (greatest (amounts_in setup.blinds)) setup.small_bet setup.big_bet
+      ≡ true

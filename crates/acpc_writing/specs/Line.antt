@@ -1,5 +1,6 @@
--- The one line that stands for a play: STATE, the number of the hand, the betting, the cards, the values and the names, with colons
--- between them and a newline at the end. The lines of plays stand behind one another.
+-- The one line that stands for a play: STATE, the number of the hand, the betting, the cards, the
+-- values and the names, with colons between them and a newline at the end. The lines of plays stand
+-- behind one another.
 use Rattle.std.specs.Prelude.{ℕ, ◌+◌, Bool, List, [], ◌∷◌, ◌++◌, codes, Option}
 use Rattle.canon_script.specs.CanonScript.{plain_moves}
 use Rattle.hand_records.specs.TraceRows.{core_said}
@@ -23,7 +24,8 @@ play_text no_limit trace =
 
 -- the values and the names
 unfoldable pub end_text : Trace → Notes → List ℕ
-end_text trace notes = values_text trace.setup.stacks trace.finish ++ 58 ∷ names_text notes trace.setup.stacks.seats
+end_text trace notes =
+    values_text trace.setup.stacks trace.finish ++ 58 ∷ names_text notes trace.setup.stacks.seats
 
 -- the line of the play at a place of its file, from 0
 unfoldable pub line_text : Bool → ℕ → Play → List ℕ
@@ -34,7 +36,8 @@ line_text no_limit place play =
 -- the lines of plays, of which the first is at this place
 abbrev pub lines_from : Bool → ℕ → List Play → List ℕ
 lines_from no_limit place [] = []
-lines_from no_limit place (play ∷ rest) = line_text no_limit place play ++ lines_from no_limit (place + 1) rest
+lines_from no_limit place (play ∷ rest) =
+    line_text no_limit place play ++ lines_from no_limit (place + 1) rest
 
 -- the log of plays
 abbrev pub log_text : Bool → List Play → List ℕ

@@ -14,9 +14,12 @@ may_stand sign = not (sign == 58 || (sign == 124 || (sign == 13 || sign == 10)))
 unfoldable pub is_spelled_name : List ℕ → Bool
 is_spelled_name name = list_all may_stand name
 
--- a line spells a number of a hand: a decimal number without leading zeros, of at most eighteen digits
+-- a line spells a number of a hand: a decimal number without leading zeros, of at most eighteen
+-- digits
 unfoldable pub is_spelled_hand : List ℕ → Bool
-is_spelled_hand text = are_digits text && ((not (slice_index text 0 == 48) || length text == 1) && nat_le (length text) 18)
+is_spelled_hand text =
+    are_digits text
+    && ((not (slice_index text 0 == 48) || length text == 1) && nat_le (length text) 18)
 
 -- the name of a seat's player, or its default where none is said or it has no spelling
 abbrev pub name_or_default : ℕ → Option (List ℕ) → List ℕ
@@ -31,7 +34,8 @@ name_text notes seat = name_or_default seat (slice_index_or notes.names (seat - 
 unfoldable pub names_text : Notes → ℕ → List ℕ
 names_text notes count = for_seats (name_text notes) count
 
--- the number of the hand at a place of its file, from 0: that place where none is said or it has no spelling
+-- the number of the hand at a place of its file, from 0: that place where none is said or it has no
+-- spelling
 unfoldable pub hand_text : ℕ → Option (List ℕ) → List ℕ
 hand_text place None = decimal place
 hand_text place (Some text) = if is_spelled_hand text then text else decimal place

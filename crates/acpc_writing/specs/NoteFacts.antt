@@ -17,7 +17,8 @@ abbrev pub is_unspelled_hand : Option (List ℕ) → Bool
 is_unspelled_hand None = false
 is_unspelled_hand (Some text) = not (is_spelled_hand text)
 
--- each condition of the notes of a hand that a line does not spell, with the note that it names: of seats and texts
+-- each condition of the notes of a hand that a line does not spell, with the note that it names: of
+-- seats and texts
 abbrev pub text_conditions : Notes → List (Bool × Unspelled)
 text_conditions notes =
     (list_any is_unspelled_name notes.names, facts.Note names.Players)

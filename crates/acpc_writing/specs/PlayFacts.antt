@@ -31,7 +31,8 @@ is_raise_on street move = is_raise (act_said move.act) && move.street == street
 
 -- a street has more raises than its cap
 abbrev pub is_above_cap : List ℕ → List Move → ℕ → Bool
-is_above_cap caps moves street = nat_lt (slice_index caps (street - 1)) (count_by (is_raise_on street) moves)
+is_above_cap caps moves street =
+    nat_lt (slice_index caps (street - 1)) (count_by (is_raise_on street) moves)
 
 -- one of the four streets has more raises than its cap, where there are caps
 abbrev pub is_above_caps : Option (List ℕ) → List Move → Bool
@@ -48,7 +49,8 @@ has_unknown_hole_card placed seat = list_any is_unknown (dealt_slots placed (Som
 
 -- a hole card of a seat is known
 abbrev pub has_known_card : List TracedPlace → ℕ → Bool
-has_known_card placed seat = list_any (λ slot. not (is_unknown slot)) (dealt_slots placed (Some seat) 1)
+has_known_card placed seat =
+    list_any (λ slot. not (is_unknown slot)) (dealt_slots placed (Some seat) 1)
 
 -- a hole card of a seat is known and another is not
 abbrev pub is_part_known : List TracedPlace → ℕ → Bool
@@ -60,15 +62,25 @@ is_open_muck placed mucked seat = flag_of mucked seat && not (has_unknown_hole_c
 
 -- of the seats that have a share of a pot, one has less than another
 abbrev pub is_uneven : SeatRow → Bool
-is_uneven share = list_any (λ chips. nat_lt 0 chips && nat_lt chips (greatest (amounts_in share))) (amounts_in share)
+is_uneven share =
+    list_any (λ chips. nat_lt 0 chips && nat_lt chips (greatest (amounts_in share)))
+    (amounts_in share)
 
--- each condition of a play that a game's logs do not spell, with the fact that it names, in the order in which they are tried
+-- each condition of a play that a game's logs do not spell, with the fact that it names, in the
+-- order in which they are tried
 abbrev pub play_conditions : Game → Trace → List (Bool × Unspelled)
 play_conditions game trace =
     (list_any is_free_fold trace.moves, facts.FreeFold)
     ∷ (is_above_caps game.caps trace.moves, facts.TooManyRaises)
     ∷ (not game.no_limit && list_any is_off_unit trace.moves, facts.RaiseTarget)
-    ∷ (list_any (is_part_known (core_said trace).places) (seats_of trace.setup.stacks.seats), facts.PartCards)
-    ∷ (list_any (is_open_muck (core_said trace).places trace.mucked) (seats_of trace.setup.stacks.seats), facts.Muck)
+    ∷ (
+      list_any (is_part_known (core_said trace).places) (seats_of trace.setup.stacks.seats),
+      facts.PartCards,
+    )
+    ∷ (
+      list_any (is_open_muck (core_said trace).places trace.mucked)
+          (seats_of trace.setup.stacks.seats),
+      facts.Muck,
+    )
     ∷ (list_any is_uneven (shares_in trace.shares), facts.OddChip)
     ∷ []

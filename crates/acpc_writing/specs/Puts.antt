@@ -10,7 +10,8 @@ use Rattle.play_event.specs.declared.setup.Setup.{Setup}
 
 -- ten numbers are what each seat has put after these moves, the first seat's first
 pub record HavePut (setup : Setup) (moves : List Move) (put : List ℕ) : Type 0 where
-  pub amounts : (seat : ℕ) → 1 ≤ seat → seat ≤ 10 → slice_index put (seat - 1) ≡ chips_put setup moves seat
+  pub amounts : (seat : ℕ) → 1 ≤ seat → seat ≤ 10
+      → slice_index put (seat - 1) ≡ chips_put setup moves seat
 
 -- what each seat puts by these moves is no more than a row may hold
 pub record HaveFewChips (setup : Setup) (moves : List rows.Move) : Type 0 where

@@ -16,13 +16,15 @@ is_code_of no_limit codes.NT = no_limit
 is_code_of no_limit codes.FT = not no_limit
 is_code_of no_limit _ = false
 
--- the sizes are those of a game: in no limit the least bet is the greatest blind, and else both bets are the game's raises
+-- the sizes are those of a game: in no limit the least bet is the greatest blind, and else both
+-- bets are the game's raises
 abbrev pub has_sizes_of : Game → Setup → Bool
 has_sizes_of game setup =
     if game.no_limit then setup.min_bet == greatest (amounts_in setup.blinds)
     else setup.small_bet == game.small_raise && setup.big_bet == game.big_raise
 
--- each condition of a setup that a game's logs do not spell, with the fact that it names, in the order in which they are tried
+-- each condition of a setup that a game's logs do not spell, with the fact that it names, in the
+-- order in which they are tried
 abbrev pub setup_conditions : Game → Setup → List (Bool × Unspelled)
 setup_conditions game setup =
     (not (is_code_of game.no_limit setup.code), facts.Variant)

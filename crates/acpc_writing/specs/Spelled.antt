@@ -12,13 +12,17 @@ use Rattle.acpc_writing.specs.SetupFacts.{setup_conditions}
 use Rattle.hand_records.specs.WriteRefusals.{or_behind}
 use Rattle.first_fault.specs.Conditions.{first_where}
 
--- the first note that is kept and has no spelling; where those that are spelled are kept, there is none
+-- the first note that is kept and has no spelling; where those that are spelled are kept, there is
+-- none
 unfoldable pub unspelled_note : Keep → Notes → Option Unspelled
-unspelled_note keeps.All notes = or_behind (first_where (text_conditions notes)) (first_where (time_conditions notes))
+unspelled_note keeps.All notes =
+    or_behind (first_where (text_conditions notes)) (first_where (time_conditions notes))
 unspelled_note keeps.Spelled notes = None
 
--- the first fact of a play that the logs of a game do not spell: of its setup, of its play, of its notes
+-- the first fact of a play that the logs of a game do not spell: of its setup, of its play, of its
+-- notes
 unfoldable pub unspelled : Game → Keep → Play → Option Unspelled
 unspelled game keep play =
     or_behind (first_where (setup_conditions game play.trace.setup))
-    (or_behind (first_where (play_conditions game play.trace)) (unspelled_note keep play.hand.notes))
+    (or_behind (first_where (play_conditions game play.trace))
+    (unspelled_note keep play.hand.notes))

@@ -6,7 +6,8 @@ use Rattle.hand_records.specs.declared.trace.Play.{Play}
 -- the names of so many players are texts
 abbrev pub AreTexts : ℕ → Notes → Type 0
 AreTexts count notes =
-    (seat : ℕ) → 1 ≤ seat → seat ≤ count → IfSome (slice_index_or notes.names (seat - 1) None) IsUtf8
+    (seat : ℕ) → 1 ≤ seat → seat ≤ count
+    → IfSome (slice_index_or notes.names (seat - 1) None) IsUtf8
 
 -- the names of the players of a play are texts
 abbrev pub HasTexts : Play → Type 0

@@ -12,7 +12,8 @@ use crate::puts::{add, posted_chips};
 use play_event::{Act, Move, Place, Setup};
 use std::alloc::{AllocError, Global};
 
-/// The betting of a hand with these moves and cards. Raises have their totals where the game has no limit.
+/// The betting of a hand with these moves and cards. Raises have their totals where the game has no
+/// limit.
 #[tactic(auto, unfolding(crate::specs::Betting::betting_text))]
 pub fn push_betting(
     alloc: Global,

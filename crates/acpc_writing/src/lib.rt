@@ -1,4 +1,5 @@
-//! Each play is written as its one line of a log, or the first play is named that the logs of a game do not spell.
+//! Each play is written as its one line of a log, or the first play is named that the logs of a
+//! game do not spell.
 #![tactic(auto)]
 
 mod amounts;

@@ -13,8 +13,8 @@ use first_fault::Text;
 use hand_records::{Notes, Play, Trace};
 use std::alloc::{AllocError, Global};
 
-/// Puts the line of the play at a place of its file, from 0, behind those of the plays before it. Raises have their totals where
-/// the game has no limit.
+/// Puts the line of the play at a place of its file, from 0, behind those of the plays before it.
+/// Raises have their totals where the game has no limit.
 #[tactic(auto, unfolding(crate::specs::Line::line_text))]
 pub fn push_line(
     alloc: Global,

@@ -15,7 +15,8 @@ use acpc_game::Game;
 use hand_records::{Keep, Play, WriteRefusal};
 use std::alloc::{AllocError, Global};
 
-/// The lines of some plays, one a play. Nothing is written where the logs of the game do not spell one of them.
+/// The lines of some plays, one a play. Nothing is written where the logs of the game do not spell
+/// one of them.
 ///
 /// # Errors
 ///

@@ -87,7 +87,8 @@ fn name_of(notes: &Notes, seat: Seat) -> &Option<Text>
     &notes.names[seat.number as usize - 1]
 }
 
-/// The number of the hand at a place of its file, from 0: that place where none is said or it has no spelling.
+/// The number of the hand at a place of its file, from 0: that place where none is said or it has
+/// no spelling.
 #[tactic(auto, unfolding(crate::specs::Names::hand_text))]
 pub fn push_hand(
     alloc: Global,
@@ -116,7 +117,8 @@ fn push_place(alloc: Global, out: &mut Vec<u8>, place: usize) -> Result<(), Allo
     out.extend_from_slice(digits.as_bytes())
 }
 
-/// Whether a line spells a number of a hand: a decimal number without leading zeros, of at most eighteen digits.
+/// Whether a line spells a number of a hand: a decimal number without leading zeros, of at most
+/// eighteen digits.
 #[tactic(auto, unfolding(crate::specs::Names::is_spelled_hand))]
 pub fn is_spelled_hand(text: &[u8]) -> bool
     ensures { result ≡ is_spelled_hand_said text.now }

@@ -10,7 +10,8 @@ use crate::played::find_other_play;
 use acpc_game::Game;
 use hand_records::{Keep, Play, Unspelled, WriteRefusal};
 
-/// The refusal of the first play that the logs of a game do not spell. The first hand has the number 1.
+/// The refusal of the first play that the logs of a game do not spell. The first hand has the
+/// number 1.
 pub fn find_refusal(game: &Game, plays: &[Play], keep: Keep) -> Option<WriteRefusal>
     requires { length plays.now ≤ MOST_HANDS }
     ensures { result ≡ first_refusal (unspelled game.now keep) plays.now }
@@ -26,7 +27,8 @@ pub fn find_refusal(game: &Game, plays: &[Play], keep: Keep) -> Option<WriteRefu
     None
 }
 
-/// The first fact of the play that the logs of this game do not spell. Notes count only where all of them are kept.
+/// The first fact of the play that the logs of this game do not spell. Notes count only where all
+/// of them are kept.
 #[tactic(auto, unfolding(crate::specs::Spelled::unspelled))]
 pub fn spells(game: &Game, play: &Play, keep: Keep) -> Option<Unspelled>
     ensures { result ≡ unspelled game.now keep play.now }

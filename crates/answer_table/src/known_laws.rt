@@ -1,5 +1,5 @@
-//! What is promised of all notations and of all traces, and of no run, stands here once more: without these laws this does
-//! not prove.
+//! What is promised of all notations and of all traces, and of no run, stands here once more:
+//! without these laws this does not prove.
 ghost use Rattle.std.specs.Prelude.{◌≡◌, ◌↔◌, ℕ, true, List, Some};
 ghost use Rattle.std.specs.List.{AllByRecursion};
 ghost use Rattle.canon_script.specs.TraceCore.{core_of};
@@ -20,8 +20,8 @@ use convert_core::{Notation, law_of_sharpness};
 use hand_records::Keep;
 use trace_laws::{law_of_one_trace, law_of_winners};
 
-/// No bytes say what a notation does not spell: none of the hands that they say is legal with the trace of a play that has
-/// a fact without a spelling, but for an odd chip or a note.
+/// No bytes say what a notation does not spell: none of the hands that they say is legal with the
+/// trace of a play that has a fact without a spelling, but for an odd chip or a note.
 pub fn unspelled_is_not_said<N: Notation>(notation: &N, keep: Keep)
     ensures { (play : Play) (fact : Unspelled)
         → N.unspelled notation.now keep play ≡ Some fact → is_sharp fact ≡ true
@@ -42,7 +42,8 @@ pub fn trace_is_one()
     law_of_one_trace();
 }
 
-/// Of a pot that two or more seats may win, only those get chips that were shown and that no shown hand beats.
+/// Of a pot that two or more seats may win, only those get chips that were shown and that no shown
+/// hand beats.
 pub fn best_shown_hands_win()
     ensures { (setup : Setup) (past : Past) (trace : Trace) → IsTraceOf setup past trace
         → AllGoToBest setup.code (showdown_in setup (core_of setup past))

@@ -1,4 +1,5 @@
-//! A run over the devices of the tables, with all that is promised of it: their bytes, files and faults are known.
+//! A run over the devices of the tables, with all that is promised of it: their bytes, files and
+//! faults are known.
 ghost use Rattle.std.specs.Prelude.{◌≡◌, ◌↔◌, map, None, Some, IfSome, string_bytes};
 ghost use Rattle.command_words.specs.Words.{request_said};
 ghost use Rattle.hand_records.specs.declared.writing.Keep.{Keep};

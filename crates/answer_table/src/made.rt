@@ -40,8 +40,8 @@ impl NoFile {
     }
 }
 
-/// What the program says of the hands that SEED HANDS make, in one file: its status, the last line of its output, and how many
-/// moves they have.
+/// What the program says of the hands that SEED HANDS make, in one file: its status, the last line
+/// of its output, and how many moves they have.
 pub fn answer_to(alloc: Global, numbers: &str) -> Result<String, Memory> {
     let (seed, hands) = parted(numbers, " ");
     let (Ok(seed), Ok(hands)) = (seed.parse::<u64>(), hands.parse::<u32>()) else {
@@ -63,7 +63,8 @@ pub fn answer_to(alloc: Global, numbers: &str) -> Result<String, Memory> {
 ///
 /// # Errors
 ///
-/// Want of memory. Made hands are legal, and the format spells each of them, so that no hand is named.
+/// Want of memory. Made hands are legal, and the format spells each of them, so that no hand is
+/// named.
 pub fn file_made(alloc: Global, seed: u64, count: u32) -> Result<MadeFile, NoFile>
     requires few { count ≤ MOST_HANDS }
 {
@@ -101,7 +102,8 @@ fn moves_of(plays: &[Play]) -> u64 {
     moves
 }
 
-// The status of the program on a file of hands in the Poker Hand History format, and the last line of its output.
+// The status of the program on a file of hands in the Poker Hand History format, and the last line
+// of its output.
 fn check(alloc: Global, file: Vec<u8>) -> Result<(Status, String), Memory> {
     let mut words = Vec::new(alloc);
     for word in ["check", "--from", "phh"] {

@@ -45,8 +45,8 @@ fn print_answers(rt: &HostRuntime) -> io::Result<()> {
     Ok(())
 }
 
-// The answer to a line that is a row. `let NAME = TEXT` names a piece of text, `made SEED HANDS` says which hands are made; a
-// heading begins with `#`.
+// The answer to a line that is a row. `let NAME = TEXT` names a piece of text, `made SEED HANDS`
+// says which hands are made; a heading begins with `#`.
 fn answer_to(alloc: Global, pieces: &mut Pieces, line: &str) -> Result<Option<String>, Memory> {
     if line.is_empty() || line.starts_with('#') {
         return Ok(None);

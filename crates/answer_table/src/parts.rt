@@ -25,8 +25,8 @@ pub fn read_hands(alloc: Global, from: &str, bytes: &[u8]) -> Option<Records> {
     }
 }
 
-/// How many bytes the hands have in the notation of the second name. They are read and replayed once, and written so many
-/// times.
+/// How many bytes the hands have in the notation of the second name. They are read and replayed
+/// once, and written so many times.
 pub fn write_hands(alloc: Global, from: &str, to: &str, times: u32, bytes: &[u8]) -> Option<usize> {
     let plays = play_hands(alloc, from, bytes)?;
     match to {

@@ -20,7 +20,8 @@ impl Pieces {
     }
 
     /// The bytes of a text. In it `$(NAME)` is a piece, `$(NAME*3)` three of them, `$(NAME#3)`
-    /// three behind their numbers, `\n` ends a line, and `\xff` is a byte by its hexadecimal number.
+    /// three behind their numbers, `\n` ends a line, and `\xff` is a byte by its hexadecimal
+    /// number.
     pub fn bytes_of(&self, alloc: Global, text: &str) -> Result<Vec<u8>, Memory> {
         let mut bytes = Vec::new(alloc);
         let mut parts = text.split("$(");

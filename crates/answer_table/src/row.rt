@@ -31,10 +31,10 @@ pub struct Fails {
 pub const ROOM: usize = 1_000;
 
 /// Reads a row: words, `<`, and the input. A word that begins with `@` is none of the program, but
-/// says of a device that a call fails (`@read=1`, `@fetch=0`, `@write=0`, `@line=0`), that the input
-/// comes or the output goes in pieces (`@give=7`, `@take=5`) or both do (`@pieces=7`), that the
-/// input is cut (`@first=30`), that the output takes few bytes (`@room=10`), or that a piece of text
-/// lies on the shelf (`@file=NAME:PIECE`).
+/// says of a device that a call fails (`@read=1`, `@fetch=0`, `@write=0`, `@line=0`), that the
+/// input comes or the output goes in pieces (`@give=7`, `@take=5`) or both do (`@pieces=7`), that
+/// the input is cut (`@first=30`), that the output takes few bytes (`@room=10`), or that a piece of
+/// text lies on the shelf (`@file=NAME:PIECE`).
 pub fn read_row(alloc: Global, pieces: &Pieces, row: &str) -> Result<Row, Memory> {
     let (words, input) = parted(row, "<");
     let input = input.strip_prefix(' ').unwrap_or(input);

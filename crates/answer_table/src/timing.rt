@@ -7,10 +7,11 @@ use card_set::Memory;
 use std::io::{self, Read, Write};
 use std::time::Instant;
 
-/// SEED HANDS: prints the file of so many made hands. FROM: reads the input in a notation, and prints how long it took until
-/// the records were there, by the clock on the wall and without the time to free them. FROM TO TIMES: reads and replays the
-/// hands of the input, and writes them so many times. Notations are `phh`, `ohh` and `acpc`; logs are under the game of the
-/// hands of `bench/convert`.
+/// SEED HANDS: prints the file of so many made hands. FROM: reads the input in a notation, and
+/// prints how long it took until the records were there, by the clock on the wall and without the
+/// time to free them. FROM TO TIMES: reads and replays the hands of the input, and writes them so
+/// many times. Notations are `phh`, `ohh` and `acpc`; logs are under the game of the hands of
+/// `bench/convert`.
 pub fn answer_words(rt: &HostRuntime, words: &[String]) -> io::Result<()> {
     match words {
         [from] => time_reading(rt, from),

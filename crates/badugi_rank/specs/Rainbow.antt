@@ -1,4 +1,5 @@
--- The choices of badugi, over the masks of the ranks of each suit: bit 0 is the two, and bit 12 the ace.
+-- The choices of badugi, over the masks of the ranks of each suit: bit 0 is the two, and bit 12 the
+-- ace.
 use Rattle.std.specs.Prelude.{◌≡◌, ◌≤◌, ◌⊎◌, ℕ, ◌-◌, ◌*◌, ◌^◌, ◌%◌, List, [], ◌∷◌, length}
 use Rattle.std.specs.Int.{bit_at, bit_not, w16}
 use lib.Bits.{bit_and, bit_or}
@@ -15,12 +16,17 @@ taken_points taken = 16 ^ 6 - class_above (4 - length (ranks_in taken)) (ranks_i
 
 -- one rank of those that are left is taken more, or none
 abbrev pub TakesOne : ℕ → ℕ → ℕ → Type 0
-TakesOne left taken more = (more ≡ taken) ⊎ ((place : ℕ) × (bit_at left place ≡ 1) × (more ≡ bit_or taken (1 * 2 ^ place % 2 ^ 16)))
+TakesOne left taken more =
+    (more ≡ taken)
+    ⊎ ((place : ℕ) × (bit_at left place ≡ 1) × (more ≡ bit_or taken (1 * 2 ^ place % 2 ^ 16)))
 
--- with the ranks that are taken these can be had: at most one of those left, and of each other suit one that is still free, or none
+-- with the ranks that are taken these can be had: at most one of those left, and of each other suit
+-- one that is still free, or none
 abbrev pub CanTake : ℕ → List ℕ → ℕ → ℕ → Type 0
 CanTake left [] taken ranks = TakesOne left taken ranks
-CanTake left (mask ∷ others) taken ranks = (more : ℕ) × TakesOne left taken more × CanTake (bit_and mask (bit_not w16 more)) others more ranks
+CanTake left (mask ∷ others) taken ranks =
+    (more : ℕ) × TakesOne left taken more
+    × CanTake (bit_and mask (bit_not w16 more)) others more ranks
 
 -- no ranks that can be had make more points, and some make as many
 pub record IsMost (left : ℕ) (others : List ℕ) (taken most : ℕ) : Type 0 where

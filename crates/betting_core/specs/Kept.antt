@@ -18,7 +18,8 @@ pub record AreKept (streets : ℕ) (b : RunningNumbers) : Type 0 where
   pub turn : KeepsTurn b
   pub seat : KeepsSeat b
 
--- the numbers are on a street of the game, and where no seat has moved on it none has since the price rose
+-- the numbers are on a street of the game, and where no seat has moved on it none has since the
+-- price rose
 pub record IsOnStreet (streets : ℕ) (b : RunningNumbers) : Type 0 where
   pub first : 1 ≤ b.street
   pub last : b.street ≤ streets

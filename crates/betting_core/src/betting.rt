@@ -317,8 +317,8 @@ impl<V: Variant> Betting<V> {
         self.turn_found(up).seat
     }
 
-    // Whose turn it is, if it is known, and who is behind where the row is read. It is nobody's where
-    // neither a bring-in nor a move is due.
+    // Whose turn it is, if it is known, and who is behind where the row is read. It is nobody's
+    // where neither a bring-in nor a move is due.
     fn turn_found(&self, up: &UpRow) -> SeatInTurn
         requires row { up.now.seats ≡ self.now.table.setup.stacks.seats }
         ensures turn { WhereUps self.now.table up.now

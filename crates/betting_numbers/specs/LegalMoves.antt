@@ -24,28 +24,41 @@ use Rattle.chip_ledger.specs.SeatsSaid.{seat_said}
 
 -- a move of a seat to a target, after these moves
 abbrev pub move_of : RunningNumbers → List Move → ℕ → Act → ℕ → Move
-move_of b moves seat act target = record { street = b.street; seat = seat; act = act; from = street_chips b.setup moves b.street seat; to = target }
+move_of b moves seat act target =
+    record {
+      street = b.street;
+      seat = seat;
+      act = act;
+      from = street_chips b.setup moves b.street seat;
+      to = target;
+    }
 
 -- the past with that move
 abbrev pub with_move : RunningNumbers → Past → ℕ → Act → ℕ → Past
 with_move b past seat act target = Moved (move_of b (moves_of past) seat act target) ∷ past
 
 -- an event is legal, and it takes place as this move
-pub record IsLegalMove (b : RunningNumbers) (past : Past) (event : Said) (seat : ℕ) (act : Act) (target : ℕ) : Type 0 where
+pub record IsLegalMove (b : RunningNumbers) (past : Past) (event : Said) (seat : ℕ) (act : Act)
+    (target : ℕ) : Type 0 where
   pub legal : why b.setup b.rules past event ≡ None
   pub moved : with_event b.setup event past ≡ with_move b past seat act target
 
 -- the turn is this after a past
 abbrev pub IsTurn : RunningNumbers → Past → InTurn → Type 0
-IsTurn b past in_turn = in_turn ≡ mover b.setup (up_cards b.setup.code past) (moves_of past) b.street
+IsTurn b past in_turn =
+    in_turn ≡ mover b.setup (up_cards b.setup.code past) (moves_of past) b.street
 
 -- after each past for which the state stands, and after which this is the turn
 abbrev pub WhereTurn : RunningNumbers → Option Seat → (Past → Type 0) → Type 0
-WhereTurn b turn P = (past : Past) → StandsFor b past → IsTurn b past (turn_of (seat_said turn)) → P past
+WhereTurn b turn P =
+    (past : Past) → StandsFor b past → IsTurn b past (turn_of (seat_said turn)) → P past
 
--- after each past for which the state stands, and after which this is the turn if a bring-in or a move is due
+-- after each past for which the state stands, and after which this is the turn if a bring-in or a
+-- move is due
 abbrev pub WhereBets : RunningNumbers → Option Seat → (Past → Type 0) → Type 0
-WhereBets b turn P = (past : Past) → StandsFor b past → (is_bet_due b.due ≡ true → IsTurn b past (turn_of (seat_said turn))) → P past
+WhereBets b turn P =
+    (past : Past) → StandsFor b past
+    → (is_bet_due b.due ≡ true → IsTurn b past (turn_of (seat_said turn))) → P past
 
 -- after each past for which the state stands, where the row holds what is read of its up-cards
 abbrev pub WhereUps : RunningNumbers → UpRow → (Past → Type 0) → Type 0
@@ -65,7 +78,9 @@ IsRefused b event result past = IfErr result (λ reason. reason_after b past eve
 
 -- an event is allowed: it is legal, and takes place as the move that is given
 abbrev pub IsAllowed : RunningNumbers → Said → Result LegalMove Illegal → Past → Type 0
-IsAllowed b event result past = IfOk result (λ legal. IsLegalMove b past event legal.seat.number (act_said legal.act) legal.target)
+IsAllowed b event result past =
+    IfOk result
+    (λ legal. IsLegalMove b past event legal.seat.number (act_said legal.act) legal.target)
 
 -- the move is of a seat of the hand
 abbrev pub IsOfHand : RunningNumbers → LegalMove → Type 0

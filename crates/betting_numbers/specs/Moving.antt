@@ -25,12 +25,22 @@ pub record IsMoved (b next : RunningNumbers) (seat : ℕ) (act : Act) (target un
   pub moved : flag_of next.moved seat ≡ true
   pub other_moved : (n : ℕ) → 1 ≤ n → n ≢ seat → flag_of next.moved n ≡ flag_of b.moved n
   pub since_rise : flag_of next.since_rise seat ≡ true
-  pub other_since : (n : ℕ) → 1 ≤ n → n ≢ seat → flag_of next.since_rise n ≡ (nat_le target (price_seen b) && flag_of b.since_rise n)
+  pub other_since : (n : ℕ) → 1 ≤ n → n ≢ seat
+      → flag_of next.since_rise n ≡ (nat_le target (price_seen b) && flag_of b.since_rise n)
   pub last : last_seen next ≡ Some seat
   pub raises : next.raises ≡ (if is_raise act then min (b.raises + 1) most_raises else b.raises)
-  pub full_raise : next.full_raise ≡ (if is_raise act && nat_le b.full_raise (target - price_seen b) then max (target - price_seen b) b.full_raise else b.full_raise)
-  pub full_bet : next.full_bet ≡ (if (is_raise act || is_bring_in act) && nat_le (b.full_bet + unit) target then target else b.full_bet)
-  pub doubled : next.doubled ≡ (if is_raise act then max (2 * target - price_seen b) b.doubled else b.doubled)
+  pub full_raise :
+      next.full_raise
+      ≡ (if is_raise act && nat_le b.full_raise (target - price_seen b)
+      then max (target - price_seen b) b.full_raise
+      else b.full_raise)
+  pub full_bet :
+      next.full_bet
+      ≡ (if (is_raise act || is_bring_in act) && nat_le (b.full_bet + unit) target
+      then target
+      else b.full_bet)
+  pub doubled :
+      next.doubled ≡ (if is_raise act then max (2 * target - price_seen b) b.doubled else b.doubled)
   pub opened : next.opened ≡ (has_opened_betting act || b.opened)
 
 -- the next street begins, on which nobody has moved

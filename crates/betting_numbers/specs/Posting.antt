@@ -15,7 +15,8 @@ big_of blinds count = greatest (map blinds (seats_of count))
 
 -- the number of the last of them with that blind, or 0
 abbrev pub last_of : (ℕ → ℕ) → ℕ → ℕ
-last_of blinds count = unwrap_or (find (λ seat. blinds seat == big_of blinds count) (reverse (seats_of count))) 0
+last_of blinds count =
+    unwrap_or (find (λ seat. blinds seat == big_of blinds count) (reverse (seats_of count))) 0
 
 -- the first so many seats have posted
 pub record HasPosted (setup : Setup) (count : ℕ) (p : Posted) : Type 0 where
@@ -36,7 +37,10 @@ pub record HasPosted (setup : Setup) (count : ℕ) (p : Posted) : Type 0 where
   pub price : p.price ≡ greatest (map (blind_posted setup) (seats_of count))
   pub price_bounded : p.price ≤ MOST_AMOUNT
   -- how many of the seats so far have chips left
-  pub able : p.able_count ≡ count_by (λ seat. nat_lt 0 (amount_of setup.stacks seat - posted setup seat)) (seats_of count)
+  pub able :
+      p.able_count
+      ≡ count_by (λ seat. nat_lt 0 (amount_of setup.stacks seat - posted setup seat))
+      (seats_of count)
   pub able_within : p.able_count ≤ count
   -- the greatest blind that is named
   pub big : p.big_blind ≡ big_of (amount_of setup.blinds) count

@@ -44,7 +44,10 @@ able_count_seen b = count_by (is_able_seen b) (all_seats b.setup)
 -- a seat has a move to make
 abbrev pub has_to_move_seen : RunningNumbers → ℕ → Bool
 has_to_move_seen b seat =
-    is_able_seen b seat && (if flag_of b.since_rise seat then false else (nat_lt 0 (owed_seen b seat) || nat_le 2 (able_count_seen b)))
+    is_able_seen b seat
+    && (if flag_of b.since_rise seat
+    then false
+    else (nat_lt 0 (owed_seen b seat) || nat_le 2 (able_count_seen b)))
 
 -- some seat has a move to make
 abbrev pub is_move_due_seen : RunningNumbers → Bool
@@ -52,11 +55,13 @@ is_move_due_seen b = list_any (has_to_move_seen b) (all_seats b.setup)
 
 -- a bring-in is due
 abbrev pub is_bring_in_due_seen : RunningNumbers → Bool
-is_bring_in_due_seen b = is_stud b.setup.code && (b.street == 1) && nat_le 2 (able_count_seen b) && not b.opened
+is_bring_in_due_seen b =
+    is_stud b.setup.code && (b.street == 1) && nat_le 2 (able_count_seen b) && not b.opened
 
 -- another seat is able
 abbrev pub has_opponent_seen : RunningNumbers → ℕ → Bool
-has_opponent_seen b seat = list_any (λ other. is_able_seen b other && not (other == seat)) (all_seats b.setup)
+has_opponent_seen b seat =
+    list_any (λ other. is_able_seen b other && not (other == seat)) (all_seats b.setup)
 
 -- where the turn is passed to: after a seat to the next one, and before any to the opener
 abbrev pub after_last : Option ℕ → (ℕ → ℕ) → InTurn → InTurn
@@ -69,16 +74,23 @@ last_seen b = option_map (λ (s : Seat). s.number) b.last
 
 -- whose turn it is, the opener being this
 abbrev pub mover_seen : RunningNumbers → InTurn → InTurn
-mover_seen b opener = first_in_turn b.setup (has_to_move_seen b) (after_last (last_seen b) (seat_after b.setup) opener)
+mover_seen b opener =
+    first_in_turn b.setup (has_to_move_seen b)
+    (after_last (last_seen b) (seat_after b.setup) opener)
 
 -- the first able seat behind this one, going round, with this one as the last
 abbrev pub first_behind_seen : RunningNumbers → ℕ → InTurn
-first_behind_seen b seat = first_in_turn b.setup (is_able_seen b) (TheSeat (seat_after b.setup seat))
+first_behind_seen b seat =
+    first_in_turn b.setup (is_able_seen b) (TheSeat (seat_after b.setup seat))
 
 -- an able seat owes chips
 abbrev pub has_able_seat_to_call_seen : RunningNumbers → Bool
-has_able_seat_to_call_seen b = list_any (λ seat. is_able_seen b seat && nat_lt 0 (owed_seen b seat)) (all_seats b.setup)
+has_able_seat_to_call_seen b =
+    list_any (λ seat. is_able_seen b seat && nat_lt 0 (owed_seen b seat)) (all_seats b.setup)
 
 -- the hand is settled
 abbrev pub is_settled_seen : RunningNumbers → Bool
-is_settled_seen b = nat_le 2 (live_count_seen b) && (is_after_betting b.due || (nat_le (able_count_seen b) 1 && not (has_able_seat_to_call_seen b)))
+is_settled_seen b =
+    nat_le 2 (live_count_seen b)
+    && (is_after_betting b.due
+    || (nat_le (able_count_seen b) 1 && not (has_able_seat_to_call_seen b)))

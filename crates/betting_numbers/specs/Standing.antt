@@ -27,33 +27,37 @@ newest_seat [] = None
 newest_seat (move ∷ before) = Some move.seat
 
 -- The running numbers are what the rules say of the moves, where this is the street.
-pub record Standing (setup : Setup) (street : ℕ) (b : RunningNumbers) (moves : List Move) : Type 0 where
-  -- the chips that each seat put in this hand
-  pub puts : (seat : ℕ) → IsSeat setup seat → amount_of b.puts seat ≡ chips_put setup moves seat
-  -- the chips that each seat put on this street
-  pub bets : (seat : ℕ) → IsSeat setup seat → amount_of b.bets seat ≡ street_chips setup moves street seat
-  -- the seats that have not folded
-  pub live : (seat : ℕ) → IsSeat setup seat → flag_of b.live seat ≡ is_live moves seat
-  -- the seats that moved on this street
-  pub moved : (seat : ℕ) → IsSeat setup seat → flag_of b.moved seat ≡ has_moved moves street seat
-  -- the seats that moved since the price last rose
-  pub since_rise : (seat : ℕ) → IsSeat setup seat → flag_of b.since_rise seat ≡ has_moved_since_rise setup moves street seat
-  -- the seat that moved last on this street
-  pub last : last_seen b ≡ newest_seat (moves_on street moves)
-  -- how many raises there were on this street, as far as they are counted
-  pub raises : b.raises ≡ min (raises_on moves street) most_raises
-  -- the full raise
-  pub full_raise : b.full_raise ≡ prices.full_raise setup moves street
-  -- the last full bet of fixed limit
-  pub full_bet : b.full_bet ≡ prices.full_bet setup moves street
-  -- the greatest of twice the target less the price before it, over the raises of this street
-  pub doubled : b.doubled ≡ greatest (doubled_raises setup moves street)
-  -- whether a raise or a bring-in opened the betting of this street
-  pub opened : b.opened ≡ list_any (λ move. has_opened_betting move.act) (moves_on street moves)
+pub record Standing (setup : Setup) (street : ℕ) (b : RunningNumbers) (moves : List Move) : Type 0
+  where
+    -- the chips that each seat put in this hand
+    pub puts : (seat : ℕ) → IsSeat setup seat → amount_of b.puts seat ≡ chips_put setup moves seat
+    -- the chips that each seat put on this street
+    pub bets : (seat : ℕ) → IsSeat setup seat
+        → amount_of b.bets seat ≡ street_chips setup moves street seat
+    -- the seats that have not folded
+    pub live : (seat : ℕ) → IsSeat setup seat → flag_of b.live seat ≡ is_live moves seat
+    -- the seats that moved on this street
+    pub moved : (seat : ℕ) → IsSeat setup seat → flag_of b.moved seat ≡ has_moved moves street seat
+    -- the seats that moved since the price last rose
+    pub since_rise : (seat : ℕ) → IsSeat setup seat
+        → flag_of b.since_rise seat ≡ has_moved_since_rise setup moves street seat
+    -- the seat that moved last on this street
+    pub last : last_seen b ≡ newest_seat (moves_on street moves)
+    -- how many raises there were on this street, as far as they are counted
+    pub raises : b.raises ≡ min (raises_on moves street) most_raises
+    -- the full raise
+    pub full_raise : b.full_raise ≡ prices.full_raise setup moves street
+    -- the last full bet of fixed limit
+    pub full_bet : b.full_bet ≡ prices.full_bet setup moves street
+    -- the greatest of twice the target less the price before it, over the raises of this street
+    pub doubled : b.doubled ≡ greatest (doubled_raises setup moves street)
+    -- whether a raise or a bring-in opened the betting of this street
+    pub opened : b.opened ≡ list_any (λ move. has_opened_betting move.act) (moves_on street moves)
 
--- The state stands for a past: each of its numbers and flags is what the rules say of the moves of the past, and what is
--- due is due by the rules. A past in which a card was dealt on a later street, or a hand shown before the betting was
--- over, has no state that stands for it: no legal past is such.
+-- The state stands for a past: each of its numbers and flags is what the rules say of the moves of
+-- the past, and what is due is due by the rules. A past in which a card was dealt on a later
+-- street, or a hand shown before the betting was over, has no state that stands for it: no legal
+-- past is such.
 pub record StandsFor (b : RunningNumbers) (past : Past) : Type 0 where
   -- the setup is valid
   pub valid : IsValid b.setup
@@ -66,5 +70,6 @@ pub record StandsFor (b : RunningNumbers) (past : Past) : Type 0 where
   -- no event of the past is of a later street
   pub early : has_nothing_later past b.street ≡ true
   -- nobody has shown or mucked while the betting goes on: each live seat has still to do it
-  pub unshown : (b.due ≡ dues.Over → ⊥) → is_settled b.setup (moves_of past) (b.street, b.due) ≡ false
+  pub unshown : (b.due ≡ dues.Over → ⊥)
+      → is_settled b.setup (moves_of past) (b.street, b.due) ≡ false
       → (seat : ℕ) → is_live (moves_of past) seat ≡ true → has_to_show past seat ≡ true

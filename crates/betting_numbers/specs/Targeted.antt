@@ -11,8 +11,10 @@ use Rattle.betting_numbers.specs.declared.targeting.Targets.{Targets}
 
 -- and that of a seat, where the floor is this
 abbrev pub least_seen : Limit → RunningNumbers → (floor seat : ℕ) → ℕ
-least_seen limit b floor seat = least_by limit floor (price_seen b + b.full_raise) (all_in_seen b seat) (fulls_seen b)
+least_seen limit b floor seat =
+    least_by limit floor (price_seen b + b.full_raise) (all_in_seen b seat) (fulls_seen b)
 
 -- these are the ends of the legal targets of a seat after these moves, and its all-in
 abbrev pub AreEndsFor : RunningNumbers → List Move → ℕ → Targets → Type 0
-AreEndsFor b moves seat targets = AreTargets b.setup b.rules moves b.street seat targets.least targets.greatest targets.all_in
+AreEndsFor b moves seat targets =
+    AreTargets b.setup b.rules moves b.street seat targets.least targets.greatest targets.all_in

@@ -16,7 +16,9 @@ use Rattle.betting_numbers.specs.Why.{is_open_by, is_legal_seen, floor_by, targe
 -- a raise needs rules by which betting always reopens
 abbrev pub is_closed_seen : Limit → RunningNumbers → (seat target : ℕ) → Bool
 is_closed_seen limit b seat target =
-    not (is_open_by reopen.Full limit (flag_of b.moved seat) b.full_raise (unit b.setup b.street) (owed_seen b seat))
+    not
+    (is_open_by reopen.Full limit (flag_of b.moved seat) b.full_raise (unit b.setup b.street)
+    (owed_seen b seat))
     || not (is_legal_seen limit b (floor_by reopen.Full 0 b) seat target)
 
 -- where a raise by the unit goes, in fixed limit

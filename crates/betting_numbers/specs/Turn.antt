@@ -23,9 +23,12 @@ with_due b due = record b { due = due }
 abbrev pub with_turn : RunningNumbers → Due → Option Seat → RunningNumbers
 with_turn b due next = record b { due = due; next = next }
 
--- where a move is due, the seat in turn that is kept is the first with a move to make, where the blinds say who opens
+-- where a move is due, the seat in turn that is kept is the first with a move to make, where the
+-- blinds say who opens
 abbrev pub KeepsTurn : RunningNumbers → Type 0
-KeepsTurn b = is_move b.due ≡ true → in_turn (seat_said b.next) ≡ mover_seen b (TheSeat (blinds_opener b.setup b.street))
+KeepsTurn b =
+    is_move b.due ≡ true
+    → in_turn (seat_said b.next) ≡ mover_seen b (TheSeat (blinds_opener b.setup b.street))
 
 -- where a bring-in or a move is due, the seat that is kept is of the hand
 abbrev pub KeepsSeat : RunningNumbers → Type 0
@@ -43,10 +46,13 @@ pub record IsFirstBehind (b : RunningNumbers) (seat : ℕ) (behind : Seat) : Typ
 
 -- after that move this seat is in turn or, where it has no move to make, none is
 pub record IsNextUp (b : RunningNumbers) (behind : Seat) : Type 0 where
-  pub turn : (opener : InTurn) → in_turn (if has_to_move_seen b behind.number then Some behind.number else None) ≡ mover_seen b opener
+  pub turn : (opener : InTurn)
+      → in_turn (if has_to_move_seen b behind.number then Some behind.number else None)
+      ≡ mover_seen b opener
   pub in_hand : behind.number ≤ b.setup.stacks.seats
 
--- the numbers where this is what comes: the street's betting goes on, or the next street begins, or nothing is left to bet
+-- the numbers where this is what comes: the street's betting goes on, or the next street begins, or
+-- nothing is left to bet
 pub record IsTurnedTo (now : ℕ × Due) (mid next : RunningNumbers) : Type 0 where
   pub turn_is : (next.street, next.due) ≡ now
   pub stays : next.street ≡ mid.street → next ≡ with_turn mid next.due next.next
@@ -56,15 +62,23 @@ pub record IsTurnedTo (now : ℕ × Due) (mid next : RunningNumbers) : Type 0 wh
 
 -- after a move comes what is due after it
 abbrev pub IsSettledTo : RunningNumbers → RunningNumbers → Type 0
-IsSettledTo mid next = IsTurnedTo (turn_after mid.setup.code mid.street (nat_le (live_count_seen mid) 1) false (is_move_due_seen mid)) mid next
+IsSettledTo mid next =
+    IsTurnedTo
+    (turn_after mid.setup.code mid.street (nat_le (live_count_seen mid) 1) false
+    (is_move_due_seen mid))
+    mid next
 
 -- after the deal or the draw of a street comes a bring-in, a move, or what comes behind it
 abbrev pub IsDealtTo : RunningNumbers → RunningNumbers → Type 0
-IsDealtTo mid next = IsTurnedTo (betting_turn mid.setup.code mid.street (is_bring_in_due_seen mid) (is_move_due_seen mid)) mid next
+IsDealtTo mid next =
+    IsTurnedTo
+    (betting_turn mid.setup.code mid.street (is_bring_in_due_seen mid) (is_move_due_seen mid))
+    mid next
 
 -- where no bring-in is due a move comes, or what comes behind it
 abbrev pub IsPassedTo : RunningNumbers → RunningNumbers → Type 0
-IsPassedTo mid next = IsTurnedTo (betting_turn mid.setup.code mid.street false (is_move_due_seen mid)) mid next
+IsPassedTo mid next =
+    IsTurnedTo (betting_turn mid.setup.code mid.street false (is_move_due_seen mid)) mid next
 
 -- a move that brings no chips in comes only where a move is due
 abbrev pub may_come_at : Act → Due → Bool

@@ -16,9 +16,12 @@ use Rattle.betting_numbers.specs.Seen.{is_able_seen}
 
 -- a row holds the up-cards of a past
 abbrev pub HoldsUps : Setup → UpRow → Past → Type 0
-HoldsUps setup up past = (seat : ℕ) → 1 ≤ seat → seat ≤ setup.stacks.seats → ups_of up seat ≡ up_cards setup.code past seat
+HoldsUps setup up past =
+    (seat : ℕ) → 1 ≤ seat → seat ≤ setup.stacks.seats
+    → ups_of up seat ≡ up_cards setup.code past seat
 
--- a row holds what is read of the up-cards of a past: who opens a street is asked only until a seat has moved on it
+-- a row holds what is read of the up-cards of a past: who opens a street is asked only until a seat
+-- has moved on it
 pub record HoldsOpeningUps (b : RunningNumbers) (up : UpRow) (past : Past) : Type 0 where
   -- the row holds the up-cards of the past, where no seat has moved on the street yet
   pub held : b.last ≡ None → HoldsUps b.setup up past
@@ -34,15 +37,20 @@ has_unknown_up_card_seen b up = list_any (has_unknown_seen b up) (all_seats b.se
 -- an able seat opens before this one
 abbrev pub is_before_seen : Opener → RunningNumbers → UpRow → (seat other : ℕ) → Bool
 is_before_seen opener b up seat other =
-    is_able_seen b other && is_opener_before opener (b.street == 1) (known_cards (ups_of up other)) (known_cards (ups_of up seat))
+    is_able_seen b other
+    && is_opener_before opener (b.street == 1) (known_cards (ups_of up other))
+    (known_cards (ups_of up seat))
 
 -- a seat's up-cards open before all that another's open before
 abbrev pub is_as_early_seen : Opener → RunningNumbers → UpRow → (seat other : ℕ) → Bool
-is_as_early_seen opener b up seat other = is_as_early opener (b.street == 1) (known_cards (ups_of up seat)) (known_cards (ups_of up other))
+is_as_early_seen opener b up seat other =
+    is_as_early opener (b.street == 1) (known_cards (ups_of up seat))
+    (known_cards (ups_of up other))
 
 -- a seat is able, and no able seat opens before it
 abbrev pub is_opener_seen : Opener → RunningNumbers → UpRow → ℕ → Bool
-is_opener_seen opener b up seat = is_able_seen b seat && not (list_any (is_before_seen opener b up seat) (all_seats b.setup))
+is_opener_seen opener b up seat =
+    is_able_seen b seat && not (list_any (is_before_seen opener b up seat) (all_seats b.setup))
 
 -- the first able seat before which no other opens
 abbrev pub up_opener_seen : Opener → RunningNumbers → UpRow → Option ℕ
@@ -50,4 +58,5 @@ up_opener_seen opener b up = find (is_opener_seen opener b up) (all_seats b.setu
 
 -- who opens, where each up-card of an able seat is known
 abbrev pub known_opener_seen : Opener → RunningNumbers → UpRow → Option ℕ
-known_opener_seen opener b up = if has_unknown_up_card_seen b up then None else up_opener_seen opener b up
+known_opener_seen opener b up =
+    if has_unknown_up_card_seen b up then None else up_opener_seen opener b up

@@ -1,4 +1,5 @@
--- A state that stands for a past up to its due: its deal, draw or show is complete in the past, and not yet ended in the state.
+-- A state that stands for a past up to its due: its deal, draw or show is complete in the past, and
+-- not yet ended in the state.
 use Rattle.std.specs.Prelude.{◌≡◌, ℕ, ◌≤◌, ◌<◌, true, false, nat_le, None}
 use Rattle.play_event.specs.Past.{Past, moves_of, newest_street}
 use Rattle.play_event.specs.Seats.{is_live, live_count}
@@ -10,7 +11,8 @@ use Rattle.betting_numbers.specs.Standing.{Standing}
 use Rattle.street_laws.specs.Walk.{has_nothing_later}
 use Rattle.street_laws.specs.Done.{is_done, HasCome}
 
--- The deal, the draw or the show that is due is complete in the past, and not yet ended in the state.
+-- The deal, the draw or the show that is due is complete in the past, and not yet ended in the
+-- state.
 pub record StandsUpTo (b : RunningNumbers) (past : Past) : Type 0 where
   -- the setup is valid
   pub valid : IsValid b.setup
@@ -23,7 +25,8 @@ pub record StandsUpTo (b : RunningNumbers) (past : Past) : Type 0 where
   -- the newest event is not of a later street
   pub reached : newest_street past ≤ b.street
   -- nothing is due on the streets between it and the state's
-  pub quiet : (between : ℕ) → newest_street past ≤ between → between < b.street → due_on b.setup past between ≡ None
+  pub quiet : (between : ℕ) → newest_street past ≤ between → between < b.street
+      → due_on b.setup past between ≡ None
   -- what the state says is due comes on its street, and nothing before it
   pub come : HasCome b.setup past b.street b.due
   -- and it is complete

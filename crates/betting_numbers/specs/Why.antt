@@ -38,24 +38,34 @@ call_seen b seat = min (price_seen b) (all_in_seen b seat)
 -- a call states other chips than it adds
 abbrev pub stated_why : Option ℕ → ℕ → Option Illegal
 stated_why None due = None
-stated_why (Some stated) due = if not (stated == due) then Some (reasons.AmountDiffers stated due) else None
+stated_why (Some stated) due =
+    if not (stated == due) then Some (reasons.AmountDiffers stated due) else None
 
 -- why a call is refused
 abbrev pub call_why : RunningNumbers → Option ℕ → Option ℕ → ℕ → Option Illegal
 call_why b named stated mover =
-    if is_another named mover then Some reasons.WrongSeat else stated_why stated (call_seen b mover - amount_of b.bets mover)
+    if is_another named mover
+    then Some reasons.WrongSeat
+    else stated_why stated (call_seen b mover - amount_of b.bets mover)
 
 -- where a raise goes
 abbrev pub target_seen : RunningNumbers → ℕ → Spelled → ℕ
 target_seen b seat (spelled.To amount) = amount
 target_seen b seat (spelled.Added amount) = amount_of b.bets seat + amount
-target_seen b seat (spelled.HandTotal amount) = amount - (amount_of b.puts seat - amount_of b.bets seat)
-target_seen b seat spelled.Unit = min (if nat_lt (price_seen b) (unit b.setup b.street) then unit b.setup b.street else price_seen b + unit b.setup b.street) (all_in_seen b seat)
+target_seen b seat (spelled.HandTotal amount) =
+    amount - (amount_of b.puts seat - amount_of b.bets seat)
+target_seen b seat spelled.Unit =
+    min
+    (if nat_lt (price_seen b) (unit b.setup b.street)
+    then unit b.setup b.street
+    else price_seen b + unit b.setup b.street)
+    (all_in_seen b seat)
 
 -- the raises are within the cap
 abbrev pub is_within_cap_by : Option (List ℕ) → ℕ → ℕ → Bool
 is_within_cap_by None raises street = true
-is_within_cap_by (Some caps) raises street = nat_lt 4 street || nat_lt raises (slice_index caps (street - 1))
+is_within_cap_by (Some caps) raises street =
+    nat_lt 4 street || nat_lt raises (slice_index caps (street - 1))
 
 -- what a seat owes reopens the betting to it
 abbrev pub is_reopened_by : Limit → (least size owes : ℕ) → Bool
@@ -66,13 +76,16 @@ is_reopened_by limits.Fixed least size owes = nat_le size (2 * owes)
 -- the betting is open to a seat
 abbrev pub is_open_by : Reopen → Limit → (moved : Bool) → (least size owes : ℕ) → Bool
 is_open_by reopen.Always limit moved least size owes = true
-is_open_by reopen.Full limit moved least size owes = not moved || is_reopened_by limit least size owes
+is_open_by reopen.Full limit moved least size owes =
+    not moved || is_reopened_by limit least size owes
 
 -- the seat may raise
 abbrev pub may_raise_seen : Limit → RunningNumbers → ℕ → Bool
 may_raise_seen limit b seat =
-    has_opponent_seen b seat && nat_lt (price_seen b) (all_in_seen b seat) && is_within_cap_by b.rules.caps b.raises b.street
-    && is_open_by b.rules.reopen limit (flag_of b.moved seat) b.full_raise (unit b.setup b.street) (owed_seen b seat)
+    has_opponent_seen b seat && nat_lt (price_seen b) (all_in_seen b seat)
+    && is_within_cap_by b.rules.caps b.raises b.street
+    && is_open_by b.rules.reopen limit (flag_of b.moved seat) b.full_raise (unit b.setup b.street)
+    (owed_seen b seat)
 
 -- the least raise that is not all-in, in no limit, where the street started at this price
 abbrev pub floor_by : Reopen → (start : ℕ) → RunningNumbers → ℕ
@@ -85,11 +98,15 @@ floor_seen b = floor_by b.rules.reopen (starting_price b.setup b.street) b
 
 -- the greatest raise of pot limit
 abbrev pub ceiling_seen : RunningNumbers → ℕ → ℕ
-ceiling_seen b seat = max (price_seen b + b.full_raise) (price_seen b + total_of b.puts + owed_seen b seat)
+ceiling_seen b seat =
+    max (price_seen b + b.full_raise) (price_seen b + total_of b.puts + owed_seen b seat)
 
 -- the full raises of fixed limit
 abbrev pub fulls_by : (price size full_bet : ℕ) → List ℕ
-fulls_by price size full_bet = if nat_lt price size then (size ∷ []) else ((price + size) ∷ above_price price (full_bet + size))
+fulls_by price size full_bet =
+    if nat_lt price size
+    then (size ∷ [])
+    else ((price + size) ∷ above_price price (full_bet + size))
 
 -- those of the street
 abbrev pub fulls_seen : RunningNumbers → List ℕ
@@ -97,26 +114,35 @@ fulls_seen b = fulls_by (price_seen b) (unit b.setup b.street) b.full_bet
 
 -- a target of a seat is legal, where the floor is this
 abbrev pub is_legal_seen : Limit → RunningNumbers → (floor seat target : ℕ) → Bool
-is_legal_seen limit b floor seat target = is_legal_by limit floor (price_seen b + b.full_raise) (all_in_seen b seat) (ceiling_seen b seat) (fulls_seen b) target
+is_legal_seen limit b floor seat target =
+    is_legal_by limit floor (price_seen b + b.full_raise) (all_in_seen b seat) (ceiling_seen b seat)
+    (fulls_seen b) target
 
 -- the greatest legal target of a seat
 abbrev pub greatest_seen : Limit → RunningNumbers → ℕ → ℕ
-greatest_seen limit b seat = greatest_by limit (all_in_seen b seat) (ceiling_seen b seat) (fulls_seen b)
+greatest_seen limit b seat =
+    greatest_by limit (all_in_seen b seat) (ceiling_seen b seat) (fulls_seen b)
 
 -- why a raise to a target is refused
 abbrev pub raise_to_why : Limit → RunningNumbers → (floor mover target : ℕ) → Option Illegal
 raise_to_why limit b floor mover target =
     if not (may_raise_seen limit b mover) then Some reasons.RaiseClosed
-    else if not (is_legal_seen limit b floor mover target) && nat_lt target (greatest_seen limit b mover) then Some reasons.RaiseTooSmall
+    else if not (is_legal_seen limit b floor mover target)
+    && nat_lt target (greatest_seen limit b mover)
+    then Some reasons.RaiseTooSmall
     else if nat_lt (greatest_seen limit b mover) target then Some reasons.RaiseTooBig
     else None
 
 -- why a raise is refused, however it is spelled
-abbrev pub raise_why : Limit → RunningNumbers → (floor : ℕ) → Option ℕ → Spelled → ℕ → Option Illegal
+abbrev pub raise_why : Limit → RunningNumbers → (floor : ℕ) → Option ℕ → Spelled → ℕ
+    → Option Illegal
 raise_why limit b floor named amount mover =
-    if is_another named mover then Some reasons.WrongSeat else raise_to_why limit b floor mover (target_seen b mover amount)
+    if is_another named mover
+    then Some reasons.WrongSeat
+    else raise_to_why limit b floor mover (target_seen b mover amount)
 
--- why an event may not come that may come at a move or not, and at a bring-in or not: the hand is over, or something else is due
+-- why an event may not come that may come at a move or not, and at a bring-in or not: the hand is
+-- over, or something else is due
 abbrev pub now_why : (at_move at_bring_in : Bool) → Due → Option Illegal
 now_why at_move at_bring_in dues.Move = if at_move then None else Some reasons.WrongKind
 now_why at_move at_bring_in dues.BringIn = if at_bring_in then None else Some reasons.WrongKind

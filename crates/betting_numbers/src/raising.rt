@@ -193,7 +193,8 @@ impl RunningNumbers {
         }
     }
 
-    /// The greatest raise of pot limit, in chips of the street: the price, and the pot with what the seat owes in it.
+    /// The greatest raise of pot limit, in chips of the street: the price, and the pot with what
+    /// the seat owes in it.
     pub fn ceiling(&self, seat: Seat) -> u64
         requires { seat.number ≤ self.now.setup.stacks.seats }
         ensures { result ≡ ceiling_seen self.now seat.number }
@@ -221,7 +222,8 @@ impl RunningNumbers {
         }
     }
 
-    /// The first full raise of fixed limit, and the other one where there is one, in chips of the street.
+    /// The first full raise of fixed limit, and the other one where there is one, in chips of the
+    /// street.
     pub fn fulls(&self, size: u64) -> (u128, Option<u128>)
         requires { size ≡ unit self.now.setup self.now.street }
         ensures { fulls_seen self.now ≡ fulls_list result }

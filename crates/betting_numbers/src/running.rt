@@ -55,9 +55,9 @@ pub struct RunningNumbers {
     pub since_rise: LiveRow,
     /// The seat that moved last on this street.
     pub last: Option<Seat>,
-    /// Where a move is due: the seat with that move, from the opener of a game with blinds on or from
-    /// behind the seat that moved last. Before the first move of a street of stud the up-cards say
-    /// whose turn it is, and not this.
+    /// Where a move is due: the seat with that move, from the opener of a game with blinds on or
+    /// from behind the seat that moved last. Before the first move of a street of stud the up-cards
+    /// say whose turn it is, and not this.
     pub next: Option<Seat>,
     /// How many raises there were on this street, as far as a u32 counts.
     pub raises: u32,

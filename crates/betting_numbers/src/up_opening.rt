@@ -21,9 +21,10 @@ pub struct SeatInTurn {
 
 impl RunningNumbers {
     /// Who opens, where each up-card of an able seat is known: the first able seat before which no
-    /// other opens. The walk goes from the last seat to the first, and keeps of the seats so far the
-    /// leader, which opens before all that any of them opens before, and the first before which none
-    /// of them opens. Going this way a new seat takes the place of that one, or leaves it as it is.
+    /// other opens. The walk goes from the last seat to the first, and keeps of the seats so far
+    /// the leader, which opens before all that any of them opens before, and the first before which
+    /// none of them opens. Going this way a new seat takes the place of that one, or leaves it as
+    /// it is.
     ///
     /// The same walk finds who is behind the opener: the able seat that was walked last before it
     /// or, where none was able before it, the one that was walked last of all.

@@ -1,4 +1,5 @@
--- The confluence of scripts: the canonical script of a legal script's trace is legal, and has this trace.
+-- The confluence of scripts: the canonical script of a legal script's trace is legal, and has this
+-- trace.
 use Rattle.std.specs.Prelude.{◌≡◌, List}
 use Rattle.play_event.specs.declared.setup.Setup.{Setup}
 use Rattle.play_event.specs.declared.setup.Rules.{Rules}

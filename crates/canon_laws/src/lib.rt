@@ -1,4 +1,5 @@
-//! The law of confluence: a script that is played to its end and the canonical script of its trace have one trace.
+//! The law of confluence: a script that is played to its end and the canonical script of its trace
+//! have one trace.
 #![tactic(auto)]
 
 mod laws;

@@ -1,5 +1,6 @@
--- The canonical script of a trace: cards as they are known at the end, in the order of streets and seats; each draw's
--- discards before its deals; moves named and spelled by their target; and a showdown in the order of seats.
+-- The canonical script of a trace: cards as they are known at the end, in the order of streets and
+-- seats; each draw's discards before its deals; moves named and spelled by their target; and a
+-- showdown in the order of seats.
 use Rattle.std.specs.Prelude.{ℕ, Bool, ◌&&◌, ◌==◌, nat_le, if◌then◌else◌, List, [], ◌∷◌, ◌++◌, map, filter, flat_map, reverse, Option, Some, None}
 use Rattle.std.specs.List.{list_any}
 use Rattle.card_set.specs.declared.card.Slot.{Slot}
@@ -17,7 +18,8 @@ use Rattle.canon_script.specs.TraceCore.{TraceCore, core_after}
 -- a move of a trace without what is computed of the moves before it
 abbrev pub plain_move : TracedMove → Move
 plain_move move =
-    record { street = move.street; seat = move.seat; act = move.act; from = move.from; to = move.to }
+    record
+    { street = move.street; seat = move.seat; act = move.act; from = move.from; to = move.to }
 
 -- the moves of a trace, the newest first
 abbrev pub plain_moves : List TracedMove → List Move

@@ -8,7 +8,8 @@ use Rattle.play_event.specs.Scripts.{has_early_end}
 use Rattle.play_event.specs.Laws.{AreLegal}
 use Rattle.canon_script.specs.declared.limits.TheConstants.{MOST_MOVES, MOST_OTHER_EVENTS}
 
--- a script is played to its end: each of its events is legal, and after the last one nothing is due but shows
+-- a script is played to its end: each of its events is legal, and after the last one nothing is due
+-- but shows
 pub record IsPlayed (setup : Setup) (rules : Rules) (script : List Said) : Type 0 where
   pub legal : AreLegal setup rules (reverse script)
   pub complete : has_early_end setup script ≡ false

@@ -7,11 +7,13 @@ use Rattle.canon_script.specs.declared.limits.TheConstants.{MOST_MOVES}
 use Rattle.canon_script.specs.TraceCore.{TraceCore}
 use Rattle.canon_script.specs.CanonScript.{dealt_slots, discarded_slots, held_slots}
 
--- The cards of a trace: the board and what shown seats hold are known; no owner has more than seven cards of one street,
--- no seat discards more than seven in one draw, and none holds more than seven.
+-- The cards of a trace: the board and what shown seats hold are known; no owner has more than seven
+-- cards of one street, no seat discards more than seven in one draw, and none holds more than
+-- seven.
 pub record HasTidyCards (trace : TraceCore) : Type 0 where
   pub board_known :
-      list_any (λ place. is_same_owner place.owner None && is_unknown place.slot) trace.places ≡ false
+      list_any (λ place. is_same_owner place.owner None && is_unknown place.slot) trace.places
+      ≡ false
   pub shown_known : (seat : ℕ) → list_any (λ other. other == seat) trace.shown ≡ true
       → list_any is_unknown (held_slots trace.places seat) ≡ false
   pub dealt_few : (owner : Option ℕ) (street : ℕ)

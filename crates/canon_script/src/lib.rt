@@ -1,4 +1,5 @@
-//! What the trace of a hand keeps but for its shares, its canonical script, and how many events a hand may have.
+//! What the trace of a hand keeps but for its shares, its canonical script, and how many events a
+//! hand may have.
 #![tactic(auto)]
 
 mod limits;

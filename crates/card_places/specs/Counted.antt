@@ -14,4 +14,6 @@ count_of numbers owner = slice_index numbers (owner_index owner)
 
 -- the count of each owner is the number of its cards of the street
 abbrev pub AreCounts : List ℕ → ℕ → List Place → Type 0
-AreCounts numbers street placed = (owner : Option ℕ) → is_owner 10 owner ≡ true → count_of numbers owner ≡ count_by (is_in_group owner street) placed
+AreCounts numbers street placed =
+    (owner : Option ℕ) → is_owner 10 owner ≡ true
+    → count_of numbers owner ≡ count_by (is_in_group owner street) placed

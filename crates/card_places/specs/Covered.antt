@@ -12,4 +12,5 @@ covered code seat all placed = filter (is_covered code seat all) placed
 -- the places after so many names and blanks found theirs among the covered ones
 abbrev pub after_named : Code → ℕ → Bool → (Place → Place) → List Card → ℕ → List Place → List Place
 after_named code seat all mark names blanks placed =
-    after_names (is_covered code seat all) mark names (other_names (covered code seat all placed) names) blanks placed
+    after_names (is_covered code seat all) mark names
+    (other_names (covered code seat all placed) names) blanks placed

@@ -6,7 +6,8 @@ use Rattle.card_places.specs.declared.card_state.CardState.{CardState}
 use Rattle.card_places.specs.Placed.{placed}
 
 -- an owner was dealt the cards on the street, and nothing else changed
-pub record IsDealt (old new : CardState) (owner : Option ℕ) (street : ℕ) (cards : List Slot) : Type 0 where
+pub record IsDealt (old new : CardState) (owner : Option ℕ) (street : ℕ) (cards : List Slot) : Type
+    0 where
   pub places : placed new.places ≡ after_deal old.table.code owner street cards (placed old.places)
   pub table : new.table ≡ old.table
   pub seats : new.seats ≡ old.seats

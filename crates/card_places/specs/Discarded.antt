@@ -13,9 +13,12 @@ use Rattle.card_places.specs.Placed.{placed}
 use Rattle.card_places.specs.Searches.{has_unplaced_name, searched}
 
 -- a search is that of a discard: what it makes of the places, and whether it lacks some
-pub record IsDiscardSearch (code : Code) (s : Search) (placed : List Place) (on seat : ℕ) (cards : List Slot) : Type 0 where
+pub record IsDiscardSearch (code : Code) (s : Search) (placed : List Place) (on seat : ℕ)
+    (cards : List Slot) : Type 0 where
   pub after : searched code s placed ≡ after_discard on seat cards placed
-  pub lacking : has_unplaced_name code s placed ≡ has_no_place (filter (is_held_by seat) placed) (known_cards cards) (blanks_in cards)
+  pub lacking :
+      has_unplaced_name code s placed
+      ≡ has_no_place (filter (is_held_by seat) placed) (known_cards cards) (blanks_in cards)
 
 -- a seat drew and discarded these cards, and nothing else changed
 pub record IsDiscarded (old new : CardState) (on seat : ℕ) (cards : List Slot) : Type 0 where
@@ -26,5 +29,8 @@ pub record IsDiscarded (old new : CardState) (on seat : ℕ) (cards : List Slot)
   pub mucked : new.mucked ≡ old.mucked
   pub drew : has_drawn_at new.draws on seat ≡ true
   pub named : named_at new.draws on seat ≡ length cards
-  pub others : (street number : ℕ) → 1 ≤ number → number ≤ 10 → (street ≢ on) ⊎ (number ≢ seat) → has_drawn_at new.draws street number ≡ has_drawn_at old.draws street number
-  pub others_named : (street number : ℕ) → 1 ≤ number → number ≤ 10 → (street ≢ on) ⊎ (number ≢ seat) → named_at new.draws street number ≡ named_at old.draws street number
+  pub others : (street number : ℕ) → 1 ≤ number → number ≤ 10 → (street ≢ on) ⊎ (number ≢ seat)
+      → has_drawn_at new.draws street number ≡ has_drawn_at old.draws street number
+  pub others_named : (street number : ℕ) → 1 ≤ number → number ≤ 10
+      → (street ≢ on) ⊎ (number ≢ seat)
+      → named_at new.draws street number ≡ named_at old.draws street number

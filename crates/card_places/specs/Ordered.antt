@@ -10,11 +10,13 @@ use Rattle.play_event.specs.Trace.{traced_place}
 
 -- those of so many seats, from the first one on
 abbrev pub on_seats : List Place → ℕ → (first count : ℕ) → List Place
-on_seats placed street first count = flat_map (group_of placed street) (map Some (range_with_len first count))
+on_seats placed street first count =
+    flat_map (group_of placed street) (map Some (range_with_len first count))
 
 -- those of the seats and the board
 abbrev pub on_street : ℕ → List Place → ℕ → List Place
-on_street seats placed street = flat_map (group_of placed street) (map Some (range_with_len 1 seats) ++ None ∷ [])
+on_street seats placed street =
+    flat_map (group_of placed street) (map Some (range_with_len 1 seats) ++ None ∷ [])
 
 -- those of so many streets, from the first one on
 abbrev pub on_streets : ℕ → List Place → (first count : ℕ) → List Place

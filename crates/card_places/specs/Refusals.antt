@@ -26,16 +26,19 @@ use Rattle.card_places.specs.Room.{is_seat_of}
 
 -- how many cards a seat is owed
 abbrev pub owed_of : (draws live : Bool) (hole named dealt : ℕ) → ℕ
-owed_of draws live hole named dealt = if draws then named - dealt else (if live then hole - dealt else 0)
+owed_of draws live hole named dealt =
+    if draws then named - dealt else (if live then hole - dealt else 0)
 
 -- how many cards of the street a seat is owed
 abbrev pub owed_in : CardState → LiveRow → ℕ → ℕ → ℕ
 owed_in t live on seat =
-    owed_of (has_draw t.table.code on) (flag_of live seat) (hole_cards_on t.table.code on) (named_at t.draws on seat) (count_by (is_in_group (Some seat) on) (placed t.places))
+    owed_of (has_draw t.table.code on) (flag_of live seat) (hole_cards_on t.table.code on)
+    (named_at t.draws on seat) (count_by (is_in_group (Some seat) on) (placed t.places))
 
 -- how many cards of the street the board is owed
 abbrev pub board_owed_in : CardState → ℕ → ℕ
-board_owed_in t on = board_cards_on t.table.code on - count_by (is_in_group None on) (placed t.places)
+board_owed_in t on =
+    board_cards_on t.table.code on - count_by (is_in_group None on) (placed t.places)
 
 -- the reasons of a deal in their order
 abbrev pub deal_chain : (wrong_seat : Bool) (owed count : ℕ) (taken : Bool) → Option Illegal
@@ -49,7 +52,8 @@ deal_chain wrong_seat owed count taken =
 abbrev pub hole_why_on : CardState → LiveRow → ℕ → ℕ → List Slot → Option Illegal
 hole_why_on t live on seat cards =
     let owed = owed_in t live on seat in
-    deal_chain (not (is_seat_of t.seats seat) || (owed == 0)) owed (length cards) (has_taken_card t.table.code (placed t.places) on cards)
+    deal_chain (not (is_seat_of t.seats seat) || (owed == 0)) owed (length cards)
+    (has_taken_card t.table.code (placed t.places) on cards)
 
 -- why cards of the street may not be dealt to the board
 abbrev pub board_why_on : CardState → ℕ → List Slot → Option Illegal
@@ -62,7 +66,10 @@ board_why_on t on cards =
 -- why hole cards may not be dealt now
 abbrev pub hole_why : CardState → LiveRow → Due → ℕ → List Slot → Option Illegal
 hole_why t live dues.Over seat cards = Some reasons.HandOver
-hole_why t live (dues.Deal on) seat cards = if nat_lt 0 (hole_cards_on t.table.code on) then hole_why_on t live on seat cards else Some reasons.WrongKind
+hole_why t live (dues.Deal on) seat cards =
+    if nat_lt 0 (hole_cards_on t.table.code on)
+    then hole_why_on t live on seat cards
+    else Some reasons.WrongKind
 hole_why t live (dues.Draw on) seat cards = hole_why_on t live on seat cards
 hole_why t live dues.BringIn seat cards = Some reasons.WrongKind
 hole_why t live dues.Move seat cards = Some reasons.WrongKind
@@ -71,7 +78,10 @@ hole_why t live dues.Show seat cards = Some reasons.WrongKind
 -- why board cards may not be dealt now
 abbrev pub board_why : CardState → Due → List Slot → Option Illegal
 board_why t dues.Over cards = Some reasons.HandOver
-board_why t (dues.Deal on) cards = if nat_lt 0 (board_cards_on t.table.code on) then board_why_on t on cards else Some reasons.WrongKind
+board_why t (dues.Deal on) cards =
+    if nat_lt 0 (board_cards_on t.table.code on)
+    then board_why_on t on cards
+    else Some reasons.WrongKind
 board_why t (dues.Draw on) cards = Some reasons.WrongKind
 board_why t dues.BringIn cards = Some reasons.WrongKind
 board_why t dues.Move cards = Some reasons.WrongKind
@@ -102,8 +112,10 @@ discard_chain next held count taken lacking =
 abbrev pub discard_why_on : CardState → LiveRow → ℕ → ℕ → List Slot → Option Illegal
 discard_why_on t live on seat cards =
     discard_chain (is_next_in t live on seat) (held_count (placed t.places) seat) (length cards)
-    (has_misplaced_card t.table.code (placed t.places) (after_discard on seat cards (placed t.places)))
-    (has_no_place (filter (is_held_by seat) (placed t.places)) (known_cards cards) (blanks_in cards))
+    (has_misplaced_card t.table.code (placed t.places)
+    (after_discard on seat cards (placed t.places)))
+    (has_no_place (filter (is_held_by seat) (placed t.places)) (known_cards cards)
+    (blanks_in cards))
 
 -- why a seat may not discard these cards now
 abbrev pub discard_why : CardState → LiveRow → Due → ℕ → List Slot → Option Illegal
@@ -116,12 +128,17 @@ discard_why t live dues.Show seat cards = Some reasons.WrongKind
 
 -- a seat may show or muck: it is live, and did neither
 abbrev pub may_show_in : CardState → LiveRow → ℕ → Bool
-may_show_in t live seat = is_seat_of t.seats seat && (flag_of live seat && not (flag_of t.shown seat || flag_of t.mucked seat))
+may_show_in t live seat =
+    is_seat_of t.seats seat
+    && (flag_of live seat && not (flag_of t.shown seat || flag_of t.mucked seat))
 
--- a show may have so many cards: all that the seat holds, or its down-cards alone where its up-cards are known
+-- a show may have so many cards: all that the seat holds, or its down-cards alone where its
+-- up-cards are known
 abbrev pub may_show_many : Code → List Place → ℕ → ℕ → Bool
 may_show_many code placed seat count =
-    (count == held_count placed seat) || ((count == held_down_count code placed seat) && not (list_any is_unknown (up_slots code placed seat)))
+    (count == held_count placed seat)
+    || ((count == held_down_count code placed seat)
+    && not (list_any is_unknown (up_slots code placed seat)))
 
 -- the reasons of a show in their order
 abbrev pub show_chain : (may many taken others : Bool) → Option Illegal
@@ -135,18 +152,28 @@ show_chain may many taken others =
 -- why a seat may not show these cards, when a show may come
 abbrev pub show_why_on : CardState → LiveRow → ℕ → List Card → Option Illegal
 show_why_on t live seat cards =
-    show_chain (may_show_in t live seat) (may_show_many t.table.code (placed t.places) seat (length cards))
-    (has_misplaced_card t.table.code (placed t.places) (after_show t.table.code seat cards (placed t.places)))
-    (is_show_of_others (filter (is_covered t.table.code seat (is_show_of_all (placed t.places) seat cards)) (placed t.places)) cards)
+    show_chain (may_show_in t live seat)
+    (may_show_many t.table.code (placed t.places) seat (length cards))
+    (has_misplaced_card t.table.code (placed t.places)
+    (after_show t.table.code seat cards (placed t.places)))
+    (is_show_of_others
+    (filter (is_covered t.table.code seat (is_show_of_all (placed t.places) seat cards))
+    (placed t.places))
+    cards)
 
 -- why a seat may not show these cards now, the hand being settled or not
 abbrev pub show_why : CardState → LiveRow → Due → Bool → ℕ → List Card → Option Illegal
-show_why t live dues.Over settled seat cards = if may_show_in t live seat then show_why_on t live seat cards else Some reasons.HandOver
+show_why t live dues.Over settled seat cards =
+    if may_show_in t live seat then show_why_on t live seat cards else Some reasons.HandOver
 show_why t live dues.Show settled seat cards = show_why_on t live seat cards
-show_why t live (dues.Deal on) settled seat cards = if settled then show_why_on t live seat cards else Some reasons.WrongKind
-show_why t live (dues.Draw on) settled seat cards = if settled then show_why_on t live seat cards else Some reasons.WrongKind
-show_why t live dues.BringIn settled seat cards = if settled then show_why_on t live seat cards else Some reasons.WrongKind
-show_why t live dues.Move settled seat cards = if settled then show_why_on t live seat cards else Some reasons.WrongKind
+show_why t live (dues.Deal on) settled seat cards =
+    if settled then show_why_on t live seat cards else Some reasons.WrongKind
+show_why t live (dues.Draw on) settled seat cards =
+    if settled then show_why_on t live seat cards else Some reasons.WrongKind
+show_why t live dues.BringIn settled seat cards =
+    if settled then show_why_on t live seat cards else Some reasons.WrongKind
+show_why t live dues.Move settled seat cards =
+    if settled then show_why_on t live seat cards else Some reasons.WrongKind
 
 -- why a seat may not muck now
 abbrev pub muck_why : CardState → LiveRow → Due → ℕ → Option Illegal
@@ -159,15 +186,22 @@ muck_why t live dues.Move seat = Some reasons.WrongKind
 
 -- a live seat is owed hole cards of the street
 abbrev pub is_owed_deal_in : CardState → LiveRow → ℕ → ℕ → Bool
-is_owed_deal_in t live on seat = nat_lt 0 (if flag_of live seat then hole_cards_on t.table.code on - count_by (is_in_group (Some seat) on) (placed t.places) else 0)
+is_owed_deal_in t live on seat =
+    nat_lt 0
+    (if flag_of live seat
+    then hole_cards_on t.table.code on
+    - count_by (is_in_group (Some seat) on) (placed t.places)
+    else 0)
 
 -- a seat is owed cards for those that it discarded in the draw of the street
 abbrev pub is_owed_draw_in : CardState → ℕ → ℕ → Bool
-is_owed_draw_in t on seat = nat_lt 0 (named_at t.draws on seat - count_by (is_in_group (Some seat) on) (placed t.places))
+is_owed_draw_in t on seat =
+    nat_lt 0 (named_at t.draws on seat - count_by (is_in_group (Some seat) on) (placed t.places))
 
 -- a live seat did not show or muck
 abbrev pub has_to_show_in : CardState → LiveRow → ℕ → Bool
-has_to_show_in t live seat = flag_of live seat && not (flag_of t.shown seat || flag_of t.mucked seat)
+has_to_show_in t live seat =
+    flag_of live seat && not (flag_of t.shown seat || flag_of t.mucked seat)
 
 -- the board is owed cards of the street
 abbrev pub is_board_owed_in : CardState → ℕ → Bool
@@ -175,8 +209,13 @@ is_board_owed_in t on = nat_lt 0 (board_owed_in t on)
 
 -- what is due is complete
 abbrev pub is_done_in : CardState → LiveRow → Due → Bool
-is_done_in t live (dues.Deal on) = not (list_any (is_owed_deal_in t live on) (seats_of t.seats) || nat_lt 0 (board_owed_in t on))
-is_done_in t live (dues.Draw on) = not (has_draw t.table.code on && (is_some (next_to_draw_in t live on) || list_any (is_owed_draw_in t on) (seats_of t.seats)))
+is_done_in t live (dues.Deal on) =
+    not (list_any (is_owed_deal_in t live on) (seats_of t.seats) || nat_lt 0 (board_owed_in t on))
+is_done_in t live (dues.Draw on) =
+    not
+    (has_draw t.table.code on
+    && (is_some (next_to_draw_in t live on)
+    || list_any (is_owed_draw_in t on) (seats_of t.seats)))
 is_done_in t live dues.Show = not (list_any (has_to_show_in t live) (seats_of t.seats))
 is_done_in t live dues.BringIn = false
 is_done_in t live dues.Move = false

@@ -18,26 +18,35 @@ is_street code street = nat_le 1 street && nat_le street (street_count code)
 
 -- the most cards of the street that a seat may be dealt: in a draw as many as a hand has
 abbrev pub hole_most : Code → ℕ → ℕ
-hole_most code street = if has_draw code street then (game_of code).hole else hole_cards_on code street
+hole_most code street =
+    if has_draw code street then (game_of code).hole else hole_cards_on code street
 
 -- the most cards of the street that an owner may be dealt
 abbrev pub most_of : Code → ℕ → Option ℕ → ℕ → ℕ
-most_of code seats (Some seat) street = if is_seat_of seats seat && is_street code street then hole_most code street else 0
+most_of code seats (Some seat) street =
+    if is_seat_of seats seat && is_street code street then hole_most code street else 0
 most_of code seats None street = if is_street code street then board_cards_on code street else 0
 
 -- each owner was dealt at most so many cards of each street
 abbrev pub IsWithin : Code → ℕ → List Place → Type 0
-IsWithin code seats placed = (owner : Option ℕ) (street : ℕ) → count_by (is_in_group owner street) placed ≤ most_of code seats owner street
+IsWithin code seats placed =
+    (owner : Option ℕ) (street : ℕ)
+    → count_by (is_in_group owner street) placed ≤ most_of code seats owner street
 
 -- no seat discarded more cards in a draw than a hand has
 abbrev pub AreNamedWithin : Code → Draws → Type 0
-AreNamedWithin code draws = (street seat : ℕ) → street ≤ 5 → 1 ≤ seat → seat ≤ 10 → named_at draws street seat ≤ (game_of code).hole
+AreNamedWithin code draws =
+    (street seat : ℕ) → street ≤ 5 → 1 ≤ seat → seat ≤ 10
+    → named_at draws street seat ≤ (game_of code).hole
 
--- how many cards of the street may still come to an owner, by its deal, or in a draw for those that it discarded
+-- how many cards of the street may still come to an owner, by its deal, or in a draw for those that
+-- it discarded
 abbrev pub may_come : Code → Draws → List Place → Option ℕ → ℕ → ℕ
 may_come code draws placed (Some seat) street =
-    (if has_draw code street then named_at draws street seat else hole_cards_on code street) - count_by (is_in_group (Some seat) street) placed
-may_come code draws placed None street = board_cards_on code street - count_by (is_in_group None street) placed
+    (if has_draw code street then named_at draws street seat else hole_cards_on code street)
+    - count_by (is_in_group (Some seat) street) placed
+may_come code draws placed None street =
+    board_cards_on code street - count_by (is_in_group None street) placed
 
 -- the sum over so many numbers from the first on
 abbrev pub sum_from : (ℕ → ℕ) → ℕ → ℕ → ℕ
@@ -54,14 +63,18 @@ abbrev pub is_owner : ℕ → Option ℕ → Bool
 is_owner seats (Some seat) = is_seat_of seats seat
 is_owner seats None = true
 
--- what an owner has on the table, with all that may still come to it, is no more than a hand or a board
+-- what an owner has on the table, with all that may still come to it, is no more than a hand or a
+-- board
 abbrev pub AreHeldWithin : Code → ℕ → Draws → List Place → Type 0
 AreHeldWithin code seats draws placed =
     (owner : Option ℕ) → is_owner seats owner ≡ true
-    → count_by (is_held owner) placed + sum_from (may_come code draws placed owner) 1 (street_count code) ≤ held_most code owner
+    → count_by (is_held owner) placed
+    + sum_from (may_come code draws placed owner) 1 (street_count code)
+    ≤ held_most code owner
 
 -- so many cards of the street may be dealt to an owner
-pub record IsOwed (code : Code) (seats : ℕ) (draws : Draws) (placed : List Place) (owner : Option ℕ) (street count : ℕ) : Type 0 where
+pub record IsOwed (code : Code) (seats : ℕ) (draws : Draws) (placed : List Place) (owner : Option ℕ)
+    (street count : ℕ) : Type 0 where
   pub owner_in : is_owner seats owner ≡ true
   pub street_in : is_street code street ≡ true
   pub some : 1 ≤ count

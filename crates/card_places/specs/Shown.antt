@@ -12,10 +12,14 @@ use Rattle.card_places.specs.declared.search.Search.{Search}
 use Rattle.card_places.specs.Placed.{placed}
 use Rattle.card_places.specs.Searches.{has_unplaced_name, has_left_out_card, searched}
 
--- a search is that of a show: what it makes of the places, and whether it names others than they have
-pub record IsShowSearch (code : Code) (s : Search) (placed : List Place) (seat : ℕ) (cards : List Card) : Type 0 where
+-- a search is that of a show: what it makes of the places, and whether it names others than they
+-- have
+pub record IsShowSearch (code : Code) (s : Search) (placed : List Place) (seat : ℕ)
+    (cards : List Card) : Type 0 where
   pub after : searched code s placed ≡ after_show code seat cards placed
-  pub others : (has_unplaced_name code s placed || has_left_out_card code s placed) ≡ is_show_of_others (covered code seat (is_show_of_all placed seat cards) placed) cards
+  pub others :
+      (has_unplaced_name code s placed || has_left_out_card code s placed)
+      ≡ is_show_of_others (covered code seat (is_show_of_all placed seat cards) placed) cards
 
 -- a seat showed these cards, and nothing else changed
 pub record IsShown (old new : CardState) (seat : ℕ) (cards : List Card) : Type 0 where

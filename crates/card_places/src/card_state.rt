@@ -23,7 +23,8 @@ pub struct CardState {
     pub ghost shown_seats: { shown.seats ≡ seats },
     pub ghost mucked_seats: { mucked.seats ≡ seats },
     pub ghost few: { seats ≤ (game_of table.code).seats },
-    // No owner has more cards of a street than it deals, no seat discards more than a hand, and none holds more.
+    // No owner has more cards of a street than it deals, no seat discards more than a hand, and
+    // none holds more.
     pub ghost within: { IsWithin table.code seats (placed places) },
     pub ghost named: { AreNamedWithin table.code draws },
     pub ghost held: { AreHeldWithin table.code seats draws (placed places) },

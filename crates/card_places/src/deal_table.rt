@@ -65,7 +65,8 @@ impl DealTable {
         street.up > 0 && street.down <= card.index
     }
 
-    /// The street with this number, from 1; past the last one a street that deals and draws nothing.
+    /// The street with this number, from 1; past the last one a street that deals and draws
+    /// nothing.
     pub fn street(&self, number: u8) -> Street
         ensures { IsStreetOf self.now.code number result }
     {

@@ -3,8 +3,8 @@ ghost use Rattle.std.specs.Prelude.{◌≡◌, ◌≤◌, length};
 
 use crate::dealt_card::DealtCard;
 
-/// The most cards that a legal hand can deal: six seats that are dealt five cards, and draw five in each of three draws.
-/// Other games deal fewer: badugi 96, stud 49, Omaha 45, hold'em 25.
+/// The most cards that a legal hand can deal: six seats that are dealt five cards, and draw five in
+/// each of three draws. Other games deal fewer: badugi 96, stud 49, Omaha 45, hold'em 25.
 pub const MOST_CARDS: u8 = 120;
 
 /// The dealt cards: the first `count` of `rows`.

@@ -3,7 +3,8 @@ ghost use Rattle.std.specs.Prelude.{◌≡◌, ◌≢◌, ◌≤◌, ◌⊎◌, 
 
 use chip_ledger::Seat;
 
-/// For each street up to the fifth, and each seat: how many cards it named in the draw, and whether it drew.
+/// For each street up to the fifth, and each seat: how many cards it named in the draw, and whether
+/// it drew.
 #[derive(Clone, Copy, Debug, PartialEq, Eq)]
 pub struct Draws {
     pub named: [u8; 60],

@@ -37,7 +37,8 @@ pub fn empty(code: Code, seats: u8) -> CardState
     }
 }
 
-// No places. Where no card is dealt stands what has no bytes but zeros, so that the row is cleared at once.
+// No places. Where no card is dealt stands what has no bytes but zeros, so that the row is cleared
+// at once.
 fn no_places() -> DealtCards
     ensures { placed result ≡ [] }
 {

@@ -20,8 +20,8 @@ use crate::names::without;
 use card_set::CardRow;
 use chip_ledger::Seat;
 
-/// What is looked for: cards of a seat, all of them or those face down; where they are discarded
-/// on a street, after so many deals; the names, those of them that no known card bears, and how many
+/// What is looked for: cards of a seat, all of them or those face down; where they are discarded on
+/// a street, after so many deals; the names, those of them that no known card bears, and how many
 /// blanks come with them.
 #[derive(Clone, Copy)]
 pub struct Search {

@@ -18,7 +18,8 @@ is_in set card = bit_at set.bits (bit_place card) == 1
 
 -- the 52 cards
 unfoldable pub every_card : List Card
-every_card = flat_map (λ rank. map (λ suit. record { rank = rank; suit = suit }) all_suits) all_ranks
+every_card =
+    flat_map (λ rank. map (λ suit. record { rank = rank; suit = suit }) all_suits) all_ranks
 
 -- the cards of a set, in the order of the deck
 abbrev pub listed : CardSet → List Card

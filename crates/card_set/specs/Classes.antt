@@ -10,11 +10,13 @@ has_four_of_a_kind height cards = ranks_occurring height cards 4 == 1
 
 -- one rank occurs three times and another twice
 abbrev pub has_full_house : (Rank → ℕ) → List Card → Bool
-has_full_house height cards = ranks_occurring height cards 3 == 1 && ranks_occurring height cards 2 == 1
+has_full_house height cards =
+    ranks_occurring height cards 3 == 1 && ranks_occurring height cards 2 == 1
 
 -- one rank occurs three times and none twice
 abbrev pub has_three_of_a_kind : (Rank → ℕ) → List Card → Bool
-has_three_of_a_kind height cards = ranks_occurring height cards 3 == 1 && ranks_occurring height cards 2 == 0
+has_three_of_a_kind height cards =
+    ranks_occurring height cards 3 == 1 && ranks_occurring height cards 2 == 0
 
 -- two ranks occur twice
 abbrev pub has_two_pair : (Rank → ℕ) → List Card → Bool
@@ -22,11 +24,14 @@ has_two_pair height cards = ranks_occurring height cards 2 == 2
 
 -- one rank occurs twice and none three times
 abbrev pub has_one_pair : (Rank → ℕ) → List Card → Bool
-has_one_pair height cards = ranks_occurring height cards 2 == 1 && ranks_occurring height cards 3 == 0
+has_one_pair height cards =
+    ranks_occurring height cards 2 == 1 && ranks_occurring height cards 3 == 0
 
 -- no rank occurs more than once
 abbrev pub has_no_pair : (Rank → ℕ) → List Card → Bool
-has_no_pair height cards = ranks_occurring height cards 4 == 0 && ranks_occurring height cards 3 == 0 && ranks_occurring height cards 2 == 0
+has_no_pair height cards =
+    ranks_occurring height cards 4 == 0 && ranks_occurring height cards 3 == 0
+    && ranks_occurring height cards 2 == 0
 
 -- how many classes of a table, whose first is the best, stand before the first that a hand has
 abbrev pub place : List Bool → ℕ
@@ -40,10 +45,12 @@ IsLower [] ys = ⊥
 IsLower (x ∷ xs) [] = ⊥
 IsLower (x ∷ xs) (y ∷ ys) = (x < y) ⊎ ((x ≡ y) × IsLower xs ys)
 
--- a hand is weaker than another by a table of classes and a list of ranks: its class comes later in the table, or it is the same and the first rank that differs is lower
+-- a hand is weaker than another by a table of classes and a list of ranks: its class comes later in
+-- the table, or it is the same and the first rank that differs is lower
 abbrev pub IsBelow : (List Card → ℕ) → (List Card → List ℕ) → List Card → List Card → Type 0
 IsBelow class list a b = (class b < class a) ⊎ ((class a ≡ class b) × IsLower (list a) (list b))
 
--- a hand is weaker than another where low ranks are good: its class comes later in the table, or it is the same and the first rank that differs is higher
+-- a hand is weaker than another where low ranks are good: its class comes later in the table, or it
+-- is the same and the first rank that differs is higher
 abbrev pub IsBelowLow : (List Card → ℕ) → (List Card → List ℕ) → List Card → List Card → Type 0
 IsBelowLow class list a b = (class b < class a) ⊎ ((class a ≡ class b) × IsLower (list b) (list a))

@@ -32,7 +32,8 @@ suits_before suits.S = 3
 -- the ranks, from the lowest
 abbrev pub all_ranks : List Rank
 all_ranks =
-    ranks.Two ∷ ranks.Three ∷ ranks.Four ∷ ranks.Five ∷ ranks.Six ∷ ranks.Seven ∷ ranks.Eight ∷ ranks.Nine
+    ranks.Two ∷ ranks.Three ∷ ranks.Four ∷ ranks.Five ∷ ranks.Six ∷ ranks.Seven ∷ ranks.Eight
+    ∷ ranks.Nine
     ∷ ranks.Ten ∷ ranks.Jack ∷ ranks.Queen ∷ ranks.King ∷ ranks.Ace ∷ []
 
 -- the suits, in the order of the deck

@@ -1,4 +1,5 @@
--- Sets and rows of cards, their order in the deck, their ranks and classes, and how they are spelled.
+-- Sets and rows of cards, their order in the deck, their ranks and classes, and how they are
+-- spelled.
 pub mod CardSet
 pub mod Classes
 pub mod Deck

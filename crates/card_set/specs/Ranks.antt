@@ -56,9 +56,12 @@ ranks_occurring height cards n = length (occurring height cards n)
 
 -- the different heights of the cards, first those that occur oftener, then the greater
 unfoldable pub ranks_of : (Rank → ℕ) → List Card → List ℕ
-ranks_of height cards = occurring height cards 4 ++ (occurring height cards 3 ++ (occurring height cards 2 ++ occurring height cards 1))
+ranks_of height cards =
+    occurring height cards 4
+    ++ (occurring height cards 3 ++ (occurring height cards 2 ++ occurring height cards 1))
 
 -- the cards are of one suit: each has that of the first
 abbrev pub is_one_suit : List Card → Bool
 is_one_suit [] = false
-is_one_suit (card ∷ rest) = list_all (λ other. suits_before other.suit == suits_before card.suit) (card ∷ rest)
+is_one_suit (card ∷ rest) =
+    list_all (λ other. suits_before other.suit == suits_before card.suit) (card ∷ rest)

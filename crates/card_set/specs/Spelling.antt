@@ -1,4 +1,5 @@
--- How cards and slots are spelled: a letter for the rank and a letter for the suit, or two question marks.
+-- How cards and slots are spelled: a letter for the rank and a letter for the suit, or two question
+-- marks.
 use Rattle.std.specs.Prelude.{◌≡◌, ◌⊎◌, ℕ, ◌%◌, ◌≤◌, ◌<◌, ◌==◌, ◌&&◌, if◌then◌else◌, List, [], ◌∷◌, ◌++◌, length, find, Option, Some, None, option_and_then}
 use Rattle.std.specs.Option.{option_map}
 use Rattle.card_set.specs.declared.card.Rank.{Rank}
@@ -64,7 +65,8 @@ BeginsSlot first = IsRankLetter first ⊎ (first ≡ unknown_sign)
 abbrev pub SpellsSlot : ℕ → ℕ → Type 0
 SpellsSlot first second = (slot : Slot) × (slot_spelling slot ≡ first ∷ second ∷ [])
 
--- what is wrong with a pair of letters: no slot begins with the first, or the second does not fit it
+-- what is wrong with a pair of letters: no slot begins with the first, or the second does not fit
+-- it
 abbrev pub PairFault : ℕ → ℕ → CardFault → Type 0
 PairFault first second faults.BadRank = ¬ (BeginsSlot first)
 PairFault first second faults.BadSuit = BeginsSlot first × ¬ (SpellsSlot first second)
@@ -102,10 +104,16 @@ unfoldable pub slot_spelled : ℕ → ℕ → Option Slot
 slot_spelled first second =
     if first == unknown_sign && second == unknown_sign
     then Some slots.Unknown
-    else option_and_then (λ rank. option_map (λ suit. slots.Known (record { rank = rank; suit = suit })) (suit_lettered second)) (rank_lettered first)
+    else option_and_then
+    (λ rank.
+    option_map (λ suit. slots.Known (record { rank = rank; suit = suit }))
+    (suit_lettered second))
+    (rank_lettered first)
 
 -- the slots that letters spell, two letters each, where they spell some
 abbrev pub slots_spelled : List ℕ → Option (List Slot)
 slots_spelled [] = Some []
 slots_spelled (first ∷ []) = None
-slots_spelled (first ∷ second ∷ rest) = option_and_then (λ slot. option_map (λ others. slot ∷ others) (slots_spelled rest)) (slot_spelled first second)
+slots_spelled (first ∷ second ∷ rest) =
+    option_and_then (λ slot. option_map (λ others. slot ∷ others) (slots_spelled rest))
+    (slot_spelled first second)

@@ -13,7 +13,11 @@ pub record AreUpCards (cards : List Card) : Type 0 where
 
 -- the classes of high up-cards from the best: four, three, two pair, pair, high card
 unfoldable pub up_high_class : List Card → ℕ
-up_high_class cards = place (has_four_of_a_kind high_ace cards ∷ has_three_of_a_kind high_ace cards ∷ has_two_pair high_ace cards ∷ has_one_pair high_ace cards ∷ has_no_pair high_ace cards ∷ [])
+up_high_class cards =
+    place
+    (has_four_of_a_kind high_ace cards ∷ has_three_of_a_kind high_ace cards
+    ∷ has_two_pair high_ace cards ∷ has_one_pair high_ace cards
+    ∷ has_no_pair high_ace cards ∷ [])
 
 -- high up-cards are weaker: the ace is high, and higher ranks are better
 abbrev pub IsWeakerUpHigh : List Card → List Card → Type 0
@@ -21,8 +25,13 @@ IsWeakerUpHigh a b = IsBelow up_high_class (ranks_of high_ace) a b
 
 -- the classes of low cards from the best: no pair, pair, two pair, three, full house, four
 unfoldable pub low_class : List Card → ℕ
-low_class cards = place (has_no_pair low_ace cards ∷ has_one_pair low_ace cards ∷ has_two_pair low_ace cards ∷ has_three_of_a_kind low_ace cards ∷ has_full_house low_ace cards ∷ has_four_of_a_kind low_ace cards ∷ [])
+low_class cards =
+    place
+    (has_no_pair low_ace cards ∷ has_one_pair low_ace cards ∷ has_two_pair low_ace cards
+    ∷ has_three_of_a_kind low_ace cards ∷ has_full_house low_ace cards
+    ∷ has_four_of_a_kind low_ace cards ∷ [])
 
--- low cards are weaker, up-cards and whole hands of razz: the ace is low, and lower ranks are better
+-- low cards are weaker, up-cards and whole hands of razz: the ace is low, and lower ranks are
+-- better
 abbrev pub IsWeakerLow : List Card → List Card → Type 0
 IsWeakerLow a b = IsBelowLow low_class (ranks_of low_ace) a b

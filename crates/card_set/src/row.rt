@@ -1,4 +1,5 @@
-//! A row has up to seven entries, and after them only the filler, so two rows with the same entries are one.
+//! A row has up to seven entries, and after them only the filler, so two rows with the same entries
+//! are one.
 ghost use Rattle.std.specs.Prelude.{◌≡◌, ℕ, ◌+◌, ◌<◌, ◌≤◌, [], ◌∷◌, ◌++◌, length, slice_get, Some};
 ghost use Rattle.card_set.specs.Filler.{filler_card, filler_slot};
 

@@ -1,4 +1,5 @@
-//! A card is spelled by the letter of its rank and the letter of its suit, an unknown one by two question marks.
+//! A card is spelled by the letter of its rank and the letter of its suit, an unknown one by two
+//! question marks.
 ghost use Rattle.std.specs.Prelude.{◌≡◌, ◌%◌, ◌≤◌, List, [], ◌∷◌, length, IfOk, IfErr, IfSome, IfNone, IsOkAnd};
 ghost use Rattle.card_set.specs.declared.card.Rank.{Rank};
 ghost use Rattle.card_set.specs.declared.card.Suit.{Suit};

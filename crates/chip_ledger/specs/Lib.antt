@@ -1,4 +1,5 @@
--- What is read from seats and rows, the pots that chips make, and what is left of them after the rake.
+-- What is read from seats and rows, the pots that chips make, and what is left of them after the
+-- rake.
 pub mod Seat
 pub mod SeatRow
 pub mod LiveRow

@@ -31,7 +31,8 @@ plain_pots row = map plain (pots_in row)
 abbrev pub plain_shares : ShareRow → List (ℕ → ℕ)
 plain_shares row = map amount_of (shares_in row)
 
--- the shares of pot number n together, the lowest having the number 1; past the last pot there are none
+-- the shares of pot number n together, the lowest having the number 1; past the last pot there are
+-- none
 abbrev pub shared_in : ShareRow → ℕ → ℕ
 shared_in row number = option_map_or total_of (slice_get (shares_in row) (number - 1)) 0
 

@@ -1,9 +1,11 @@
--- The pots of a hand: what is returned, the levels at which chips are cut, and who may win each pot.
+-- The pots of a hand: what is returned, the levels at which chips are cut, and who may win each
+-- pot.
 use Rattle.std.specs.Prelude.{ℕ, ◌+◌, ◌-◌, ◌==◌, ◌&&◌, ◌||◌, Bool, not, if◌then◌else◌, List, [], ◌∷◌, min, nat_lt, nat_le, map, filter, fold, sum, sum_by}
 use Rattle.std.specs.List.{list_all, list_any}
 use Rattle.chip_ledger.specs.Greatest.{greatest}
 
--- a seat at the end of a hand: its number, the chips that it put and that count, and whether it is live
+-- a seat at the end of a hand: its number, the chips that it put and that count, and whether it is
+-- live
 pub record Stake : Type 0 where
   pub seat : ℕ
   pub chips : ℕ
@@ -32,7 +34,8 @@ dead_chips dead_antes antes = if dead_antes then sum antes else 0
 
 -- what every seat but this one put at most, folded seats too
 abbrev pub greatest_other : List Stake → ℕ → ℕ
-greatest_other stakes seat = greatest (map (λ s. s.chips) (filter (λ s. not (s.seat == seat)) stakes))
+greatest_other stakes seat =
+    greatest (map (λ s. s.chips) (filter (λ s. not (s.seat == seat)) stakes))
 
 -- what a seat gets back: the chips by which a live seat put more than every other seat
 abbrev pub returned : List Stake → Stake → ℕ
@@ -72,7 +75,8 @@ folded_above stakes level = sum_by (λ s. if s.live then 0 else s.chips - level)
 abbrev pub reaching : List Stake → ℕ → List ℕ
 reaching stakes level = map (λ s. s.seat) (filter (λ s. s.live && nat_le level s.chips) stakes)
 
--- the chips above a level that join the pot of this level: those of folded seats, where no level follows
+-- the chips above a level that join the pot of this level: those of folded seats, where no level
+-- follows
 abbrev pub joining : List Stake → ℕ → List ℕ → ℕ
 joining stakes level [] = folded_above stakes level
 joining stakes level (_ ∷ _) = 0
@@ -95,8 +99,9 @@ with_dead dead (pot ∷ pots) = record pot { chips = pot.chips + dead } ∷ pots
 abbrev pub is_reached_by_all : List Stake → ℕ → Bool
 is_reached_by_all stakes level = list_all (λ s. not s.live || nat_le level s.chips) stakes
 
--- the pots with the dead chips, empty ones too: the dead chips are in a pot of their own for all live
--- seats, or in the first pot where this is for all of them too; without a level all chips are in one pot
+-- the pots with the dead chips, empty ones too: the dead chips are in a pot of their own for all
+-- live seats, or in the first pot where this is for all of them too; without a level all chips are
+-- in one pot
 unfoldable pub pots_at : List Stake → ℕ → List ℕ → List PlainPot
 pots_at stakes dead [] =
     record { chips = sum_by (λ s. s.chips) stakes + dead; eligible = reaching stakes 0 } ∷ []

@@ -1,4 +1,5 @@
--- What is left of the pots of a hand when the house has taken its rakes, and the first rake that a pot has not the chips for.
+-- What is left of the pots of a hand when the house has taken its rakes, and the first rake that a
+-- pot has not the chips for.
 use Rattle.std.specs.Prelude.{ℕ, ◌-◌, ◌≤◌, nat_lt, suc, List, [], ◌∷◌, slice_get, Option, find}
 use Rattle.std.specs.List.{range_with_len}
 use Rattle.std.specs.Option.{option_map_or}
@@ -13,7 +14,8 @@ less_rake rake pot = record pot { chips = pot.chips - rake }
 -- each of some pots less its rake, where the first of them has this number
 abbrev pub nets_from : ℕ → RakeRow → List PlainPot → List PlainPot
 nets_from number rakes [] = []
-nets_from number rakes (pot ∷ pots) = less_rake (rake_of rakes number) pot ∷ nets_from (suc number) rakes pots
+nets_from number rakes (pot ∷ pots) =
+    less_rake (rake_of rakes number) pot ∷ nets_from (suc number) rakes pots
 
 -- the nets of the pots of a hand: each pot less its rake, the lowest first
 abbrev pub nets_of : RakeRow → List PlainPot → List PlainPot
@@ -29,4 +31,5 @@ HaveRakes pots rakes = (number : ℕ) → rake_of rakes number ≤ chips_in pots
 
 -- the number of the first pot whose rake is above its chips, among the eleven that a row holds
 abbrev pub first_rake_above : RakeRow → List PlainPot → Option ℕ
-first_rake_above rakes pots = find (λ number. nat_lt (chips_in pots number) (rake_of rakes number)) (range_with_len 1 11)
+first_rake_above rakes pots =
+    find (λ number. nat_lt (chips_in pots number) (rake_of rakes number)) (range_with_len 1 11)

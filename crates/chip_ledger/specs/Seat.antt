@@ -10,8 +10,8 @@ seats_of seats = range_with_len 1 seats
 abbrev pub IsSeatOf : ℕ → ℕ → Type 0
 IsSeatOf seats seat = (1 ≤ seat) × (seat ≤ seats)
 
--- the seat of the small blind of a hand with so many seats, where blinds go round from the button: the first, or of two the
--- second
+-- the seat of the small blind of a hand with so many seats, where blinds go round from the button:
+-- the first, or of two the second
 abbrev pub small_blind_of : ℕ → ℕ
 small_blind_of seats = if seats == 2 then 2 else 1
 

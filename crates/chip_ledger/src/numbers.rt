@@ -1,4 +1,5 @@
-//! A seat's number is 1 to 10, and an amount of chips that a setup or an event states is at most 10^12.
+//! A seat's number is 1 to 10, and an amount of chips that a setup or an event states is at most
+//! 10^12.
 ghost use Rattle.std.specs.Prelude.{◌≡◌, ◌≤◌, ◌↔◌, IsSome, IfSome};
 ghost use Rattle.chip_ledger.specs.declared.numbers.TheConstants.{MOST_CHIPS};
 

@@ -1,8 +1,8 @@
 //! A row of rakes holds what a house takes from each pot of a hand.
 ghost use Rattle.std.specs.Prelude.{◌≡◌, length};
 
-/// What a house takes from each pot before it is shared, in chips. The lowest pot's rake is at index 0, and a
-/// pot from which nothing is taken has 0.
+/// What a house takes from each pot before it is shared, in chips. The lowest pot's rake is at
+/// index 0, and a pot from which nothing is taken has 0.
 #[derive(Clone, Copy, Debug, PartialEq, Eq, Hash)]
 pub struct RakeRow {
     pub rakes: [u64; 11],

@@ -56,8 +56,8 @@ impl SeatRow {
     }
 }
 
-/// A flag for each seat of a hand, as whether it is live. The first seat's is at index 0, and `false`
-/// is the filler.
+/// A flag for each seat of a hand, as whether it is live. The first seat's is at index 0, and
+/// `false` is the filler.
 #[derive(Clone, Copy, Debug, PartialEq, Eq, Hash)]
 pub struct LiveRow {
     pub seats: u8,

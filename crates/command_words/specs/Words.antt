@@ -27,9 +27,9 @@ pub data Sides : Type 0 where
   SidesUnder : (game : List ℕ) → (from other : NotationName) → Sides
 
 -- What is asked for: the summary of so many hands that are made from a seed, or what is made of the
--- hands that are read, or whether they are the same as those of the file with this name, where notes
--- may be looked at. Hands of which logs are read or written are under the game of the file with this
--- name; others have none.
+-- hands that are read, or whether they are the same as those of the file with this name, where
+-- notes may be looked at. Hands of which logs are read or written are under the game of the file
+-- with this name; others have none.
 pub data Request : Type 0 where
   Load : (seed hands : ℕ) → Request
   Plain : PlainNotation → Task PlainNotation → Request

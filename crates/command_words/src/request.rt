@@ -331,7 +331,8 @@ fn sides_of<'a>(from: NotationName, other: NotationName, game: Option<&'a str>) 
 
 // The name of a file, if one is given and is not empty.
 fn file_named(name: Option<&str>) -> Option<&str>
-    ensures { option_map (λ s. s.now) result ≡ file_named_said (option_map (λ s. s.now) name.entry) }
+    ensures { option_map (λ s. s.now) result
+        ≡ file_named_said (option_map (λ s. s.now) name.entry) }
 {
     match name {
         Some(name) if !name.is_empty() => Some(name),

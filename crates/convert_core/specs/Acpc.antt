@@ -15,7 +15,8 @@ use Rattle.convert_core.specs.declared.format_fault.FormatFault.{FormatFault}
 use Rattle.convert_core.specs.declared.format_fault.FormatFault.TheVariants as formats
 use Rattle.hand_records.specs.Moves.{moves_of}
 
--- bytes say these records under a game: they are what the bytes read as, each one of the game, and no more than a file may have
+-- bytes say these records under a game: they are what the bytes read as, each one of the game, and
+-- no more than a file may have
 pub record Say (game : Game) (bytes : List ℕ) (records : List Record) : Type 0 where
   pub reads : reading game bytes ≡ Ok (map record_said records)
   pub each : AllByRecursion (IsOfGame game) records

@@ -1,4 +1,5 @@
 -- Bytes of a log under a game say one list of records, as far as records can be told apart.
+-- This is a proof: no reader needs it.
 use Rattle.std.proofs.Common.{◌≡◌, ℕ, ◌≤◌, true, ℤ, pos, List, [], ◌∷◌, map, length, take, get_or, slice_index_or, Option, Some, None, is_some, option_map, Ok, refl, sym, subst, ap, ◌∙◌, inl, inr, arith}
 use Rattle.std.specs.List.{AllByRecursion}
 use Rattle.std.specs.Option.{option_map_or}
@@ -31,7 +32,14 @@ KeptNets-prop seats nets = hlevel props
 
 -- the row that keeps these nets
 net_row : (seats : ℕ) (nets : List ℤ) → KeptNets seats nets → NetRow
-net_row seats nets kept = record { seats = seats; nets = nets; greatest = kept.greatest; full = kept.full; filler = kept.filler }
+net_row seats nets kept =
+    record {
+      seats = seats;
+      nets = nets;
+      greatest = kept.greatest;
+      full = kept.full;
+      filler = kept.filler;
+    }
 
 -- a row keeps its own nets
 kept_nets : (a : NetRow) → KeptNets a.seats a.nets
@@ -42,7 +50,8 @@ net_row_same : (a b : NetRow) → a.seats ≡ b.seats → a.nets ≡ b.nets → 
 unfolding net_row kept_nets
 net_row_same a b seats same =
     let P : ℕ → List ℤ → Type 0 = λ n nets. (kept : KeptNets n nets) → a ≡ net_row n nets kept in
-    let here : P a.seats a.nets = λ kept. ap (net_row a.seats a.nets) (KeptNets-prop a.seats a.nets (kept_nets a) kept) in
+    let here : P a.seats a.nets =
+    λ kept. ap (net_row a.seats a.nets) (KeptNets-prop a.seats a.nets (kept_nets a) kept) in
     subst (λ nets. P b.seats nets) same (subst (λ n. P n a.nets) seats here) (kept_nets b)
 
 -- rows that say the same nets are one row
@@ -63,7 +72,8 @@ nets_same a b same =
     ]))
 
 -- rows that are both stated are one where they say the same nets
-values_same : (x y : Option NetRow) → is_some x ≡ true → is_some y ≡ true → option_map_or nets_in x [] ≡ option_map_or nets_in y [] → x ≡ y
+values_same : (x y : Option NetRow) → is_some x ≡ true → is_some y ≡ true
+    → option_map_or nets_in x [] ≡ option_map_or nets_in y [] → x ≡ y
 values_same None y some other same = absurd (cc)
 values_same (Some a) None some other same = absurd (cc)
 values_same (Some a) (Some b) some other same = ap Some (nets_same a b same)
@@ -74,7 +84,8 @@ unfolding stated_from
 stated_parts s = refl
 
 -- facts of logs, where only the nets are stated, are one where the nets are
-one_stated : (a b : Stated) → StatesValues a → StatesValues b → option_map_or nets_in a.values [] ≡ option_map_or nets_in b.values [] → a ≡ b
+one_stated : (a b : Stated) → StatesValues a → StatesValues b
+    → option_map_or nets_in a.values [] ≡ option_map_or nets_in b.values [] → a ≡ b
 one_stated a b is it same =
     cc (
       stated_parts a,
@@ -85,7 +96,8 @@ one_stated a b is it same =
       values_same a.values b.values is.values it.values same,
     )
 
-module _ (game : Game) (a b : Record) (is : IsOfGame game a) (it : IsOfGame game b) (same : record_said a ≡ record_said b) where
+module _ (game : Game) (a b : Record) (is : IsOfGame game a) (it : IsOfGame game b)
+    (same : record_said a ≡ record_said b) where
   -- their setups are one
   setups : a.setup ≡ b.setup
   setups = setups_same game a.setup b.setup is.setup it.setup
@@ -96,10 +108,12 @@ module _ (game : Game) (a b : Record) (is : IsOfGame game a) (it : IsOfGame game
 
   -- the seats have the same names
   names : take a.setup.stacks.seats a.notes.names ≡ take a.setup.stacks.seats b.notes.names
-  names = ap (λ (hand : HandSaid). hand.names) same ∙ ap (λ (n : ℕ). take n b.notes.names) (sym count)
+  names =
+      ap (λ (hand : HandSaid). hand.names) same ∙ ap (λ (n : ℕ). take n b.notes.names) (sym count)
 
   -- the other record names no more seats
-  no_names : (index : ℕ) → a.setup.stacks.seats ≤ index → slice_index_or b.notes.names index None ≡ None
+  no_names : (index : ℕ) → a.setup.stacks.seats ≤ index
+      → slice_index_or b.notes.names index None ≡ None
   no_names index late = it.sound.notes.no_more_names index (omega (arith, late, count))
 
   -- two hands of one game that are said alike
@@ -110,13 +124,18 @@ module _ (game : Game) (a b : Record) (is : IsOfGame game a) (it : IsOfGame game
           setup = setups;
           rules = is.rules ∙ sym it.rules;
           script = one_script a b (ap (λ (hand : HandSaid). hand.events) same);
-          stated = one_stated a.stated b.stated is.stated it.stated (ap (λ (hand : HandSaid). hand.values) same);
+          stated =
+              one_stated a.stated b.stated is.stated it.stated
+              (ap (λ (hand : HandSaid). hand.values) same);
         };
         notes = record {
-          names = names_same a.setup.stacks.seats a.notes.names b.notes.names names is.sound.notes.no_more_names no_names;
+          names =
+              names_same a.setup.stacks.seats a.notes.names b.notes.names names
+              is.sound.notes.no_more_names no_names;
           all_names = names;
           seats = λ index. ap (number_at index) (is.notes.seats ∙ sym it.notes.seats);
-          all_seats = ap (option_map (take a.setup.stacks.seats)) (is.notes.seats ∙ sym it.notes.seats);
+          all_seats =
+              ap (option_map (take a.setup.stacks.seats)) (is.notes.seats ∙ sym it.notes.seats);
           seat_count = is.notes.seat_count ∙ sym it.notes.seat_count;
           hand = ap (λ (hand : HandSaid). hand.hand) same;
           table = is.notes.table ∙ sym it.notes.table;
@@ -131,7 +150,8 @@ module _ (game : Game) (a b : Record) (is : IsOfGame game a) (it : IsOfGame game
       }
 
 -- records that are said alike are alike, one by one
-pub all_alike : (game : Game) (records others : List Record) → AllByRecursion (IsOfGame game) records → AllByRecursion (IsOfGame game) others
+pub all_alike : (game : Game) (records others : List Record)
+    → AllByRecursion (IsOfGame game) records → AllByRecursion (IsOfGame game) others
     → map record_said records ≡ map record_said others → AllAlike records others
 unfolding AllAlike
 all_alike game [] [] all each same = tt
@@ -141,7 +161,9 @@ all_alike game (a ∷ rest) (b ∷ others) all each same =
     (log_alike game a b all.0 each.0 (cc), all_alike game rest others all.1 each.1 (cc))
 
 -- bytes say one list of records
-pub one_reading : (game : Game) (bytes : List ℕ) (records others : List Record) → Say game bytes records → Say game bytes others → AllAlike records others
+pub one_reading : (game : Game) (bytes : List ℕ) (records others : List Record)
+    → Say game bytes records → Say game bytes others → AllAlike records others
 one_reading game bytes records others say too =
-    let same : Ok (map record_said records) ≡ Ok (map record_said others) = sym say.reads ∙ too.reads in
+    let same : Ok (map record_said records) ≡ Ok (map record_said others) =
+    sym say.reads ∙ too.reads in
     all_alike game records others say.each too.each (cc)

@@ -1,4 +1,5 @@
 -- The laws that a notation keeps, of the logs of the competition under a game.
+-- This is a proof: no reader needs it.
 use Rattle.std.proofs.Common.{◌≡◌, ℕ, ◌+◌, ◌≤◌, Bool, true, List, [], ◌∷◌, ◌++◌, append_assoc, append-nil, length, reverse, sum_by, Some, None, Ok, refl, sym, ap, subst, ◌∙◌, arith}
 use Rattle.std.specs.List.{AllByRecursion}
 use Rattle.std.proofs.lemmas.List.Sums.{sum_by-cons}
@@ -42,19 +43,25 @@ use Rattle.hand_records.specs.Plays.{moves_written}
 use Rattle.play_event.proofs.TracedMoves.{as_many}
 
 -- each hand that bytes say is under the rules of its notation
-each_under : (game : Game) (records : List Record) → AllByRecursion (IsOfGame game) records → AllByRecursion (IsUnder (rules_of game)) records
+each_under : (game : Game) (records : List Record) → AllByRecursion (IsOfGame game) records
+    → AllByRecursion (IsUnder (rules_of game)) records
 each_under game [] each = tt
-each_under game (hand ∷ hands) each = (record { sound = each.0.sound; rules_are = each.0.rules }, each_under game hands each.1)
+each_under game (hand ∷ hands) each =
+    (record { sound = each.0.sound; rules_are = each.0.rules }, each_under game hands each.1)
 
 -- what bytes say is what a reader gives of a file
-pub reads_file : (game : Game) (bytes : List ℕ) (hands : List Record) → Say game bytes hands → AreOfFile (rules_of game) hands
-reads_file game bytes hands say = record { each = each_under game hands say.each; few = say.few; few_moves = say.few_moves }
+pub reads_file : (game : Game) (bytes : List ℕ) (hands : List Record) → Say game bytes hands
+    → AreOfFile (rules_of game) hands
+reads_file game bytes hands say =
+    record { each = each_under game hands say.each; few = say.few; few_moves = say.few_moves }
 
 -- what is read has no fault
-pub no_fault : (game : Game) (bytes : List ℕ) (hands : List Record) (fault : FormatFault) → Say game bytes hands → HaveFault game bytes fault → ⊥
+pub no_fault : (game : Game) (bytes : List ℕ) (hands : List Record) (fault : FormatFault)
+    → Say game bytes hands → HaveFault game bytes fault → ⊥
 no_fault game bytes hands (formats.Phh fault) say have = have
 no_fault game bytes hands (formats.Ohh fault) say have = have
-no_fault game bytes hands (formats.Acpc fault) say have = (let said = say.reads in let had = have.reads in cc)
+no_fault game bytes hands (formats.Acpc fault) say have =
+    (let said = say.reads in let had = have.reads in cc)
 
 -- of a play as many moves are written as were played
 same_count : (play : Play) → IsSound play → moves_written play ≡ moves_played play
@@ -67,27 +74,43 @@ same_count play sound =
     ∙ count_reversed is_move script
 
 -- of all plays as many moves are written as were played
-all_counted : (plays : List Play) → AllByRecursion IsSound plays → sum_by moves_written plays ≡ sum_by moves_played plays
+all_counted : (plays : List Play) → AllByRecursion IsSound plays
+    → sum_by moves_written plays ≡ sum_by moves_played plays
 all_counted [] each = refl
 all_counted (play ∷ rest) each =
-    omega (arith, sum_by-cons moves_written play rest, sum_by-cons moves_played play rest, same_count play each.0, all_counted rest each.1)
+    omega (
+      arith,
+      sum_by-cons moves_written play rest,
+      sum_by-cons moves_played play rest,
+      same_count play each.0,
+      all_counted rest each.1,
+    )
 
 -- lines that read as hands have no fault
-none_had : (game : Game) (lines : List ℕ) (plays : List Play) (fault : FormatFault) → reading game lines ≡ Ok (hands_again game.no_limit 0 plays) → HaveFault game lines fault → ⊥
+none_had : (game : Game) (lines : List ℕ) (plays : List Play) (fault : FormatFault)
+    → reading game lines ≡ Ok (hands_again game.no_limit 0 plays) → HaveFault game lines fault → ⊥
 none_had game lines plays (formats.Phh fault) read have = have
 none_had game lines plays (formats.Ohh fault) read have = have
 none_had game lines plays (formats.Acpc fault) read have = (let had = have.reads in cc)
 
 -- the lines of plays read back
-lines_back : (game : Game) (keep : Keep) (plays : List Play) → AreFew plays → AllByRecursion IsSound plays → AllByRecursion HasTexts plays → first_refusal (facts.unspelled game keep) plays ≡ None
-    → ReadBack (Say game (log_text game.no_limit plays)) (HaveFault game (log_text game.no_limit plays)) (KeepsNotes kept_in_acpc) plays
+lines_back : (game : Game) (keep : Keep) (plays : List Play) → AreFew plays
+    → AllByRecursion IsSound plays → AllByRecursion HasTexts plays
+    → first_refusal (facts.unspelled game keep) plays ≡ None
+    → ReadBack (Say game (log_text game.no_limit plays))
+    (HaveFault game (log_text game.no_limit plays)) (KeepsNotes kept_in_acpc) plays
 lines_back game keep plays few sound texts spelled =
     let none = spelled in
-    let moves : sum_by moves_written plays ≤ MOST_FILE_MOVES = omega (arith, few.few_moves, all_counted plays sound) in
-    let read : reading game (log_text game.no_limit plays) ≡ Ok (hands_again game.no_limit 0 plays) = sound_again game keep plays few.few sound texts none moves in
+    let moves : sum_by moves_written plays ≤ MOST_FILE_MOVES =
+    omega (arith, few.few_moves, all_counted plays sound) in
+    let read :
+    reading game (log_text game.no_limit plays) ≡ Ok (hands_again game.no_limit 0 plays) =
+    sound_again game keep plays few.few sound texts none moves in
     record {
       no_fault = λ fault have. none_had game (log_text game.no_limit plays) plays fault read have;
-      again = λ hands say. read_back game keep plays few.few sound texts none moves hands say.each say.reads;
+      again =
+          λ hands say.
+          read_back game keep plays few.few sound texts none moves hands say.each say.reads;
     }
 
 -- no plays are no bytes
@@ -96,7 +119,8 @@ no_lines game = record { lines = refl; texts = tt }
 
 -- lines of plays, of which the first is at a place, and the line of one play more
 lines_more : (no_limit : Bool) (place : ℕ) (before : List Play) (play : Play)
-    → lines_from no_limit place (before ++ play ∷ []) ≡ lines_from no_limit place before ++ line_text no_limit (place + length before) play
+    → lines_from no_limit place (before ++ play ∷ [])
+    ≡ lines_from no_limit place before ++ line_text no_limit (place + length before) play
 lines_more no_limit place [] play =
     let here : place ≡ place + 0 = omega arith in
     append-nil (line_text no_limit place play) ∙ ap (λ (n : ℕ). line_text no_limit n play) here
@@ -104,12 +128,16 @@ lines_more no_limit place (first ∷ rest) play =
     let line = line_text no_limit place first in
     let here : place + 1 + length rest ≡ place + length (first ∷ rest) = omega arith in
     ap (λ (l : List ℕ). line ++ l) (lines_more no_limit (place + 1) rest play)
-    ∙ ap (λ (n : ℕ). line ++ (lines_from no_limit (place + 1) rest ++ line_text no_limit n play)) here
-    ∙ sym (append_assoc line (lines_from no_limit (place + 1) rest) (line_text no_limit (place + length (first ∷ rest)) play))
+    ∙ ap (λ (n : ℕ). line ++ (lines_from no_limit (place + 1) rest ++ line_text no_limit n play))
+    here
+    ∙ sym
+    (append_assoc line (lines_from no_limit (place + 1) rest)
+    (line_text no_limit (place + length (first ∷ rest)) play))
 
 -- behind the spelling of plays the line of one play more
 pub one_line_more : (game : Game) (before : List Play) (play : Play) (place : ℕ) (old new : List ℕ)
-    → length before ≡ place → Spell game before old → new ≡ old ++ line_text game.no_limit place play → HasTexts play
+    → length before ≡ place → Spell game before old
+    → new ≡ old ++ line_text game.no_limit place play → HasTexts play
     → Spell game (before ++ play ∷ []) new
 one_line_more game before play place old new many spell with_line one =
     let zeroth : place ≡ 0 + length before = omega (arith, many) in
@@ -123,28 +151,43 @@ one_line_more game before play place old new many spell with_line one =
     }
 
 -- what is written reads back
-pub reads_back : (game : Game) (keep : Keep) (plays : List Play) (bytes : List ℕ) → AreFew plays → AllByRecursion IsSound plays → first_refusal (facts.unspelled game keep) plays ≡ None → Spell game plays bytes
+pub reads_back : (game : Game) (keep : Keep) (plays : List Play) (bytes : List ℕ) → AreFew plays
+    → AllByRecursion IsSound plays → first_refusal (facts.unspelled game keep) plays ≡ None
+    → Spell game plays bytes
     → ReadBack (Say game bytes) (HaveFault game bytes) (KeepsNotes kept_in_acpc) plays
 reads_back game keep plays bytes few sound spelled spell =
-    subst (λ (written : List ℕ). ReadBack (Say game written) (HaveFault game written) (KeepsNotes kept_in_acpc) plays) (sym spell.lines)
+    subst
+    (λ (written : List ℕ).
+    ReadBack (Say game written) (HaveFault game written) (KeepsNotes kept_in_acpc) plays)
+    (sym spell.lines)
     (lines_back game keep plays few sound spell.texts spelled)
 
 -- what is not spelled no bytes say, unless it is an odd chip or a note
-pub sharp : (game : Game) (keep : Keep) (play : Play) (fact : Unspelled) → facts.unspelled game keep play ≡ Some fact → is_sharp fact ≡ true
-    → (bytes : List ℕ) (hands : List Record) → Say game bytes hands → AllByRecursion (IsOther play) hands
-sharp game keep play fact found is bytes hands say = sharpness game keep play fact found is bytes hands say.each say.reads
+pub sharp : (game : Game) (keep : Keep) (play : Play) (fact : Unspelled)
+    → facts.unspelled game keep play ≡ Some fact → is_sharp fact ≡ true
+    → (bytes : List ℕ) (hands : List Record) → Say game bytes hands
+    → AllByRecursion (IsOther play) hands
+sharp game keep play fact found is bytes hands say =
+    sharpness game keep play fact found is bytes hands say.each say.reads
 
 -- hands that are the same are written as the same bytes
-pub one_spelling : (game : Game) (plays others : List Play) (bytes too : List ℕ) → Spell game plays bytes → Spell game others too
+pub one_spelling : (game : Game) (plays others : List Play) (bytes too : List ℕ)
+    → Spell game plays bytes → Spell game others too
     → AreSameHands kept_in_acpc plays others → bytes ≡ too
 one_spelling game plays others bytes too spell spell_too same =
     spell.lines ∙ forms.one_text game.no_limit plays others same ∙ sym spell_too.lines
 
 -- what is written as the same bytes are the same hands
-pub same_hands : (game : Game) (keep : Keep) (plays others : List Play) (bytes too : List ℕ) → AreFew plays → AreFew others → AllByRecursion IsSound plays → AllByRecursion IsSound others
-    → first_refusal (facts.unspelled game keep) plays ≡ None → first_refusal (facts.unspelled game keep) others ≡ None
-    → Spell game plays bytes → Spell game others too → bytes ≡ too → AreSameHands kept_in_acpc plays others
-same_hands game keep plays others bytes too few few_too sound sound_too none none_too spell spell_too same =
+pub same_hands : (game : Game) (keep : Keep) (plays others : List Play) (bytes too : List ℕ)
+    → AreFew plays → AreFew others → AllByRecursion IsSound plays → AllByRecursion IsSound others
+    → first_refusal (facts.unspelled game keep) plays ≡ None
+    → first_refusal (facts.unspelled game keep) others ≡ None
+    → Spell game plays bytes → Spell game others too → bytes ≡ too
+    → AreSameHands kept_in_acpc plays others
+same_hands game keep plays others bytes too few few_too sound sound_too none none_too spell
+    spell_too same =
     forms.same_hands game keep plays others few.few few_too.few
-    (omega (arith, few.few_moves, all_counted plays sound)) (omega (arith, few_too.few_moves, all_counted others sound_too))
-    sound sound_too spell.texts spell_too.texts none none_too (sym spell.lines ∙ same ∙ spell_too.lines)
+    (omega (arith, few.few_moves, all_counted plays sound))
+    (omega (arith, few_too.few_moves, all_counted others sound_too))
+    sound sound_too spell.texts spell_too.texts none none_too
+    (sym spell.lines ∙ same ∙ spell_too.lines)

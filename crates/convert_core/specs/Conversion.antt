@@ -1,4 +1,5 @@
--- What a conversion of bytes comes to: its plays in the other notation, the first refused hand, or the first fact without a spelling.
+-- What a conversion of bytes comes to: its plays in the other notation, the first refused hand, or
+-- the first fact without a spelling.
 use Rattle.std.specs.Prelude.{◌≡◌, ℕ, List, Option, Some, None, Result, Ok, Err}
 use Rattle.hand_records.specs.declared.record.Record.{Record}
 use Rattle.hand_records.specs.declared.trace.Play.{Play}
@@ -11,8 +12,8 @@ use Rattle.convert_core.specs.declared.refusal.Refusal.{Refusal}
 use Rattle.convert_core.specs.declared.format_fault.FormatFault.{FormatFault}
 use Rattle.hand_records.specs.WriteRefusals.{first_refusal}
 
--- Bytes, of which a notation tells what they say, read as hands that are all legal and agree with what is stated of them: these
--- are their plays.
+-- Bytes, of which a notation tells what they say, read as hands that are all legal and agree with
+-- what is stated of them: these are their plays.
 pub record ReadAsPlays (Say : List Record → Type 0) (plays : List Play) : Type 0 where
   pub records : List Record
   pub say : Say records
@@ -24,15 +25,19 @@ pub record ReadAsRefused (Say : List Record → Type 0) (number : ℕ) (why : Re
   pub say : Say records
   pub first : IsFirstRefused records number why
 
--- all hands are legal and agree, and that with this number is the first with a fact to be kept that the target does not spell;
--- this is the first such fact
-pub record HasUnspelled (Say : List Record → Type 0) (unspelled : Play → Option Unspelled) (number : ℕ) (fact : Unspelled) : Type 0 where
+-- all hands are legal and agree, and that with this number is the first with a fact to be kept that
+-- the target does not spell; this is the first such fact
+pub record HasUnspelled (Say : List Record → Type 0) (unspelled : Play → Option Unspelled)
+    (number : ℕ) (fact : Unspelled) : Type 0 where
   pub plays : List Play
   pub read : ReadAsPlays Say plays
   pub first : first_refusal unspelled plays ≡ Some (refusals.Unspelled number fact)
 
--- all hands are legal and agree, the target spells each fact to be kept, and this is its spelling, which reads back as them
-pub record IsConverted (Say : List Record → Type 0) (unspelled : Play → Option Unspelled) (Spell : List Play → List ℕ → Type 0) (ReadBack : List Play → List ℕ → Type 0) (output : List ℕ) : Type 0 where
+-- all hands are legal and agree, the target spells each fact to be kept, and this is its spelling,
+-- which reads back as them
+pub record IsConverted (Say : List Record → Type 0) (unspelled : Play → Option Unspelled)
+    (Spell : List Play → List ℕ → Type 0) (ReadBack : List Play → List ℕ → Type 0) (output : List ℕ)
+    : Type 0 where
   pub plays : List Play
   pub read : ReadAsPlays Say plays
   pub spelled : first_refusal unspelled plays ≡ None
@@ -52,16 +57,23 @@ IsPlaysRefusal Say HaveFault (faults.Refused number why) = ReadAsRefused Say num
 IsPlaysRefusal Say HaveFault (faults.Unspelled number fact) = ⊥
 IsPlaysRefusal Say HaveFault faults.Memory = Unit {0}
 
--- Bytes that read as hands are converted exactly where the replay of every hand is legal, every stated fact agrees and every
--- fact to be kept has a spelling in the target notation; what is written then reads back as hands with the same traces and the
--- kept notes. Otherwise nothing is written, and what is wrong first is told: the first fault of the bytes, or else the first
--- refused hand with its first illegal action or other cause, or else the first hand with a kept fact that has no spelling.
--- Want of memory may stand in place of any of them.
-abbrev pub IsConversion : (List Record → Type 0) → (FormatFault → Type 0) → (Play → Option Unspelled) → (List Play → List ℕ → Type 0) → (List Play → List ℕ → Type 0) → {X : Type 0} → (X → List ℕ) → Result X ConvertFault → Type 0
-IsConversion Say HaveFault unspelled Spell ReadBack view (Ok output) = IsConverted Say unspelled Spell ReadBack (view output)
-IsConversion Say HaveFault unspelled Spell ReadBack view (Err (faults.Format fault)) = HaveFault fault
-IsConversion Say HaveFault unspelled Spell ReadBack view (Err (faults.Refused number why)) = ReadAsRefused Say number why
-IsConversion Say HaveFault unspelled Spell ReadBack view (Err (faults.Unspelled number fact)) = HasUnspelled Say unspelled number fact
+-- Bytes that read as hands are converted exactly where the replay of every hand is legal, every
+-- stated fact agrees and every fact to be kept has a spelling in the target notation; what is
+-- written then reads back as hands with the same traces and the kept notes. Otherwise nothing is
+-- written, and what is wrong first is told: the first fault of the bytes, or else the first refused
+-- hand with its first illegal action or other cause, or else the first hand with a kept fact that
+-- has no spelling. Want of memory may stand in place of any of them.
+abbrev pub IsConversion : (List Record → Type 0) → (FormatFault → Type 0)
+    → (Play → Option Unspelled) → (List Play → List ℕ → Type 0) → (List Play → List ℕ → Type 0)
+    → {X : Type 0} → (X → List ℕ) → Result X ConvertFault → Type 0
+IsConversion Say HaveFault unspelled Spell ReadBack view (Ok output) =
+    IsConverted Say unspelled Spell ReadBack (view output)
+IsConversion Say HaveFault unspelled Spell ReadBack view (Err (faults.Format fault)) =
+    HaveFault fault
+IsConversion Say HaveFault unspelled Spell ReadBack view (Err (faults.Refused number why)) =
+    ReadAsRefused Say number why
+IsConversion Say HaveFault unspelled Spell ReadBack view (Err (faults.Unspelled number fact)) =
+    HasUnspelled Say unspelled number fact
 IsConversion Say HaveFault unspelled Spell ReadBack view (Err faults.Memory) = Unit {0}
 
 -- an answer refuses nothing: there is an output, or memory was wanting

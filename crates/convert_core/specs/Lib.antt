@@ -1,4 +1,5 @@
--- What records come to, what a notation is, what a conversion comes to, and when two conversions answer the same.
+-- What records come to, what a notation is, what a conversion comes to, and when two conversions
+-- answer the same.
 pub mod Judged
 pub mod Faults
 pub mod Records

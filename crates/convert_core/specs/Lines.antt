@@ -6,8 +6,11 @@ use Rattle.hand_records.specs.declared.writing.Unspelled.{Unspelled}
 use Rattle.hand_records.specs.declared.writing.WriteRefusal.{WriteRefusal}
 use Rattle.convert_core.specs.Verdicts.{Verdict, legal_plays}
 
--- The first fact among the plays without a spelling is kept; and where there is none, what is written is their spelling.
-pub record IsWritten (is_lined : Bool) (unspelled : Play → Option Unspelled) (Spell : List Play → List ℕ → Type 0) (refusal : Option WriteRefusal) (out : List ℕ) (verdicts : List Verdict) : Type 0 where
+-- The first fact among the plays without a spelling is kept; and where there is none, what is
+-- written is their spelling.
+pub record IsWritten (is_lined : Bool) (unspelled : Play → Option Unspelled)
+    (Spell : List Play → List ℕ → Type 0) (refusal : Option WriteRefusal) (out : List ℕ)
+    (verdicts : List Verdict) : Type 0 where
   pub lined : is_lined ≡ true
   pub first : first_refusal unspelled (legal_plays verdicts) ≡ refusal
   pub spell : refusal ≡ None → Spell (legal_plays verdicts) out

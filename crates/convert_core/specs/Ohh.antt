@@ -14,8 +14,8 @@ use Rattle.convert_core.specs.declared.format_fault.FormatFault.TheVariants as f
 use Rattle.hand_records.specs.Histories.{IsHistory}
 use Rattle.hand_records.specs.Moves.{moves_of}
 
--- bytes say these records in a dialect: they are what the bytes read as, each as a reader gives it, and no more than a file may
--- have
+-- bytes say these records in a dialect: they are what the bytes read as, each as a reader gives it,
+-- and no more than a file may have
 pub record Say (dialect : Dialect) (bytes : List ℕ) (records : List Record) : Type 0 where
   pub reads : reading dialect bytes ≡ Ok (map plain records)
   pub each : AllByRecursion IsHistory records

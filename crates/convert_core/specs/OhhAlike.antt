@@ -1,4 +1,6 @@
--- Bytes of Open Hand History say one list of records in a dialect, as far as records can be told apart.
+-- Bytes of Open Hand History say one list of records in a dialect, as far as records can be told
+-- apart.
+-- This is a proof: no reader needs it.
 use Rattle.std.proofs.Common.{◌≡◌, ℕ, List, [], ◌∷◌, map, length, take, Option, option_map, Ok, sym, subst, ap, ◌∙◌, arith}
 use Rattle.std.specs.List.{AllByRecursion}
 use Rattle.std.proofs.lemmas.List.{length-take-le}
@@ -27,7 +29,13 @@ with_setup a count hand =
         antes = hand.setup.stakes.antes;
         dead_antes = hand.setup.stakes.dead_antes;
         blinds = hand.setup.stakes.blinds;
-        sizes = record { bring_in = hand.setup.sizes.bring_in; small_bet = hand.setup.sizes.small_bet; big_bet = hand.setup.sizes.big_bet; min_bet = hand.setup.sizes.min_bet };
+        sizes =
+            record {
+              bring_in = hand.setup.sizes.bring_in;
+              small_bet = hand.setup.sizes.small_bet;
+              big_bet = hand.setup.sizes.big_bet;
+              min_bet = hand.setup.sizes.min_bet;
+            };
       };
       rakes = hand.setup.rakes;
       notes = plain_notes count a.notes;
@@ -36,14 +44,24 @@ with_setup a count hand =
 -- a hand as it is said, with other finishing stacks
 with_finish : Record → Option (List ℕ) → in_phh.PlainHand
 with_finish a finish =
-    record (in_phh.plain a) { stated = record { finish = finish; wins = a.stated.wins; pot_total = a.stated.pot_total; values = a.stated.values } }
+    record (in_phh.plain a) {
+      stated =
+          record {
+            finish = finish;
+            wins = a.stated.wins;
+            pot_total = a.stated.pot_total;
+            values = a.stated.values;
+          };
+    }
 
 -- rows that are stated are one where they say the same, as in the hands of histories
-one_row : (a : Record) (x y : Option SeatRow) → option_map amounts_in x ≡ option_map amounts_in y → x ≡ y
+one_row : (a : Record) (x y : Option SeatRow) → option_map amounts_in x ≡ option_map amounts_in y
+    → x ≡ y
 unfolding with_finish
 one_row a x y same =
     ap (λ (stated : Stated). stated.finish)
-    (same_stated (record a { stated = record a.stated { finish = x } }) (record a { stated = record a.stated { finish = y } }) (ap (with_finish a) same))
+    (same_stated (record a { stated = record a.stated { finish = x } })
+    (record a { stated = record a.stated { finish = y } }) (ap (with_finish a) same))
 
 -- stated facts with other finishing stacks and wins
 stated_from : Option SeatRow → Option SeatRow → Stated → Stated
@@ -53,37 +71,56 @@ module _ (a b : Record) (is : IsHistory a) (it : IsHistory b) (same : plain a �
   -- they have as many seats
   count : a.setup.stacks.seats ≡ b.setup.stacks.seats
   count =
-      sym (length-take-le a.setup.stacks.seats a.setup.stacks.amounts (omega (arith, a.setup.stacks.greatest, a.setup.stacks.full)))
+      sym
+      (length-take-le a.setup.stacks.seats a.setup.stacks.amounts
+      (omega (arith, a.setup.stacks.greatest, a.setup.stacks.full)))
       ∙ ap (λ (hand : PlainHand). length hand.setup.stacks) same
-      ∙ length-take-le b.setup.stacks.seats b.setup.stacks.amounts (omega (arith, b.setup.stacks.greatest, b.setup.stacks.full))
+      ∙ length-take-le b.setup.stacks.seats b.setup.stacks.amounts
+      (omega (arith, b.setup.stacks.greatest, b.setup.stacks.full))
 
   -- their setups are one
   setups : a.setup ≡ b.setup
   unfolding with_setup
   setups =
       same_setup a (record a { setup = b.setup })
-      (ap (with_setup a a.setup.stacks.seats) same ∙ ap (λ seats. with_setup a seats (plain b)) count)
+      (ap (with_setup a a.setup.stacks.seats) same
+      ∙ ap (λ seats. with_setup a seats (plain b)) count)
 
   -- they state the same
   stated : a.stated ≡ b.stated
   unfolding stated_from
   stated =
-      let finish : a.stated.finish ≡ b.stated.finish = one_row a a.stated.finish b.stated.finish (ap (λ (hand : PlainHand). hand.stated.finish) same) in
-      let wins : a.stated.wins ≡ b.stated.wins = one_row a a.stated.wins b.stated.wins (ap (λ (hand : PlainHand). hand.stated.wins) same) in
-      let total : a.stated.pot_total ≡ b.stated.pot_total = ap (λ (hand : PlainHand). hand.stated.pot_total) same in
-      let values : a.stated.values ≡ b.stated.values = ap (λ (hand : PlainHand). hand.stated.values) same in
+      let finish : a.stated.finish ≡ b.stated.finish =
+      one_row a a.stated.finish b.stated.finish
+      (ap (λ (hand : PlainHand). hand.stated.finish) same) in
+      let wins : a.stated.wins ≡ b.stated.wins =
+      one_row a a.stated.wins b.stated.wins (ap (λ (hand : PlainHand). hand.stated.wins) same) in
+      let total : a.stated.pot_total ≡ b.stated.pot_total =
+      ap (λ (hand : PlainHand). hand.stated.pot_total) same in
+      let values : a.stated.values ≡ b.stated.values =
+      ap (λ (hand : PlainHand). hand.stated.values) same in
       ap (λ row. stated_from row a.stated.wins a.stated) finish
       ∙ ap (λ row. stated_from b.stated.finish row a.stated) wins
-      ∙ ap (λ number. stated_from b.stated.finish b.stated.wins (record a.stated { pot_total = number })) total
-      ∙ ap (λ nets. stated_from b.stated.finish b.stated.wins (record b.stated { values = nets })) values
+      ∙ ap
+      (λ number.
+      stated_from b.stated.finish b.stated.wins (record a.stated { pot_total = number }))
+      total
+      ∙ ap (λ nets. stated_from b.stated.finish b.stated.wins (record b.stated { values = nets }))
+      values
 
   -- the seats have the same names
   names : take a.setup.stacks.seats a.notes.names ≡ take a.setup.stacks.seats b.notes.names
-  names = ap (λ (hand : PlainHand). hand.notes.names) same ∙ ap (λ (n : ℕ). take n b.notes.names) (sym count)
+  names =
+      ap (λ (hand : PlainHand). hand.notes.names) same
+      ∙ ap (λ (n : ℕ). take n b.notes.names) (sym count)
 
   -- the seats have the same numbers
-  numbers : option_map (take a.setup.stacks.seats) a.notes.seats ≡ option_map (take a.setup.stacks.seats) b.notes.seats
-  numbers = ap (λ (hand : PlainHand). hand.notes.seats) same ∙ ap (λ (n : ℕ). option_map (take n) b.notes.seats) (sym count)
+  numbers :
+      option_map (take a.setup.stacks.seats) a.notes.seats
+      ≡ option_map (take a.setup.stacks.seats) b.notes.seats
+  numbers =
+      ap (λ (hand : PlainHand). hand.notes.seats) same
+      ∙ ap (λ (n : ℕ). option_map (take n) b.notes.seats) (sym count)
 
   -- the notes of the other record are those of as many seats
   allowed : AreAllowed a.setup.stacks.seats b.notes
@@ -100,9 +137,13 @@ module _ (a b : Record) (is : IsHistory a) (it : IsHistory b) (same : plain a �
           stated = stated;
         };
         notes = record {
-          names = names_same a.setup.stacks.seats a.notes.names b.notes.names names is.sound.notes.no_more_names allowed.no_more_names;
+          names =
+              names_same a.setup.stacks.seats a.notes.names b.notes.names names
+              is.sound.notes.no_more_names allowed.no_more_names;
           all_names = names;
-          seats = numbers_same a.setup.stacks.seats a.notes.seats b.notes.seats numbers is.sound.notes.seats allowed.seats;
+          seats =
+              numbers_same a.setup.stacks.seats a.notes.seats b.notes.seats numbers
+              is.sound.notes.seats allowed.seats;
           all_seats = numbers;
           seat_count = ap (λ (hand : PlainHand). hand.notes.seat_count) same;
           hand = ap (λ (hand : PlainHand). hand.notes.hand) same;
@@ -118,7 +159,9 @@ module _ (a b : Record) (is : IsHistory a) (it : IsHistory b) (same : plain a �
       }
 
 -- records that are said alike are alike, one by one
-pub all_alike : (records others : List Record) → AllByRecursion IsHistory records → AllByRecursion IsHistory others → map plain records ≡ map plain others → AllAlike records others
+pub all_alike : (records others : List Record) → AllByRecursion IsHistory records
+    → AllByRecursion IsHistory others → map plain records ≡ map plain others
+    → AllAlike records others
 unfolding AllAlike
 all_alike [] [] all each same = tt
 all_alike [] (b ∷ others) all each same = absurd (cc)
@@ -127,7 +170,8 @@ all_alike (a ∷ rest) (b ∷ others) all each same =
     (tree_alike a b all.0 each.0 (cc), all_alike rest others all.1 each.1 (cc))
 
 -- bytes say one list of records
-pub one_reading : (dialect : Dialect) (bytes : List ℕ) (records others : List Record) → Say dialect bytes records → Say dialect bytes others → AllAlike records others
+pub one_reading : (dialect : Dialect) (bytes : List ℕ) (records others : List Record)
+    → Say dialect bytes records → Say dialect bytes others → AllAlike records others
 one_reading dialect bytes records others say too =
     let same : Ok (map plain records) ≡ Ok (map plain others) = sym say.reads ∙ too.reads in
     all_alike records others say.each too.each (cc)

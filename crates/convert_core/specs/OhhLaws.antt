@@ -1,4 +1,5 @@
 -- The laws that a notation keeps, of Open Hand History in a dialect.
+-- This is a proof: no reader needs it.
 use Rattle.std.proofs.Common.{◌≡◌, ℕ, true, List, [], Some, None, Ok, refl}
 use Rattle.std.specs.List.{AllByRecursion}
 use Rattle.hand_canon.specs.Sound.{IsSound}
@@ -30,13 +31,17 @@ use Rattle.hand_records.specs.WriteRefusals.{first_refusal}
 use Rattle.convert_core.specs.UnderRules.{each_under}
 
 -- what bytes say is what a reader gives of a file
-pub reads_file : (dialect : Dialect) (bytes : List ℕ) (hands : List Record) → Say dialect bytes hands → AreOfFile history_rules hands
-reads_file dialect bytes hands say = record { each = each_under hands say.each; few = say.few; few_moves = say.few_moves }
+pub reads_file : (dialect : Dialect) (bytes : List ℕ) (hands : List Record)
+    → Say dialect bytes hands → AreOfFile history_rules hands
+reads_file dialect bytes hands say =
+    record { each = each_under hands say.each; few = say.few; few_moves = say.few_moves }
 
 -- what is read has no fault
-pub no_fault : (dialect : Dialect) (bytes : List ℕ) (hands : List Record) (fault : FormatFault) → Say dialect bytes hands → HaveFault dialect bytes fault → ⊥
+pub no_fault : (dialect : Dialect) (bytes : List ℕ) (hands : List Record) (fault : FormatFault)
+    → Say dialect bytes hands → HaveFault dialect bytes fault → ⊥
 no_fault dialect bytes hands (formats.Phh fault) say have = have
-no_fault dialect bytes hands (formats.Ohh fault) say have = (let said = say.reads in let had = have.reads in cc)
+no_fault dialect bytes hands (formats.Ohh fault) say have =
+    (let said = say.reads in let had = have.reads in cc)
 no_fault dialect bytes hands (formats.Acpc fault) say have = have
 
 -- no plays are no bytes
@@ -44,17 +49,24 @@ pub no_lines : (dialect : Dialect) → Spell dialect [] []
 no_lines dialect = record { lines = refl; trees = tt }
 
 -- what is written reads back
-pub reads_back : (dialect : Dialect) (keep : Keep) (plays : List Play) (bytes : List ℕ) → AreFew plays → AllByRecursion IsSound plays → first_refusal (facts.unspelled keep) plays ≡ None → Spell dialect plays bytes
+pub reads_back : (dialect : Dialect) (keep : Keep) (plays : List Play) (bytes : List ℕ)
+    → AreFew plays → AllByRecursion IsSound plays
+    → first_refusal (facts.unspelled keep) plays ≡ None → Spell dialect plays bytes
     → ReadBack (Say dialect bytes) (HaveFault dialect bytes) (KeepsNotes kept_in_ohh) plays
 reads_back dialect keep plays bytes few sound spelled spell =
     let unrefused = spelled in
-    let read : reading dialect bytes ≡ Ok (hands_again dialect 0 plays) = sound_again dialect keep plays bytes few.few sound unrefused few.few_moves spell in
+    let read : reading dialect bytes ≡ Ok (hands_again dialect 0 plays) =
+    sound_again dialect keep plays bytes few.few sound unrefused few.few_moves spell in
     record {
       no_fault = λ fault have. none fault read have;
-      again = λ hands say. read_back dialect keep plays bytes few.few sound unrefused few.few_moves spell hands say.reads;
+      again =
+          λ hands say.
+          read_back dialect keep plays bytes few.few sound unrefused few.few_moves spell hands
+          say.reads;
     }
   where
-    none : (fault : FormatFault) → reading dialect bytes ≡ Ok (hands_again dialect 0 plays) → HaveFault dialect bytes fault → ⊥
+    none : (fault : FormatFault) → reading dialect bytes ≡ Ok (hands_again dialect 0 plays)
+        → HaveFault dialect bytes fault → ⊥
     none (formats.Phh fault) read have = have
     none (formats.Ohh fault) read have = (let had = have.reads in cc)
     none (formats.Acpc fault) read have = have
@@ -66,13 +78,21 @@ sharp_too (unspellables.Note name) is = is
 sharp_too _ is = refl
 
 -- what is not spelled no bytes say
-pub sharp : (dialect : Dialect) (keep : Keep) (play : Play) (fact : Unspelled) → facts.unspelled keep play ≡ Some fact → is_sharp fact ≡ true
-    → (bytes : List ℕ) (hands : List Record) → Say dialect bytes hands → AllByRecursion (IsOther play) hands
-sharp dialect keep play fact found is bytes hands say = sharpness dialect keep play fact found (sharp_too fact is) bytes hands say.reads
+pub sharp : (dialect : Dialect) (keep : Keep) (play : Play) (fact : Unspelled)
+    → facts.unspelled keep play ≡ Some fact → is_sharp fact ≡ true
+    → (bytes : List ℕ) (hands : List Record) → Say dialect bytes hands
+    → AllByRecursion (IsOther play) hands
+sharp dialect keep play fact found is bytes hands say =
+    sharpness dialect keep play fact found (sharp_too fact is) bytes hands say.reads
 
 -- what is written as the same bytes are the same hands
-pub same_hands : (dialect : Dialect) (keep : Keep) (plays others : List Play) (bytes too : List ℕ) → AreFew plays → AreFew others → AllByRecursion IsSound plays → AllByRecursion IsSound others
-    → first_refusal (facts.unspelled keep) plays ≡ None → first_refusal (facts.unspelled keep) others ≡ None
-    → Spell dialect plays bytes → Spell dialect others too → bytes ≡ too → AreSameHands kept_in_ohh plays others
-same_hands dialect keep plays others bytes too few few_too sound sound_too none none_too spell spell_too same =
-    forms.same_hands dialect keep plays others bytes too few.few few_too.few few.few_moves few_too.few_moves sound sound_too none none_too spell spell_too same
+pub same_hands : (dialect : Dialect) (keep : Keep) (plays others : List Play) (bytes too : List ℕ)
+    → AreFew plays → AreFew others → AllByRecursion IsSound plays → AllByRecursion IsSound others
+    → first_refusal (facts.unspelled keep) plays ≡ None
+    → first_refusal (facts.unspelled keep) others ≡ None
+    → Spell dialect plays bytes → Spell dialect others too → bytes ≡ too
+    → AreSameHands kept_in_ohh plays others
+same_hands dialect keep plays others bytes too few few_too sound sound_too none none_too spell
+    spell_too same =
+    forms.same_hands dialect keep plays others bytes too few.few few_too.few few.few_moves
+    few_too.few_moves sound sound_too none none_too spell spell_too same

@@ -13,7 +13,8 @@ use Rattle.convert_core.specs.declared.format_fault.FormatFault.TheVariants as f
 use Rattle.hand_records.specs.Histories.{IsHistory}
 use Rattle.hand_records.specs.Moves.{moves_of}
 
--- bytes say these records: they are what the bytes read as, each as a reader gives it, and no more than a file may have
+-- bytes say these records: they are what the bytes read as, each as a reader gives it, and no more
+-- than a file may have
 pub record Say (bytes : List ℕ) (records : List Record) : Type 0 where
   pub reads : reading bytes ≡ Ok (map plain records)
   pub each : AllByRecursion IsHistory records
@@ -32,7 +33,8 @@ HaveFault bytes (formats.Phh fault) = Have bytes fault
 HaveFault bytes (formats.Ohh fault) = ⊥
 HaveFault bytes (formats.Acpc fault) = ⊥
 
--- bytes are the spelling of plays: TOML reads them as the one document of the plays, and no plays are no bytes
+-- bytes are the spelling of plays: TOML reads them as the one document of the plays, and no plays
+-- are no bytes
 pub record Spell (plays : List Play) (bytes : List ℕ) : Type 0 where
   pub document : written.Spells plays bytes
   pub nothing : plays ≡ [] → bytes ≡ []

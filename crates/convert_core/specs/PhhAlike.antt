@@ -1,4 +1,5 @@
 -- Bytes of a hand history say one list of records, as far as records can be told apart.
+-- This is a proof: no reader needs it.
 use Rattle.std.proofs.Common.{◌≡◌, ℕ, List, [], ◌∷◌, map, take, option_map, Ok, sym, subst, ap, ◌∙◌}
 use Rattle.std.specs.List.{AllByRecursion}
 use Rattle.hand_records.specs.AllowedNotes.{AreAllowed}
@@ -22,11 +23,17 @@ module _ (a b : Record) (is : IsHistory a) (it : IsHistory b) (same : plain a �
 
   -- the seats have the same names
   names : take a.setup.stacks.seats a.notes.names ≡ take a.setup.stacks.seats b.notes.names
-  names = ap (λ (hand : PlainHand). hand.notes.seating.names) same ∙ ap (λ (n : ℕ). take n b.notes.names) (sym count)
+  names =
+      ap (λ (hand : PlainHand). hand.notes.seating.names) same
+      ∙ ap (λ (n : ℕ). take n b.notes.names) (sym count)
 
   -- the seats have the same numbers
-  numbers : option_map (take a.setup.stacks.seats) a.notes.seats ≡ option_map (take a.setup.stacks.seats) b.notes.seats
-  numbers = ap (λ (hand : PlainHand). hand.notes.seating.seats) same ∙ ap (λ (n : ℕ). option_map (take n) b.notes.seats) (sym count)
+  numbers :
+      option_map (take a.setup.stacks.seats) a.notes.seats
+      ≡ option_map (take a.setup.stacks.seats) b.notes.seats
+  numbers =
+      ap (λ (hand : PlainHand). hand.notes.seating.seats) same
+      ∙ ap (λ (n : ℕ). option_map (take n) b.notes.seats) (sym count)
 
   -- the notes of the other record are those of as many seats
   allowed : AreAllowed a.setup.stacks.seats b.notes
@@ -36,12 +43,22 @@ module _ (a b : Record) (is : IsHistory a) (it : IsHistory b) (same : plain a �
   pub history_alike : AreAlike a b
   history_alike =
       record {
-        same = record { setup = setups; rules = same_rules a b same; script = same_script a b same; stated = same_stated a b same };
+        same =
+            record {
+              setup = setups;
+              rules = same_rules a b same;
+              script = same_script a b same;
+              stated = same_stated a b same;
+            };
         notes =
             record {
-              names = names_same a.setup.stacks.seats a.notes.names b.notes.names names is.sound.notes.no_more_names allowed.no_more_names;
+              names =
+                  names_same a.setup.stacks.seats a.notes.names b.notes.names names
+                  is.sound.notes.no_more_names allowed.no_more_names;
               all_names = names;
-              seats = numbers_same a.setup.stacks.seats a.notes.seats b.notes.seats numbers is.sound.notes.seats allowed.seats;
+              seats =
+                  numbers_same a.setup.stacks.seats a.notes.seats b.notes.seats numbers
+                  is.sound.notes.seats allowed.seats;
               all_seats = numbers;
               seat_count = ap (λ (hand : PlainHand). hand.notes.seating.seat_count) same;
               hand = ap (λ (hand : PlainHand). hand.notes.labels.hand) same;
@@ -57,7 +74,9 @@ module _ (a b : Record) (is : IsHistory a) (it : IsHistory b) (same : plain a �
       }
 
 -- records that are said alike are alike, one by one
-pub all_alike : (records others : List Record) → AllByRecursion IsHistory records → AllByRecursion IsHistory others → map plain records ≡ map plain others → AllAlike records others
+pub all_alike : (records others : List Record) → AllByRecursion IsHistory records
+    → AllByRecursion IsHistory others → map plain records ≡ map plain others
+    → AllAlike records others
 unfolding AllAlike
 all_alike [] [] all each same = tt
 all_alike [] (b ∷ others) all each same = absurd (cc)
@@ -66,7 +85,8 @@ all_alike (a ∷ rest) (b ∷ others) all each same =
     (history_alike a b all.0 each.0 (cc), all_alike rest others all.1 each.1 (cc))
 
 -- bytes say one list of records
-pub one_reading : (bytes : List ℕ) (records others : List Record) → Say bytes records → Say bytes others → AllAlike records others
+pub one_reading : (bytes : List ℕ) (records others : List Record) → Say bytes records
+    → Say bytes others → AllAlike records others
 one_reading bytes records others say too =
     let same : Ok (map plain records) ≡ Ok (map plain others) = sym say.reads ∙ too.reads in
     all_alike records others say.each too.each (cc)

@@ -1,4 +1,5 @@
 -- The laws that a notation keeps, of the Poker Hand History format.
+-- This is a proof: no reader needs it.
 use Rattle.std.proofs.Common.{◌≡◌, ℕ, true, List, Some, None, Ok}
 use Rattle.std.specs.List.{AllByRecursion}
 use Rattle.hand_canon.specs.Sound.{IsSound}
@@ -27,43 +28,58 @@ use Rattle.hand_records.specs.WriteRefusals.{first_refusal}
 use Rattle.convert_core.specs.UnderRules.{each_under}
 
 -- what bytes say is what a reader gives of a file
-pub reads_file : (bytes : List ℕ) (hands : List Record) → Say bytes hands → AreOfFile history_rules hands
-reads_file bytes hands say = record { each = each_under hands say.each; few = say.few; few_moves = say.few_moves }
+pub reads_file : (bytes : List ℕ) (hands : List Record) → Say bytes hands
+    → AreOfFile history_rules hands
+reads_file bytes hands say =
+    record { each = each_under hands say.each; few = say.few; few_moves = say.few_moves }
 
 -- what is read has no fault
-pub no_fault : (bytes : List ℕ) (hands : List Record) (fault : FormatFault) → Say bytes hands → HaveFault bytes fault → ⊥
-no_fault bytes hands (formats.Phh fault) say have = (let said = say.reads in let had = have.reads in cc)
+pub no_fault : (bytes : List ℕ) (hands : List Record) (fault : FormatFault) → Say bytes hands
+    → HaveFault bytes fault → ⊥
+no_fault bytes hands (formats.Phh fault) say have =
+    (let said = say.reads in let had = have.reads in cc)
 no_fault bytes hands (formats.Ohh fault) say have = have
 no_fault bytes hands (formats.Acpc fault) say have = have
 
 -- what is written reads back
-pub reads_back : (plays : List Play) (bytes : List ℕ) → AreFew plays → AllByRecursion IsSound plays → first_refusal facts.unspelled plays ≡ None → Spell plays bytes
+pub reads_back : (plays : List Play) (bytes : List ℕ) → AreFew plays → AllByRecursion IsSound plays
+    → first_refusal facts.unspelled plays ≡ None → Spell plays bytes
     → ReadBack (Say bytes) (HaveFault bytes) (KeepsNotes kept_in_phh) plays
 reads_back plays bytes few sound spelled spell =
-    let read : reading bytes ≡ Ok (hands_again 0 plays) = sound_again plays bytes few.few sound few.few_moves spell.document in
+    let read : reading bytes ≡ Ok (hands_again 0 plays) =
+    sound_again plays bytes few.few sound few.few_moves spell.document in
     record {
       no_fault = λ fault have. none fault read have;
-      again = λ hands say. read_back plays bytes few.few sound few.few_moves spelled spell.document hands say.reads;
+      again =
+          λ hands say.
+          read_back plays bytes few.few sound few.few_moves spelled spell.document hands
+          say.reads;
     }
   where
-    none : (fault : FormatFault) → reading bytes ≡ Ok (hands_again 0 plays) → HaveFault bytes fault → ⊥
+    none : (fault : FormatFault) → reading bytes ≡ Ok (hands_again 0 plays) → HaveFault bytes fault
+        → ⊥
     none (formats.Phh fault) read have = (let had = have.reads in cc)
     none (formats.Ohh fault) read have = have
     none (formats.Acpc fault) read have = have
 
 -- what is not spelled no bytes say
-pub sharp : (play : Play) (fact : Unspelled) → facts.unspelled play ≡ Some fact → is_sharp fact ≡ true
+pub sharp : (play : Play) (fact : Unspelled) → facts.unspelled play ≡ Some fact
+    → is_sharp fact ≡ true
     → (bytes : List ℕ) (hands : List Record) → Say bytes hands → AllByRecursion (IsOther play) hands
 sharp play fact found is bytes hands say = unspelled_unsaid play fact found bytes hands say.reads
 
 -- hands that are the same are written as one table
-pub one_spelling : (plays others : List Play) (bytes too : List ℕ) → AllByRecursion IsSound plays → AllByRecursion IsSound others → Spell plays bytes → Spell others too
+pub one_spelling : (plays others : List Play) (bytes too : List ℕ) → AllByRecursion IsSound plays
+    → AllByRecursion IsSound others → Spell plays bytes → Spell others too
     → AreSameHands kept_in_phh plays others → AreSameTable bytes too
 one_spelling plays others bytes too sound sound_too spell spell_too same =
     forms.one_table plays others bytes too sound sound_too spell.document spell_too.document same
 
 -- what is written as one table are the same hands
-pub same_hands : (plays others : List Play) (bytes too : List ℕ) → AreFew plays → AreFew others → AllByRecursion IsSound plays → AllByRecursion IsSound others
-    → Spell plays bytes → Spell others too → AreSameTable bytes too → AreSameHands kept_in_phh plays others
+pub same_hands : (plays others : List Play) (bytes too : List ℕ) → AreFew plays → AreFew others
+    → AllByRecursion IsSound plays → AllByRecursion IsSound others
+    → Spell plays bytes → Spell others too → AreSameTable bytes too
+    → AreSameHands kept_in_phh plays others
 same_hands plays others bytes too few few_too sound sound_too spell spell_too same =
-    forms.same_hands plays others bytes too few.few few_too.few few.few_moves few_too.few_moves sound sound_too spell.document spell_too.document same
+    forms.same_hands plays others bytes too few.few few_too.few few.few_moves few_too.few_moves
+    sound sound_too spell.document spell_too.document same

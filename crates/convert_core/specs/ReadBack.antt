@@ -6,8 +6,9 @@ use Rattle.hand_records.specs.declared.record.Record.{Record}
 use Rattle.hand_records.specs.declared.trace.Play.{Play}
 use Rattle.convert_core.specs.declared.format_fault.FormatFault.{FormatFault}
 
--- Bytes read back as plays in a notation, which tells what the bytes say and which fault they have: they have no fault, and the
--- hands that they say are those of the plays again.
-pub record ReadBack (Say : List Record → Type 0) (HaveFault : FormatFault → Type 0) (keeps : ℕ → ℕ → Notes → Notes → Type 0) (plays : List Play) : Type 0 where
+-- Bytes read back as plays in a notation, which tells what the bytes say and which fault they have:
+-- they have no fault, and the hands that they say are those of the plays again.
+pub record ReadBack (Say : List Record → Type 0) (HaveFault : FormatFault → Type 0)
+    (keeps : ℕ → ℕ → Notes → Notes → Type 0) (plays : List Play) : Type 0 where
   pub no_fault : (fault : FormatFault) → HaveFault fault → ⊥
   pub again : (hands : List Record) → Say hands → AreAgain keeps 0 plays hands

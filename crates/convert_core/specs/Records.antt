@@ -13,7 +13,8 @@ pub record IsUnder (rules : Rules) (hand : Record) : Type 0 where
   pub sound : IsSoundRecord hand
   pub rules_are : hand.rules ≡ rules
 
--- records of a file are sound, under these rules, and no more than a file may have; nor are their moves
+-- records of a file are sound, under these rules, and no more than a file may have; nor are their
+-- moves
 pub record AreOfFile (rules : Rules) (hands : List Record) : Type 0 where
   pub each : AllByRecursion (IsUnder rules) hands
   pub few : length hands ≤ MOST_HANDS

@@ -15,7 +15,8 @@ pub record SayTheSame (a b : Record) : Type 0 where
 abbrev pub number_at : ℕ → Option (List ℕ) → Option ℕ
 number_at index numbers = option_map (λ said. slice_index said index) numbers
 
--- two notes of a hand with so many seats are the same, name by name and number by number; those of the seats are as many
+-- two notes of a hand with so many seats are the same, name by name and number by number; those of
+-- the seats are as many
 pub record NoteTheSame (count : ℕ) (a b : Notes) : Type 0 where
   pub names : (index : ℕ) → slice_index_or a.names index None ≡ slice_index_or b.names index None
   pub all_names : take count a.names ≡ take count b.names
@@ -44,7 +45,8 @@ AllAlike [] (b ∷ others) = ⊥
 AllAlike (a ∷ rest) [] = ⊥
 AllAlike (a ∷ rest) (b ∷ others) = AreAlike a b × AllAlike rest others
 
--- two plays have one trace, and records that say the same of their play, and of the seats of the trace in their notes
+-- two plays have one trace, and records that say the same of their play, and of the seats of the
+-- trace in their notes
 pub record ArePlayedAlike (a b : Play) : Type 0 where
   pub trace : a.trace ≡ b.trace
   pub same : SayTheSame a.hand b.hand

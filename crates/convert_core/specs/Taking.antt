@@ -10,9 +10,11 @@ pub record HasTaken (Took : List Verdict → Type 0) (count : ℕ) : Type 0 wher
   pub took : Took verdicts
   pub counted : count ≡ length verdicts
 
--- The verdicts on these hands were taken, so many, one after the other. A taker that does not go on behind a refused hand took
--- legal ones alone. Where plays are kept, they are those of the legal hands; where they are not, no more than one is.
-pub record AreTaken (goes_on keeps : Bool) (Took : List Verdict → Type 0) (hands : List Record) (count : ℕ) (kept : List Play) : Type 0 where
+-- The verdicts on these hands were taken, so many, one after the other. A taker that does not go on
+-- behind a refused hand took legal ones alone. Where plays are kept, they are those of the legal
+-- hands; where they are not, no more than one is.
+pub record AreTaken (goes_on keeps : Bool) (Took : List Verdict → Type 0) (hands : List Record)
+    (count : ℕ) (kept : List Play) : Type 0 where
   pub verdicts : List Verdict
   pub are : AreVerdictsOn hands verdicts
   pub took : Took verdicts

@@ -9,9 +9,11 @@ use hand_records::Unspelled;
 pub enum ConvertFault {
     /// The bytes do not read: their first fault, which is never want of memory.
     Format(FormatFault),
-    /// The first refused hand: its script has no trace, or else a stated fact differs from the trace.
+    /// The first refused hand: its script has no trace, or else a stated fact differs from the
+    /// trace.
     Refused { hand: u32, why: Refusal },
-    /// All hands are legal; this is the first with a kept fact that the target does not spell, and the first such fact.
+    /// All hands are legal; this is the first with a kept fact that the target does not spell, and
+    /// the first such fact.
     Unspelled { hand: u32, fact: Unspelled },
     Memory,
 }

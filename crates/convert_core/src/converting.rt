@@ -1,4 +1,5 @@
-//! Bytes of one notation come to their plays, and to bytes of another notation, by what the notations promise alone.
+//! Bytes of one notation come to their plays, and to bytes of another notation, by what the
+//! notations promise alone.
 ghost use Rattle.std.specs.Prelude.{IfErr, IfOk};
 ghost use Rattle.std.specs.List.{AllByRecursion};
 ghost use Rattle.hand_canon.specs.Sound.{IsSound};
@@ -15,13 +16,14 @@ use crate::refusal::PlaysFault;
 use hand_records::{Keep, Play, Records, WriteRefusal};
 use std::alloc::Global;
 
-/// The bytes of the plays in another notation, if each fact to be kept has a spelling there. They read back as hands with the
-/// same traces and the kept notes.
+/// The bytes of the plays in another notation, if each fact to be kept has a spelling there. They
+/// read back as hands with the same traces and the kept notes.
 ///
 /// # Errors
 ///
-/// The first fault of the bytes; or else the first refused hand, with what is wrong with it first; or else the first hand with a
-/// fact to be kept that the target does not spell, and the first such fact; or want of memory.
+/// The first fault of the bytes; or else the first refused hand, with what is wrong with it first;
+/// or else the first hand with a fact to be kept that the target does not spell, and the first such
+/// fact; or want of memory.
 pub fn convert<N: Notation, M: Notation>(
     alloc: Global,
     from: &N,
@@ -54,7 +56,8 @@ pub fn convert<N: Notation, M: Notation>(
 ///
 /// # Errors
 ///
-/// The first fault of the bytes; or else the first refused hand, with what is wrong with it first; or want of memory.
+/// The first fault of the bytes; or else the first refused hand, with what is wrong with it first;
+/// or want of memory.
 pub fn plays<N: Notation>(alloc: Global, from: &N, bytes: &[u8]) -> Result<Vec<Play>, ConvertFault>
     ensures plays { IfOk result (λ plays. ReadAsPlays (N.Say from.now bytes.now) plays.items) }
     ensures sound { IfOk result (λ plays. AllByRecursion IsSound plays.items) }

@@ -23,8 +23,8 @@ ghost use Rattle.hand_records.specs.WriteRefusals.{first_refusal};
 use crate::notation::Notation;
 use hand_records::Keep;
 
-/// Records have one list of plays at most, and one first refused hand, which is refused for one thing; and not both. The
-/// function does nothing: its contract is a law.
+/// Records have one list of plays at most, and one first refused hand, which is refused for one
+/// thing; and not both. The function does nothing: its contract is a law.
 pub fn law_of_one_outcome()
     ensures plays { (records : List Record) (plays others : List Play)
         → ArePlaysOf records plays → ArePlaysOf records others → plays ≡ others }
@@ -35,9 +35,10 @@ pub fn law_of_one_outcome()
         → ArePlaysOf records plays → IsFirstRefused records number why → ⊥ }
 {}
 
-/// The verdicts on hands are their plays exactly where all of them are legal; and the first that is not legal is on the first
-/// refused hand, with the same cause. So `check` is done exactly where `judge` tells all hands as legal, and else names the first
-/// that `judge` tells as refused. The function does nothing: its contract is a law.
+/// The verdicts on hands are their plays exactly where all of them are legal; and the first that is
+/// not legal is on the first refused hand, with the same cause. So `check` is done exactly where
+/// `judge` tells all hands as legal, and else names the first that `judge` tells as refused. The
+/// function does nothing: its contract is a law.
 pub fn law_of_verdicts()
     ensures legal { (records : List Record) (verdicts : List Verdict) (plays : List Play)
         → AreVerdictsOn records verdicts
@@ -47,10 +48,11 @@ pub fn law_of_verdicts()
         → IsFirstRefused records number why ↔ IsFirstNotLegal verdicts number why }
 {}
 
-/// What bytes come to is one thing. Bytes with a fault say no records. Where they read as hands, one of these is the first that is
-/// refused, for one thing, or all of them have their plays; and where they have their plays, one of these is the first with a fact
-/// to be kept that the target does not spell, and that fact is one, or all are spelled. The function does nothing: its contract
-/// is a law.
+/// What bytes come to is one thing. Bytes with a fault say no records. Where they read as hands,
+/// one of these is the first that is refused, for one thing, or all of them have their plays; and
+/// where they have their plays, one of these is the first with a fact to be kept that the target
+/// does not spell, and that fact is one, or all are spelled. The function does nothing: its
+/// contract is a law.
 pub fn law_of_one_conversion<N: Notation, M: Notation>(from: &N, to: &M, keep: Keep)
     ensures unread { (bytes : List ℕ) (records : List Record) (fault : FormatFault)
         → N.Say from.now bytes records → N.HaveFault from.now bytes fault → ⊥ }
@@ -71,8 +73,9 @@ pub fn law_of_one_conversion<N: Notation, M: Notation>(from: &N, to: &M, keep: K
         → first_refusal (M.unspelled to.now keep) plays ≡ None → ⊥ }
 {}
 
-/// Bytes that read as hands which are all legal and agree with what is stated of them, and of which the target spells each fact to
-/// be kept, are converted, unless memory is wanting. The function does nothing: its contract is a law.
+/// Bytes that read as hands which are all legal and agree with what is stated of them, and of which
+/// the target spells each fact to be kept, are converted, unless memory is wanting. The function
+/// does nothing: its contract is a law.
 pub fn law_of_legal_conversions<N: Notation, M: Notation>(from: &N, to: &M, keep: Keep)
     ensures { (bytes : List ℕ) (plays : List Play) (answer : Result (List ℕ) ConvertFault)
         → ReadAsPlays (N.Say from.now bytes) plays
@@ -84,9 +87,9 @@ pub fn law_of_legal_conversions<N: Notation, M: Notation>(from: &N, to: &M, keep
         → RefusesNothing answer }
 {}
 
-/// What a notation does not spell no bytes say. Where a play has a fact without a spelling that is neither an odd chip nor a
-/// note, none of the hands that any bytes say is legal with the trace of the play. The function does nothing: its contract is
-/// a law.
+/// What a notation does not spell no bytes say. Where a play has a fact without a spelling that is
+/// neither an odd chip nor a note, none of the hands that any bytes say is legal with the trace of
+/// the play. The function does nothing: its contract is a law.
 pub fn law_of_sharpness<N: Notation>(notation: &N, keep: Keep)
     ensures { (play : Play) (fact : Unspelled)
         → N.unspelled notation.now keep play ≡ Some fact → is_sharp fact ≡ true
@@ -95,9 +98,9 @@ pub fn law_of_sharpness<N: Notation>(notation: &N, keep: Keep)
 {}
 
 /// Equal outputs are those of equal hands. Two inputs, of any notations, are converted to one
-/// notation, with one choice of notes: their outputs are the same exactly where their hands have the
-/// same traces and the same kept notes, hand by hand. The function does nothing: its contract is a
-/// law.
+/// notation, with one choice of notes: their outputs are the same exactly where their hands have
+/// the same traces and the same kept notes, hand by hand. The function does nothing: its contract
+/// is a law.
 pub fn law_of_equal_outputs<A: Notation, B: Notation, N: Notation>(
     from: &A,
     other: &B,
@@ -114,8 +117,8 @@ pub fn law_of_equal_outputs<A: Notation, B: Notation, N: Notation>(
         ↔ N.AreSame to.now output written }
 {}
 
-/// An output is converted to its own notation once more as the same output, whichever notes are kept
-/// then, unless memory is wanting. The function does nothing: its contract is a law.
+/// An output is converted to its own notation once more as the same output, whichever notes are
+/// kept then, unless memory is wanting. The function does nothing: its contract is a law.
 pub fn law_of_converting_again<A: Notation, N: Notation>(from: &A, to: &N, keep: Keep, again: Keep)
     ensures { (bytes output : List ℕ) (answer : Result (List ℕ) ConvertFault)
         → Answers (A.Say from.now) (A.HaveFault from.now) (N.unspelled to.now) (N.Spell to.now)
@@ -127,8 +130,8 @@ pub fn law_of_converting_again<A: Notation, N: Notation>(from: &A, to: &N, keep:
 
 /// A conversion may go by another notation. Where bytes are converted with all notes, what becomes
 /// of the output in a third notation is what becomes of the bytes there, with each choice of notes:
-/// the same output, or the same hand and its same fact without a spelling; unless memory is wanting.
-/// The function does nothing: its contract is a law.
+/// the same output, or the same hand and its same fact without a spelling; unless memory is
+/// wanting. The function does nothing: its contract is a law.
 pub fn law_of_converting_by_way<A: Notation, B: Notation, C: Notation>(
     from: &A,
     by: &B,

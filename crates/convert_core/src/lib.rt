@@ -1,5 +1,6 @@
-//! Hands are judged and converted: bytes of any notation come to their plays, or the first hand that is refused is named, and why;
-//! and plays come to bytes of any other notation, or the first fact that has no spelling is named.
+//! Hands are judged and converted: bytes of any notation come to their plays, or the first hand
+//! that is refused is named, and why; and plays come to bytes of any other notation, or the first
+//! fact that has no spelling is named.
 #![tactic(auto)]
 
 mod acpc;

@@ -1,5 +1,5 @@
-//! What a notation is: it reads bytes as records, tells which facts of a play it does not spell, and
-//! writes plays as bytes that read back as these plays, in one form for equal plays.
+//! What a notation is: it reads bytes as records, tells which facts of a play it does not spell,
+//! and writes plays as bytes that read back as these plays, in one form for equal plays.
 ghost use Rattle.std.specs.Prelude.{◌≡◌, ◌⊎◌, ◌↔◌, ◌≤◌, ◌<◌, ℕ, Bool, true, false, List, [], ◌∷◌, ◌++◌, length, Option, None, Some, IfErr, IfOk, OnOk};
 ghost use Rattle.std.specs.List.{AllByRecursion};
 ghost use Rattle.first_fault.specs.declared.limits.TheConstants.{MOST_HANDS};
@@ -66,7 +66,8 @@ pub trait Notation {
         ensures fault { IfErr result (λ fault.
             (is_want_of_memory fault ≡ true) ⊎ HaveFault self.now bytes.now fault) };
 
-    /// The first fact of a play, among those to be kept, that has no spelling; none where all have one.
+    /// The first fact of a play, among those to be kept, that has no spelling; none where all have
+    /// one.
     fn spells(&self, play: &Play, keep: Keep) -> Option<Unspelled>
         ensures { result ≡ unspelled self.now keep play.now };
 
@@ -87,8 +88,9 @@ pub trait Notation {
     fn has_lines(&self) -> bool
         ensures { result ≡ is_lined self.now };
 
-    /// Puts the line of the play at a place of its file, from 0, behind those of the plays before it, or nothing where the
-    /// notation has no lines. Ask first that it spells each fact of the play that is to be kept.
+    /// Puts the line of the play at a place of its file, from 0, behind those of the plays before
+    /// it, or nothing where the notation has no lines. Ask first that it spells each fact of the
+    /// play that is to be kept.
     fn push_line(
         &self,
         alloc: Global,
@@ -114,8 +116,9 @@ pub trait Notation {
     ghost one_reading: { (notation : Self) (bytes : List ℕ) (hands others : List Record)
         → Say notation bytes hands → Say notation bytes others → AllAlike hands others };
 
-    /// Whatever bytes say records, none of these is a legal hand with the trace of a play that has a fact without a spelling,
-    /// unless the fact is an odd chip or a note: a hand that is read may well have these.
+    /// Whatever bytes say records, none of these is a legal hand with the trace of a play that has
+    /// a fact without a spelling, unless the fact is an odd chip or a note: a hand that is read may
+    /// well have these.
     ghost sharp: { (notation : Self) (keep : AnyKeep) (play : AnyPlay) (fact : Fact)
         → unspelled notation keep play ≡ Some fact → is_sharp fact ≡ true
         → (bytes : List ℕ) (hands : List Record) → Say notation bytes hands
@@ -124,8 +127,9 @@ pub trait Notation {
     /// Where files are lines, that of no plays is empty.
     ghost no_lines: { (notation : Self) → is_lined notation ≡ true → Spell notation [] [] };
 
-    /// The spelling of sound plays, each of which has one, reads back as these plays: legal under the rules of the notation, with
-    /// the whole traces, stated facts that agree, and the kept notes.
+    /// The spelling of sound plays, each of which has one, reads back as these plays: legal under
+    /// the rules of the notation, with the whole traces, stated facts that agree, and the kept
+    /// notes.
     ghost reads_back: { (notation : Self) (keep : AnyKeep) (plays : List AnyPlay) (bytes : List ℕ)
         → AreFew plays → AllByRecursion IsSound plays
         → first_refusal (unspelled notation keep) plays ≡ None → Spell notation plays bytes
@@ -136,7 +140,8 @@ pub trait Notation {
     ghost kept_again: { (notation : Self) (notes : SaidNotes)
         → kept notation (kept notation notes) ≡ kept notation notes };
 
-    /// Which fact of a play it does not spell is told by the trace and by what is said in the notes.
+    /// Which fact of a play it does not spell is told by the trace and by what is said in the
+    /// notes.
     ghost same_fact: { (notation : Self) (keep : AnyKeep) (place : ℕ) (play other : AnyPlay)
         → place < MOST_HANDS → IsSound play → IsSound other
         → AreSameHand (λ notes. notes) place play other

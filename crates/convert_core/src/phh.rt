@@ -122,7 +122,8 @@ impl Notation for Phh {
     }
 
     fn push_line(&self, _: Global, _: &mut Vec<u8>, _: usize, _: &Play) -> Result<(), AllocError> {
-        // A file of several hands numbers them, and that of one does not: no line stands for a hand.
+        // A file of several hands numbers them, and that of one does not: no line stands for a
+        // hand.
         Ok(())
     }
 }

@@ -21,28 +21,33 @@ pub record IsSeatOf (seats seat : ℕ) : Type 0 where
   -- and not above the last
   pub last : seat ≤ seats
 
--- A state stands for a past where it has its places, its draws, its shows and its mucks. Nothing else is asked of the past.
+-- A state stands for a past where it has its places, its draws, its shows and its mucks. Nothing
+-- else is asked of the past.
 pub record StandsFor (t : CardState) (past : Past) : Type 0 where
   -- its cards, in the order of dealing, are the places of the past
   pub places : placed t.places ≡ places_of t.table.code past
   -- it knows who drew on which street
-  pub drew : (street seat : ℕ) → street ≤ 5 → IsSeatOf t.seats seat → has_drawn_at t.draws street seat ≡ has_drawn past street seat
+  pub drew : (street seat : ℕ) → street ≤ 5 → IsSeatOf t.seats seat
+      → has_drawn_at t.draws street seat ≡ has_drawn past street seat
   -- and how many cards each seat discarded there, and so how many it is still owed
-  pub named : (street seat : ℕ) → street ≤ 5 → IsSeatOf t.seats seat → named_at t.draws street seat ≡ cards_discarded past street seat
+  pub named : (street seat : ℕ) → street ≤ 5 → IsSeatOf t.seats seat
+      → named_at t.draws street seat ≡ cards_discarded past street seat
   -- it knows who showed
   pub shown : (seat : ℕ) → IsSeatOf t.seats seat → flag_of t.shown seat ≡ has_shown past seat
   -- and who mucked
   pub mucked : (seat : ℕ) → IsSeatOf t.seats seat → flag_of t.mucked seat ≡ has_mucked past seat
 
 -- what the calls ask of a past: it is one of the state, and what they are told of it is so
-pub record IsNow (t : CardState) (due : Due) (live : LiveRow) (setup : Setup) (past : Past) : Type 0 where
-  -- the hand is of the state's game
-  pub code_is : setup.code ≡ t.table.code
-  -- and has its seats
-  pub seats : setup.stacks.seats ≡ t.seats
-  -- the state stands for the past
-  pub stands : StandsFor t past
-  -- this is due after it
-  pub due_is : (turn setup past).1 ≡ due
-  -- and these seats are live
-  pub lives : (seat : ℕ) → IsSeatOf t.seats seat → flag_of live seat ≡ is_live (moves_of past) seat
+pub record IsNow (t : CardState) (due : Due) (live : LiveRow) (setup : Setup) (past : Past) : Type 0
+  where
+    -- the hand is of the state's game
+    pub code_is : setup.code ≡ t.table.code
+    -- and has its seats
+    pub seats : setup.stacks.seats ≡ t.seats
+    -- the state stands for the past
+    pub stands : StandsFor t past
+    -- this is due after it
+    pub due_is : (turn setup past).1 ≡ due
+    -- and these seats are live
+    pub lives : (seat : ℕ) → IsSeatOf t.seats seat
+        → flag_of live seat ≡ is_live (moves_of past) seat

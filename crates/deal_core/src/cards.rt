@@ -1,4 +1,5 @@
-//! Each call on the cards of a hand answers as the rules do, for every past for which the state stands.
+//! Each call on the cards of a hand answers as the rules do, for every past for which the state
+//! stands.
 ghost use Rattle.std.specs.Prelude.{◌≡◌, ◌≤◌, ◌<◌, ◌∷◌, [], ℕ, length, slice_get, true, OnOk, OnErr, IfErr, IsSomeAnd, None, Some};
 ghost use Rattle.card_set.specs.Row.{cards_of, slots_of};
 ghost use Rattle.chip_ledger.specs.LiveRow.{flag_of};
@@ -39,7 +40,8 @@ use play_event::{Due, Event, HandRow, Illegal, Kind, Place, UpRow};
 use std::marker::PhantomData;
 use variant_table::Variant;
 
-/// The cards of a hand of the game `V`. What the calls say of the past holds for every past for which the state stands.
+/// The cards of a hand of the game `V`. What the calls say of the past holds for every past for
+/// which the state stands.
 #[derive(Drop)]
 pub struct Cards<V: Variant> {
     pub state: CardState,
@@ -61,7 +63,8 @@ impl<V: Variant> Cards<V> {
         }
     }
 
-    /// Deals hole cards or board cards. Illegal exactly by the rules of play; the state is then as it was.
+    /// Deals hole cards or board cards. Illegal exactly by the rules of play; the state is then as
+    /// it was.
     pub fn deal(&mut self, due: Due, live: &LiveRow, event: &Event) -> Result<(), Illegal>
         requires kind { is_deal (said_of event.now) ≡ true }
         requires due { IsDueWithin V.STREETS due }
@@ -143,7 +146,8 @@ impl<V: Variant> Cards<V> {
         }
     }
 
-    /// Discards cards of a seat that draws. Illegal exactly by the rules of play; the state is then as it was.
+    /// Discards cards of a seat that draws. Illegal exactly by the rules of play; the state is then
+    /// as it was.
     pub fn discard(&mut self, due: Due, live: &LiveRow, event: &Event) -> Result<(), Illegal>
         requires kind { is_discard (said_of event.now) ≡ true }
         requires due { IsDueWithin V.STREETS due }
@@ -194,7 +198,8 @@ impl<V: Variant> Cards<V> {
         }
     }
 
-    /// Shows or mucks the cards of a seat. Illegal exactly by the rules of play; the state is then as it was.
+    /// Shows or mucks the cards of a seat. Illegal exactly by the rules of play; the state is then
+    /// as it was.
     pub fn show(
         &mut self,
         due: Due,
@@ -283,8 +288,8 @@ impl<V: Variant> Cards<V> {
         fold(&mut self.state, seat);
     }
 
-    /// Whether the deal, the draw or the show that `due` names is complete. The state need not be told what is due now:
-    /// the next street's deal may be complete before it is looked at.
+    /// Whether the deal, the draw or the show that `due` names is complete. The state need not be
+    /// told what is due now: the next street's deal may be complete before it is looked at.
     pub fn done(&self, due: Due, live: &LiveRow) -> bool
         requires due { IsDueWithin V.STREETS due }
         requires live { live.now.seats ≡ self.now.state.seats }
@@ -305,7 +310,8 @@ impl<V: Variant> Cards<V> {
         up(&self.state)
     }
 
-    /// The cards that each seat has, in the order of dealing. Discarded cards and those of folded seats are gone.
+    /// The cards that each seat has, in the order of dealing. Discarded cards and those of folded
+    /// seats are gone.
     pub fn hands(&self) -> HandRow
         ensures seats { result.seats ≡ self.now.state.seats }
         ensures hands { (past : Past) (seat : ℕ) → StandsFor self.now.state past
@@ -351,8 +357,9 @@ impl<V: Variant> Cards<V> {
         self.state.places.count
     }
 
-    /// The place at this index, from 0, in the order of the trace: by street, then by owner, p1 first and the board last,
-    /// then in the order of dealing. Ask for an index below `place_count`.
+    /// The place at this index, from 0, in the order of the trace: by street, then by owner, p1
+    /// first and the board last, then in the order of dealing. Ask for an index below
+    /// `place_count`.
     pub fn place(&self, index: u8) -> Place
         requires { index < self.now.state.places.count }
         ensures { (setup : Setup) (past : Past) → setup.code ≡ V.CODE

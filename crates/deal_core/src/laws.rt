@@ -6,7 +6,8 @@ ghost use Rattle.play_event.specs.Table.{places_of};
 ghost use Rattle.play_event.specs.declared.code.Code.{Code};
 ghost use Rattle.deal_core.specs.Standing.{StandsFor};
 
-/// A call, a raise or a bring-in changes no place, and a state that stood before it stands after it.
+/// A call, a raise or a bring-in changes no place, and a state that stood before it stands after
+/// it.
 pub fn moves_leave_cards()
     ensures places { (code : Code) (past : Past) (move : Move) → is_fold move.act ≡ false
         → places_of code (Moved move ∷ past) ≡ places_of code past }

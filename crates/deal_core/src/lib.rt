@@ -1,4 +1,5 @@
-//! The cards of a hand are dealt, discarded, shown and mucked exactly as the rules of its game allow.
+//! The cards of a hand are dealt, discarded, shown and mucked exactly as the rules of its game
+//! allow.
 #![tactic(auto)]
 
 mod cards;

@@ -10,4 +10,5 @@ are_digits text = nat_lt 0 (length text) && list_all (λ sign. is_digit sign 10)
 
 -- the number that digits say, if it is no more than this
 unfoldable pub number_of : ℕ → List ℕ → Option ℕ
-number_of most digits = if nat_le (digits_value 10 digits) most then Some (digits_value 10 digits) else None
+number_of most digits =
+    if nat_le (digits_value 10 digits) most then Some (digits_value 10 digits) else None

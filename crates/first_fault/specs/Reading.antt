@@ -24,16 +24,21 @@ abbrev pub read_if : {F D A : Type 0} → (D → Result A F) → Option D → Re
 read_if form None = Ok None
 read_if form (Some item) = form item >>= λ x. Ok (Some x)
 
--- items one after the other, the first of which has this number, each read in a form that is told its number
+-- items one after the other, the first of which has this number, each read in a form that is told
+-- its number
 unfoldable pub each_from : {F D A : Type 0} → (ℕ → D → Result A F) → ℕ → List D → Result (List A) F
 each_from form n [] = Ok []
-each_from form n (item ∷ rest) = form n item >>= λ x. each_from form (n + 1) rest >>= λ xs. Ok (x ∷ xs)
+each_from form n (item ∷ rest) =
+    form n item >>= λ x. each_from form (n + 1) rest >>= λ xs. Ok (x ∷ xs)
 
 -- the same, where each item adds to what is found, and hands on what is counted
-unfoldable pub thread_from : {F D A S : Type 0} → (S → ℕ → D → Result (List A × S) F) → S → ℕ → List D → Result (List A × S) F
+unfoldable pub thread_from : {F D A S : Type 0} → (S → ℕ → D → Result (List A × S) F) → S → ℕ
+    → List D → Result (List A × S) F
 thread_from form counts n [] = Ok ([], counts)
 thread_from form counts n (item ∷ rest) =
-    form counts n item >>= λ found. thread_from form found.1 (n + 1) rest >>= λ others. Ok (found.0 ++ others.0, others.1)
+    form counts n item
+    >>= λ found.
+    thread_from form found.1 (n + 1) rest >>= λ others. Ok (found.0 ++ others.0, others.1)
 
 -- the same, in a form that may give nothing
 abbrev pub or_none : {F D A : Type 0} → (D → Result (Option A) F) → Option D → Result (Option A) F

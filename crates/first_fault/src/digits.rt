@@ -18,7 +18,8 @@ pub fn are_digits(text: &[u8]) -> bool
     true
 }
 
-/// The number that the digits say, or `None` where it is above `most`. Ask first that they are digits.
+/// The number that the digits say, or `None` where it is above `most`. Ask first that they are
+/// digits.
 #[tactic(auto, unfolding(crate::specs::Digits::number_of, crate::specs::Digits::are_digits))]
 pub fn read_digits(digits: &[u8], most: u64) -> Option<u64>
     requires digits { IsTrue (are_digits_said digits.now) }

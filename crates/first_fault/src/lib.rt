@@ -1,4 +1,5 @@
-//! Reading in a fixed order gives a value or the first fault, whatever the notation and its faults are.
+//! Reading in a fixed order gives a value or the first fault, whatever the notation and its faults
+//! are.
 #![tactic(auto)]
 
 mod digits;

@@ -5,7 +5,8 @@ use std::marker::Model;
 
 /// A text of a note, or of the place of a fault.
 ///
-/// It takes one word where it stands, and its bytes stand elsewhere: most records have room for many notes and few of them.
+/// It takes one word where it stands, and its bytes stand elsewhere: most records have room for
+/// many notes and few of them.
 #[derive(Debug, Drop)]
 pub struct Text {
     text: Box<String>,

@@ -1,4 +1,5 @@
--- What a record states of the end of a hand, beside what its trace comes to, and the first number that differs.
+-- What a record states of the end of a hand, beside what its trace comes to, and the first number
+-- that differs.
 use Rattle.std.specs.Prelude.{ℕ, ℤ, pos, ◌-ℤ◌, ◌≤◌, Bool, not, if◌then◌else◌, List, [], ◌∷◌, ◌++◌, map, find, sum_by, Option, Some, None, All}
 use Rattle.std.specs.Option.{option_map_or}
 use Rattle.std.specs.Ordering.{int_eq}
@@ -16,7 +17,8 @@ use Rattle.hand_records.specs.declared.record.Stated.{Stated}
 use Rattle.hand_records.specs.declared.trace.Trace.{Trace}
 use Rattle.hand_records.specs.NetRow.{net_of}
 
--- a fact that may be stated: a seat's finishing stack, what it wins of the pots, all pots together, what it won or lost
+-- a fact that may be stated: a seat's finishing stack, what it wins of the pots, all pots together,
+-- what it won or lost
 pub data Fact : Type 0 where
   Finish : ℕ → Fact
   Win : ℕ → Fact
@@ -64,7 +66,8 @@ abbrev pub value_compared : Trace → NetRow → ℕ → Comparison
 value_compared trace row seat = comparison (Value seat) (net_of row seat) (value_of trace seat)
 
 -- what is compared of a row, seat by seat, if there is a row
-abbrev pub row_compared : {Row : Type 0} → Trace → (Trace → Row → ℕ → Comparison) → Option Row → List Comparison
+abbrev pub row_compared : {Row : Type 0} → Trace → (Trace → Row → ℕ → Comparison) → Option Row
+    → List Comparison
 row_compared trace compared row =
     option_map_or (λ stated. map (compared trace stated) (all_seats trace.setup)) row []
 

@@ -12,7 +12,8 @@ use Rattle.canon_script.specs.TraceCore.{TraceCore, core_after}
 use Rattle.canon_script.specs.CanonScript.{dealt_slots, held_slots}
 pub use Rattle.canon_script.specs.PlayedScript.{IsPlayed, IsWithinLimits, is_move}
 
--- what is seen at the end of a hand with this trace: the shown seats, the cards that each seat holds, and the board
+-- what is seen at the end of a hand with this trace: the shown seats, the cards that each seat
+-- holds, and the board
 abbrev pub showdown_in : Setup → TraceCore → Showdown
 showdown_in setup trace =
     record {
@@ -22,12 +23,14 @@ showdown_in setup trace =
       board = known_cards (flat_map (dealt_slots trace.places None) (streets_of setup));
     }
 
--- the pots of a trace can be shared: no rake is above its pot, and each pot that two or more seats may win has a shown hand
+-- the pots of a trace can be shared: no rake is above its pot, and each pot that two or more seats
+-- may win has a shown hand
 pub record IsShareable (setup : Setup) (trace : TraceCore) : Type 0 where
   pub no_rake_above : first_rake_above setup.rakes trace.pots ≡ None
   pub no_unshown : first_unshown (showdown_in setup trace) trace.pots ≡ None
 
--- a script is that of a legal hand: it is played to its end, and the pots that it leaves can be shared
+-- a script is that of a legal hand: it is played to its end, and the pots that it leaves can be
+-- shared
 pub record IsLegalHand (setup : Setup) (rules : Rules) (script : List Said) : Type 0 where
   pub played : IsPlayed setup rules script
   pub shareable : IsShareable setup (core_after setup script)

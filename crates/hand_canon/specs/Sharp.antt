@@ -1,4 +1,5 @@
--- The facts of a play that no bytes say, whoever wrote them, and hands that have not the trace of a play.
+-- The facts of a play that no bytes say, whoever wrote them, and hands that have not the trace of a
+-- play.
 use Rattle.std.specs.Prelude.{Bool, false, true}
 use Rattle.hand_canon.specs.Judged.{IsTraceOfLegal}
 use Rattle.hand_records.specs.declared.record.Record.{Record}
@@ -10,8 +11,9 @@ use Rattle.hand_records.specs.declared.writing.Unspelled.TheVariants as facts
 abbrev pub IsOther : Play → Record → Type 0
 IsOther play hand = IsTraceOfLegal hand play.trace → ⊥
 
--- A fact that is not spelled is sharp if no bytes say a legal hand that has it. A hand may well be read that has the trace of a
--- play with an odd chip, or with a note that is not written again; it has no other such fact.
+-- A fact that is not spelled is sharp if no bytes say a legal hand that has it. A hand may well be
+-- read that has the trace of a play with an odd chip, or with a note that is not written again; it
+-- has no other such fact.
 abbrev pub is_sharp : Unspelled → Bool
 is_sharp facts.OddChip = false
 is_sharp (facts.Note name) = false

@@ -25,14 +25,16 @@ pub record HasSeats (seats : ℕ) (trace : Trace) : Type 0 where
   pub finish : trace.finish.seats ≡ seats
 
 -- what each seat gets of the net of each pot, and what it ends with
-pub record HasShares (setup : Setup) (trace : TraceCore) (shares : List (ℕ → ℕ)) (finish : ℕ → ℕ) : Type 0 where
+pub record HasShares (setup : Setup) (trace : TraceCore) (shares : List (ℕ → ℕ)) (finish : ℕ → ℕ) :
+    Type 0 where
   pub shared :
       AllShared setup.code (showdown_in setup trace) (nets_of setup.rakes trace.pots) shares
   pub finishes : (seat : ℕ) → 1 ≤ seat → seat ≤ setup.stacks.seats
       → finish seat ≡ finishing_stack setup (plain_moves trace.moves) shares seat
 
--- A trace is that of a past: it keeps what the past says, each pot less its rake is shared as the rules share it, and each
--- seat ends with the chips that it has left, those returned to it, and its shares.
+-- A trace is that of a past: it keeps what the past says, each pot less its rake is shared as the
+-- rules share it, and each seat ends with the chips that it has left, those returned to it, and its
+-- shares.
 pub record IsTraceOf (setup : Setup) (past : Past) (trace : Trace) : Type 0 where
   pub same_setup : trace.setup ≡ setup
   pub seats : HasSeats setup.stacks.seats trace

@@ -31,8 +31,8 @@ pub struct FactDiffers {
     pub replayed: i64,
 }
 
-/// Whether what a record states of the end of a hand is what its trace comes to: the finishing stacks first, then the
-/// wins, the pots together, and the values, each from p1 upward.
+/// Whether what a record states of the end of a hand is what its trace comes to: the finishing
+/// stacks first, then the wins, the pots together, and the values, each from p1 upward.
 ///
 /// # Errors
 ///

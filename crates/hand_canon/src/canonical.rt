@@ -1,4 +1,5 @@
-//! The canonical script of a trace is written street by street: discards, deals, moves, and at the end the showdown.
+//! The canonical script of a trace is written street by street: discards, deals, moves, and at the
+//! end the showdown.
 ghost use Rattle.std.specs.Prelude.{◌≡◌, ◌≤◌, ◌++◌, length, map, IfOk, OnOk};
 ghost use Rattle.std.specs.List.{flat_map, range_with_len};
 ghost use Rattle.play_event.specs.Played.{move_said};
@@ -22,8 +23,8 @@ use hand_records::Trace;
 use play_event::{Act, HandRow, Kind, Move, Script, Spelled};
 use std::alloc::Global;
 
-/// The canonical script of a trace: the one script that every notation writes for it. Cards stand in it as they are
-/// known at the end, each move names its seat, and `at` is the event's number.
+/// The canonical script of a trace: the one script that every notation writes for it. Cards stand
+/// in it as they are known at the end, each move names its seat, and `at` is the event's number.
 pub fn canon(alloc: Global, trace: &Trace) -> Result<Script, Memory>
     requires { IsTidy (core_said trace.now) }
     ensures said { IfOk result (λ script.
@@ -52,7 +53,8 @@ fn write_street(written: &mut Numbered, trace: &Trace, street: u8) -> Result<(),
     write_moves(written, trace.moves.as_slice(), street)
 }
 
-// Writes the discards of a street: those of each seat that is live when it begins, if the street draws and two are.
+// Writes the discards of a street: those of each seat that is live when it begins, if the street
+// draws and two are.
 fn write_discards(written: &mut Numbered, trace: &Trace, street: u8) -> Result<(), Memory>
     requires street { 1 ≤ street }
     requires tidy { HasTidyCards (core_said trace.now) }

@@ -26,8 +26,8 @@ pub(crate) fn dealt_to_seats(places: &[Place], street: u8) -> HandRow
     dealt
 }
 
-/// The cards that each seat, of ten, has at the end and did not discard; of a seat that folded those
-/// that it had then.
+/// The cards that each seat, of ten, has at the end and did not discard; of a seat that folded
+/// those that it had then.
 pub fn held_by_seats(places: &[Place]) -> HandRow
     requires { (n : ℕ) → length (held_slots (map place_said places.now) n) ≤ 7 }
     ensures seats { result.seats ≡ 10 }

@@ -11,7 +11,8 @@ use std::alloc::AllocError;
 /// How many cards the deck has.
 const DECK: u8 = 52;
 
-/// Counts all hands of the order whose first cards are these, and whose others stand from a place of the deck on.
+/// Counts all hands of the order whose first cards are these, and whose others stand from a place
+/// of the deck on.
 pub fn count_hands<O: HandOrder>(
     from: u8,
     hand: CardRow,

@@ -52,7 +52,8 @@ fn score_rounds<O: HandOrder>(first: u8, cards: u8, rounds: u32) -> Scored
     scored
 }
 
-// Scores the hands whose first cards are these, and whose others are each third card of the deck from a place on.
+// Scores the hands whose first cards are these, and whose others are each third card of the deck
+// from a place on.
 fn score_hands<O: HandOrder>(from: u8, hand: CardRow, cards: u8, scored: &mut Scored)
     requires can { CanChoose O.HELD cards }
     requires few { cards ≤ 7 }

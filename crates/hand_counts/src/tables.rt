@@ -108,7 +108,8 @@ pub fn all_counts(alloc: Global) -> Result<Vec<String>, AllocError> {
     Ok(lines)
 }
 
-// Adds the lines of one order: the hands of each class, those without a score, and the different scores.
+// Adds the lines of one order: the hands of each class, those without a score, and the different
+// scores.
 fn add_counts<O: HandOrder>(
     alloc: Global,
     lines: &mut Vec<String>,

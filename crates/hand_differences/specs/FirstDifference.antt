@@ -19,8 +19,8 @@ use Rattle.hand_differences.specs.SameParts.{is_same_test, is_same_option, are_s
 use Rattle.hand_differences.specs.declared.difference.Difference as rows
 use Rattle.hand_differences.specs.declared.difference.Difference.TheVariants as differences
 
--- What differs first, with plain numbers for seats. Moves, cards, streets and seats are counted from
--- 1; a card of the board has no owner.
+-- What differs first, with plain numbers for seats. Moves, cards, streets and seats are counted
+-- from 1; a card of the board has no owner.
 pub data PlainDifference : Type 0 where
   Variant : PlainDifference
   SeatCount : PlainDifference
@@ -44,7 +44,8 @@ difference_said differences.Antes = Antes
 difference_said differences.Blinds = Blinds
 difference_said differences.Rake = Rake
 difference_said (differences.Move number street seat) = Move number street seat.number
-difference_said (differences.Card number street owner) = Card number street (option_map (λ seat. seat.number) owner)
+difference_said (differences.Card number street owner) =
+    Card number street (option_map (λ seat. seat.number) owner)
 difference_said (differences.Shown seat) = Shown seat.number
 difference_said (differences.Note name) = Note name
 

@@ -34,7 +34,10 @@ nothing_comes stock = record { event = None; left = stock }
 -- a seat is dealt so many cards
 abbrev pub hole_of : ℕ → Stock → ℕ → Coming
 hole_of count stock seat =
-    record { event = Some (Hole seat (known_slots (next_cards count stock))); left = after_cards count stock }
+    record {
+      event = Some (Hole seat (known_slots (next_cards count stock)));
+      left = after_cards count stock;
+    }
 
 -- the board is dealt so many cards
 abbrev pub board_of : ℕ → Stock → Coming
@@ -59,7 +62,8 @@ first_owed setup past street =
 -- seats are dealt their cards from p1 upward, and then the board
 abbrev pub deal_comes : Setup → Past → ℕ → Stock → Coming
 deal_comes setup past street stock =
-    deal_of (first_owed setup past street) (cards_owed setup past street) (board_cards_owed setup past street) stock
+    deal_of (first_owed setup past street) (cards_owed setup past street)
+    (board_cards_owed setup past street) stock
 
 -- a seat discards, where there is one that draws next; else what is owed is dealt
 abbrev pub discard_or : Option ℕ → (ℕ → List Slot) → Coming → Stock → Coming
@@ -73,13 +77,15 @@ held_by setup past seat = held_slots (Some seat) (places_of setup.code past)
 -- all seats that draw discard first, and then they are dealt what they are owed
 abbrev pub draw_comes : Setup → Past → ℕ → Stock → Coming
 draw_comes setup past street stock =
-    discard_or (next_to_draw setup past street) (held_by setup past) (deal_comes setup past street stock) stock
+    discard_or (next_to_draw setup past street) (held_by setup past)
+    (deal_comes setup past street stock) stock
 
 -- where a seat may raise to: the least and the greatest legal target, if it may raise
 abbrev pub ends_of : Setup → Rules → List Move → ℕ → ℕ → Option (ℕ × ℕ)
 ends_of setup rules moves street seat =
     if may_raise setup rules moves street seat
-    then Some (least_target rules.reopen setup moves street seat, greatest_target setup moves street seat)
+    then Some
+    (least_target rules.reopen setup moves street seat, greatest_target setup moves street seat)
     else None
 
 -- a call, which states nothing
@@ -91,8 +97,8 @@ abbrev pub raise_of : ℕ → Option ℕ → Said
 raise_of seat (Some target) = Raise (Some seat) (spelled.To target)
 raise_of seat None = call_of seat
 
--- What a seat does, by a number below 8. By 0 it folds where it owes chips; by 1 and 2 it raises to the least target, and by 3
--- to the greatest, where it may raise; else it calls.
+-- What a seat does, by a number below 8. By 0 it folds where it owes chips; by 1 and 2 it raises to
+-- the least target, and by 3 to the greatest, where it may raise; else it calls.
 abbrev pub move_of : (owes : Bool) (ends : Option (ℕ × ℕ)) (seat number : ℕ) → Said
 move_of owes ends seat number =
     if number == 0 then (if owes then Fold (Some seat) else call_of seat)
@@ -103,12 +109,16 @@ move_of owes ends seat number =
 -- what a seat does after moves on a street
 abbrev pub move_by : Setup → Rules → List Move → ℕ → ℕ → ℕ → Said
 move_by setup rules moves street seat number =
-    move_of (nat_lt 0 (owed setup moves street seat)) (ends_of setup rules moves street seat) seat number
+    move_of (nat_lt 0 (owed setup moves street seat)) (ends_of setup rules moves street seat) seat
+    number
 
 -- the seat in turn moves by a draw of 8; where no seat is in turn, nothing comes
 abbrev pub move_comes : Setup → Rules → List Move → ℕ → Stock → InTurn → Coming
 move_comes setup rules moves street stock (TheSeat seat) =
-    record { event = Some (move_by setup rules moves street seat (draw_of 8 stock)); left = after_draw stock }
+    record {
+      event = Some (move_by setup rules moves street seat (draw_of 8 stock));
+      left = after_draw stock;
+    }
 move_comes setup rules moves street stock NoSeat = nothing_comes stock
 move_comes setup rules moves street stock Undecided = nothing_comes stock
 
@@ -126,7 +136,8 @@ in_turn_on setup past street = mover setup (up_cards setup.code past) (moves_of 
 abbrev pub comes_at : Setup → Rules → Past → Stock → ℕ → Due → Coming
 comes_at setup rules past stock street (dues.Deal on) = deal_comes setup past on stock
 comes_at setup rules past stock street (dues.Draw on) = draw_comes setup past on stock
-comes_at setup rules past stock street dues.BringIn = bring_in_comes stock (in_turn_on setup past street)
+comes_at setup rules past stock street dues.BringIn =
+    bring_in_comes stock (in_turn_on setup past street)
 comes_at setup rules past stock street dues.Move =
     move_comes setup rules (moves_of past) street stock (in_turn_on setup past street)
 comes_at setup rules past stock street dues.Show = nothing_comes stock
@@ -134,4 +145,5 @@ comes_at setup rules past stock street dues.Over = nothing_comes stock
 
 -- what comes next after a past
 unfoldable pub coming : Setup → Rules → Past → Stock → Coming
-coming setup rules past stock = comes_at setup rules past stock (turn setup past).0 (turn setup past).1
+coming setup rules past stock =
+    comes_at setup rules past stock (turn setup past).0 (turn setup past).1

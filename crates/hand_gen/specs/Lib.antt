@@ -1,4 +1,5 @@
--- What the hands are that are made from a number: draws, the deck, the setup, each next event, the records.
+-- What the hands are that are made from a number: draws, the deck, the setup, each next event, the
+-- records.
 pub mod Draws
 pub mod Stock
 pub mod Setups

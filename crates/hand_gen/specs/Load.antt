@@ -1,4 +1,5 @@
--- The summary of made hands: how many hands, moves and chips of pots there are, and what each format spells of them.
+-- The summary of made hands: how many hands, moves and chips of pots there are, and what each
+-- format spells of them.
 use Rattle.std.specs.Prelude.{◌≡◌, ℕ, ◌++◌, List, [], ◌∷◌, length, codes, sum_by, All, Option, Some, None, Ok, Err}
 use Rattle.std.specs.Fmt.{decimal}
 use Rattle.std.specs.List.{AllZip}
@@ -32,7 +33,8 @@ abbrev pub bytes_spelled : Option Unspelled → ℕ → ℕ
 bytes_spelled None bytes = bytes
 bytes_spelled (Some fact) bytes = 0
 
--- whether a hand is spelled, and in how many bytes, by its first fact without a spelling and the bytes that it would have
+-- whether a hand is spelled, and in how many bytes, by its first fact without a spelling and the
+-- bytes that it would have
 pub record IsSpelled (fact : Option Unspelled) (bytes : ℕ) (spelled : SpelledSize) : Type 0 where
   pub hands_are : spelled.hands ≡ hands_spelled fact
   pub bytes_are : spelled.bytes ≡ bytes_spelled fact bytes
@@ -44,10 +46,12 @@ IsInHistories play spelled =
 
 -- what the logs of the game that a play fits spell of it; a play that fits no game is in none
 pub data IsInLogs (play : Play) (spelled : SpelledSize) : Type 0 where
-  fits_none : (fact : Unspelled) → game_of play.trace.setup ≡ Err fact → spelled.hands ≡ 0 → spelled.bytes ≡ 0
+  fits_none : (fact : Unspelled) → game_of play.trace.setup ≡ Err fact → spelled.hands ≡ 0
+      → spelled.bytes ≡ 0
       → IsInLogs play spelled
   fits : (game : Game) → game_of play.trace.setup ≡ Ok (game_in game)
-      → IsSpelled (logs.unspelled game keeps.All play) (length (log_text game.no_limit (play ∷ []))) spelled
+      → IsSpelled (logs.unspelled game keeps.All play) (length (log_text game.no_limit (play ∷ [])))
+      spelled
       → IsInLogs play spelled
 
 -- the numbers of a play: its moves, its pots, and what each format spells of it
@@ -71,7 +75,8 @@ pub record IsSummaryOf (plays : List Play) (summary : Summary) : Type 0 where
   pub acpc : summary.acpc ≡ sum_by (λ (c : PlayCounts). c.acpc.hands) counts
   pub acpc_bytes : summary.acpc_bytes ≡ sum_by (λ (c : PlayCounts). c.acpc.bytes) counts
 
--- a summary is that of the made hands from a seed, up to the number that comes behind them: each has its play, and these are counted
+-- a summary is that of the made hands from a seed, up to the number that comes behind them: each
+-- has its play, and these are counted
 pub record IsLoadTo (seed number : ℕ) (summary : Summary) : Type 0 where
   pub plays : List Play
   pub made : AreMadeFrom 0 seed (hands_of plays)

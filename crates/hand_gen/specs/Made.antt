@@ -35,7 +35,8 @@ HaveCome setup rules stock (event ∷ before) =
 abbrev pub backward : List Event → List Said
 backward script = reverse (map said_of script)
 
--- a script is made from a stock: each of its events has come, nothing comes behind the last, and they are numbered from 1
+-- a script is made from a stock: each of its events has come, nothing comes behind the last, and
+-- they are numbered from 1
 pub record IsMadeScript (setup : Setup) (stock : Stock) (script : List Event) : Type 0 where
   pub come : HaveCome setup history_rules stock (backward script)
   pub whole : next_event setup history_rules stock (backward script) ≡ None
@@ -65,7 +66,8 @@ pub record AreNoNotes (notes : Notes) : Type 0 where
 
 -- the stock with which a hand begins: the draws behind its setup, and the whole deck
 abbrev pub stock_of : ℕ → Setup → Stock
-stock_of number setup = record { number = number_behind_setup number setup; deck = full_deck setup.code }
+stock_of number setup =
+    record { number = number_behind_setup number setup; deck = full_deck setup.code }
 
 -- a record is the made hand at a place among the hands, where the draws have come to a number
 pub record IsMade (place number : ℕ) (hand : Record) : Type 0 where
@@ -78,7 +80,8 @@ pub record IsMade (place number : ℕ) (hand : Record) : Type 0 where
 -- the number to which the draws come behind a hand
 abbrev pub number_behind : ℕ → Record → ℕ
 number_behind number hand =
-    (stock_behind hand.setup history_rules (stock_of number hand.setup) (backward hand.script)).number
+    (stock_behind hand.setup history_rules (stock_of number hand.setup)
+    (backward hand.script)).number
 
 -- records are the made hands from a place on, one after the other
 abbrev pub AreMadeFrom : ℕ → ℕ → List Record → Type 0

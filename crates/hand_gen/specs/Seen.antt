@@ -20,7 +20,8 @@ first_owed_in t live on = find (λ seat. nat_lt 0 (owed_in t live on seat)) (sea
 
 -- what is dealt next on a street
 abbrev pub deal_in : CardState → LiveRow → ℕ → Stock → Coming
-deal_in t live on stock = deal_of (first_owed_in t live on) (owed_in t live on) (board_owed_in t on) stock
+deal_in t live on stock =
+    deal_of (first_owed_in t live on) (owed_in t live on) (board_owed_in t on) stock
 
 -- the cards that a seat has
 abbrev pub held_in : CardState → ℕ → List Slot
@@ -28,7 +29,8 @@ held_in t seat = held_slots (Some seat) (placed t.places)
 
 -- what comes next in a draw
 abbrev pub draw_in : CardState → LiveRow → ℕ → Stock → Coming
-draw_in t live on stock = discard_or (next_to_draw_in t live on) (held_in t) (deal_in t live on stock) stock
+draw_in t live on stock =
+    discard_or (next_to_draw_in t live on) (held_in t) (deal_in t live on stock) stock
 
 -- an event that comes, if one does
 abbrev pub event_said : Option Kind → Option Said

@@ -45,8 +45,9 @@ blind_of seats seat =
 abbrev pub blind_in : Code → ℕ → ℕ → ℕ
 blind_in code seats seat = if is_stud code then 0 else blind_of seats seat
 
--- The setup of the hand at a place, where the draws have come to a number. Stud has antes of 1 and a bring-in of 1; the
--- small bet is 2, the big bet 4, and the least bet 2. Antes are not dead, and no pot has a rake.
+-- The setup of the hand at a place, where the draws have come to a number. Stud has antes of 1 and
+-- a bring-in of 1; the small bet is 2, the big bet 4, and the least bet 2. Antes are not dead, and
+-- no pot has a rake.
 pub record IsMadeSetup (place number : ℕ) (setup : Setup) : Type 0 where
   pub code : setup.code ≡ game_at place
   pub seats : setup.stacks.seats ≡ seats_drawn number

@@ -1,4 +1,5 @@
--- What a hand is made of: the number to which the draws have come, and the cards that are left in the deck.
+-- What a hand is made of: the number to which the draws have come, and the cards that are left in
+-- the deck.
 use Rattle.std.specs.Prelude.{ℕ, zero, suc, List, [], ◌∷◌, length, map, filter, slice_get, unwrap_or}
 use Rattle.std.specs.List.{range_with_len, remove}
 use Rattle.card_set.specs.declared.card.Card.{Card}
@@ -34,7 +35,8 @@ next_card stock = unwrap_or (slice_get stock.deck (next_place stock)) (card_plac
 
 -- it is taken out of the deck
 abbrev pub after_card : Stock → Stock
-after_card stock = record { number = next_number stock.number; deck = remove stock.deck (next_place stock) }
+after_card stock =
+    record { number = next_number stock.number; deck = remove stock.deck (next_place stock) }
 
 -- so many cards are taken one after the other
 abbrev pub next_cards : ℕ → Stock → List Card

@@ -64,7 +64,8 @@ pub fn history_rules() -> Rules
     }
 }
 
-// Puts the event that comes next behind the others, and gives it. Where nothing comes, it gives none.
+// Puts the event that comes next behind the others, and gives it. Where nothing comes, it gives
+// none.
 fn play_next<V: Variant>(
     hand: &mut HandInPlay<V>,
     script: &mut Script,

@@ -54,7 +54,8 @@ pub fn make(alloc: Global, seed: u64, count: u32) -> Result<Records, Memory>
     Ok(hands)
 }
 
-/// The hand at a place among the made hands, from 0, where the draws have come to this number, with its trace.
+/// The hand at a place among the made hands, from 0, where the draws have come to this number, with
+/// its trace.
 ///
 /// # Errors
 ///

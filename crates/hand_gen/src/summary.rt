@@ -23,7 +23,8 @@ pub struct PlayCounts {
     pub ghost one: { phh ≤ 1 },
 }
 
-/// How many hands, moves and chips of pots there are, and how many hands each format spells, and in how many bytes.
+/// How many hands, moves and chips of pots there are, and how many hands each format spells, and in
+/// how many bytes.
 #[derive(Clone, Copy, Debug, PartialEq, Eq)]
 pub struct Summary {
     pub hands: u128,

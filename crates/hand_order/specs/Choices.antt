@@ -11,13 +11,16 @@ use Rattle.card_set.specs.declared.pick.Pick.TheVariants as picks
 unfoldable pub choices : ℕ → List Card → List (List Card)
 choices zero cards = [] ∷ []
 choices (suc n) [] = []
-choices (suc n) (card ∷ rest) = map (λ chosen. card ∷ chosen) (choices n rest) ++ choices (suc n) rest
+choices (suc n) (card ∷ rest) =
+    map (λ chosen. card ∷ chosen) (choices n rest) ++ choices (suc n) rest
 
 -- all choices of so many of the first cards, each with all choices of so many of the second ones
 abbrev pub choices_of_both : ℕ → List Card → ℕ → List Card → List (List Card)
-choices_of_both n first m second = flat_map (λ chosen. map (λ others. chosen ++ others) (choices m second)) (choices n first)
+choices_of_both n first m second =
+    flat_map (λ chosen. map (λ others. chosen ++ others) (choices m second)) (choices n first)
 
--- the choices that a pick allows: any five cards; two of the hole and three of the board; all hole cards
+-- the choices that a pick allows: any five cards; two of the hole and three of the board; all hole
+-- cards
 abbrev pub allowed : Pick → List Card → List Card → List (List Card)
 allowed picks.AnyFive hole board = choices 5 (hole ++ board)
 allowed picks.TwoAndThree hole board = choices_of_both 2 hole 3 board
@@ -25,7 +28,8 @@ allowed picks.AllHeld hole board = hole ∷ []
 
 -- the pick can use these cards in an order whose hands have this many cards
 abbrev pub CanPick : ℕ → Pick → List Card → List Card → Type 0
-CanPick held picks.AnyFive hole board = (held ≡ 5) × (5 ≤ length hole + length board) × (length hole + length board ≤ 7)
+CanPick held picks.AnyFive hole board =
+    (held ≡ 5) × (5 ≤ length hole + length board) × (length hole + length board ≤ 7)
 CanPick held picks.TwoAndThree hole board = (held ≡ 5) × (2 ≤ length hole) × (3 ≤ length board)
 CanPick held picks.AllHeld hole board = length hole ≡ held
 
@@ -44,8 +48,11 @@ AreHeld held cards = (length cards ≡ held) × AllDifferent cards
 
 -- at most four cards make so many different cards with each three of the board
 abbrev pub CanJoin : ℕ → List Card → List Card → Type 0
-CanJoin held cards board = (length cards ≤ 4) × ((more : List Card) → IsAmong more (choices 3 board) → AreHeld held (cards ++ more))
+CanJoin held cards board =
+    (length cards ≤ 4)
+    × ((more : List Card) → IsAmong more (choices 3 board) → AreHeld held (cards ++ more))
 
 -- points that do not look at the order of the cards
 abbrev pub AreAlike : (List Card → Option ℕ) → ℕ → Type 0
-AreAlike points held = (a b : List Card) → AreHeld held a → AreHeld held b → AreSameCards a b → points a ≡ points b
+AreAlike points held =
+    (a b : List Card) → AreHeld held a → AreHeld held b → AreSameCards a b → points a ≡ points b

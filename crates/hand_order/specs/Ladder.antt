@@ -20,14 +20,23 @@ abbrev pub leveled : FlushPlace → ℕ → ℕ
 leveled flushes.BelowFullHouse class = class
 leveled flushes.AboveFullHouse class = if class == 6 then 5 else class
 
--- the classes by how many ranks occur four times, three times and twice, and whether there is a straight and a flush
+-- the classes by how many ranks occur four times, three times and twice, and whether there is a
+-- straight and a flush
 abbrev pub ladder_table : FlushPlace → ℕ → ℕ → ℕ → Bool → Bool → List Bool
-ladder_table flushes.BelowFullHouse fours threes pairs straight flush = high_table fours threes pairs straight flush
+ladder_table flushes.BelowFullHouse fours threes pairs straight flush =
+    high_table fours threes pairs straight flush
 ladder_table flushes.AboveFullHouse fours threes pairs straight flush =
-    (straight && flush) ∷ (fours == 1) ∷ flush ∷ (threes == 1 && pairs == 1) ∷ straight ∷ (threes == 1 && pairs == 0) ∷ (pairs == 2) ∷ (pairs == 1 && threes == 0)
+    (straight && flush) ∷ (fours == 1) ∷ flush ∷ (threes == 1 && pairs == 1) ∷ straight
+    ∷ (threes == 1 && pairs == 0) ∷ (pairs == 2) ∷ (pairs == 1 && threes == 0)
     ∷ (fours == 0 && threes == 0 && pairs == 0) ∷ []
 
 -- the points of a hand, where the ace begins this straight or none
 abbrev pub ladder_points : FlushPlace → LowStraight → List Card → ℕ
 ladder_points flush low cards =
-    class_above (8 - place (ladder_table flush (ranks_occurring high_ace cards 4) (ranks_occurring high_ace cards 3) (ranks_occurring high_ace cards 2) (is_straight low cards) (is_one_suit cards))) (deciding_ranks low cards)
+    class_above
+    (8
+    - place
+    (ladder_table flush (ranks_occurring high_ace cards 4)
+    (ranks_occurring high_ace cards 3) (ranks_occurring high_ace cards 2)
+    (is_straight low cards) (is_one_suit cards)))
+    (deciding_ranks low cards)

@@ -9,4 +9,9 @@ has_height mask height = bit_at mask (if height == 1 then 12 else height - 2) ==
 -- so many of the lowest heights that pass a test, among as many from one on, the greatest first
 abbrev pub lowest : (ℕ → Bool) → ℕ → ℕ → ℕ → List ℕ
 lowest has zero from need = []
-lowest has (suc heights) from need = if need == 0 then [] else (if has from then lowest has heights (from + 1) (need - 1) ++ from ∷ [] else lowest has heights (from + 1) need)
+lowest has (suc heights) from need =
+    if need == 0
+    then []
+    else (if has from
+    then lowest has heights (from + 1) (need - 1) ++ from ∷ []
+    else lowest has heights (from + 1) need)

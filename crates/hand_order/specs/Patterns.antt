@@ -26,7 +26,8 @@ abbrev pub IsPicked : (ℕ → ℕ) → List ℕ → List ℕ → Type 0
 IsPicked T [] [] = Unit {0}
 IsPicked T [] (h ∷ hs) = ⊥
 IsPicked T (n ∷ ns) [] = ⊥
-IsPicked T (n ∷ ns) (h ∷ hs) = (n ≤ T h) × ((k : ℕ) → n ≤ T k → k ≤ h) × IsPicked (without T h) ns hs
+IsPicked T (n ∷ ns) (h ∷ hs) =
+    (n ≤ T h) × ((k : ℕ) → n ≤ T k → k ≤ h) × IsPicked (without T h) ns hs
 
 -- a rank has this height
 abbrev pub IsOfRank : (Rank → ℕ) → ℕ → Type 0
@@ -68,7 +69,10 @@ pattern k =
 pub record IsPattern (k : ℕ) : Type 0 where
   pub some : AreSome (pattern k)
   pub five : total (pattern k) ≡ 5
-  pub class : plain_class (among_numbers 4 (pattern k)) (among_numbers 3 (pattern k)) (among_numbers 2 (pattern k)) ≡ k
+  pub class :
+      plain_class (among_numbers 4 (pattern k)) (among_numbers 3 (pattern k))
+      (among_numbers 2 (pattern k))
+      ≡ k
 
 -- the heights that are picked by the best pattern that fits
 pub record IsBestPattern (T : ℕ → ℕ) (k : ℕ) (hs : List ℕ) : Type 0 where

@@ -25,7 +25,8 @@ is_low_straight low _ = false
 
 -- five different ranks of consecutive heights, or the straight that an ace begins
 abbrev pub is_straight : LowStraight → List Card → Bool
-is_straight low cards = is_run (ranks_of high_ace cards) || is_low_straight low (ranks_of high_ace cards)
+is_straight low cards =
+    is_run (ranks_of high_ace cards) || is_low_straight low (ranks_of high_ace cards)
 
 -- the top of a straight: its first rank, and of the one that an ace begins the second
 abbrev pub straight_top : List ℕ → ℕ
@@ -34,9 +35,13 @@ straight_top _ = 0
 
 -- the list that decides within a class: the top of a straight alone, else all ranks
 unfoldable pub deciding_ranks : LowStraight → List Card → List ℕ
-deciding_ranks low cards = if is_straight low cards then straight_top (ranks_of high_ace cards) ∷ [] else ranks_of high_ace cards
+deciding_ranks low cards =
+    if is_straight low cards
+    then straight_top (ranks_of high_ace cards) ∷ []
+    else ranks_of high_ace cards
 
--- the classes of the high order from the best: straight flush, four of a kind, full house, flush, straight, three of a kind, two pair, pair, high card
+-- the classes of the high order from the best: straight flush, four of a kind, full house, flush,
+-- straight, three of a kind, two pair, pair, high card
 unfoldable pub high_class : LowStraight → List Card → ℕ
 high_class low cards =
     place (
@@ -56,6 +61,7 @@ high_class low cards =
 abbrev pub IsWeakerHigh : LowStraight → List Card → List Card → Type 0
 IsWeakerHigh low a b = IsBelow (high_class low) (deciding_ranks low) a b
 
--- the points of a hand in the high order: the better its class, the more, above the ranks that decide
+-- the points of a hand in the high order: the better its class, the more, above the ranks that
+-- decide
 abbrev pub high_points : LowStraight → List Card → ℕ
 high_points low cards = class_above (8 - high_class low cards) (deciding_ranks low cards)

@@ -21,7 +21,9 @@ pub record IsStraightOf (low : LowStraight) (T : ℕ → ℕ) (least : ℕ) : Ty
   pub reached : least ≤ class_above 8 (top ∷ [])
 
 -- no flush and no straight flush of the suit has more points, and one has as many, or there is none
-pub record IsBestOfSuit (flush : FlushPlace) (low : LowStraight) (T : ℕ → ℕ) (most : ℕ) : Type 0 where
-  pub flushes : (hs : List ℕ) → Fits T (pattern 0) hs → AreDigits hs → class_above (flush_class flush) hs ≤ most
-  pub straights : (top : ℕ) → HasStraight low T top → class_above 8 (top ∷ []) ≤ most
-  pub reached : (most ≡ 0) ⊎ (IsFlushOf flush T most ⊎ IsStraightOf low T most)
+pub record IsBestOfSuit (flush : FlushPlace) (low : LowStraight) (T : ℕ → ℕ) (most : ℕ) : Type 0
+  where
+    pub flushes : (hs : List ℕ) → Fits T (pattern 0) hs → AreDigits hs
+        → class_above (flush_class flush) hs ≤ most
+    pub straights : (top : ℕ) → HasStraight low T top → class_above 8 (top ∷ []) ≤ most
+    pub reached : (most ≡ 0) ⊎ (IsFlushOf flush T most ⊎ IsStraightOf low T most)

@@ -1,4 +1,5 @@
-//! The best high hand of a set is the greatest of what its ranks, its straights and its suits make, each looked at alone.
+//! The best high hand of a set is the greatest of what its ranks, its straights and its suits make,
+//! each looked at alone.
 ghost use Rattle.std.specs.Prelude.{◌≡◌, ◌≤◌, ◌<◌, ◌^◌, ℕ, List, Some};
 ghost use Rattle.card_set.specs.declared.card.Card.{Card};
 ghost use Rattle.card_set.specs.CardSet.{count_of, IsListing};
@@ -31,9 +32,9 @@ pub fn hand_points(cards: &CardRow, low: LowStraight, flush: FlushPlace) -> u32
     best_high(&CardSet::of(cards), low, flush)
 }
 
-/// The points of the best five cards of a set in the high order,
-/// where the ace begins this straight or none, and a flush has this place.
-/// Better hands have more points. No choice of five is listed: the four masks of ranks tell the best one.
+/// The points of the best five cards of a set in the high order, where the ace begins this straight
+/// or none, and a flush has this place. Better hands have more points. No choice of five is listed:
+/// the four masks of ranks tell the best one.
 pub fn best_high(cards: &CardSet, low: LowStraight, flush: FlushPlace) -> u32
     requires { 5 ≤ count_of cards.now }
     ensures { (listing : List Card) → IsListing cards.now listing
@@ -56,7 +57,8 @@ pub fn best_high(cards: &CardSet, low: LowStraight, flush: FlushPlace) -> u32
         .max(suit_points(spades, low, flush))
 }
 
-// The points of the best flush or straight flush among the ranks of one suit, 0 where there is none.
+// The points of the best flush or straight flush among the ranks of one suit, 0 where there is
+// none.
 fn suit_points(mask: u16, low: LowStraight, flush: FlushPlace) -> u32
     requires { mask < 2 ^ 13 }
     ensures { (T : ℕ → ℕ) → OfRanks high_ace T → Shows mask 1 T → IsBestOfSuit flush low T result }

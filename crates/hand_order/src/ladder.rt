@@ -1,4 +1,5 @@
-//! The high orders rank their hands by one ladder of classes, but for whether a flush is above a full house.
+//! The high orders rank their hands by one ladder of classes, but for whether a flush is above a
+//! full house.
 ghost use Rattle.std.specs.Prelude.{◌≡◌};
 ghost use Rattle.hand_order.specs.Ladder.{flush_class, leveled};
 

@@ -1,4 +1,5 @@
-//! An order of hands gives each hand a score, and a holding has the greatest score of the choices it allows.
+//! An order of hands gives each hand a score, and a holding has the greatest score of the choices
+//! it allows.
 #![tactic(auto)]
 
 mod best;

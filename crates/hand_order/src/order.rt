@@ -1,4 +1,5 @@
-//! An order of hands is a trait: its score is there exactly for its hands, and less exactly for the weaker hand.
+//! An order of hands is a trait: its score is there exactly for its hands, and less exactly for the
+//! weaker hand.
 ghost use Rattle.std.specs.Prelude.{◌≡◌, ℕ, List, Option};
 ghost use Rattle.std.specs.Option.{option_map};
 ghost use Rattle.card_set.specs.declared.card.Card.{Card};
@@ -39,9 +40,9 @@ pub trait HandOrder {
         requires { AreHeld HELD (cards_of cards.now) }
         ensures { option_map (λ s. s.points) result ≡ points (cards_of cards.now) };
 
-    /// The best score of the choices of as many of the set's cards as a hand has, none where none is a hand.
-    /// Where a hand has five cards the set has five to seven, else as many as a hand.
-    /// A set stands for a list of its cards, in any order: the choices are those of the list.
+    /// The best score of the choices of as many of the set's cards as a hand has, none where none
+    /// is a hand. Where a hand has five cards the set has five to seven, else as many as a hand. A
+    /// set stands for a list of its cards, in any order: the choices are those of the list.
     fn best_set(cards: &CardSet) -> Option<Score>
         requires { CanChoose HELD (count_of cards.now) }
         ensures { (listing : List Card) → IsListing cards.now listing

@@ -14,7 +14,8 @@ pub struct RankPattern {
     pub ranks: RankRow,
 }
 
-/// The best pattern, by the masks of the ranks that occur at least once, twice, three and four times.
+/// The best pattern, by the masks of the ranks that occur at least once, twice, three and four
+/// times.
 pub fn best_pattern(all: u16, two: u16, three: u16, four: u16) -> RankPattern
     ensures { (T : ℕ → ℕ) → AreCounts T
         → Shows all 1 T → Shows two 2 T → Shows three 3 T → Shows four 4 T

@@ -100,8 +100,8 @@ pub fn height_of(rank: Rank, ace: Ace) -> u8
     }
 }
 
-/// The number that a class makes above these heights.
-/// Of one class and as many heights the number is less where the first height that differs is lower.
+/// The number that a class makes above these heights. Of one class and as many heights the number
+/// is less where the first height that differs is lower.
 pub fn class_above(class: u32, heights: &[u8]) -> u32
     requires class { class ≤ 15 }
     requires below { with_digits 0 heights.now < 16 ^ 5 }

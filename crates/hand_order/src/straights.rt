@@ -1,4 +1,5 @@
-//! Straights by the mask of the ranks that occur: five bits in a row, or those of the straight that the ace begins.
+//! Straights by the mask of the ranks that occur: five bits in a row, or those of the straight that
+//! the ace begins.
 ghost use Rattle.std.specs.Prelude.{◌≡◌, ◌≤◌, ◌<◌, ◌==◌, ◌&&◌, ◌⊎◌, ◌↔◌, ◌+◌, ◌^◌, ℕ};
 ghost use Rattle.std.specs.Int.{bit_at};
 ghost use Rattle.hand_order.specs.StraightRanks.{HasLow, HasRun, HasStraight, IsRunFrom, has_ace_and_four};
@@ -37,7 +38,8 @@ fn top_run(mask: u16) -> u8
     top(runs) as u8 + 6
 }
 
-// The places from which five bits in a row are set: a mask that is moved down by one has a bit where the next was set.
+// The places from which five bits in a row are set: a mask that is moved down by one has a bit
+// where the next was set.
 fn runs_of(mask: u16) -> u16
     ensures bits { (k : ℕ) → (bit_at result k ≡ 1) ↔ IsRunFrom mask k }
     ensures within { result < 2 ^ 16 }

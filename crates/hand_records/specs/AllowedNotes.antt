@@ -1,4 +1,5 @@
--- Which notes may stand in a record: texts that are not too long, numbers in their range, a civil date, and no defaults.
+-- Which notes may stand in a record: texts that are not too long, numbers in their range, a civil
+-- date, and no defaults.
 use Rattle.std.specs.Prelude.{◌≡◌, ◌≢◌, ℕ, ◌-◌, ◌%◌, ◌≤◌, ◌==◌, ◌&&◌, ◌||◌, Bool, not, if◌then◌else◌, List, length, take, slice_index, slice_index_or, None, IfSome, Option, Some, bytes_eq, unwrap_or}
 use Rattle.std.specs.List.{range_with_len}
 use Rattle.first_fault.specs.declared.limits.TheConstants.{MOST_TEXT_BYTES}
@@ -65,7 +66,9 @@ pub record AreAllowed (count : ℕ) (notes : Notes) : Type 0 where
   pub year : IfSome notes.year (IsWithin 1 9999)
   pub month : IfSome notes.month (IsWithin 1 12)
   pub day : IfSome notes.day (IsWithin 1 31)
-  pub date : IfSome notes.year (λ year. IfSome notes.month (λ month. IfSome notes.day (IsDayOf year month)))
+  pub date :
+      IfSome notes.year
+      (λ year. IfSome notes.month (λ month. IfSome notes.day (IsDayOf year month)))
   pub time : IfSome notes.time IsTime
   pub zone : IfSome notes.zone IsNoteText
 
@@ -79,4 +82,5 @@ noted default text = if (length text == 0) || bytes_eq text default then None el
 
 -- numbers of seats, none where they are the usual ones from 1 on
 abbrev pub unless_usual : ℕ → List ℕ → Option (List ℕ)
-unless_usual count numbers = if bytes_eq numbers (range_with_len 1 count) then None else Some numbers
+unless_usual count numbers =
+    if bytes_eq numbers (range_with_len 1 count) then None else Some numbers

@@ -10,9 +10,11 @@ unfoldable pub AllPaired : (ℕ → Play → Play → Type 0) → ℕ → List P
 AllPaired P place [] [] = Unit {0}
 AllPaired P place [] (other ∷ others) = ⊥
 AllPaired P place (play ∷ plays) [] = ⊥
-AllPaired P place (play ∷ plays) (other ∷ others) = P place play other × AllPaired P (place + 1) plays others
+AllPaired P place (play ∷ plays) (other ∷ others) =
+    P place play other × AllPaired P (place + 1) plays others
 
--- two plays at one place of their files have one trace, and the same notes, as far as these are kept
+-- two plays at one place of their files have one trace, and the same notes, as far as these are
+-- kept
 pub record AreSameHand (kept : SaidNotes → SaidNotes) (place : ℕ) (play other : Play)
     : Type 0 where
   pub trace : play.trace ≡ other.trace

@@ -1,4 +1,5 @@
--- Records as a reader gives them: a valid setup, a script within the limits, stated rows that fit it, and allowed notes.
+-- Records as a reader gives them: a valid setup, a script within the limits, stated rows that fit
+-- it, and allowed notes.
 use Rattle.std.specs.Prelude.{◌≡◌, ℕ, ◌≤◌, List, map}
 use Rattle.std.specs.Option.{ForSome}
 use Rattle.chip_ledger.specs.declared.rows.TheConstants.{MOST_AMOUNT}
@@ -13,7 +14,8 @@ use Rattle.hand_records.specs.AllowedNotes.{AreAllowed}
 abbrev pub script_said : Record → List Said
 script_said hand = map said_of hand.script
 
--- what is stated fits a trace: its rows are of so many seats, and its total is no more than a row may hold
+-- what is stated fits a trace: its rows are of so many seats, and its total is no more than a row
+-- may hold
 pub record IsStatedFor (seats : ℕ) (stated : Stated) : Type 0 where
   pub finish : ForSome stated.finish (λ row. row.seats ≡ seats)
   pub wins : ForSome stated.wins (λ row. row.seats ≡ seats)

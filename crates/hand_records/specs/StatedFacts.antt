@@ -6,4 +6,5 @@ use Rattle.hand_records.specs.declared.record.Stated.{Stated}
 
 -- stated facts, put together
 unfoldable pub stated_from : Option SeatRow → Option SeatRow → Option ℕ → Option NetRow → Stated
-stated_from finish wins pot_total values = record { finish = finish; wins = wins; pot_total = pot_total; values = values }
+stated_from finish wins pot_total values =
+    record { finish = finish; wins = wins; pot_total = pot_total; values = values }

@@ -13,7 +13,12 @@ use Rattle.canon_script.specs.TraceCore.{TraceCore}
 -- where a card lies
 abbrev pub place_said : Place → TracedPlace
 place_said row =
-    record { owner = option_map (λ seat. seat.number) row.owner; street = row.street; slot = row.slot; discarded = row.gone }
+    record {
+      owner = option_map (λ seat. seat.number) row.owner;
+      street = row.street;
+      slot = row.slot;
+      discarded = row.gone;
+    }
 
 -- what a trace keeps, but for the shares of its pots
 abbrev pub core_said : Trace → TraceCore

@@ -15,11 +15,12 @@ abbrev pub or_behind : Option Unspelled → Option Unspelled → Option Unspelle
 or_behind (Some fact) behind = Some fact
 or_behind None behind = behind
 
--- the first refusal of plays, of which the first has this number, in a notation that tells the first fact of a play that it
--- does not spell
+-- the first refusal of plays, of which the first has this number, in a notation that tells the
+-- first fact of a play that it does not spell
 abbrev pub refusal_from : (Play → Option Unspelled) → ℕ → List Play → Option WriteRefusal
 refusal_from unspelled number [] = None
-refusal_from unspelled number (play ∷ rest) = refused_at number (unspelled play) (refusal_from unspelled (number + 1) rest)
+refusal_from unspelled number (play ∷ rest) =
+    refused_at number (unspelled play) (refusal_from unspelled (number + 1) rest)
 
 -- the first refusal of plays; the first hand has the number 1
 abbrev pub first_refusal : (Play → Option Unspelled) → List Play → Option WriteRefusal

@@ -1,4 +1,5 @@
-//! What a hand is once it was read and played: its record with stated facts and notes, and its trace.
+//! What a hand is once it was read and played: its record with stated facts and notes, and its
+//! trace.
 #![tactic(auto)]
 
 mod calendar;

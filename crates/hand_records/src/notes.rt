@@ -19,7 +19,8 @@ pub struct Clock {
     pub nano: u32,
 }
 
-/// The notes of a hand. A note that equals its default, which a reader takes where nothing is said, is `None`.
+/// The notes of a hand. A note that equals its default, which a reader takes where nothing is said,
+/// is `None`.
 #[derive(Debug, Drop)]
 pub struct Notes {
     /// The names of the players, the first seat's at index 0. The default of seat 2 is `p2`.

@@ -103,15 +103,16 @@ impl Records {
         }
     }
 
-    /// Makes room for so many records more at once, so that those before them need not move as they come. Where there is no
-    /// memory for all of them, they come one by one.
+    /// Makes room for so many records more at once, so that those before them need not move as they
+    /// come. Where there is no memory for all of them, they come one by one.
     pub fn make_room(&mut self, more: usize)
         ensures { self.new ≡ self.old }
     {
         let _ = self.records.try_reserve_exact(more);
     }
 
-    /// Puts a record after the others. Without memory for it they stay as they were, and the record is dropped.
+    /// Puts a record after the others. Without memory for it they stay as they were, and the record
+    /// is dropped.
     pub fn push(&mut self, item: Record) -> Result<(), Memory>
         ensures pushed { OnOk result (self.new ≡ self.old ++ item ∷ []) }
         ensures unchanged { OnErr result (self.new ≡ self.old) }

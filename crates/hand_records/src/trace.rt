@@ -8,7 +8,8 @@ use play_event::{Move, Place, Setup};
 use std::alloc::Global;
 use std::marker::Model;
 
-/// The cards of a hand, by street, then by owner from p1 upward and the board last, then in the order of dealing.
+/// The cards of a hand, by street, then by owner from p1 upward and the board last, then in the
+/// order of dealing.
 #[derive(Debug, Drop)]
 pub struct Places {
     places: Vec<Place>,
@@ -126,7 +127,8 @@ impl Moves {
     }
 }
 
-/// What was played in a hand. The order of showing, and how deals were cut into events and ordered, are not in it.
+/// What was played in a hand. The order of showing, and how deals were cut into events and ordered,
+/// are not in it.
 #[derive(Debug, Drop)]
 pub struct Trace {
     pub setup: Setup,

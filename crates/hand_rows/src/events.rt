@@ -1,6 +1,6 @@
-//! Events by their words: `hole 1 2c??`, `board 2c3d4h`, `fold 1`, `call 1 6`, `raise 1 to 40`, `bring_in 1`,
-//! `discard 1 2c`, `show 1 2c3d` and `muck 1`. A move of the seat in turn has `-` for its seat, and a call that states no
-//! chips, or a discard of no card, ends with `-`.
+//! Events by their words: `hole 1 2c??`, `board 2c3d4h`, `fold 1`, `call 1 6`, `raise 1 to 40`,
+//! `bring_in 1`, `discard 1 2c`, `show 1 2c3d` and `muck 1`. A move of the seat in turn has `-` for
+//! its seat, and a call that states no chips, or a discard of no card, ends with `-`.
 ghost use Rattle.std.specs.Prelude.{◌≡◌, false, IfSome};
 ghost use Rattle.play_event.specs.Said.{kind_said};
 ghost use Rattle.street_laws.specs.CardEvents.{is_card_said};

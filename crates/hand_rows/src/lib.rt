@@ -1,4 +1,5 @@
-//! The words of rows of tests are read as setups, rules and events, and events are told in these words.
+//! The words of rows of tests are read as setups, rules and events, and events are told in these
+//! words.
 #![tactic(auto)]
 
 mod cards;

@@ -11,7 +11,8 @@ use Rattle.name_index.specs.Indexed.{AreIndexed}
 pub record IsSessionSoFar (session : OpenSession) (plays : List Play) : Type 0 where
   pub indexed : AreIndexed session.ledger.names (row_names session.ledger.rows.items)
   pub names : row_names session.ledger.rows.items ≡ names_of (map hand_of plays)
-  pub rows : (name : List ℕ) → row_at session.ledger.rows.items name ≡ row_of (map hand_of plays) name
+  pub rows : (name : List ℕ)
+      → row_at session.ledger.rows.items name ≡ row_of (map hand_of plays) name
   pub within : (name : List ℕ) → IsOfHands (length plays) (row_of (map hand_of plays) name)
   pub steps : session.ledger.steps.items ≡ steps_after [] (map hand_of plays)
   pub hands : session.hands ≡ length plays

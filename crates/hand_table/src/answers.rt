@@ -39,7 +39,8 @@ pub fn canonical(alloc: Global, row: &str) -> Result<Option<String>, AllocError>
     }
 }
 
-/// The first of the row's stated facts that differs from its hand. The facts stand before the hand and a slash.
+/// The first of the row's stated facts that differs from its hand. The facts stand before the hand
+/// and a slash.
 pub fn compared(alloc: Global, row: &str) -> Result<Option<String>, AllocError> {
     let Some((facts, row)) = row.split_once(" / ") else {
         return Ok(None);
@@ -62,7 +63,8 @@ pub fn compared(alloc: Global, row: &str) -> Result<Option<String>, AllocError> 
     }
 }
 
-/// Replays the row's hand so many times as its first word says, and tells how many events were played without a fault.
+/// Replays the row's hand so many times as its first word says, and tells how many events were
+/// played without a fault.
 pub fn repeated(alloc: Global, row: &str) -> Result<Option<String>, AllocError> {
     let (times, row) = first_and_rest(row);
     let (Ok(times), Some(hand)) = (times.parse::<u32>(), hand_of(alloc, row)?) else {

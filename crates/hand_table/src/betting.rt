@@ -1,6 +1,6 @@
 //! The betting machine: `betting SETUP: EVENT; EVENT..`. An event is a move, as `raise - to 40`,
-//! `call 2 10`, `fold -` or `bring_in -`; `dealt`, where what is due is ended; `up 3 2c`, the up-cards of
-//! a seat from then on; or a question: `due`, `targets`, `stacks`, `settled`.
+//! `call 2 10`, `fold -` or `bring_in -`; `dealt`, where what is due is ended; `up 3 2c`, the
+//! up-cards of a seat from then on; or a question: `due`, `targets`, `stacks`, `settled`.
 ghost use Rattle.std.specs.Prelude.{◌≡◌, false};
 ghost use Rattle.play_event.specs.Said.{kind_said};
 ghost use Rattle.play_event.specs.ValidSetup.{IsValid};

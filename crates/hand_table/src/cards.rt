@@ -1,6 +1,7 @@
-//! The card machine: `cards GAME SEATS: EVENT; EVENT..`. An event is `hole 1 2c??`, `board 2c3d4h`, `discard 1 2c??`,
-//! `show 1 2c3d`, `muck 1` or `fold 1`; what is due from then on, as `due Deal 1`, `due Draw 2`, `due Show` or `due Over`;
-//! `settled`, from when on the hand is; or a question: `done`, `up`, `hands`, `table`, `mucked`, `unknown`, `places`.
+//! The card machine: `cards GAME SEATS: EVENT; EVENT..`. An event is `hole 1 2c??`, `board 2c3d4h`,
+//! `discard 1 2c??`, `show 1 2c3d`, `muck 1` or `fold 1`; what is due from then on, as `due Deal
+//! 1`, `due Draw 2`, `due Show` or `due Over`; `settled`, from when on the hand is; or a question:
+//! `done`, `up`, `hands`, `table`, `mucked`, `unknown`, `places`.
 ghost use Rattle.std.specs.Prelude.{◌≡◌, ◌≤◌, true, IsTrue};
 ghost use Rattle.card_places.specs.CardEvents.{is_deal, is_discard};
 ghost use Rattle.play_event.specs.Said.{kind_said};
@@ -183,7 +184,8 @@ fn cards_text(alloc: Global, row: &CardRow) -> Result<String, AllocError> {
     Ok(text)
 }
 
-// All places in the order of the trace: owner, street, card, and the street of the draw that discarded it.
+// All places in the order of the trace: owner, street, card, and the street of the draw that
+// discarded it.
 fn places<V: Variant>(alloc: Global, cards: &Cards<V>) -> Result<String, AllocError> {
     let mut text = String::new(alloc);
     for index in 0..cards.place_count() {

@@ -1,4 +1,5 @@
-//! The hand of a row: its setup and rules, and behind a colon its events, each numbered as its action.
+//! The hand of a row: its setup and rules, and behind a colon its events, each numbered as its
+//! action.
 ghost use Rattle.std.specs.Prelude.{◌≤◌, IsTrue};
 ghost use Rattle.canon_script.specs.PlayedScript.{IsWithinLimits};
 ghost use Rattle.replay_core.specs.Events.{said_by};

@@ -6,8 +6,8 @@ use hand_rows::{event_text, kind_of, setup_of, slots_text};
 use play_event::{Act, Event, Kind, Move, Place, Rules, Script, Setup};
 use std::alloc::{AllocError, Global};
 
-/// What the lists hold: a script the row's event, places the first card that it deals, moves a fold, and records the row's
-/// setup with such a script.
+/// What the lists hold: a script the row's event, places the first card that it deals, moves a
+/// fold, and records the row's setup with such a script.
 pub fn pushed(alloc: Global, row: &str) -> Result<Option<String>, AllocError> {
     let Some((start, event)) = row.split_once(": ") else {
         return Ok(None);

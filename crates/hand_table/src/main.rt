@@ -1,5 +1,6 @@
-//! Rows of hands are read from the input, one a line, and each is printed again with what the machines for betting and cards
-//! answer to it, or `replay`, and `canon` or `check_stated` behind it.
+//! Rows of hands are read from the input, one a line, and each is printed again with what the
+//! machines for betting and cards answer to it, or `replay`, and `canon` or `check_stated` behind
+//! it.
 #![tactic(auto)]
 
 mod answers;
@@ -23,7 +24,8 @@ fn main(rt: HostRuntime) -> io::Result<()> {
     Ok(())
 }
 
-// A row with its answer behind it. Headings, which begin with `#`, and empty lines stay as they are.
+// A row with its answer behind it. Headings, which begin with `#`, and empty lines stay as they
+// are.
 fn answered(alloc: Global, row: &str) -> Result<String, AllocError> {
     if row.is_empty() || row.starts_with('#') {
         return String::from_str(alloc, row);

@@ -6,8 +6,8 @@ use play_event::{Illegal, Script};
 use replay_core::ReplayFault;
 use std::alloc::{AllocError, Global};
 
-/// The end of a trace: finishing stacks, each pot with its rake, the seats that may win it and their shares, what is
-/// returned, and who is shown or mucks.
+/// The end of a trace: finishing stacks, each pot with its rake, the seats that may win it and
+/// their shares, what is returned, and who is shown or mucks.
 pub fn trace_text(alloc: Global, trace: &Trace) -> Result<String, AllocError> {
     let finish = row_text(alloc, &trace.finish)?;
     let mut text = format!(in alloc; "finish {finish}")?;

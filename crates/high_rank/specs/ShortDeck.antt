@@ -1,4 +1,5 @@
--- The high order of the deck of 36, six to ace: a flush is above a full house, and an ace begins A6789, the least straight, topped by the nine.
+-- The high order of the deck of 36, six to ace: a flush is above a full house, and an ace begins
+-- A6789, the least straight, topped by the nine.
 use Rattle.std.specs.Prelude.{◌&&◌, ◌==◌, ℕ, ◌-◌, Bool, List, [], ◌∷◌, Option, Some}
 use Rattle.card_set.specs.declared.card.Card.{Card}
 use Rattle.card_set.specs.Ranks.{high_ace, is_one_suit}
@@ -7,7 +8,8 @@ use Rattle.hand_order.specs.Digits.{class_above}
 use Rattle.hand_order.specs.declared.straights.LowStraight.TheVariants as straights
 use Rattle.hand_order.specs.Straights.{is_straight, deciding_ranks}
 
--- the classes from the best: straight flush, four of a kind, flush, full house, straight, three of a kind, two pair, pair, high card
+-- the classes from the best: straight flush, four of a kind, flush, full house, straight, three of
+-- a kind, two pair, pair, high card
 unfoldable pub short_class : List Card → ℕ
 short_class cards =
     place (
@@ -31,8 +33,10 @@ IsWeaker a b = IsBelow short_class (deciding_ranks straights.NineHigh) a b
 abbrev pub points : List Card → Option ℕ
 points cards = Some (class_above (8 - short_class cards) (deciding_ranks straights.NineHigh cards))
 
--- the classes by how many ranks occur four times, three times and twice, and whether there is a straight and a flush
+-- the classes by how many ranks occur four times, three times and twice, and whether there is a
+-- straight and a flush
 abbrev pub short_table : ℕ → ℕ → ℕ → Bool → Bool → List Bool
 short_table fours threes pairs straight flush =
-    (straight && flush) ∷ (fours == 1) ∷ flush ∷ (threes == 1 && pairs == 1) ∷ straight ∷ (threes == 1 && pairs == 0) ∷ (pairs == 2) ∷ (pairs == 1 && threes == 0)
+    (straight && flush) ∷ (fours == 1) ∷ flush ∷ (threes == 1 && pairs == 1) ∷ straight
+    ∷ (threes == 1 && pairs == 0) ∷ (pairs == 2) ∷ (pairs == 1 && threes == 0)
     ∷ (fours == 0 && threes == 0 && pairs == 0) ∷ []

@@ -11,4 +11,6 @@ up_high_points cards = class_above (4 - up_high_class cards) (ranks_of high_ace 
 
 -- the classes by how many ranks occur four times, three times and twice
 abbrev pub up_high_table : ℕ → ℕ → ℕ → List Bool
-up_high_table fours threes pairs = (fours == 1) ∷ (threes == 1 && pairs == 0) ∷ (pairs == 2) ∷ (pairs == 1 && threes == 0) ∷ (fours == 0 && threes == 0 && pairs == 0) ∷ []
+up_high_table fours threes pairs =
+    (fours == 1) ∷ (threes == 1 && pairs == 0) ∷ (pairs == 2) ∷ (pairs == 1 && threes == 0)
+    ∷ (fours == 0 && threes == 0 && pairs == 0) ∷ []

@@ -1,4 +1,5 @@
-//! The high orders of five cards, of the whole deck and of the short one, and the high order of up-cards.
+//! The high orders of five cards, of the whole deck and of the short one, and the high order of
+//! up-cards.
 #![tactic(auto)]
 
 mod short_deck;

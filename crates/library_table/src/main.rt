@@ -44,8 +44,8 @@ fn answered(rt: &(impl Files + AllocGlobal), row: &str) -> Result<String, Memory
     }
 }
 
-// The answer of the subject that the first word names, none where the row has no meaning there. What
-// is no subject of the rules is a device.
+// The answer of the subject that the first word names, none where the row has no meaning there.
+// What is no subject of the rules is a device.
 fn answer_to(rt: &(impl Files + AllocGlobal), row: &str) -> Result<Option<String>, Memory> {
     let alloc = rt.alloc();
     let (subject, rest) = words::first_and_rest(row);

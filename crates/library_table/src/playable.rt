@@ -17,7 +17,8 @@ use hand_order::{HandOrder, Pick};
 use play_event::HandRow;
 use variant_table::Variant;
 
-/// Whether each shown seat has cards that the game's pick can use, all different from one another and from the board's.
+/// Whether each shown seat has cards that the game's pick can use, all different from one another
+/// and from the board's.
 pub fn are_playable<V: Variant>(hands: &HandRow, board: &CardRow, shown: &LiveRow) -> bool
     requires { hands.now.seats ≡ shown.now.seats }
     ensures { IsTrue result → ArePlayable V.Award.HELD V.PICK hands.now board.now shown.now }
@@ -101,7 +102,8 @@ fn lacks(card: Card, cards: &[Card]) -> bool
     }
 }
 
-/// Whether each pot is of so many seats, some seat may win it, and it has no more chips than a row holds.
+/// Whether each pot is of so many seats, some seat may win it, and it has no more chips than a row
+/// holds.
 #[tactic(auto, using(crate::proofs::Splittable::winnable_more))]
 pub fn are_winnable(pots: &[Pot], seats: u8) -> bool
     ensures { IsTrue result → AreWinnable seats pots.now }

@@ -1,5 +1,6 @@
-//! Pots: `pots cut LIVE PUTS DEAD` cuts what the seats put, `pots split CODE HANDS BOARD RAKES POT..` shares pots, each of
-//! them CHIPS:SEATS, and `pots seat NUMBER` and `pots chips NUMBER` ask for a seat and an amount.
+//! Pots: `pots cut LIVE PUTS DEAD` cuts what the seats put, `pots split CODE HANDS BOARD RAKES
+//! POT..` shares pots, each of them CHIPS:SEATS, and `pots seat NUMBER` and `pots chips NUMBER` ask
+//! for a seat and an amount.
 use crate::{rows, shares, words};
 use chip_ledger::{Chips, LiveRow, MOST_AMOUNT, PotRow, Seat, SeatRow, total};
 use side_pots::pots;

@@ -1,4 +1,5 @@
-//! Rows of amounts, seats and cards as a row of the table writes them: parts with commas between them, `-` for nothing.
+//! Rows of amounts, seats and cards as a row of the table writes them: parts with commas between
+//! them, `-` for nothing.
 ghost use Rattle.std.specs.Prelude.{◌<◌};
 
 use card_set::{CardRow, CardSet, SlotRow, known_row, read_slots};
@@ -66,7 +67,8 @@ fn with_rake(row: RakeRow, index: usize, rake: u64) -> RakeRow
     more
 }
 
-/// The hands of two to ten seats, as `AcKd,-,2h2s`, and which of them are shown: those that have cards.
+/// The hands of two to ten seats, as `AcKd,-,2h2s`, and which of them are shown: those that have
+/// cards.
 pub fn hands(text: &str) -> Option<(HandRow, LiveRow)> {
     let seats = part_count(text);
     if seats < 2 || 10 < seats {

@@ -1,5 +1,6 @@
-//! Scripts: `scripts packed EVENT; EVENT..` gives their bytes, and `scripts read EVENT; EVENT..` how many of the events
-//! a cursor and `get` give again. An event is the number of its action, its kind, and what it says: `4 raise 3 to 6`.
+//! Scripts: `scripts packed EVENT; EVENT..` gives their bytes, and `scripts read EVENT; EVENT..`
+//! how many of the events a cursor and `get` give again. An event is the number of its action, its
+//! kind, and what it says: `4 raise 3 to 6`.
 use crate::words;
 use card_set::{CardRow, ROW_ENTRIES, Slot, SlotRow, read_slots};
 use chip_ledger::Seat;

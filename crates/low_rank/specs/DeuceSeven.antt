@@ -8,7 +8,8 @@ use Rattle.hand_order.specs.Straights.{IsWeakerHigh, high_points}
 abbrev pub IsHand : List Card → Type 0
 IsHand cards = Unit {0}
 
--- a hand is weaker than another where the other is weaker in the high order without A2345 as a straight
+-- a hand is weaker than another where the other is weaker in the high order without A2345 as a
+-- straight
 abbrev pub IsWeaker : List Card → List Card → Type 0
 IsWeaker a b = IsWeakerHigh straights.Nothing b a
 

@@ -1,4 +1,5 @@
--- The order of eight-or-better: five different ranks of at most eight, the ace low; straights and flushes do not count.
+-- The order of eight-or-better: five different ranks of at most eight, the ace low; straights and
+-- flushes do not count.
 use Rattle.std.specs.Prelude.{◌≡◌, ◌&&◌, ℕ, Bool, true, List, Option, Some, None, nat_le, if◌then◌else◌}
 use Rattle.std.specs.List.{list_all}
 use Rattle.card_set.specs.declared.card.Card.{Card}
@@ -8,7 +9,8 @@ use Rattle.low_rank.specs.Low.{low_points}
 
 -- the ranks are different, and none is above eight
 abbrev pub is_qualified : List Card → Bool
-is_qualified cards = has_no_pair low_ace cards && list_all (λ card. nat_le (low_ace card.rank) 8) cards
+is_qualified cards =
+    has_no_pair low_ace cards && list_all (λ card. nat_le (low_ace card.rank) 8) cards
 
 -- five cards that qualify are a hand
 abbrev pub IsHand : List Card → Type 0

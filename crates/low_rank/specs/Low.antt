@@ -1,4 +1,5 @@
--- The points of cards where low cards are good: the weaker they are, the less is left of the greatest number.
+-- The points of cards where low cards are good: the weaker they are, the less is left of the
+-- greatest number.
 use Rattle.std.specs.Prelude.{◌==◌, ◌&&◌, ℕ, ◌-◌, ◌^◌, Bool, List, [], ◌∷◌}
 use Rattle.card_set.specs.declared.card.Card.{Card}
 use Rattle.card_set.specs.Ranks.{low_ace, ranks_of}
@@ -12,4 +13,5 @@ low_points cards = 16 ^ 6 - class_above (low_class cards) (ranks_of low_ace card
 -- the classes by how many ranks occur four times, three times and twice
 abbrev pub low_table : ℕ → ℕ → ℕ → List Bool
 low_table fours threes pairs =
-    (fours == 0 && threes == 0 && pairs == 0) ∷ (pairs == 1 && threes == 0) ∷ (pairs == 2) ∷ (threes == 1 && pairs == 0) ∷ (threes == 1 && pairs == 1) ∷ (fours == 1) ∷ []
+    (fours == 0 && threes == 0 && pairs == 0) ∷ (pairs == 1 && threes == 0) ∷ (pairs == 2)
+    ∷ (threes == 1 && pairs == 0) ∷ (threes == 1 && pairs == 1) ∷ (fours == 1) ∷ []

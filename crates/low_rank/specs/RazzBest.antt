@@ -19,7 +19,8 @@ seldom class = if class == 4 then 2 else 1
 
 -- how many ranks these are
 abbrev pub seldom_ranks : ℕ → ℕ
-seldom_ranks class = if class == 0 then 5 else (if class == 1 then 3 else (if class == 3 then 2 else 1))
+seldom_ranks class =
+    if class == 0 then 5 else (if class == 1 then 3 else (if class == 3 then 2 else 1))
 
 -- the place of a height in a mask: bit 12 is the ace, and bit 0 the two
 abbrev pub place_of : ℕ → ℕ
@@ -27,7 +28,9 @@ place_of height = if height == 1 then 12 else height - 2
 
 -- how many suits have a height
 abbrev pub low_count : SuitMasks → ℕ → ℕ
-low_count masks height = bit_at masks.clubs (place_of height) + bit_at masks.diamonds (place_of height) + bit_at masks.hearts (place_of height) + bit_at masks.spades (place_of height)
+low_count masks height =
+    bit_at masks.clubs (place_of height) + bit_at masks.diamonds (place_of height)
+    + bit_at masks.hearts (place_of height) + bit_at masks.spades (place_of height)
 
 -- the height is one of these
 abbrev pub is_height_of : List ℕ → ℕ → Bool
@@ -48,11 +51,13 @@ first_ranks times least many = lowest_ranks (is_free times least []) many
 -- and of the others so many that occur as often as they have to
 abbrev pub both_ranks : (ℕ → ℕ) → ℕ → ℕ → ℕ → ℕ → List ℕ
 both_ranks times least many other_least other_many =
-    first_ranks times least many ++ lowest_ranks (is_free times other_least (first_ranks times least many)) other_many
+    first_ranks times least many
+    ++ lowest_ranks (is_free times other_least (first_ranks times least many)) other_many
 
 -- the lowest ranks of a class
 abbrev pub class_ranks : (ℕ → ℕ) → ℕ → List ℕ
-class_ranks times class = both_ranks times (often class) (often_ranks class) (seldom class) (seldom_ranks class)
+class_ranks times class =
+    both_ranks times (often class) (often_ranks class) (seldom class) (seldom_ranks class)
 
 -- they are as many as a hand of the class has
 abbrev pub HasClass : (ℕ → ℕ) → ℕ → Type 0

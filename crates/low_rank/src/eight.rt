@@ -1,4 +1,5 @@
-//! The best low hand up to the eight is read from which ranks a set has: the five lowest, where there are five.
+//! The best low hand up to the eight is read from which ranks a set has: the five lowest, where
+//! there are five.
 ghost use Rattle.std.specs.Prelude.{◌≡◌, ◌≤◌, List};
 ghost use Rattle.std.specs.Option.{option_map};
 ghost use Rattle.card_set.specs.declared.card.Card.{Card};

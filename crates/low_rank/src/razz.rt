@@ -1,4 +1,5 @@
-//! The best hand of razz is read from how often ranks occur: of the best class that can be had, the lowest ranks.
+//! The best hand of razz is read from how often ranks occur: of the best class that can be had, the
+//! lowest ranks.
 ghost use Rattle.std.specs.Prelude.{◌≡◌, ◌<◌, ◌≤◌, ◌+◌, ◌⊎◌, ◌++◌, ℕ, List, length, Some};
 ghost use Rattle.std.specs.Int.{bit_at};
 ghost use Rattle.card_set.specs.declared.card.Card.{Card};
@@ -144,7 +145,8 @@ fn lowest_of_shape(masks: &SuitMasks, shape: &Shape) -> RankRow
     joined(&first, &others)
 }
 
-// So many of the lowest ranks that occur often enough and are none of the others, the greatest first.
+// So many of the lowest ranks that occur often enough and are none of the others, the greatest
+// first.
 #[tactic(auto, unfolding(crate::specs::RazzBest::lowest_ranks))]
 fn lowest_ranks(masks: &SuitMasks, least: u8, others: &RankRow, need: u8) -> RankRow
     requires { need ≤ 5 }

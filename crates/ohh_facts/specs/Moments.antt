@@ -26,7 +26,8 @@ part from count text = take count (drop from text)
 -- a number from least to most, in decimal digits
 unfoldable pub digits_said : ℕ → ℕ → List ℕ → Result ℕ MemberFault
 digits_said least most digits =
-    if are_digits digits && (nat_le least (digits_value 10 digits) && nat_le (digits_value 10 digits) most)
+    if are_digits digits
+    && (nat_le least (digits_value 10 digits) && nat_le (digits_value 10 digits) most)
     then Ok (digits_value 10 digits)
     else no_moment
 
@@ -44,7 +45,9 @@ day_said text = do
   year ← digits_said 1 9999 (part 0 4 text)
   month ← digits_said 1 12 (part 5 2 text)
   day ← digits_said 1 31 (part 8 2 text)
-  if nat_le day (days_in_month year month) then Ok (record { year = year; month = month; day = day }) else no_moment
+  if nat_le day (days_in_month year month)
+      then Ok (record { year = year; month = month; day = day })
+      else no_moment
 
 -- the time of the day, with these nanoseconds
 unfoldable pub clock_said : ℕ → List ℕ → Result Clock MemberFault
@@ -64,7 +67,8 @@ nine_of digits = digits ++ replicate (9 - length digits) 48
 
 -- the zone is that of universal time: Z, +00:00, or nothing
 abbrev pub is_universal : List ℕ → Bool
-is_universal zone = (length zone == 0) || (bytes_eq zone (codes "Z") || bytes_eq zone (codes "+00:00"))
+is_universal zone =
+    (length zone == 0) || (bytes_eq zone (codes "Z") || bytes_eq zone (codes "+00:00"))
 
 -- these nanoseconds, and the zone behind them
 unfoldable pub zoned : ℕ → List ℕ → Result ℕ MemberFault
@@ -74,7 +78,8 @@ zoned nano zone = if is_universal zone then Ok nano else no_moment
 unfoldable pub fraction_of : ℕ → List ℕ → Result ℕ MemberFault
 fraction_of count text =
     if nat_le 1 count && nat_le count 9
-    then (digits_said 0 999999999 (nine_of (take count text)) >>= λ nano. zoned nano (drop count text))
+    then (digits_said 0 999999999 (nine_of (take count text))
+    >>= λ nano. zoned nano (drop count text))
     else no_moment
 
 -- a point stands in front
@@ -83,7 +88,10 @@ has_point text = nat_lt 0 (length text) && (slice_index text 0 == 46)
 
 -- what stands behind the seconds: a point and a fraction, or not, and the zone
 unfoldable pub fraction_said : List ℕ → Result ℕ MemberFault
-fraction_said text = if has_point text then fraction_of (digits_in_front (drop 1 text)) (drop 1 text) else zoned 0 text
+fraction_said text =
+    if has_point text
+    then fraction_of (digits_in_front (drop 1 text)) (drop 1 text)
+    else zoned 0 text
 
 -- the moment of a text with its signs
 unfoldable pub parts_said : List ℕ → Result Moment MemberFault

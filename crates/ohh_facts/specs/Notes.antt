@@ -22,7 +22,9 @@ use Rattle.chip_ledger.specs.SeatsSaid.{default_name}
 -- the text of a note with this default; it is of at most 255 bytes
 unfoldable pub note_said : List ℕ → Path → List ℕ → Result (Option (List ℕ)) MemberFault
 note_said default path text =
-    if nat_le (length text) MOST_TEXT_BYTES then Ok (noted default text) else wrong (whats.TooMany quantities.TextBytes) path
+    if nat_le (length text) MOST_TEXT_BYTES
+    then Ok (noted default text)
+    else wrong (whats.TooMany quantities.TextBytes) path
 
 -- a text with this default
 unfoldable pub text_note_said : List ℕ → Path → Data → Result (Option (List ℕ)) MemberFault
@@ -31,11 +33,14 @@ text_note_said default path value = text_said path value >>= note_said default p
 -- a text with this default, or a whole number that stands for its decimal text
 unfoldable pub label_said : List ℕ → Path → Data → Result (Option (List ℕ)) MemberFault
 label_said default path (string text) = note_said default path text
-label_said default path value = integer_said path value >>= λ number. note_said default path (signed_decimal number)
+label_said default path value =
+    integer_said path value >>= λ number. note_said default path (signed_decimal number)
 
 -- how many seats the table of a hand with so many seats has
 unfoldable pub seat_count_said : ℕ → Data → Result (Option ℕ) MemberFault
-seat_count_said count value = number_said 1 255 paths.TableSize value >>= λ number. Ok (if number == count then None else Some number)
+seat_count_said count value =
+    number_said 1 255 paths.TableSize value
+    >>= λ number. Ok (if number == count then None else Some number)
 
 -- where and when a hand was played
 pub record PlainLabels : Type 0 where
@@ -49,7 +54,14 @@ pub record PlainLabels : Type 0 where
 -- what labels say
 abbrev pub plain_labels : Labels → PlainLabels
 plain_labels labels =
-    record { hand = labels.hand; table = labels.table; seat_count = labels.seat_count; moment = labels.moment; currency = labels.currency; venue = labels.venue }
+    record {
+      hand = labels.hand;
+      table = labels.table;
+      seat_count = labels.seat_count;
+      moment = labels.moment;
+      currency = labels.currency;
+      venue = labels.venue;
+    }
 
 -- the labels of a hand with so many seats, at this place of its file, from 0
 unfoldable pub labels_said : ℕ → ℕ → Data → Result PlainLabels MemberFault
@@ -60,7 +72,15 @@ labels_said place count ohh = do
   moment ← read_if moment_said (field paths.StartDate ohh)
   currency ← or_none (text_note_said [] paths.Currency) (field paths.Currency ohh)
   venue ← or_none (text_note_said [] paths.SiteName) (field paths.SiteName ohh)
-  Ok (record { hand = hand; table = table; seat_count = seat_count; moment = moment; currency = currency; venue = venue })
+  Ok
+      (record {
+        hand = hand;
+        table = table;
+        seat_count = seat_count;
+        moment = moment;
+        currency = currency;
+        venue = venue;
+      })
 
 -- the notes of a hand with plain lists
 pub record PlainNotes : Type 0 where
@@ -98,7 +118,8 @@ plain_notes count notes =
 -- the names of players, of whom the first has this seat in the hand
 abbrev pub names_from : ℕ → List PlainPlayer → List (Option (List ℕ))
 names_from seat [] = []
-names_from seat (player ∷ rest) = option_and_then (noted (default_name seat)) player.name ∷ names_from (seat + 1) rest
+names_from seat (player ∷ rest) =
+    option_and_then (noted (default_name seat)) player.name ∷ names_from (seat + 1) rest
 
 -- the notes that players and labels make; a moment is one of universal time
 abbrev pub notes_of : List PlainPlayer → PlainLabels → PlainNotes
@@ -120,4 +141,5 @@ notes_of players labels =
 
 -- the notes
 unfoldable pub notes_said : ℕ → List PlainPlayer → Data → Result PlainNotes MemberFault
-notes_said place players ohh = labels_said place (length players) ohh >>= λ labels. Ok (notes_of players labels)
+notes_said place players ohh =
+    labels_said place (length players) ohh >>= λ labels. Ok (notes_of players labels)

@@ -1,4 +1,5 @@
--- What is stated of the pots of a hand: their amounts, what is taken of them, and what each seat wins.
+-- What is stated of the pots of a hand: their amounts, what is taken of them, and what each seat
+-- wins.
 use Rattle.std.specs.Prelude.{◌≡◌, ◌≤◌, ℕ, ◌+◌, nat_le, nat_lt, ◌&&◌, if◌then◌else◌, List, [], ◌∷◌, ◌++◌, length, map, Option, Some, None, option_map, unwrap_or, ℤ, Result, Ok}
 use Rattle.std.specs.Option.{ForSome}
 use Rattle.serde_json.specs.Data.{Data}
@@ -32,7 +33,9 @@ no_pots = record { pots = []; wins = [] }
 
 -- what was found says
 abbrev pub plain_found : ListedPots → PlainPots
-plain_found found = record { pots = map plain_listed_pot found.pots.items; wins = map plain_win found.won.list.items }
+plain_found found =
+    record
+    { pots = map plain_listed_pot found.pots.items; wins = map plain_win found.won.list.items }
 
 -- the path of a member of the pot with this index
 abbrev pub of_pot : ℕ → PotMember → Path
@@ -44,37 +47,47 @@ of_win pot index part = paths.Pot pot (members.Win index part)
 
 -- a number which, with what it is added to, is no more than may be stated
 unfoldable pub summed : ℕ → Path → ℕ → Result ℕ MemberFault
-summed before path number = if nat_le (before + number) MOST_AMOUNT then Ok number else wrong whats.AmountLimit path
+summed before path number =
+    if nat_le (before + number) MOST_AMOUNT then Ok number else wrong whats.AmountLimit path
 
 -- what a player wins of the pot with this index, after what was won before
 unfoldable pub win_said : List ℤ → ℕ → List PlainWin → ℕ → Data → Result PlainWin MemberFault
 win_said ids pot earlier index value = do
   win ← object_said (of_win pot index wins.Itself) value
-  seat ← needed (of_win pot index wins.PlayerId) win >>= player_said ids (of_win pot index wins.PlayerId)
-  chips ← needed (of_win pot index wins.WinAmount) win >>= number_said 0 MOST_AMOUNT (of_win pot index wins.WinAmount)
+  seat ← needed (of_win pot index wins.PlayerId) win
+      >>= player_said ids (of_win pot index wins.PlayerId)
+  chips ← needed (of_win pot index wins.WinAmount) win
+      >>= number_said 0 MOST_AMOUNT (of_win pot index wins.WinAmount)
   within ← summed (won_by seat earlier) (of_win pot index wins.WinAmount) chips
   Ok (record { seat = seat; chips = within })
 
 -- what was won, with one more
-unfoldable pub win_added : List ℤ → ℕ → List PlainWin → ℕ → Data → Result (List PlainWin) MemberFault
-win_added ids pot earlier index value = win_said ids pot earlier index value >>= λ win. Ok (earlier ++ win ∷ [])
+unfoldable pub win_added : List ℤ → ℕ → List PlainWin → ℕ → Data
+    → Result (List PlainWin) MemberFault
+win_added ids pot earlier index value =
+    win_said ids pot earlier index value >>= λ win. Ok (earlier ++ win ∷ [])
 
 -- the amount of a pot, after the pots before it
 unfoldable pub amount_said : List PlainListedPot → ℕ → Data → Result ℕ MemberFault
 amount_said earlier index pot = do
-  amount ← needed (of_pot index members.Amount) pot >>= number_said 0 MOST_AMOUNT (of_pot index members.Amount)
+  amount ← needed (of_pot index members.Amount) pot
+      >>= number_said 0 MOST_AMOUNT (of_pot index members.Amount)
   summed (all_of earlier) (of_pot index members.Amount) amount
 
 -- the rake of a pot; a hand has eleven pots at most, so that nothing is taken after the eleventh
 unfoldable pub rake_said : ℕ → Data → Result ℕ MemberFault
 rake_said index pot = do
-  rake ← read_if (number_said 0 MOST_AMOUNT (of_pot index members.Rake)) (field (of_pot index members.Rake) pot)
-  if nat_le 11 index && nat_lt 0 (unwrap_or rake 0) then wrong whats.RakePlace (of_pot index members.Rake) else Ok (unwrap_or rake 0)
+  rake ← read_if (number_said 0 MOST_AMOUNT (of_pot index members.Rake))
+      (field (of_pot index members.Rake) pot)
+  if nat_le 11 index && nat_lt 0 (unwrap_or rake 0)
+      then wrong whats.RakePlace (of_pot index members.Rake)
+      else Ok (unwrap_or rake 0)
 
 -- what is won of a pot, after what was won before
 unfoldable pub wins_said : List ℤ → ℕ → List PlainWin → Data → Result (List PlainWin) MemberFault
 wins_said ids index earlier pot = do
-  items ← needed (of_pot index members.PlayerWins) pot >>= list_said (of_pot index members.PlayerWins)
+  items ← needed (of_pot index members.PlayerWins) pot
+      >>= list_said (of_pot index members.PlayerWins)
   added_from (win_added ids index) earlier 0 items
 
 -- the pots with one more, and what is won of it
@@ -103,7 +116,8 @@ paid_of seats found =
 
 -- what is paid says
 abbrev pub plain_paid : Paid → PlainPaid
-plain_paid paid = record { wins = option_map amounts_in paid.wins; total = paid.total; rakes = paid.rakes.rakes }
+plain_paid paid =
+    record { wins = option_map amounts_in paid.wins; total = paid.total; rakes = paid.rakes.rakes }
 
 -- what is stated keeps to a hand with so many seats, and to the greatest amount
 pub record IsPaid (seats : ℕ) (paid : Paid) : Type 0 where
@@ -124,4 +138,5 @@ listed_paid ids value = do
 
 -- what is stated of the pots, where they are listed
 unfoldable pub pots_said : List ℤ → Data → Result PlainPaid MemberFault
-pots_said ids ohh = elim (field paths.Pots ohh) [ Some value ↦ listed_paid ids value | None ↦ Ok none_paid ]
+pots_said ids ohh =
+    elim (field paths.Pots ohh) [ Some value ↦ listed_paid ids value | None ↦ Ok none_paid ]

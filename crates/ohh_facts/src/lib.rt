@@ -1,4 +1,5 @@
-//! What a hand in Open Hand History says beside its play, its pots and its notes, is read from its members.
+//! What a hand in Open Hand History says beside its play, its pots and its notes, is read from its
+//! members.
 #![tactic(auto)]
 
 pub mod labels;

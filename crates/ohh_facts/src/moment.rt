@@ -1,4 +1,5 @@
-//! When a hand was played is read from a text: a day of the calendar and a time of the day, in universal time.
+//! When a hand was played is read from a text: a day of the calendar and a time of the day, in
+//! universal time.
 ghost use Rattle.std.specs.Prelude.{◌≡◌, ◌≤◌, ◌+◌, ◌-◌, length, IfOk};
 ghost use Rattle.serde_json.specs.View.{view};
 ghost use Rattle.hand_records.specs.AllowedNotes.{IsTime, IsWithin};
@@ -212,7 +213,8 @@ fn number_in(digits: &[u8], least: u64, most: u64) -> Result<u64, Stop<MemberFau
 
 // The text says no moment.
 fn no_moment() -> Stop<MemberFault>
-    ensures { result ≡ Stop.At (record { what = MemberFaultKind.WrongType; path = Path.StartDate }) }
+    ensures { result
+        ≡ Stop.At (record { what = MemberFaultKind.WrongType; path = Path.StartDate }) }
 {
     wrong(MemberFaultKind::WrongType, Path::StartDate)
 }

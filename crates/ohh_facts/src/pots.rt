@@ -1,4 +1,5 @@
-//! What is stated of the pots of a hand is read: their amounts, what is taken of them, and what each seat wins.
+//! What is stated of the pots of a hand is read: their amounts, what is taken of them, and what
+//! each seat wins.
 ghost use Rattle.std.specs.Prelude.{◌≡◌, ◌≤◌, ◌+◌, length, map, unwrap_or, IfOk};
 ghost use Rattle.std.specs.Option.{ForSome};
 ghost use Rattle.serde_json.specs.View.{view};

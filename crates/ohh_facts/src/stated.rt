@@ -1,4 +1,5 @@
-//! Pots are found one after the other, and state what each seat wins, what all are together, and what is taken of each.
+//! Pots are found one after the other, and state what each seat wins, what all are together, and
+//! what is taken of each.
 ghost use Rattle.std.specs.Prelude.{◌≡◌, ◌≤◌, ◌+◌, ◌++◌, ◌∷◌, [], ℕ, map, IfOk};
 ghost use Rattle.chip_ledger.specs.RakeRow.{rake_of};
 ghost use Rattle.chip_ledger.specs.declared.rows.TheConstants.{MOST_AMOUNT};

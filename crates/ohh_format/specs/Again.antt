@@ -1,5 +1,6 @@
--- The hands that are read again of plays that were written: the same setups and rakes, the canonical scripts in the words of the
--- format, what each seat won and the total of the pots, and the kept notes.
+-- The hands that are read again of plays that were written: the same setups and rakes, the
+-- canonical scripts in the words of the format, what each seat won and the total of the pots, and
+-- the kept notes.
 use Rattle.std.specs.Prelude.{ℕ, ◌+◌, ◌-◌, ◌==◌, Bool, true, false, if◌then◌else◌, List, [], ◌∷◌, ◌++◌, length, map, slice_index_or, take, Some, None, option_and_then, option_map, codes}
 use Rattle.std.specs.List.{flat_map}
 use Rattle.chip_ledger.specs.Seat.{seats_of}
@@ -38,10 +39,11 @@ raise_by_dialect dialects.To move = spelled.To move.to
 
 -- a bet by the chips that it adds where nobody had put any on the street, else a raise
 abbrev pub raise_again : Dialect → TracedMove → Spelled
-raise_again dialect move = if move.price == 0 then spelled.Added (move.to - move.from) else raise_by_dialect dialect move
+raise_again dialect move =
+    if move.price == 0 then spelled.Added (move.to - move.from) else raise_by_dialect dialect move
 
--- A move by its act, as its word says it: a call states the chips that it adds. A bring-in has no word, and no game that is
--- written has one.
+-- A move by its act, as its word says it: a call states the chips that it adds. A bring-in has no
+-- word, and no game that is written has one.
 abbrev pub move_again : Dialect → Act → TracedMove → List Said
 move_again dialect Folded move = said.Fold (Some move.seat) ∷ []
 move_again dialect Called move = said.Call (Some move.seat) (Some (move.to - move.from)) ∷ []
@@ -60,15 +62,19 @@ moves_again dialect moves street = flat_map (move_on dialect street) moves
 
 -- one street of the canonical script: its deals, and its moves as their words say them
 abbrev pub street_again : Dialect → Setup → List TracedPlace → List TracedMove → ℕ → List Said
-street_again dialect setup placed moves street = deals_said setup placed street ++ moves_again dialect moves street
+street_again dialect setup placed moves street =
+    deals_said setup placed street ++ moves_again dialect moves street
 
 -- the canonical script of a game of four streets without draws, the moves as their words say them
 abbrev pub script_again : Dialect → Trace → List Said
 script_again dialect trace =
-    flat_map (street_again dialect trace.setup (core_said trace).places (core_said trace).moves) (1 ∷ 2 ∷ 3 ∷ 4 ∷ [])
-    ++ showdown_said trace.setup (core_said trace).places (plain_moves (core_said trace).moves) (core_said trace).shown
+    flat_map (street_again dialect trace.setup (core_said trace).places (core_said trace).moves)
+    (1 ∷ 2 ∷ 3 ∷ 4 ∷ [])
+    ++ showdown_said trace.setup (core_said trace).places (plain_moves (core_said trace).moves)
+    (core_said trace).shown
 
--- an action says the event: the board is dealt by a round, and hole cards of which none is known are not told
+-- an action says the event: the board is dealt by a round, and hole cards of which none is known
+-- are not told
 abbrev pub is_told : Said → Bool
 is_told (said.Hole seat slots) = has_known slots
 is_told (said.Board cards) = false
@@ -80,21 +86,26 @@ is_told (said.Discard seat slots) = true
 is_told (said.Show seat cards) = true
 is_told (said.Muck seat) = true
 
--- events with the numbers of their actions, of which the first has this number; what no action says has 0
+-- events with the numbers of their actions, of which the first has this number; what no action says
+-- has 0
 abbrev pub numbered_from : ℕ → List Said → List Numbered
 numbered_from n [] = []
 numbered_from n (event ∷ rest) =
-    if is_told event then (kept_number n, event) ∷ numbered_from (n + 1) rest else (0, event) ∷ numbered_from n rest
+    if is_told event
+    then (kept_number n, event) ∷ numbered_from (n + 1) rest
+    else (0, event) ∷ numbered_from n rest
 
 -- ---- notes
 
--- The kept notes of so many seats, at a place of the file: numbers of seats that go round the table, and a moment of which all
--- is said, in the zone UTC.
+-- The kept notes of so many seats, at a place of the file: numbers of seats that go round the
+-- table, and a moment of which all is said, in the zone UTC.
 abbrev pub notes_again : ℕ → ℕ → Notes → PlainNotes
 notes_again place count notes =
     record {
       names = map (λ seat. slice_index_or notes.names (seat - 1) None) (seats_of count);
-      seats = option_and_then (λ numbers. unless_usual count (take count numbers)) (numbers_spelled count notes.seats);
+      seats =
+          option_and_then (λ numbers. unless_usual count (take count numbers))
+          (numbers_spelled count notes.seats);
       seat_count = notes.seat_count;
       hand = kept_label place notes.hand;
       table = notes.table;
@@ -109,13 +120,15 @@ notes_again place count notes =
 
 -- ---- the hands
 
--- the hand that is read again of the play at a place of its file, from 0; its posts are the first actions
+-- the hand that is read again of the play at a place of its file, from 0; its posts are the first
+-- actions
 abbrev pub hand_again : Dialect → ℕ → Play → PlainHand
 hand_again dialect place play =
     record {
       setup = plain_setup play.trace.setup;
       rules = history_rules;
-      script = numbered_from (length (posts play.trace.setup) + 1) (script_again dialect play.trace);
+      script =
+          numbered_from (length (posts play.trace.setup) + 1) (script_again dialect play.trace);
       stated = record {
         finish = None;
         wins = Some (map (win_of play.trace) (all_seats play.trace.setup));
@@ -128,4 +141,5 @@ hand_again dialect place play =
 -- the hands that are read again of plays, of which the first is at this place
 abbrev pub hands_again : Dialect → ℕ → List Play → List PlainHand
 hands_again dialect place [] = []
-hands_again dialect place (play ∷ rest) = hand_again dialect place play ∷ hands_again dialect (place + 1) rest
+hands_again dialect place (play ∷ rest) =
+    hand_again dialect place play ∷ hands_again dialect (place + 1) rest

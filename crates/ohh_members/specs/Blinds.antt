@@ -17,11 +17,13 @@ use Rattle.ohh_members.specs.Values.{wrong, field, needed, number_said}
 abbrev pub is_fixed_game : Code → Bool
 is_fixed_game code = is_fixed (limit_of code)
 
--- the small blind is at most the big one, and in fixed limit the big bet, twice the big blind, is an amount
+-- the small blind is at most the big one, and in fixed limit the big bet, twice the big blind, is
+-- an amount
 unfoldable pub fitting : Code → ℕ → ℕ → Result Blinds MemberFault
 fitting code small big =
     if nat_lt big small then wrong whats.BadPost paths.SmallBlindAmount
-    else if is_fixed_game code && nat_lt MOST_CHIPS (2 * big) then wrong whats.AmountLimit paths.BigBlindAmount
+    else if is_fixed_game code && nat_lt MOST_CHIPS (2 * big)
+    then wrong whats.AmountLimit paths.BigBlindAmount
     else Ok (record { small = small; big = big })
 
 -- a blind of at least 1

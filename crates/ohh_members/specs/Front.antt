@@ -1,4 +1,5 @@
--- What stands in front of the rounds of a hand: its game, its players and its blinds, examined in this order.
+-- What stands in front of the rounds of a hand: its game, its players and its blinds, examined in
+-- this order.
 use Rattle.std.specs.Prelude.{◌≡◌, ◌≤◌, ◌*◌, true, List, ℕ, ℤ, length, map, Result, Ok}
 use Rattle.serde_json.specs.Data.{Data}
 use Rattle.chip_ledger.specs.declared.numbers.TheConstants.{MOST_CHIPS}
@@ -19,7 +20,9 @@ pub record PlainFront : Type 0 where
 
 -- what a front says
 abbrev pub plain_front : Front → PlainFront
-plain_front front = record { code = front.code; players = map plain_player front.players.items; blinds = front.blinds }
+plain_front front =
+    record
+    { code = front.code; players = map plain_player front.players.items; blinds = front.blinds }
 
 -- what a front keeps to
 pub record IsFront (front : Front) : Type 0 where

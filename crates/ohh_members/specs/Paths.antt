@@ -31,7 +31,8 @@ action_name actions.Amount = codes "amount"
 action_name actions.Cards = codes "cards"
 action_name (actions.Card index) = []
 
--- the name of the member of a round, or of one of its actions; the round itself and one of its cards have none
+-- the name of the member of a round, or of one of its actions; the round itself and one of its
+-- cards have none
 abbrev pub round_name : RoundMember → List ℕ
 round_name rounds.Itself = []
 round_name rounds.Street = codes "street"
@@ -90,25 +91,31 @@ action_text part = with_point (action_name part)
 -- how a member is spelled behind its round
 abbrev pub round_text : RoundMember → List ℕ
 round_text (rounds.Card index) = codes ".cards[" ++ (decimal index ++ codes "]")
-round_text (rounds.Action index part) = codes ".actions[" ++ (decimal index ++ (codes "]" ++ action_text part))
+round_text (rounds.Action index part) =
+    codes ".actions[" ++ (decimal index ++ (codes "]" ++ action_text part))
 round_text part = with_point (round_name part)
 
 -- how a member is spelled behind its pot
 abbrev pub pot_text : PotMember → List ℕ
-pot_text (pots.Win index part) = codes ".player_wins[" ++ (decimal index ++ (codes "]" ++ with_point (win_name part)))
+pot_text (pots.Win index part) =
+    codes ".player_wins[" ++ (decimal index ++ (codes "]" ++ with_point (win_name part)))
 pot_text part = with_point (pot_name part)
 
 -- how a path is spelled, as ohh.rounds[0].actions[4].amount
 abbrev pub path_text : Path → List ℕ
 path_text paths.Ohh = codes "ohh"
 path_text paths.BetType = codes "ohh.bet_limit.bet_type"
-path_text (paths.Player index part) = codes "ohh.players[" ++ (decimal index ++ (codes "]" ++ with_point (player_name part)))
-path_text (paths.Round index part) = codes "ohh.rounds[" ++ (decimal index ++ (codes "]" ++ round_text part))
-path_text (paths.Pot index part) = codes "ohh.pots[" ++ (decimal index ++ (codes "]" ++ pot_text part))
+path_text (paths.Player index part) =
+    codes "ohh.players[" ++ (decimal index ++ (codes "]" ++ with_point (player_name part)))
+path_text (paths.Round index part) =
+    codes "ohh.rounds[" ++ (decimal index ++ (codes "]" ++ round_text part))
+path_text (paths.Pot index part) =
+    codes "ohh.pots[" ++ (decimal index ++ (codes "]" ++ pot_text part))
 path_text path = codes "ohh." ++ member_name path
 
 -- the path of one of the cards, from 0, of the list of cards at a path
 abbrev pub card_path : Path → ℕ → Path
 card_path (paths.Round round rounds.Cards) index = paths.Round round (rounds.Card index)
-card_path (paths.Round round (rounds.Action action actions.Cards)) index = paths.Round round (rounds.Action action (actions.Card index))
+card_path (paths.Round round (rounds.Action action actions.Cards)) index =
+    paths.Round round (rounds.Action action (actions.Card index))
 card_path path index = path

@@ -25,7 +25,13 @@ pub record PlainPlayer : Type 0 where
 
 -- what a player says
 abbrev pub plain_player : Player → PlainPlayer
-plain_player player = record { id = player.id; seat = player.seat; name = option_map (λ name. name.now) player.name; stack = player.stack }
+plain_player player =
+    record {
+      id = player.id;
+      seat = player.seat;
+      name = option_map (λ name. name.now) player.name;
+      stack = player.stack;
+    }
 
 -- the path of a member of the player with this index
 abbrev pub of_player : ℕ → PlayerMember → Path
@@ -48,22 +54,29 @@ id_said earlier index player = do
 -- the seat of a player, which no player before it has
 unfoldable pub seat_said : List PlainPlayer → ℕ → Data → Result ℕ MemberFault
 seat_said earlier index player = do
-  seat ← needed (of_player index members.Seat) player >>= number_said 1 255 (of_player index members.Seat)
+  seat ← needed (of_player index members.Seat) player
+      >>= number_said 1 255 (of_player index members.Seat)
   if has_seat seat earlier then wrong whats.BadPlayer (of_player index members.Seat) else Ok seat
 
 -- a text of at most 255 bytes
 unfoldable pub short_text_said : Path → Data → Result (List ℕ) MemberFault
 short_text_said path value = do
   text ← text_said path value
-  if nat_le (length text) MOST_TEXT_BYTES then Ok text else wrong (whats.TooMany quantities.TextBytes) path
+  if nat_le (length text) MOST_TEXT_BYTES
+      then Ok text
+      else wrong (whats.TooMany quantities.TextBytes) path
 
 -- the name of a player, if it has one
 abbrev pub name_said : ℕ → Data → Result (Option (List ℕ)) MemberFault
-name_said index player = read_if (short_text_said (of_player index members.Name)) (field (of_player index members.Name) player)
+name_said index player =
+    read_if (short_text_said (of_player index members.Name))
+    (field (of_player index members.Name) player)
 
 -- the starting stack of a player
 unfoldable pub stack_said : ℕ → Data → Result ℕ MemberFault
-stack_said index player = needed (of_player index members.StartingStack) player >>= number_said 1 MOST_CHIPS (of_player index members.StartingStack)
+stack_said index player =
+    needed (of_player index members.StartingStack) player
+    >>= number_said 1 MOST_CHIPS (of_player index members.StartingStack)
 
 -- a player, after those before it
 unfoldable pub player_said : List PlainPlayer → ℕ → Data → Result PlainPlayer MemberFault
@@ -77,13 +90,16 @@ player_said earlier index value = do
 
 -- the players with one more
 unfoldable pub player_added : List PlainPlayer → ℕ → Data → Result (List PlainPlayer) MemberFault
-player_added earlier index value = player_said earlier index value >>= λ player. Ok (earlier ++ player ∷ [])
+player_added earlier index value =
+    player_said earlier index value >>= λ player. Ok (earlier ++ player ∷ [])
 
 -- the players in the order in which they are listed: two to ten of them
 unfoldable pub players_said : Data → Result (List PlainPlayer) MemberFault
 players_said ohh = do
   items ← needed paths.Players ohh >>= list_said paths.Players
-  if nat_le 2 (length items) && nat_le (length items) 10 then added_from player_added [] 0 items else wrong whats.BadPlayer paths.Players
+  if nat_le 2 (length items) && nat_le (length items) 10
+      then added_from player_added [] 0 items
+      else wrong whats.BadPlayer paths.Players
 
 -- the player in this seat of the table
 abbrev pub player_at : ℤ → List PlainPlayer → Option PlainPlayer
@@ -108,14 +124,17 @@ lowest players = fold lower None players
 abbrev pub above : ℕ → List PlainPlayer → List PlainPlayer
 above seat players = filter (λ player. nat_lt seat player.seat) players
 
--- the player of the next higher seat, and after the highest seat that of the lowest; where there are no players, this one
+-- the player of the next higher seat, and after the highest seat that of the lowest; where there
+-- are no players, this one
 abbrev pub next_player : List PlainPlayer → PlainPlayer → PlainPlayer
-next_player players player = unwrap_or (lowest (above player.seat players)) (unwrap_or (lowest (above 0 players)) player)
+next_player players player =
+    unwrap_or (lowest (above player.seat players)) (unwrap_or (lowest (above 0 players)) player)
 
 -- so many players, going round from the one after this player
 abbrev pub round_from : List PlainPlayer → PlainPlayer → ℕ → List PlainPlayer
 round_from players player zero = []
-round_from players player (suc count) = next_player players player ∷ round_from players (next_player players player) count
+round_from players player (suc count) =
+    next_player players player ∷ round_from players (next_player players player) count
 
 -- the players by their seats in the hand: the first sits after the button, the last is on it
 abbrev pub seated : List PlainPlayer → PlainPlayer → List PlainPlayer

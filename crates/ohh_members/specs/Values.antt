@@ -53,7 +53,8 @@ list_said path _ = wrong whats.WrongType path
 
 -- a whole number from least to most: an amount, or another number
 unfoldable pub number_said : ℕ → ℕ → Path → Data → Result ℕ MemberFault
-number_said least most path (number (unsigned n)) = if nat_le least n && nat_le n most then Ok n else wrong whats.AmountLimit path
+number_said least most path (number (unsigned n)) =
+    if nat_le least n && nat_le n most then Ok n else wrong whats.AmountLimit path
 number_said least most path (number (negative z)) = wrong whats.AmountLimit path
 number_said least most path (number (float x)) = wrong whats.AmountNotWhole path
 number_said least most path _ = wrong whats.WrongType path
@@ -65,10 +66,12 @@ integer_said path (number (negative z)) = Ok z
 integer_said path (number (float x)) = wrong whats.AmountNotWhole path
 integer_said path _ = wrong whats.WrongType path
 
--- the seat of the player with this id, where the first of the ids is that of this seat, and the next one's seat follows
+-- the seat of the player with this id, where the first of the ids is that of this seat, and the
+-- next one's seat follows
 abbrev pub seat_from : ℕ → ℤ → List ℤ → Option ℕ
 seat_from seat id [] = None
-seat_from seat id (other ∷ rest) = if int_eq id other then Some seat else seat_from (seat + 1) id rest
+seat_from seat id (other ∷ rest) =
+    if int_eq id other then Some seat else seat_from (seat + 1) id rest
 
 -- the seat of the player with this id, where the ids are those of seat 1, seat 2 and so on
 abbrev pub seat_of : List ℤ → ℤ → Option ℕ
@@ -76,7 +79,8 @@ seat_of ids id = seat_from 1 id ids
 
 -- the seat of a player who is named by the id
 unfoldable pub player_said : List ℤ → Path → Data → Result ℕ MemberFault
-player_said ids path value = integer_said path value >>= λ id. or_wrong whats.BadPlayer path (seat_of ids id)
+player_said ids path value =
+    integer_said path value >>= λ id. or_wrong whats.BadPlayer path (seat_of ids id)
 
 -- the slot that a text of two letters spells
 abbrev pub slot_in : List ℕ → Option Slot
@@ -99,7 +103,8 @@ slot_said path value = text_said path value >>= λ text. or_wrong whats.WrongTyp
 
 -- a known card
 unfoldable pub card_said : Path → Data → Result Card MemberFault
-card_said path value = slot_said path value >>= λ slot. or_wrong whats.WrongType path (known_in slot)
+card_said path value =
+    slot_said path value >>= λ slot. or_wrong whats.WrongType path (known_in slot)
 
 -- a list of at most seven cards, before its items are looked at
 unfoldable pub few_said : Path → Data → Result (List Data) MemberFault
@@ -108,13 +113,16 @@ few_said path value = do
   if nat_le (length items) 7 then Ok items else wrong whats.WrongType path
 
 -- items one after the other, each read in a form that is told its index in the list, from 0
-abbrev pub each_item : {D A : Type 0} → (ℕ → D → Result A MemberFault) → List D → Result (List A) MemberFault
+abbrev pub each_item : {D A : Type 0} → (ℕ → D → Result A MemberFault) → List D
+    → Result (List A) MemberFault
 each_item form items = each_from (λ n. form (n - 1)) 1 items
 
 -- items one after the other, from this index on, each added to what was read before it
-unfoldable pub added_from : {D S : Type 0} → (S → ℕ → D → Result S MemberFault) → S → ℕ → List D → Result S MemberFault
+unfoldable pub added_from : {D S : Type 0} → (S → ℕ → D → Result S MemberFault) → S → ℕ → List D
+    → Result S MemberFault
 added_from form before index [] = Ok before
-added_from form before index (value ∷ rest) = form before index value >>= λ after. added_from form after (index + 1) rest
+added_from form before index (value ∷ rest) =
+    form before index value >>= λ after. added_from form after (index + 1) rest
 
 -- the cards of a list at a path, each known or unknown
 abbrev pub slots_from : Path → List Data → Result (List Slot) MemberFault

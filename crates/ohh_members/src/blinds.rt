@@ -57,7 +57,8 @@ fn read_blind(ohh: &Value, path: Path) -> Result<u64, Stop<MemberFault>>
     read_number(needed(ohh, path)?, 1, MOST_CHIPS, path)
 }
 
-// The blinds, where the small one is at most the big one, and twice the big one is a bet that may be made.
+// The blinds, where the small one is at most the big one, and twice the big one is a bet that may
+// be made.
 #[tactic(auto, unfolding(crate::specs::Blinds::fitting))]
 fn fit(code: Code, small: u64, big: u64) -> Result<Blinds, Stop<MemberFault>>
     requires { big ≤ MOST_CHIPS }

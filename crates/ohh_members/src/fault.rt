@@ -1,4 +1,5 @@
-//! What is wrong with a hand, and at which member: the first fault in the order in which its members are examined.
+//! What is wrong with a hand, and at which member: the first fault in the order in which its
+//! members are examined.
 ghost use Rattle.std.specs.Prelude.{◌≡◌, ◌++◌, IfOk, codes, string_bytes};
 ghost use Rattle.std.specs.Fmt.{decimal};
 ghost use Rattle.ohh_members.specs.Paths.{action_name, action_text, card_path, member_name, path_text, player_name, pot_name, pot_text, round_name, round_text, win_name, with_point};

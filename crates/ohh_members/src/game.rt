@@ -10,7 +10,8 @@ use first_fault::Stop;
 use play_event::Code;
 use serde_json::Value;
 
-/// The game of a hand: hold'em in fixed limit or no limit, Omaha in pot limit, or Omaha eight-or-better in fixed limit.
+/// The game of a hand: hold'em in fixed limit or no limit, Omaha in pot limit, or Omaha
+/// eight-or-better in fixed limit.
 #[tactic(auto, unfolding(crate::specs::Game::game_said))]
 pub fn read_game(ohh: &Value) -> Result<Code, Stop<MemberFault>>
     ensures said { Gives (λ code. code) result (game_said (view ohh.now)) }

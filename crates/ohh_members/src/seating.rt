@@ -13,7 +13,8 @@ use first_fault::Stop;
 use serde_json::Value;
 use std::alloc::Global;
 
-/// The players of a hand by their seats in it: the first sits after the button, and the last is on it.
+/// The players of a hand by their seats in it: the first sits after the button, and the last is on
+/// it.
 #[tactic(auto, unfolding(crate::specs::Players::seated_said))]
 pub fn read_players<'a>(alloc: Global, ohh: &'a Value) -> Result<Vec<Player<'a>>, Stop<MemberFault>>
     ensures said { Gives (λ found. map plain_player found.items) result

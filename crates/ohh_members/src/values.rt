@@ -99,7 +99,8 @@ pub fn read_player(value: &Value, ids: &[i128], path: Path) -> Result<Seat, Stop
     }
 }
 
-/// The seat of the player with this id, where the ids are those of the players in the order of their seats.
+/// The seat of the player with this id, where the ids are those of the players in the order of
+/// their seats.
 pub fn seat_of(ids: &[i128], id: i128) -> Option<Seat>
     requires { length ids.now ≤ 10 }
     ensures said { option_map (λ seat. seat.number) result ≡ seat_of_said ids.now id }

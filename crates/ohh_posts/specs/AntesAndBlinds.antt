@@ -19,7 +19,12 @@ pub record PlainAntesAndBlinds : Type 0 where
 
 -- the same with plain lists
 abbrev pub plain_antes_and_blinds : AntesAndBlinds → PlainAntesAndBlinds
-plain_antes_and_blinds stakes = record { antes = amounts_in stakes.antes; dead_antes = stakes.dead_antes; blinds = amounts_in stakes.blinds }
+plain_antes_and_blinds stakes =
+    record {
+      antes = amounts_in stakes.antes;
+      dead_antes = stakes.dead_antes;
+      blinds = amounts_in stakes.blinds;
+    }
 
 -- the ante of a seat, held as the lesser of what it posts and its stack
 abbrev pub held_ante : PlainNamedBlinds → List PlainPost → ℕ → ℕ
@@ -31,7 +36,9 @@ has_amount row = list_any (λ seat. nat_lt 0 (amount_of row seat)) (seats_of row
 
 -- some seats post an ante, and not all
 abbrev pub are_dead : PlainNamedBlinds → List PlainPost → Bool
-are_dead table posts = list_any (λ seat. nat_lt 0 (held_ante table posts seat)) (seats_of (seat_count table)) && not (has_all_antes table posts)
+are_dead table posts =
+    list_any (λ seat. nat_lt 0 (held_ante table posts seat)) (seats_of (seat_count table))
+    && not (has_all_antes table posts)
 
 -- the blind of a seat as it is named: one of the two blinds, or a straddle, or 0
 abbrev pub named_blind : PlainNamedBlinds → List PlainPost → ℕ → ℕ
@@ -55,5 +62,6 @@ pub record AreAntesAndBlindsFor (stacks : SeatRow) (stakes : AntesAndBlinds) : T
   pub same_blinds : stakes.blinds.seats ≡ stacks.seats
   pub antes : (seat : ℕ) → amount_of stakes.antes seat ≤ amount_of stacks seat
   pub blinds : (seat : ℕ) → amount_of stakes.blinds seat ≤ MOST_CHIPS
-  pub dead_antes : stakes.dead_antes ≡ true → list_any (λ seat. nat_lt 0 (amount_of stakes.antes seat)) (seats_of stacks.seats) ≡ true
+  pub dead_antes : stakes.dead_antes ≡ true
+      → list_any (λ seat. nat_lt 0 (amount_of stakes.antes seat)) (seats_of stacks.seats) ≡ true
   pub heads_up : stacks.seats ≡ 2 → amount_of stakes.blinds 2 ≤ amount_of stakes.blinds 1

@@ -19,7 +19,8 @@ left_of table posts seat = stack_of table seat - ante_of posts seat
 
 -- every seat posts an ante
 abbrev pub has_all_antes : PlainNamedBlinds → List PlainPost → Bool
-has_all_antes table posts = list_all (λ seat. is_some (first_ante seat posts)) (seats_of (seat_count table))
+has_all_antes table posts =
+    list_all (λ seat. is_some (first_ante seat posts)) (seats_of (seat_count table))
 
 -- the greatest ante of a seat
 abbrev pub greatest_ante : PlainNamedBlinds → List PlainPost → ℕ
@@ -27,36 +28,53 @@ greatest_ante table posts = greatest (map (ante_of posts) (seats_of (seat_count 
 
 -- the post is a second small blind, or a second big blind
 abbrev pub is_second_blind : List PlainPost → PlainPost → Bool
-is_second_blind before post = (is_small_blind post.kind && has_small_blind before) || (is_big_blind post.kind && has_big_blind before)
+is_second_blind before post =
+    (is_small_blind post.kind && has_small_blind before)
+    || (is_big_blind post.kind && has_big_blind before)
 
 -- the post is a blind of another seat than its own
 abbrev pub is_misplaced_blind : PlainNamedBlinds → PlainPost → Bool
 is_misplaced_blind table post =
-    (is_small_blind post.kind && not (post.seat == small_blind_seat table)) || (is_big_blind post.kind && not (post.seat == big_blind_seat table))
+    (is_small_blind post.kind && not (post.seat == small_blind_seat table))
+    || (is_big_blind post.kind && not (post.seat == big_blind_seat table))
 
--- the post is a blind that is not the lesser of the blind as it is named and the stack less the ante
+-- the post is a blind that is not the lesser of the blind as it is named and the stack less the
+-- ante
 abbrev pub is_wrong_blind : PlainNamedBlinds → List PlainPost → PlainPost → Bool
 is_wrong_blind table posts post =
-    (is_small_blind post.kind && not (post.amount == min table.small_blind (left_of table posts post.seat)))
-    || (is_big_blind post.kind && not (post.amount == min table.big_blind (left_of table posts post.seat)))
+    (is_small_blind post.kind
+    && not (post.amount == min table.small_blind (left_of table posts post.seat)))
+    || (is_big_blind post.kind
+    && not (post.amount == min table.big_blind (left_of table posts post.seat)))
 
--- the post is a straddle of p1 or p2, of no chips, a second one of its player, or above the stack less the ante
+-- the post is a straddle of p1 or p2, of no chips, a second one of its player, or above the stack
+-- less the ante
 abbrev pub is_wrong_straddle : PlainNamedBlinds → List PlainPost → List PlainPost → PlainPost → Bool
 is_wrong_straddle table posts before post =
-    is_straddle post.kind && (nat_le post.seat 2 || ((post.amount == 0) || (is_some (first_straddle post.seat before) || nat_lt (left_of table posts post.seat) post.amount)))
+    is_straddle post.kind
+    && (nat_le post.seat 2
+    || ((post.amount == 0)
+    || (is_some (first_straddle post.seat before)
+    || nat_lt (left_of table posts post.seat) post.amount)))
 
 -- the post is an ante above the stack, of no chips, or a second one of its player
 abbrev pub is_wrong_ante : PlainNamedBlinds → List PlainPost → PlainPost → Bool
 is_wrong_ante table before post =
-    is_ante post.kind && (nat_lt (stack_of table post.seat) post.amount || ((post.amount == 0) || is_some (first_ante post.seat before)))
+    is_ante post.kind
+    && (nat_lt (stack_of table post.seat) post.amount
+    || ((post.amount == 0) || is_some (first_ante post.seat before)))
 
--- every player posts an ante, and the post is one that is not the lesser of the greatest ante and the stack
+-- every player posts an ante, and the post is one that is not the lesser of the greatest ante and
+-- the stack
 abbrev pub is_uneven_ante : PlainNamedBlinds → List PlainPost → PlainPost → Bool
 is_uneven_ante table posts post =
-    is_ante post.kind && (has_all_antes table posts && not (post.amount == min (greatest_ante table posts) (stack_of table post.seat)))
+    is_ante post.kind
+    && (has_all_antes table posts
+    && not (post.amount == min (greatest_ante table posts) (stack_of table post.seat)))
 
 -- a post breaks a condition, among all posts and after those before it
-unfoldable pub is_breaking : Condition → PlainNamedBlinds → List PlainPost → List PlainPost → PlainPost → Bool
+unfoldable pub is_breaking : Condition → PlainNamedBlinds → List PlainPost → List PlainPost
+    → PlainPost → Bool
 is_breaking conditions.Early table posts before post = not post.early
 is_breaking conditions.OneOfEachBlind table posts before post = is_second_blind before post
 is_breaking conditions.BlindSeats table posts before post = is_misplaced_blind table post
@@ -65,11 +83,15 @@ is_breaking conditions.Straddles table posts before post = is_wrong_straddle tab
 is_breaking conditions.Antes table posts before post = is_wrong_ante table before post
 is_breaking conditions.EvenAntes table posts before post = is_uneven_ante table posts post
 
--- where the first post of these stands that breaks a condition, among all posts and after those before it
-abbrev pub first_breaking : Condition → PlainNamedBlinds → List PlainPost → List PlainPost → List PlainPost → Option ActionPlace
+-- where the first post of these stands that breaks a condition, among all posts and after those
+-- before it
+abbrev pub first_breaking : Condition → PlainNamedBlinds → List PlainPost → List PlainPost
+    → List PlainPost → Option ActionPlace
 first_breaking condition table posts before [] = None
 first_breaking condition table posts before (post ∷ rest) =
-    if is_breaking condition table posts before post then Some post.place else first_breaking condition table posts (before ++ post ∷ []) rest
+    if is_breaking condition table posts before post
+    then Some post.place
+    else first_breaking condition table posts (before ++ post ∷ []) rest
 
 -- no post breaks the condition, or the first that does is named
 abbrev pub at_first : Option ActionPlace → Result ⊤ PostFault
@@ -82,7 +104,8 @@ holds condition table posts = at_first (first_breaking condition table posts [] 
 
 -- both blinds are posted
 abbrev pub has_blinds : List PlainPost → Result ⊤ PostFault
-has_blinds posts = if has_small_blind posts && has_big_blind posts then Ok tt else Err faults.MissingBlind
+has_blinds posts =
+    if has_small_blind posts && has_big_blind posts then Ok tt else Err faults.MissingBlind
 
 -- the conditions, one after the other
 unfoldable pub posts_checked : PlainNamedBlinds → List PlainPost → Result ⊤ PostFault

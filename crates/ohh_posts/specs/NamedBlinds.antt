@@ -12,7 +12,12 @@ pub record PlainNamedBlinds : Type 0 where
 
 -- a table with plain numbers
 abbrev pub plain_named_blinds : NamedBlinds → PlainNamedBlinds
-plain_named_blinds table = record { stacks = amounts_in table.stacks; small_blind = table.small_blind; big_blind = table.big_blind }
+plain_named_blinds table =
+    record {
+      stacks = amounts_in table.stacks;
+      small_blind = table.small_blind;
+      big_blind = table.big_blind;
+    }
 
 -- how many seats there are
 abbrev pub seat_count : PlainNamedBlinds → ℕ

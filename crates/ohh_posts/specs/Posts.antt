@@ -9,7 +9,8 @@ use Rattle.ohh_posts.specs.declared.post.ActionPlace.{ActionPlace}
 use Rattle.ohh_posts.specs.declared.post.Post.{Post}
 use Rattle.ohh_posts.specs.declared.firsts.FirstPosts.{FirstPosts}
 
--- a post: what it is, its seat, its chips, whether it stands on the first street before any move, and where it stands
+-- a post: what it is, its seat, its chips, whether it stands on the first street before any move,
+-- and where it stands
 pub record PlainPost : Type 0 where
   pub kind : PostKind
   pub seat : ℕ
@@ -19,7 +20,14 @@ pub record PlainPost : Type 0 where
 
 -- a post with plain numbers
 abbrev pub plain_post : Post → PlainPost
-plain_post post = record { kind = post.kind; seat = post.seat.number; amount = post.amount.number; early = post.early; place = post.place }
+plain_post post =
+    record {
+      kind = post.kind;
+      seat = post.seat.number;
+      amount = post.amount.number;
+      early = post.early;
+      place = post.place;
+    }
 
 -- a post of this kind is an ante
 abbrev pub is_ante : PostKind → Bool
@@ -51,7 +59,8 @@ is_straddle kinds.Straddle = true
 
 -- the chips of the first post of a kind that this seat has among some posts, if it has one
 abbrev pub first_post : (PostKind → Bool) → ℕ → List PlainPost → Option ℕ
-first_post is_kind seat posts = option_map (λ post. post.amount) (find (λ post. is_kind post.kind && (post.seat == seat)) posts)
+first_post is_kind seat posts =
+    option_map (λ post. post.amount) (find (λ post. is_kind post.kind && (post.seat == seat)) posts)
 
 -- the seat's first ante
 abbrev pub first_ante : ℕ → List PlainPost → Option ℕ
@@ -80,6 +89,7 @@ chips_in row seat = option_map (λ chips. chips.number) (slice_index_or row (sea
 -- what was kept are the first posts of these
 pub record AreFirst (posts : List PlainPost) (firsts : FirstPosts) : Type 0 where
   pub antes : (seat : ℕ) → 1 ≤ seat → seat ≤ 10 → chips_in firsts.antes seat ≡ first_ante seat posts
-  pub straddles : (seat : ℕ) → 1 ≤ seat → seat ≤ 10 → chips_in firsts.straddles seat ≡ first_straddle seat posts
+  pub straddles : (seat : ℕ) → 1 ≤ seat → seat ≤ 10
+      → chips_in firsts.straddles seat ≡ first_straddle seat posts
   pub small_blind : firsts.small_blind ≡ has_small_blind posts
   pub big_blind : firsts.big_blind ≡ has_big_blind posts

@@ -115,7 +115,8 @@ fn straddle_or_zero(firsts: &FirstPosts, seat: Seat) -> u64
 fn are_dead(table: &NamedBlinds, firsts: &FirstPosts, antes: &SeatRow) -> bool
     requires { antes.now.seats ≡ table.now.stacks.seats }
     ensures { (posts : List PlainPost) → AreFirst posts firsts.now
-        → result ≡ (has_amount antes.now && not (has_all_antes (plain_named_blinds table.now) posts)) }
+        → result
+        ≡ (has_amount antes.now && not (has_all_antes (plain_named_blinds table.now) posts)) }
 {
     has_some(antes) && !all_post(table, firsts)
 }

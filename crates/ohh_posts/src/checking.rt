@@ -22,7 +22,8 @@ pub enum Condition {
     BlindSeats,
     /// A blind is as it is named, or all that the stack has left.
     BlindAmounts,
-    /// A straddle is of a seat behind the blinds, of some chips that the stack has, and the seat's first.
+    /// A straddle is of a seat behind the blinds, of some chips that the stack has, and the seat's
+    /// first.
     Straddles,
     /// An ante is of some chips that the stack has, and the seat's first.
     Antes,
@@ -58,8 +59,8 @@ impl Facts {
     }
 }
 
-/// Tries the conditions of the posts of a hand, one after the other, or names the first post that breaks the first
-/// condition that is broken.
+/// Tries the conditions of the posts of a hand, one after the other, or names the first post that
+/// breaks the first condition that is broken.
 #[tactic(auto, unfolding(crate::specs::Conditions::posts_checked))]
 pub fn check_posts(table: &NamedBlinds, posts: &[Post]) -> Result<(), PostFault>
     ensures { result ≡ posts_checked (plain_named_blinds table.now) (map plain_post posts.now) }
@@ -92,7 +93,8 @@ fn facts_of(table: &NamedBlinds, posts: &[Post]) -> Facts
 // A condition holds of all posts, or the first that breaks it is named.
 fn hold(condition: Condition, facts: &Facts, posts: &[Post]) -> Result<(), PostFault>
     requires { AreFacts (map plain_post posts.now) facts.now }
-    ensures { result ≡ holds condition (plain_named_blinds facts.now.table) (map plain_post posts.now) }
+    ensures { result
+        ≡ holds condition (plain_named_blinds facts.now.table) (map plain_post posts.now) }
 {
     match first_break(condition, facts, posts) {
         Some(place) => Err(PostFault::At(place)),
@@ -121,7 +123,8 @@ fn first_break(condition: Condition, facts: &Facts, posts: &[Post]) -> Option<Ac
 fn is_breaking(condition: Condition, facts: &Facts, before: &FirstPosts, post: &Post) -> bool
     ensures { (posts earlier : List PlainPost) → AreFacts posts facts.now
         → AreFirst earlier before.now
-        → result ≡ conditions.is_breaking condition (plain_named_blinds facts.now.table) posts earlier
+        → result
+        ≡ conditions.is_breaking condition (plain_named_blinds facts.now.table) posts earlier
         (plain_post post.now) }
 {
     match condition {
@@ -149,7 +152,8 @@ fn is_second_blind(before: &FirstPosts, post: &Post) -> bool
 
 // Whether a post is a blind of another seat than its own.
 fn is_misplaced_blind(table: &NamedBlinds, post: &Post) -> bool
-    ensures { result ≡ conditions.is_misplaced_blind (plain_named_blinds table.now) (plain_post post.now) }
+    ensures { result
+        ≡ conditions.is_misplaced_blind (plain_named_blinds table.now) (plain_post post.now) }
 {
     match post.kind {
         PostKind::SmallBlind => post.seat.number != table.small_blind_seat(),
@@ -158,7 +162,8 @@ fn is_misplaced_blind(table: &NamedBlinds, post: &Post) -> bool
     }
 }
 
-// Whether a post is a blind that is not the lesser of the blind as it is named and the stack less the ante.
+// Whether a post is a blind that is not the lesser of the blind as it is named and the stack less
+// the ante.
 fn is_wrong_blind(facts: &Facts, post: &Post) -> bool
     ensures { (posts : List PlainPost) → AreFacts posts facts.now
         → result ≡ conditions.is_wrong_blind (plain_named_blinds facts.now.table) posts
@@ -172,7 +177,8 @@ fn is_wrong_blind(facts: &Facts, post: &Post) -> bool
     }
 }
 
-// Whether a post is a straddle of a seat in the blinds, of no chips, a second one of its seat, or above what is left.
+// Whether a post is a straddle of a seat in the blinds, of no chips, a second one of its seat, or
+// above what is left.
 fn is_wrong_straddle(facts: &Facts, before: &FirstPosts, post: &Post) -> bool
     ensures { (posts earlier : List PlainPost) → AreFacts posts facts.now
         → AreFirst earlier before.now
@@ -193,7 +199,8 @@ fn is_wrong_straddle(facts: &Facts, before: &FirstPosts, post: &Post) -> bool
 // Whether a post is an ante above the stack, of no chips, or a second one of its seat.
 fn is_wrong_ante(table: &NamedBlinds, before: &FirstPosts, post: &Post) -> bool
     ensures { (earlier : List PlainPost) → AreFirst earlier before.now
-        → result ≡ conditions.is_wrong_ante (plain_named_blinds table.now) earlier (plain_post post.now) }
+        → result
+        ≡ conditions.is_wrong_ante (plain_named_blinds table.now) earlier (plain_post post.now) }
 {
     let stack = table.stack(post.seat);
     let again = before.ante(post.seat).is_some();
@@ -206,7 +213,8 @@ fn is_wrong_ante(table: &NamedBlinds, before: &FirstPosts, post: &Post) -> bool
     }
 }
 
-// Whether every seat posts an ante, and the post is one that is not the lesser of the greatest ante and the stack.
+// Whether every seat posts an ante, and the post is one that is not the lesser of the greatest ante
+// and the stack.
 fn is_uneven_ante(facts: &Facts, post: &Post) -> bool
     ensures { (posts : List PlainPost) → AreFacts posts facts.now
         → result ≡ conditions.is_uneven_ante (plain_named_blinds facts.now.table) posts

@@ -1,4 +1,5 @@
-//! The first ante and the first straddle of each seat, and whether the blinds are posted, are kept post by post.
+//! The first ante and the first straddle of each seat, and whether the blinds are posted, are kept
+//! post by post.
 ghost use Rattle.std.specs.Prelude.{◌≡◌, Some, length};
 ghost use Rattle.std.specs.Option.{option_or};
 

@@ -1,5 +1,5 @@
-//! The posts of a hand, in the order in which they are told, meet the seven conditions of posts, or one that does not is
-//! named; and they give the antes and the blinds.
+//! The posts of a hand, in the order in which they are told, meet the seven conditions of posts, or
+//! one that does not is named; and they give the antes and the blinds.
 #![tactic(auto)]
 
 mod antes;

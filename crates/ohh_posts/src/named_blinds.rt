@@ -1,4 +1,5 @@
-//! What the posts of a hand are compared with: the starting stacks, and the blinds as they are named.
+//! What the posts of a hand are compared with: the starting stacks, and the blinds as they are
+//! named.
 ghost use Rattle.std.specs.Prelude.{◌≤◌};
 ghost use Rattle.chip_ledger.specs.declared.numbers.TheConstants.{MOST_CHIPS};
 

@@ -1,4 +1,5 @@
-//! A post is chips that a player puts in before the play: an ante, one of the two blinds, or a straddle.
+//! A post is chips that a player puts in before the play: an ante, one of the two blinds, or a
+//! straddle.
 use chip_ledger::{Chips, Seat};
 
 /// What a post is.

@@ -14,8 +14,12 @@ is_blank line = list_all (λ sign. ((sign == 32) || (sign == 9)) || (sign == 13)
 abbrev pub blocks_from : Option (List ℕ) → List (List ℕ) → List (List ℕ)
 blocks_from None [] = []
 blocks_from (Some block) [] = block ∷ []
-blocks_from None (line ∷ lines) = if is_blank line then blocks_from None lines else blocks_from (Some line) lines
-blocks_from (Some block) (line ∷ lines) = if is_blank line then block ∷ blocks_from None lines else blocks_from (Some (block ++ 10 ∷ line)) lines
+blocks_from None (line ∷ lines) =
+    if is_blank line then blocks_from None lines else blocks_from (Some line) lines
+blocks_from (Some block) (line ∷ lines) =
+    if is_blank line
+    then block ∷ blocks_from None lines
+    else blocks_from (Some (block ++ 10 ∷ line)) lines
 
 -- the blocks of a text: runs of lines that do not divide
 abbrev pub blocks_of : List ℕ → List (List ℕ)

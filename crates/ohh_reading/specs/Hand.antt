@@ -51,8 +51,19 @@ plain_setup setup =
     record {
       code = setup.code;
       stacks = amounts_in setup.stacks;
-      stakes = record { antes = amounts_in setup.antes; dead_antes = setup.dead_antes; blinds = amounts_in setup.blinds };
-      sizes = record { bring_in = setup.bring_in; small_bet = setup.small_bet; big_bet = setup.big_bet; min_bet = setup.min_bet };
+      stakes =
+          record {
+            antes = amounts_in setup.antes;
+            dead_antes = setup.dead_antes;
+            blinds = amounts_in setup.blinds;
+          };
+      sizes =
+          record {
+            bring_in = setup.bring_in;
+            small_bet = setup.small_bet;
+            big_bet = setup.big_bet;
+            min_bet = setup.min_bet;
+          };
       rakes = setup.rakes.rakes;
     }
 
@@ -63,7 +74,13 @@ plain hand =
       setup = plain_setup hand.setup;
       rules = hand.rules;
       script = map numbered hand.script;
-      stated = record { finish = option_map amounts_in hand.stated.finish; wins = option_map amounts_in hand.stated.wins; pot_total = hand.stated.pot_total; values = hand.stated.values };
+      stated =
+          record {
+            finish = option_map amounts_in hand.stated.finish;
+            wins = option_map amounts_in hand.stated.wins;
+            pot_total = hand.stated.pot_total;
+            values = hand.stated.values;
+          };
       notes = plain_notes hand.setup.stacks.seats hand.notes;
     }
 
@@ -72,7 +89,12 @@ abbrev pub setting_of : Dialect → ℕ → PlainFront → PlainSetting
 setting_of dialect file_moves front =
     record {
       ids = ids_of front.players;
-      table = record { stacks = stacks_of front.players; small_blind = front.blinds.small; big_blind = front.blinds.big };
+      table =
+          record {
+            stacks = stacks_of front.players;
+            small_blind = front.blinds.small;
+            big_blind = front.blinds.big;
+          };
       hole_cards = (game_of front.code).hole;
       dialect = dialect;
       file_moves = file_moves;
@@ -82,14 +104,22 @@ setting_of dialect file_moves front =
 abbrev pub hand_of : PlainFront → PlainPlay → PlainPaid → PlainNotes → PlainHand
 hand_of front play paid notes =
     record {
-      setup = record { code = front.code; stacks = stacks_of front.players; stakes = play.stakes; sizes = sizes_of front.code front.blinds.big; rakes = paid.rakes };
+      setup =
+          record {
+            code = front.code;
+            stacks = stacks_of front.players;
+            stakes = play.stakes;
+            sizes = sizes_of front.code front.blinds.big;
+            rakes = paid.rakes;
+          };
       rules = history_rules;
       script = play.script;
       stated = record { finish = None; wins = paid.wins; pot_total = paid.total; values = None };
       notes = notes;
     }
 
--- the hand at this place of its file, from 0, after so many moves of the file; and the moves of the file after it
+-- the hand at this place of its file, from 0, after so many moves of the file; and the moves of the
+-- file after it
 unfoldable pub hand_said : Dialect → ℕ → ℕ → Data → Result (PlainHand × ℕ) MemberFault
 hand_said dialect file_moves place ohh = do
   front ← front_said ohh

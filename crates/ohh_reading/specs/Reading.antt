@@ -29,7 +29,8 @@ object_of _ = wrong whats.MissingMember paths.Ohh
 
 -- the hand of a tree
 unfoldable pub tree_said : Dialect → ℕ → ℕ → Data → Result (PlainHand × ℕ) MemberFault
-tree_said dialect file_moves place tree = object_of (field paths.Ohh tree) >>= hand_said dialect file_moves place
+tree_said dialect file_moves place tree =
+    object_of (field paths.Ohh tree) >>= hand_said dialect file_moves place
 
 -- what is wrong with the hand that has this number: it is no tree, or has a fault at a member
 abbrev pub of_hand : {A : Type 0} → ℕ → HandFaultKind → Result A OhhHandFault
@@ -47,17 +48,20 @@ tree_of block = if is_utf8 block then read block else None
 -- the hand of what is a tree or is none
 unfoldable pub found_said : Dialect → ℕ → ℕ → Option Data → Result (PlainHand × ℕ) OhhHandFault
 found_said dialect file_moves number None = of_hand number wrongness.Text
-found_said dialect file_moves number (Some tree) = in_hand number (tree_said dialect file_moves (number - 1) tree)
+found_said dialect file_moves number (Some tree) =
+    in_hand number (tree_said dialect file_moves (number - 1) tree)
 
 -- there are too many hands
 abbrev pub past_hands : MemberFault
 past_hands = record { what = whats.TooMany quantities.Hands; path = paths.Ohh }
 
--- the hand with this number, from 1, after so many moves of the file; and the moves of the file after it
+-- the hand with this number, from 1, after so many moves of the file; and the moves of the file
+-- after it
 unfoldable pub numbered_hand : Dialect → ℕ → ℕ → List ℕ → Result (List PlainHand × ℕ) OhhHandFault
 numbered_hand dialect file_moves number block =
     if nat_lt MOST_HANDS number then of_hand number (wrongness.Member past_hands)
-    else (found_said dialect file_moves number (tree_of block) >>= λ found. Ok (found.0 ∷ [], found.1))
+    else (found_said dialect file_moves number (tree_of block)
+    >>= λ found. Ok (found.0 ∷ [], found.1))
 
 -- the hands of blocks, in order, and the moves of the file after them
 abbrev pub hands_said : Dialect → List (List ℕ) → Result (List PlainHand × ℕ) OhhHandFault
@@ -98,7 +102,8 @@ wrong_of (faults.RakePlace hand path) = Some (InHand hand path whats.RakePlace)
 wrong_of (faults.TooMany hand path quantity) = Some (InHand hand path (whats.TooMany quantity))
 wrong_of faults.Memory = None
 
--- an answer is what is read: the records that it holds, or the fault that it names; want of memory says nothing
+-- an answer is what is read: the records that it holds, or the fault that it names; want of memory
+-- says nothing
 abbrev pub Reads : Result (List Record) OhhFault → Result (List PlainHand) Wrong → Type 0
 Reads (Ok records) read = read ≡ Ok (map plain records)
 Reads (Err fault) read = IfSome (wrong_of fault) (λ wrong. read ≡ Err wrong)

@@ -1,9 +1,10 @@
-//! Why bytes are no hands in Open Hand History: their first fault, with its hand and the path of its member.
+//! Why bytes are no hands in Open Hand History: their first fault, with its hand and the path of
+//! its member.
 use first_fault::{Quantity, Text};
 use ohh_members::fault::MemberFault;
 
-/// The first fault of bytes, in the order in which members are examined. `hand` counts from 1 in the order of reading.
-/// `path` is the path of the member, as `ohh.rounds[0].actions[4].amount`.
+/// The first fault of bytes, in the order in which members are examined. `hand` counts from 1 in
+/// the order of reading. `path` is the path of the member, as `ohh.rounds[0].actions[4].amount`.
 #[derive(Debug, Drop)]
 pub enum OhhFault {
     /// A block is no JSON.

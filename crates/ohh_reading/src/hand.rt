@@ -18,8 +18,8 @@ use ohh_members::front::read_front;
 use serde_json::Value;
 use std::alloc::Global;
 
-/// The hand of an object at this place of its file, from 0, after so many moves of the file; and the moves of the file
-/// after it.
+/// The hand of an object at this place of its file, from 0, after so many moves of the file; and
+/// the moves of the file after it.
 #[tactic(auto, unfolding(crate::specs::Hand::hand_said))]
 pub fn read_hand(
     alloc: Global,

@@ -1,4 +1,5 @@
-//! Bytes in Open Hand History are read as the records that they say, or refused with their first fault.
+//! Bytes in Open Hand History are read as the records that they say, or refused with their first
+//! fault.
 #![tactic(auto)]
 
 mod blocks;

@@ -15,8 +15,8 @@ use ohh_members::Dialect;
 use ohh_members::fault::{MemberFault, MemberFaultKind};
 use std::alloc::Global;
 
-/// The records that bytes in Open Hand History say in a dialect, one for each hand in the order of reading; or their
-/// first fault. Each record is sound, and under the rules of hand histories.
+/// The records that bytes in Open Hand History say in a dialect, one for each hand in the order of
+/// reading; or their first fault. Each record is sound, and under the rules of hand histories.
 #[tactic(auto, unfolding(crate::specs::Reading::reading))]
 pub fn read(alloc: Global, dialect: Dialect, bytes: &[u8]) -> Result<Records, OhhFault>
     ensures reads { Reads result (reading dialect bytes.now) }

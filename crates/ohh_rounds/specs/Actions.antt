@@ -35,23 +35,31 @@ use Rattle.ohh_rounds.specs.Setting.{PlainSetting}
 abbrev pub at_action : ActionPlace → ActionMember → Path
 at_action place member = paths.Round place.round (rounds.Action place.action member)
 
--- the word of an action: one of those that are read, and hole cards are dealt in the first round alone
+-- the word of an action: one of those that are read, and hole cards are dealt in the first round
+-- alone
 unfoldable pub word_said : ActionPlace → Data → Result Word MemberFault
 word_said place action = do
   text ← needed (at_action place members.Word) action >>= text_said (at_action place members.Word)
   word ← or_wrong whats.UnsupportedAction (at_action place members.Word) (word_named text)
-  if is_deal word && not (place.round == 0) then wrong whats.BadStreet (at_action place members.Word) else Ok word
+  if is_deal word && not (place.round == 0)
+      then wrong whats.BadStreet (at_action place members.Word)
+      else Ok word
 
 -- the seat of the action's player
 unfoldable pub seat_said : PlainSetting → ActionPlace → Data → Result ℕ MemberFault
-seat_said setting place action = needed (at_action place members.PlayerId) action >>= player_said setting.ids (at_action place members.PlayerId)
+seat_said setting place action =
+    needed (at_action place members.PlayerId) action
+    >>= player_said setting.ids (at_action place members.PlayerId)
 
 -- the action's amount, in chips
 unfoldable pub chips_said : ActionPlace → Data → Result ℕ MemberFault
-chips_said place action = needed (at_action place members.Amount) action >>= number_said 0 MOST_CHIPS (at_action place members.Amount)
+chips_said place action =
+    needed (at_action place members.Amount) action
+    >>= number_said 0 MOST_CHIPS (at_action place members.Amount)
 
 -- a post of some chips; it is early on the first street before any move
-unfoldable pub posted : PostKind → List PlainStep → ActionPlace → ℕ → Data → Result PlainDeed MemberFault
+unfoldable pub posted : PostKind → List PlainStep → ActionPlace → ℕ → Data
+    → Result PlainDeed MemberFault
 posted kind earlier place seat action = do
   chips ← chips_said place action
   let early : Bool = (place.round == 0) && (moves_in earlier == 0)
@@ -72,23 +80,28 @@ dealt_cards earlier place seat action = elim (field (at_action place members.Car
   | Some cards ↦ listed_cards earlier (at_action place members.Cards) seat cards
 ]
 
--- how the amount of a raise is meant: the chips that it adds, or the street's chips to which it goes
+-- how the amount of a raise is meant: the chips that it adds, or the street's chips to which it
+-- goes
 abbrev pub raise_by : Dialect → ℕ → Spelled
 raise_by dialects.Added chips = spelled.Added chips
 raise_by dialects.To chips = spelled.To chips
 
 -- a call that states the chips that it adds
 unfoldable pub called : ActionPlace → ℕ → Data → Result PlainDeed MemberFault
-called place seat action = chips_said place action >>= λ chips. Ok (Happened (said.Call (Some seat) (Some chips)))
+called place seat action =
+    chips_said place action >>= λ chips. Ok (Happened (said.Call (Some seat) (Some chips)))
 
 -- a bet or a raise
 unfoldable pub raised : Dialect → ActionPlace → ℕ → Data → Result PlainDeed MemberFault
-raised dialect place seat action = chips_said place action >>= λ chips. Ok (Happened (said.Raise (Some seat) (raise_by dialect chips)))
+raised dialect place seat action =
+    chips_said place action
+    >>= λ chips. Ok (Happened (said.Raise (Some seat) (raise_by dialect chips)))
 
 -- a show of cards
 unfoldable pub shown : ActionPlace → ℕ → Data → Result PlainDeed MemberFault
 shown place seat action = do
-  cards ← needed (at_action place members.Cards) action >>= cards_said (at_action place members.Cards)
+  cards ← needed (at_action place members.Cards) action
+      >>= cards_said (at_action place members.Cards)
   Ok (Happened (said.Show seat cards))
 
 -- a muck, which is passed over where the player folded before
@@ -96,14 +109,20 @@ abbrev pub mucked : List PlainStep → ℕ → PlainDeed
 mucked earlier seat = if has_folded seat earlier then Passed else Happened (said.Muck seat)
 
 -- what a word says of a player
-unfoldable pub deed_said : PlainSetting → List PlainStep → ActionPlace → ℕ → Data → Word → Result PlainDeed MemberFault
-deed_said setting earlier place seat action words.PostAnte = posted kinds.Ante earlier place seat action
-deed_said setting earlier place seat action words.PostSmallBlind = posted kinds.SmallBlind earlier place seat action
-deed_said setting earlier place seat action words.PostBigBlind = posted kinds.BigBlind earlier place seat action
-deed_said setting earlier place seat action words.Straddle = posted kinds.Straddle earlier place seat action
+unfoldable pub deed_said : PlainSetting → List PlainStep → ActionPlace → ℕ → Data → Word
+    → Result PlainDeed MemberFault
+deed_said setting earlier place seat action words.PostAnte =
+    posted kinds.Ante earlier place seat action
+deed_said setting earlier place seat action words.PostSmallBlind =
+    posted kinds.SmallBlind earlier place seat action
+deed_said setting earlier place seat action words.PostBigBlind =
+    posted kinds.BigBlind earlier place seat action
+deed_said setting earlier place seat action words.Straddle =
+    posted kinds.Straddle earlier place seat action
 deed_said setting earlier place seat action words.DealtCards = dealt_cards earlier place seat action
 deed_said setting earlier place seat action words.Fold = Ok (Happened (said.Fold (Some seat)))
-deed_said setting earlier place seat action words.Check = Ok (Happened (said.Call (Some seat) (Some 0)))
+deed_said setting earlier place seat action words.Check =
+    Ok (Happened (said.Call (Some seat) (Some 0)))
 deed_said setting earlier place seat action words.Call = called place seat action
 deed_said setting earlier place seat action words.Bet = raised dialects.Added place seat action
 deed_said setting earlier place seat action words.Raise = raised setting.dialect place seat action
@@ -117,9 +136,11 @@ unfoldable pub event_counted : PlainSetting → List PlainStep → Path → Said
 event_counted setting earlier path event =
     if is_move event
     then (if nat_le MOST_MOVES (moves_in earlier) then wrong (whats.TooMany quantities.Moves) path
-    else if nat_le MOST_FILE_MOVES (setting.file_moves + moves_in earlier) then wrong (whats.TooMany quantities.FileMoves) path
+    else if nat_le MOST_FILE_MOVES (setting.file_moves + moves_in earlier)
+    then wrong (whats.TooMany quantities.FileMoves) path
     else Ok tt)
-    else (if nat_le MOST_OTHER_EVENTS (seat_count setting.table + others_in earlier) then wrong (whats.TooMany quantities.OtherEvents) path
+    else (if nat_le MOST_OTHER_EVENTS (seat_count setting.table + others_in earlier)
+    then wrong (whats.TooMany quantities.OtherEvents) path
     else Ok tt)
 
 -- what was done passes no limit
@@ -130,21 +151,24 @@ deed_counted setting earlier path (Dealt seat slots) = Ok tt
 deed_counted setting earlier path Passed = Ok tt
 
 -- the members of an action after these steps
-unfoldable pub members_said : PlainSetting → List PlainStep → ActionPlace → Data → Result PlainDeed MemberFault
+unfoldable pub members_said : PlainSetting → List PlainStep → ActionPlace → Data
+    → Result PlainDeed MemberFault
 members_said setting earlier place action = do
   word ← word_said place action
   seat ← seat_said setting place action
   deed_said setting earlier place seat action word
 
 -- the members of an action that passes no limit
-abbrev pub counted_said : PlainSetting → List PlainStep → ActionPlace → Data → Result PlainDeed MemberFault
+abbrev pub counted_said : PlainSetting → List PlainStep → ActionPlace → Data
+    → Result PlainDeed MemberFault
 counted_said setting earlier place action = do
   deed ← members_said setting earlier place action
   counted ← deed_counted setting earlier (at_action place members.Itself) deed
   Ok deed
 
 -- an action after these steps
-unfoldable pub step_said : PlainSetting → List PlainStep → ActionPlace → Data → Result PlainStep MemberFault
+unfoldable pub step_said : PlainSetting → List PlainStep → ActionPlace → Data
+    → Result PlainStep MemberFault
 step_said setting earlier place value = do
   action ← object_said (at_action place members.Itself) value
   deed ← counted_said setting earlier place action

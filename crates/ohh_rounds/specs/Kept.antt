@@ -12,4 +12,6 @@ pub record IsToldOf (seat : ℕ) (steps : List PlainStep) (kept : SeatTold) : Ty
 
 -- what is kept of each seat is what the steps tell of it
 abbrev pub AreTold : List PlainStep → List SeatTold → Type 0
-AreTold steps seats = (seat : ℕ) → 1 ≤ seat → seat ≤ 10 → (kept : SeatTold) → slice_get seats (seat - 1) ≡ Some kept → IsToldOf seat steps kept
+AreTold steps seats =
+    (seat : ℕ) → 1 ≤ seat → seat ≤ 10 → (kept : SeatTold) → slice_get seats (seat - 1) ≡ Some kept
+    → IsToldOf seat steps kept

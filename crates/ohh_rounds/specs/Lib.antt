@@ -1,4 +1,5 @@
--- What the rounds of a hand say: words, streets, what was told so far, actions, rounds, and the play of them.
+-- What the rounds of a hand say: words, streets, what was told so far, actions, rounds, and the
+-- play of them.
 pub mod Words
 pub mod Streets
 pub mod Steps

@@ -1,5 +1,5 @@
--- The play of a hand: its posts meet their conditions, and give antes and blinds; hole cards are dealt first, and then
--- comes what happened.
+-- The play of a hand: its posts meet their conditions, and give antes and blinds; hole cards are
+-- dealt first, and then comes what happened.
 use Rattle.std.specs.Prelude.{⊤, ℕ, ◌+◌, ◌-◌, List, [], ◌∷◌, ◌++◌, length, map, flat_map, replicate, Result, Ok, Err}
 use Rattle.std.specs.Option.{option_map_or}
 use Rattle.serde_json.specs.Data.{Data}
@@ -41,7 +41,12 @@ post_in Passed = []
 
 -- the same of a play that was read
 abbrev pub plain_play : RoundsPlay → PlainPlay
-plain_play play = record { stakes = plain_antes_and_blinds play.stakes; script = map numbered play.script; file_moves = play.file_moves }
+plain_play play =
+    record {
+      stakes = plain_antes_and_blinds play.stakes;
+      script = map numbered play.script;
+      file_moves = play.file_moves;
+    }
 
 -- the posts, in order
 abbrev pub posts_in : List PlainStep → List PlainPost
@@ -62,15 +67,21 @@ events_in steps = flat_map (λ step. event_in step step.deed) steps
 abbrev pub hole_cards : ℕ → List Slot → List Slot
 hole_cards count cards = cards ++ replicate (count - length cards) slots.Unknown
 
--- the deal of a seat's hole cards, so many, with the number of the first action that says it, or 0 where none does
+-- the deal of a seat's hole cards, so many, with the number of the first action that says it, or 0
+-- where none does
 abbrev pub hole_deal : ℕ → List PlainStep → ℕ → Numbered
-hole_deal count steps seat = (option_map_or (λ number. number) (first_deal seat steps) 0, said.Hole seat (hole_cards count (dealt_to seat steps)))
+hole_deal count steps seat = (
+  option_map_or (λ number. number) (first_deal seat steps) 0,
+  said.Hole seat (hole_cards count (dealt_to seat steps)),
+)
 
--- the script: the hole deals of so many seats, so many cards each, from the first seat on, and then what happened
+-- the script: the hole deals of so many seats, so many cards each, from the first seat on, and then
+-- what happened
 unfoldable pub script_said : ℕ → ℕ → List PlainStep → List Numbered
 script_said seats count steps = map (hole_deal count steps) (seats_of seats) ++ events_in steps
 
--- a fault of the posts is told at the action that shows it, and at the rounds where a blind is missing
+-- a fault of the posts is told at the action that shows it, and at the rounds where a blind is
+-- missing
 abbrev pub at_posts : Result ⊤ PostFault → Result ⊤ MemberFault
 at_posts (Ok x) = Ok x
 at_posts (Err post_faults.MissingBlind) = wrong whats.BadPost paths.Rounds
@@ -81,4 +92,9 @@ unfoldable pub rounds_said : PlainSetting → Data → Result PlainPlay MemberFa
 rounds_said setting ohh = do
   steps ← steps_said setting ohh
   checked ← at_posts (posts_checked setting.table (posts_in steps))
-  Ok (record { stakes = antes_and_blinds_said setting.table (posts_in steps); script = script_said (seat_count setting.table) setting.hole_cards steps; file_moves = setting.file_moves + moves_in steps })
+  Ok
+      (record {
+        stakes = antes_and_blinds_said setting.table (posts_in steps);
+        script = script_said (seat_count setting.table) setting.hole_cards steps;
+        file_moves = setting.file_moves + moves_in steps;
+      })

@@ -18,9 +18,11 @@ use Rattle.ohh_rounds.specs.Setting.{PlainSetting}
 use Rattle.ohh_rounds.specs.Actions.{event_counted, step_said}
 
 -- items one after the other, the first of which has this index; each adds to what stands before it
-unfoldable pub added_from : {D S : Type 0} → (S → ℕ → D → Result S MemberFault) → S → ℕ → List D → Result S MemberFault
+unfoldable pub added_from : {D S : Type 0} → (S → ℕ → D → Result S MemberFault) → S → ℕ → List D
+    → Result S MemberFault
 added_from form before index [] = Ok before
-added_from form before index (item ∷ rest) = form before index item >>= λ after. added_from form after (index + 1) rest
+added_from form before index (item ∷ rest) =
+    form before index item >>= λ after. added_from form after (index + 1) rest
 
 -- the path of a member of a round
 abbrev pub at_round : ℕ → RoundMember → Path
@@ -42,27 +44,39 @@ no_cards path cards = do
 unfoldable pub board_said : StreetName → ℕ → Data → Result (List Card) MemberFault
 board_said street index round = elim (field (at_round index members.Cards) round) [
   | None ↦ Ok []
-  | Some cards ↦ if has_board_cards street then cards_said (at_round index members.Cards) cards else no_cards (at_round index members.Cards) cards
+  | Some cards ↦
+      if has_board_cards street
+      then cards_said (at_round index members.Cards) cards
+      else no_cards (at_round index members.Cards) cards
 ]
 
 -- the steps with a deal to the board, where there are cards
-unfoldable pub board_dealt : PlainSetting → List PlainStep → ℕ → List Card → Result (List PlainStep) MemberFault
+unfoldable pub board_dealt : PlainSetting → List PlainStep → ℕ → List Card
+    → Result (List PlainStep) MemberFault
 board_dealt setting earlier index cards =
     if length cards == 0 then Ok earlier
-    else (event_counted setting earlier (at_round index members.Cards) (said.Board cards) >>= λ counted. Ok (earlier ++ record { number = 0; deed = Happened (said.Board cards) } ∷ []))
+    else (event_counted setting earlier (at_round index members.Cards) (said.Board cards)
+    >>= λ counted.
+    Ok (earlier ++ record { number = 0; deed = Happened (said.Board cards) } ∷ []))
 
 -- the steps with one more action of a round
-abbrev pub action_added : PlainSetting → ℕ → List PlainStep → ℕ → Data → Result (List PlainStep) MemberFault
-action_added setting round earlier index value = step_said setting earlier (record { round = round; action = index }) value >>= λ step. Ok (earlier ++ step ∷ [])
+abbrev pub action_added : PlainSetting → ℕ → List PlainStep → ℕ → Data
+    → Result (List PlainStep) MemberFault
+action_added setting round earlier index value =
+    step_said setting earlier (record { round = round; action = index }) value
+    >>= λ step. Ok (earlier ++ step ∷ [])
 
 -- the steps with the actions of a round
-abbrev pub actions_added : PlainSetting → ℕ → List PlainStep → List Data → Result (List PlainStep) MemberFault
+abbrev pub actions_added : PlainSetting → ℕ → List PlainStep → List Data
+    → Result (List PlainStep) MemberFault
 actions_added setting round earlier items = added_from (action_added setting round) earlier 0 items
 
 -- the steps with the actions that a round lists
-abbrev pub actions_said : PlainSetting → ℕ → List PlainStep → Data → Result (List PlainStep) MemberFault
+abbrev pub actions_said : PlainSetting → ℕ → List PlainStep → Data
+    → Result (List PlainStep) MemberFault
 actions_said setting index earlier round = do
-  items ← needed (at_round index members.Actions) round >>= list_said (at_round index members.Actions)
+  items ← needed (at_round index members.Actions) round
+      >>= list_said (at_round index members.Actions)
   actions_added setting index earlier items
 
 -- the last street, and the steps so far
@@ -70,7 +84,8 @@ abbrev pub SoFar : Type 0
 SoFar = Option StreetName × List PlainStep
 
 -- the street and the cards of a round, and the steps with its deal to the board
-unfoldable pub opening_said : PlainSetting → SoFar → ℕ → Data → Result (StreetName × List PlainStep) MemberFault
+unfoldable pub opening_said : PlainSetting → SoFar → ℕ → Data
+    → Result (StreetName × List PlainStep) MemberFault
 opening_said setting before index round = do
   street ← street_said before.0 index round
   cards ← board_said street index round

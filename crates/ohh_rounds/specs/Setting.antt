@@ -4,8 +4,8 @@ use Rattle.ohh_members.specs.declared.dialect.Dialect.{Dialect}
 use Rattle.ohh_posts.specs.NamedBlinds.{PlainNamedBlinds, plain_named_blinds}
 use Rattle.ohh_rounds.specs.declared.setting.Setting.{Setting}
 
--- the players' ids by seat, stacks and blinds, how many hole cards a seat is dealt, the dialect, and the moves of the file
--- before this hand
+-- the players' ids by seat, stacks and blinds, how many hole cards a seat is dealt, the dialect,
+-- and the moves of the file before this hand
 pub record PlainSetting : Type 0 where
   pub ids : List ℤ
   pub table : PlainNamedBlinds
@@ -15,4 +15,11 @@ pub record PlainSetting : Type 0 where
 
 -- the same with plain numbers and lists
 abbrev pub plain_setting : List ℤ → Setting → PlainSetting
-plain_setting ids setting = record { ids = ids; table = plain_named_blinds setting.table; hole_cards = setting.hole_cards; dialect = setting.dialect; file_moves = setting.file_moves }
+plain_setting ids setting =
+    record {
+      ids = ids;
+      table = plain_named_blinds setting.table;
+      hole_cards = setting.hole_cards;
+      dialect = setting.dialect;
+      file_moves = setting.file_moves;
+    }

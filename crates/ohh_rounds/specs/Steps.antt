@@ -122,16 +122,20 @@ is_deal_to seat Passed = false
 
 -- the number of the first action that deals hole cards to the seat, if one does
 abbrev pub first_deal : ℕ → List PlainStep → Option ℕ
-first_deal seat steps = option_map (λ step. step.number) (find (λ step. is_deal_to seat step.deed) steps)
+first_deal seat steps =
+    option_map (λ step. step.number) (find (λ step. is_deal_to seat step.deed) steps)
 
--- one more event, a move or another, passes no limit in a hand of so many seats, after so many moves of the file
+-- one more event, a move or another, passes no limit in a hand of so many seats, after so many
+-- moves of the file
 abbrev pub HasRoom : ℕ → ℕ → Bool → List PlainStep → Type 0
-HasRoom seats file_moves true earlier = (moves_in earlier < MOST_MOVES) × (file_moves + moves_in earlier < MOST_FILE_MOVES)
+HasRoom seats file_moves true earlier =
+    (moves_in earlier < MOST_MOVES) × (file_moves + moves_in earlier < MOST_FILE_MOVES)
 HasRoom seats file_moves false earlier = seats + others_in earlier < MOST_OTHER_EVENTS
 
 -- what an event does passes no limit
 abbrev pub IsWithin : ℕ → ℕ → List PlainStep → PlainDeed → Type 0
-IsWithin seats file_moves earlier (Happened event) = HasRoom seats file_moves (is_move event) earlier
+IsWithin seats file_moves earlier (Happened event) =
+    HasRoom seats file_moves (is_move event) earlier
 IsWithin seats file_moves earlier (Posted post) = Unit {0}
 IsWithin seats file_moves earlier (Dealt seat slots) = Unit {0}
 IsWithin seats file_moves earlier Passed = Unit {0}

@@ -41,8 +41,8 @@ pub struct RoundsPlay {
     pub file_moves: usize,
 }
 
-/// What the rounds of a hand say, whose object this is: its posts are checked, and its script is put together. The ids are
-/// those of the players by seat, the first seat's first.
+/// What the rounds of a hand say, whose object this is: its posts are checked, and its script is
+/// put together. The ids are those of the players by seat, the first seat's first.
 #[tactic(auto, unfolding(crate::specs::Play::rounds_said))]
 pub fn read_rounds(
     alloc: Global,
@@ -53,7 +53,8 @@ pub fn read_rounds(
     requires { length ids.now ≤ 10 }
     ensures said { Gives plain_play result
         (rounds_said (plain_setting ids.now setting.now) (view ohh.now)) }
-    ensures stakes { IfOk result (λ play. AreAntesAndBlindsFor setting.now.table.stacks play.stakes) }
+    ensures stakes { IfOk result (λ play.
+        AreAntesAndBlindsFor setting.now.table.stacks play.stakes) }
     ensures within { IfOk result (λ play. IsWithinLimits (map said_of play.script)) }
     ensures moves { IfOk result (λ play. play.file_moves
         ≡ setting.now.file_moves + count_by is_move (map said_of play.script)) }
@@ -76,9 +77,11 @@ fn read_stakes(
     steps: &[RoundStep],
 ) -> Result<AntesAndBlinds, Stop<MemberFault>>
     ensures checked { Gives (λ stakes. tt) result
-        (at_posts (posts_checked (plain_named_blinds table.now) (posts_in (map plain_step steps.now)))) }
+        (at_posts (posts_checked
+        (plain_named_blinds table.now) (posts_in (map plain_step steps.now)))) }
     ensures said { IfOk result (λ stakes. plain_antes_and_blinds stakes
-        ≡ antes_and_blinds_said (plain_named_blinds table.now) (posts_in (map plain_step steps.now))) }
+        ≡ antes_and_blinds_said
+        (plain_named_blinds table.now) (posts_in (map plain_step steps.now))) }
     ensures stakes { IfOk result (λ stakes. AreAntesAndBlindsFor table.now.stacks stakes) }
 {
     let posts = posts_of(alloc, steps)?;

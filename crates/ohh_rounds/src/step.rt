@@ -22,7 +22,8 @@ pub enum Deed {
     Passed,
 }
 
-/// What was done, and the number of its action through all rounds from 1, or 0 where no action says it.
+/// What was done, and the number of its action through all rounds from 1, or 0 where no action says
+/// it.
 #[derive(Clone, Copy, Debug, PartialEq, Eq)]
 pub struct RoundStep {
     pub number: u32,

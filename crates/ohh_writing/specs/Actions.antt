@@ -1,4 +1,5 @@
--- The actions of a hand that is written: posts, deals, moves and shows, each with its word, its player and what it tells.
+-- The actions of a hand that is written: posts, deals, moves and shows, each with its word, its
+-- player and what it tells.
 use Rattle.std.specs.Prelude.{ℕ, ◌-◌, ◌==◌, ◌&&◌, nat_lt, not, Bool, if◌then◌else◌, List, [], ◌∷◌, ◌++◌, Some}
 use Rattle.std.specs.List.{flat_map, list_any}
 use Rattle.card_set.specs.declared.card.Slot.{Slot}
@@ -23,7 +24,8 @@ use Rattle.ohh_writing.specs.declared.action.Word.{Word}
 use Rattle.ohh_writing.specs.declared.action.Word.TheVariants as words
 use Rattle.chip_ledger.specs.Seat.{big_blind_of, small_blind_of}
 
--- what an action tells beside its word and its player: nothing, chips and whether the seat has none left, or cards
+-- what an action tells beside its word and its player: nothing, chips and whether the seat has none
+-- left, or cards
 pub data PlainDetail : Type 0 where
   Nothing : PlainDetail
   Chips : ℕ → Bool → PlainDetail
@@ -43,11 +45,13 @@ detail_said (details.Cards cards) = Cards (slots_of cards)
 
 -- an action of the code
 abbrev pub action_said : Action → PlainAction
-action_said action = record { word = action.word; player = action.player; detail = detail_said action.detail }
+action_said action =
+    record { word = action.word; player = action.player; detail = detail_said action.detail }
 
 -- an action that puts chips: it is all-in where no chips are left behind it
 abbrev pub with_chips : Word → ℕ → ℕ → ℕ → PlainAction
-with_chips word seat amount left = record { word = word; player = seat; detail = Chips amount (left == 0) }
+with_chips word seat amount left =
+    record { word = word; player = seat; detail = Chips amount (left == 0) }
 
 -- an action that tells its player alone
 abbrev pub alone : Word → ℕ → PlainAction
@@ -71,17 +75,22 @@ big_blind_seat setup = big_blind_of setup.stacks.seats
 abbrev pub ante_post : Setup → ℕ → List PlainAction
 ante_post setup seat =
     if nat_lt 0 (amount_of setup.antes seat)
-    then with_chips words.PostAnte seat (amount_of setup.antes seat) (amount_of setup.stacks seat - amount_of setup.antes seat) ∷ []
+    then with_chips words.PostAnte seat (amount_of setup.antes seat)
+    (amount_of setup.stacks seat - amount_of setup.antes seat)
+    ∷ []
     else []
 
 -- a blind, as far as the stack goes after the ante
 abbrev pub blind_post : Setup → Word → ℕ → PlainAction
-blind_post setup word seat = with_chips word seat (blind_posted setup seat) (amount_of setup.stacks seat - posted setup seat)
+blind_post setup word seat =
+    with_chips word seat (blind_posted setup seat) (amount_of setup.stacks seat - posted setup seat)
 
 -- a straddle: a blind of another seat than the first two
 abbrev pub straddle_post : Setup → ℕ → List PlainAction
 straddle_post setup seat =
-    if nat_lt 2 seat && nat_lt 0 (amount_of setup.blinds seat) then blind_post setup words.Straddle seat ∷ [] else []
+    if nat_lt 2 seat && nat_lt 0 (amount_of setup.blinds seat)
+    then blind_post setup words.Straddle seat ∷ []
+    else []
 
 -- the posts: the antes, the small and the big blind, and the straddles, each from p1 upward
 abbrev pub posts : Setup → List PlainAction
@@ -99,16 +108,19 @@ has_known slots = list_any (λ slot. not (is_unknown slot)) slots
 
 -- the cards that a seat was dealt, where one of them is known
 abbrev pub deal_written : ℕ → List Slot → List PlainAction
-deal_written seat cards = if has_known cards then with_cards words.DealtCards seat cards ∷ [] else []
+deal_written seat cards =
+    if has_known cards then with_cards words.DealtCards seat cards ∷ [] else []
 
 -- the deals of the first street, from p1 upward
 abbrev pub deals : Setup → List TracedPlace → List PlainAction
-deals setup placed = flat_map (λ seat. deal_written seat (dealt_slots placed (Some seat) 1)) (all_seats setup)
+deals setup placed =
+    flat_map (λ seat. deal_written seat (dealt_slots placed (Some seat) 1)) (all_seats setup)
 
 -- a seat that is shown shows all its cards, and one that is mucked mucks them
 abbrev pub showing : Trace → ℕ → List PlainAction
 showing trace seat =
-    if flag_of trace.shown seat then with_cards words.ShowsCards seat (held_slots (core_said trace).places seat) ∷ []
+    if flag_of trace.shown seat
+    then with_cards words.ShowsCards seat (held_slots (core_said trace).places seat) ∷ []
     else (if flag_of trace.mucked seat then alone words.MucksCards seat ∷ [] else [])
 
 -- the showdown of a contested hand, from p1 upward
@@ -117,7 +129,8 @@ showings trace = flat_map (showing trace) (all_seats trace.setup)
 
 -- ---- moves
 
--- the amount of a raise in a dialect: the chips that it adds, or the chips of the street to which it goes
+-- the amount of a raise in a dialect: the chips that it adds, or the chips of the street to which
+-- it goes
 abbrev pub raise_amount : Dialect → TracedMove → ℕ
 raise_amount dialects.Added move = move.to - move.from
 raise_amount dialects.To move = move.to
@@ -125,7 +138,9 @@ raise_amount dialects.To move = move.to
 -- a check where nothing was owed, else a call of the chips that it adds
 abbrev pub call_written : TracedMove → ℕ → PlainAction
 call_written move left =
-    if move.price == move.from then alone words.Check move.seat else with_chips words.Call move.seat (move.to - move.from) left
+    if move.price == move.from
+    then alone words.Check move.seat
+    else with_chips words.Call move.seat (move.to - move.from) left
 
 -- a bet of the chips that it adds where nobody had put any on the street, else a raise
 abbrev pub raise_written : Dialect → TracedMove → ℕ → PlainAction
@@ -143,9 +158,11 @@ act_written dialect BroughtIn move left = []
 
 -- a move after those before it
 abbrev pub move_written : Dialect → Setup → List Move → TracedMove → List PlainAction
-move_written dialect setup before move = act_written dialect move.act move (chips_left setup (plain_move move ∷ before) move.seat)
+move_written dialect setup before move =
+    act_written dialect move.act move (chips_left setup (plain_move move ∷ before) move.seat)
 
--- the moves of a street, among moves that come after those before them, of which the newest is the first
+-- the moves of a street, among moves that come after those before them, of which the newest is the
+-- first
 abbrev pub moves_written : Dialect → Setup → ℕ → List Move → List TracedMove → List PlainAction
 moves_written dialect setup street before [] = []
 moves_written dialect setup street before (move ∷ rest) =

@@ -6,7 +6,8 @@ use Rattle.play_event.specs.declared.limit.Limit.{Limit}
 use Rattle.play_event.specs.declared.limit.Limit.TheVariants as limits
 use Rattle.play_event.specs.Streets.{limit_of}
 
--- the format spells the game: hold'em in fixed limit and no limit, Omaha in pot limit, and Omaha eight-or-better in fixed limit
+-- the format spells the game: hold'em in fixed limit and no limit, Omaha in pot limit, and Omaha
+-- eight-or-better in fixed limit
 abbrev pub is_spelled_game : Code → Bool
 is_spelled_game games.FT = true
 is_spelled_game games.NT = true

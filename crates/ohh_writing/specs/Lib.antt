@@ -1,4 +1,5 @@
--- What is written of plays as Open Hand History: the facts that it spells, and the one tree and line that stand for a play.
+-- What is written of plays as Open Hand History: the facts that it spells, and the one tree and
+-- line that stand for a play.
 pub mod Actions
 pub mod Rounds
 pub mod Games

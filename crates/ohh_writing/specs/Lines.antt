@@ -1,4 +1,5 @@
--- The one list of bytes that stands for plays: a line of compact JSON for each, and an empty line between two.
+-- The one list of bytes that stands for plays: a line of compact JSON for each, and an empty line
+-- between two.
 use Rattle.std.specs.Prelude.{◌≡◌, ℕ, ◌+◌, ◌==◌, if◌then◌else◌, List, [], ◌∷◌, ◌++◌, Some}
 use Rattle.std.specs.Str.{IsUtf8}
 use Rattle.serde_json.specs.Read.{read}
@@ -24,13 +25,15 @@ empty_line_behind place = if place == 0 then [] else 10 ∷ []
 abbrev pub lines_from : Dialect → ℕ → List Play → List ℕ
 lines_from dialect place [] = []
 lines_from dialect place (play ∷ rest) =
-    hand_text dialect place play ++ (10 ∷ (empty_line_before rest ++ lines_from dialect (place + 1) rest))
+    hand_text dialect place play
+    ++ (10 ∷ (empty_line_before rest ++ lines_from dialect (place + 1) rest))
 
 -- the lines of plays
 abbrev pub lines : Dialect → List Play → List ℕ
 lines dialect plays = lines_from dialect 0 plays
 
--- a text is that of the hand at a place of its file: it is a text that JSON reads as the tree of the hand
+-- a text is that of the hand at a place of its file: it is a text that JSON reads as the tree of
+-- the hand
 pub record IsTextOf (dialect : Dialect) (place : ℕ) (play : Play) : Type 0 where
   pub text : IsUtf8 (hand_text dialect place play)
   pub tree : read (hand_text dialect place play) ≡ Some (hand_tree dialect place play)

@@ -7,11 +7,15 @@ use Rattle.ohh_writing.specs.declared.moment.Moment.{Moment}
 -- the moment, where the zone is UTC
 abbrev pub moment_in : ℕ → ℕ → ℕ → Clock → List ℕ → Option Moment
 moment_in year month day time zone =
-    if bytes_eq zone (codes "UTC") then Some (record { year = year; month = month; day = day; time = time }) else None
+    if bytes_eq zone (codes "UTC")
+    then Some (record { year = year; month = month; day = day; time = time })
+    else None
 
 -- the moment, where all five are said and the zone is UTC
-abbrev pub moment_said : Option ℕ → Option ℕ → Option ℕ → Option Clock → Option (List ℕ) → Option Moment
-moment_said (Some year) (Some month) (Some day) (Some time) (Some zone) = moment_in year month day time zone
+abbrev pub moment_said : Option ℕ → Option ℕ → Option ℕ → Option Clock → Option (List ℕ)
+    → Option Moment
+moment_said (Some year) (Some month) (Some day) (Some time) (Some zone) =
+    moment_in year month day time zone
 moment_said _ _ _ _ _ = None
 
 -- the moment that the notes spell
@@ -30,10 +34,14 @@ fraction_text nano = if nano == 0 then [] else codes "." ++ by_digits 9 nano
 -- a time, hh:mm:ss
 abbrev pub time_text : Clock → List ℕ
 time_text time =
-    by_digits 2 time.hour ++ (codes ":" ++ (by_digits 2 time.minute ++ (codes ":" ++ (by_digits 2 time.second ++ fraction_text time.nano))))
+    by_digits 2 time.hour
+    ++ (codes ":"
+    ++ (by_digits 2 time.minute
+    ++ (codes ":" ++ (by_digits 2 time.second ++ fraction_text time.nano))))
 
 -- a moment, YYYY-MM-DDThh:mm:ssZ
 abbrev pub moment_text : Moment → List ℕ
 moment_text moment =
-    by_digits 4 moment.year ++ (codes "-" ++ (by_digits 2 moment.month ++ (codes "-" ++ (by_digits 2 moment.day
+    by_digits 4 moment.year
+    ++ (codes "-" ++ (by_digits 2 moment.month ++ (codes "-" ++ (by_digits 2 moment.day
     ++ (codes "T" ++ (time_text moment.time ++ codes "Z"))))))

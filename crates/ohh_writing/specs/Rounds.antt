@@ -1,4 +1,5 @@
--- The rounds of a hand that is written: the streets that were dealt, each with its board cards and actions, and the showdown.
+-- The rounds of a hand that is written: the streets that were dealt, each with its board cards and
+-- actions, and the showdown.
 use Rattle.std.specs.Prelude.{ℕ, List, [], ◌∷◌, ◌++◌, None}
 use Rattle.card_set.specs.declared.card.Slot.{Slot}
 use Rattle.card_set.specs.Row.{slots_of}
@@ -20,7 +21,12 @@ pub record PlainRound : Type 0 where
 
 -- a round of the code
 abbrev pub round_said : Round → PlainRound
-round_said round = record { street = round.street; cards = slots_of round.cards; actions = map action_said round.actions.items }
+round_said round =
+    record {
+      street = round.street;
+      cards = slots_of round.cards;
+      actions = map action_said round.actions.items;
+    }
 
 -- a round with these cards and actions
 abbrev pub round : StreetName → List Slot → List PlainAction → PlainRound
@@ -32,7 +38,8 @@ moves_on dialect trace number = moves_written dialect trace.setup number [] (cor
 
 -- the first round: the posts, the deals to the seats, and the moves
 abbrev pub first_actions : Dialect → Trace → List PlainAction
-first_actions dialect trace = posts trace.setup ++ (deals trace.setup (core_said trace).places ++ moves_on dialect trace 1)
+first_actions dialect trace =
+    posts trace.setup ++ (deals trace.setup (core_said trace).places ++ moves_on dialect trace 1)
 
 -- a round of a street whose cards were dealt to the board
 abbrev pub board_round : StreetName → List Slot → List PlainAction → List PlainRound
@@ -42,7 +49,8 @@ board_round street (slot ∷ rest) actions = round street (slot ∷ rest) action
 -- the round of the board street with this number
 abbrev pub board_round_on : Dialect → Trace → StreetName → ℕ → List PlainRound
 board_round_on dialect trace street number =
-    board_round street (dealt_slots (core_said trace).places None number) (moves_on dialect trace number)
+    board_round street (dealt_slots (core_said trace).places None number)
+    (moves_on dialect trace number)
 
 -- the showdown, where there is one
 abbrev pub showdown_round : List PlainAction → List PlainRound

@@ -28,7 +28,8 @@ is_circular numbers = has_no_repeat numbers && (falls (slice_index numbers 0) nu
 -- the numbers of so many seats, where they are said and go round
 abbrev pub numbers_spelled : ℕ → Option (List ℕ) → Option (List ℕ)
 numbers_spelled count None = None
-numbers_spelled count (Some numbers) = if is_circular (take count numbers) then Some numbers else None
+numbers_spelled count (Some numbers) =
+    if is_circular (take count numbers) then Some numbers else None
 
 -- the number of a seat among these, or by default that of its place
 abbrev pub number_among : Option (List ℕ) → ℕ → ℕ

@@ -1,4 +1,5 @@
--- Which facts of a play the format spells, in the order in which they are tried, and the first play with one that it does not.
+-- Which facts of a play the format spells, in the order in which they are tried, and the first play
+-- with one that it does not.
 use Rattle.std.specs.Prelude.{ℕ, ◌*◌, ◌-◌, ◌==◌, ◌&&◌, ◌||◌, Bool, min, nat_lt, nat_le, not, if◌then◌else◌, List, [], ◌∷◌, map, Option, Some, None, is_some, is_none}
 use Rattle.std.specs.List.{list_all, list_any}
 use Rattle.chip_ledger.specs.Greatest.{greatest}
@@ -27,7 +28,8 @@ use Rattle.hand_records.specs.WriteRefusals.{or_behind}
 abbrev pub big_blind : Setup → ℕ
 big_blind setup = amount_of setup.blinds (big_blind_seat setup)
 
--- the bets of fixed limit are the big blind and twice the big blind, and the least bet of the other limits is the big blind
+-- the bets of fixed limit are the big blind and twice the big blind, and the least bet of the other
+-- limits is the big blind
 abbrev pub has_spelled_sizes : Setup → Bool
 has_spelled_sizes setup =
     if is_fixed (limit_of setup.code)
@@ -40,14 +42,16 @@ greatest_ante setup = greatest (map (amount_of setup.antes) (all_seats setup))
 
 -- a seat posts the greatest ante, or its whole stack where that is less
 abbrev pub is_whole_ante : Setup → ℕ → Bool
-is_whole_ante setup seat = amount_of setup.antes seat == min (amount_of setup.stacks seat) (greatest_ante setup)
+is_whole_ante setup seat =
+    amount_of setup.antes seat == min (amount_of setup.stacks seat) (greatest_ante setup)
 
 -- a seat posts no ante
 abbrev pub has_no_ante : Setup → ℕ → Bool
 has_no_ante setup seat = amount_of setup.antes seat == 0
 
--- Antes that are not dead are those of all seats: each posts the greatest ante, as far as its stack goes. Where there are
--- none, the greatest is 0. Dead antes are not those of all: some seat posts none.
+-- Antes that are not dead are those of all seats: each posts the greatest ante, as far as its stack
+-- goes. Where there are none, the greatest is 0. Dead antes are not those of all: some seat posts
+-- none.
 abbrev pub has_spelled_antes : Setup → Bool
 has_spelled_antes setup =
     if setup.dead_antes
@@ -57,12 +61,16 @@ has_spelled_antes setup =
 -- a straddle is no more than the stack without the ante
 abbrev pub is_covered_straddle : Setup → ℕ → Bool
 is_covered_straddle setup seat =
-    nat_le seat 2 || nat_le (amount_of setup.blinds seat) (amount_of setup.stacks seat - amount_of setup.antes seat)
+    nat_le seat 2
+    || nat_le (amount_of setup.blinds seat)
+    (amount_of setup.stacks seat - amount_of setup.antes seat)
 
--- of three or more seats, the first has no more than the big blind, and the others behind the second straddle as far as their stacks go
+-- of three or more seats, the first has no more than the big blind, and the others behind the
+-- second straddle as far as their stacks go
 abbrev pub has_spelled_straddles : Setup → Bool
 has_spelled_straddles setup =
-    nat_le (amount_of setup.blinds 1) (amount_of setup.blinds 2) && list_all (is_covered_straddle setup) (all_seats setup)
+    nat_le (amount_of setup.blinds 1) (amount_of setup.blinds 2)
+    && list_all (is_covered_straddle setup) (all_seats setup)
 
 -- the first two seats have blinds
 abbrev pub has_two_blinds : Setup → Bool
@@ -70,7 +78,8 @@ has_two_blinds setup = nat_lt 0 (amount_of setup.blinds 1) && nat_lt 0 (amount_o
 
 -- the blinds have a spelling
 abbrev pub has_spelled_blinds : Setup → Bool
-has_spelled_blinds setup = has_two_blinds setup && (setup.stacks.seats == 2 || has_spelled_straddles setup)
+has_spelled_blinds setup =
+    has_two_blinds setup && (setup.stacks.seats == 2 || has_spelled_straddles setup)
 
 -- ---- facts in order
 
@@ -105,7 +114,8 @@ is_spelled_date notes said = is_none said || is_some (moment_of notes)
 abbrev pub has_spelled_numbers : ℕ → Notes → Bool
 has_spelled_numbers count notes = is_none notes.seats || is_some (numbers_spelled count notes.seats)
 
--- the notes of so many seats of which some have no spelling; names, texts and the number of seats always have one
+-- the notes of so many seats of which some have no spelling; names, texts and the number of seats
+-- always have one
 abbrev pub note_facts : ℕ → Notes → Tried
 note_facts count notes =
     (has_spelled_numbers count notes, facts.Note names.Seats)
@@ -116,13 +126,16 @@ note_facts count notes =
     ∷ (is_spelled_date notes notes.time, facts.Note names.Time)
     ∷ []
 
--- the notes that are to be kept, where all of them are; where only those are kept that have a spelling, none of them fails
+-- the notes that are to be kept, where all of them are; where only those are kept that have a
+-- spelling, none of them fails
 abbrev pub kept_facts : Keep → Play → Tried
 kept_facts keeps.All play = note_facts play.trace.setup.stacks.seats play.hand.notes
 kept_facts keeps.Spelled play = []
 
--- the first fact of a play that has no spelling: one of the trace, or else one of the notes that are to be kept
+-- the first fact of a play that has no spelling: one of the trace, or else one of the notes that
+-- are to be kept
 unfoldable pub unspelled : Keep → Play → Option Unspelled
-unspelled keep play = or_behind (first_unspelled (trace_facts play.trace)) (first_unspelled (kept_facts keep play))
+unspelled keep play =
+    or_behind (first_unspelled (trace_facts play.trace)) (first_unspelled (kept_facts keep play))
 
 -- ---- plays in order

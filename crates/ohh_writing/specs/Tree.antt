@@ -1,4 +1,5 @@
--- The one tree of JSON that stands for a play, with the members of each object in the order of their names.
+-- The one tree of JSON that stands for a play, with the members of each object in the order of
+-- their names.
 use Rattle.std.specs.Prelude.{ℕ, ◌+◌, nat_lt, if◌then◌else◌, List, [], ◌∷◌, codes, length, map, slice_index_or, Option, Some, None, unwrap_or}
 use Rattle.std.specs.Fmt.{decimal}
 use Rattle.std.specs.List.{flat_map}
@@ -62,13 +63,15 @@ cards_tree slots = list (map (λ slot. string (slot_spelling slot)) slots)
 -- the members of what an action tells, before its player's
 abbrev pub detail_members : PlainDetail → Members → Members
 detail_members Nothing rest = rest
-detail_members (Chips amount all_in) rest = member (codes "amount") (whole amount) (member (codes "is_allin") (boolean all_in) rest)
+detail_members (Chips amount all_in) rest =
+    member (codes "amount") (whole amount) (member (codes "is_allin") (boolean all_in) rest)
 detail_members (Cards cards) rest = member (codes "cards") (cards_tree cards) rest
 
 -- members, with what an action tells besides
 abbrev pub with_detail : PlainDetail → Members → Members
 with_detail Nothing members = members
-with_detail (Chips amount all_in) members = put (codes "is_allin") (boolean all_in) (put (codes "amount") (whole amount) members)
+with_detail (Chips amount all_in) members =
+    put (codes "is_allin") (boolean all_in) (put (codes "amount") (whole amount) members)
 with_detail (Cards cards) members = put (codes "cards") (cards_tree cards) members
 
 -- an action with its number, where what it tells besides stands before its player
@@ -80,7 +83,8 @@ action_object n word player detail =
 
 -- an action with its number
 abbrev pub action_tree : ℕ → PlainAction → Data
-action_tree n action = action_object n (word_text action.word) action.player (detail_members action.detail)
+action_tree n action =
+    action_object n (word_text action.word) action.player (detail_members action.detail)
 
 -- actions, of which the first has this number
 abbrev pub action_trees : ℕ → List PlainAction → List Data
@@ -115,11 +119,15 @@ players stacks notes numbers = list (map (player_tree stacks notes numbers) (sea
 
 -- so many chips that a seat wins
 abbrev pub win_object : ℕ → ℕ → Data
-win_object seat amount = object (member (codes "player_id") (whole seat) (member (codes "win_amount") (whole amount) no_members))
+win_object seat amount =
+    object
+    (member (codes "player_id") (whole seat)
+    (member (codes "win_amount") (whole amount) no_members))
 
 -- what a seat wins of a pot, where it wins something
 abbrev pub win_tree : SeatRow → ℕ → List Data
-win_tree share seat = if nat_lt 0 (amount_of share seat) then win_object seat (amount_of share seat) ∷ [] else []
+win_tree share seat =
+    if nat_lt 0 (amount_of share seat) then win_object seat (amount_of share seat) ∷ [] else []
 
 -- what so many seats win of a pot, from p1 upward
 abbrev pub wins_of : SeatRow → ℕ → Data
@@ -181,7 +189,8 @@ hand_members dialect place trace notes =
     (member (codes "bet_limit") (limit_tree trace.setup)
     (member (codes "big_blind_amount") (whole (big_blind trace.setup))
     (member (codes "currency") (text_or_empty notes.currency)
-    (member (codes "dealer_seat") (whole (number_among (numbers_written trace.setup notes) trace.setup.stacks.seats))
+    (member (codes "dealer_seat")
+    (whole (number_among (numbers_written trace.setup notes) trace.setup.stacks.seats))
     (member (codes "game_number") (string (unwrap_or notes.hand (decimal place)))
     (member (codes "game_type") (string (game_word trace.setup.code))
     (member (codes "internal_version") (string (codes "1"))
@@ -189,7 +198,8 @@ hand_members dialect place trace notes =
     (member (codes "pots") (pots trace)
     (member (codes "rounds") (list (round_trees 1 (hand_rounds dialect trace)))
     (member (codes "site_name") (text_or_empty notes.venue)
-    (member (codes "small_blind_amount") (whole (amount_of trace.setup.blinds (small_blind_seat trace.setup)))
+    (member (codes "small_blind_amount")
+    (whole (amount_of trace.setup.blinds (small_blind_seat trace.setup)))
     (member (codes "spec_version") (string (codes "1.4.6"))
     (date_member (moment_of notes)
     (member (codes "table_name") (text_or_empty notes.table)
@@ -198,4 +208,6 @@ hand_members dialect place trace notes =
 -- the tree of the hand at a place of its file, from 0
 unfoldable pub hand_tree : Dialect → ℕ → Play → Data
 hand_tree dialect place play =
-    object (member (codes "ohh") (object (hand_members dialect place play.trace play.hand.notes)) no_members)
+    object
+    (member (codes "ohh") (object (hand_members dialect place play.trace play.hand.notes))
+    no_members)

@@ -1,4 +1,5 @@
-//! The cards of a hand that were dealt to one owner on a street, and those that a seat holds at the end.
+//! The cards of a hand that were dealt to one owner on a street, and those that a seat holds at the
+//! end.
 ghost use Rattle.std.specs.Prelude.{◌≡◌, ◌≤◌, ◌+◌, ◌&&◌, not, [], ◌∷◌, ◌++◌, length, map, option_map, if◌then◌else◌};
 ghost use Rattle.card_set.specs.Known.{is_unknown};
 ghost use Rattle.card_set.specs.Row.{slots_of};

@@ -124,7 +124,8 @@ fn put_seating(
     Ok(())
 }
 
-// Puts the names of the hand at a place of its file, of its table, venue and currency under their names.
+// Puts the names of the hand at a place of its file, of its table, venue and currency under their
+// names.
 fn put_names(
     alloc: Global,
     ohh: &mut Map<String, Value>,

@@ -5,8 +5,8 @@ ghost use Rattle.hand_records.specs.declared.trace.Play.{Play};
 ghost use Rattle.ohh_members.specs.declared.dialect.Dialect.{Dialect};
 ghost use Rattle.ohh_writing.specs.Lines.{hand_text};
 
-/// No byte of the text of a hand is a newline, whatever its names and texts are. The function does nothing: its contract
-/// is a law.
+/// No byte of the text of a hand is a newline, whatever its names and texts are. The function does
+/// nothing: its contract is a law.
 #[tactic(auto, using(crate::proofs::Clean::hand_clean))]
 pub fn law_of_lines()
     ensures { (dialect : Dialect) (place : ℕ) (play : Play)

@@ -1,4 +1,5 @@
-//! Plays are written as Open Hand History, a line of JSON for each, or the first play is named that the format does not spell.
+//! Plays are written as Open Hand History, a line of JSON for each, or the first play is named that
+//! the format does not spell.
 #![tactic(auto)]
 
 mod action;

@@ -16,8 +16,8 @@ use hand_records::{Keep, Play, WriteRefusal};
 use ohh_members::Dialect;
 use std::alloc::Global;
 
-/// The lines of some plays, each the compact text of the tree of its hand, with an empty line between two. Nothing is
-/// written where the format does not spell one of them.
+/// The lines of some plays, each the compact text of the tree of its hand, with an empty line
+/// between two. Nothing is written where the format does not spell one of them.
 pub fn write(
     alloc: Global,
     dialect: Dialect,
@@ -52,7 +52,8 @@ fn spell(alloc: Global, dialect: Dialect, plays: &[Play]) -> Result<Vec<u8>, Mem
     Ok(out)
 }
 
-/// Puts the line of the play at a place of its file, from 0, behind those of the plays before it, and an empty line between.
+/// Puts the line of the play at a place of its file, from 0, behind those of the plays before it,
+/// and an empty line between.
 pub fn push_line(
     alloc: Global,
     out: &mut Vec<u8>,

@@ -14,7 +14,8 @@ use hand_records::Notes;
 use serde_json::{Map, Value};
 use std::alloc::Global;
 
-/// The trees of the players, from p1 upward. The numbers of their seats are these, or by default 1, 2 and so on.
+/// The trees of the players, from p1 upward. The numbers of their seats are these, or by default 1,
+/// 2 and so on.
 pub fn player_values(
     alloc: Global,
     stacks: &SeatRow,

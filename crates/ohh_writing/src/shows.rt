@@ -1,4 +1,5 @@
-//! The cards of a hand in its actions: what each seat was dealt, and what it shows or mucks at the end.
+//! The cards of a hand in its actions: what each seat was dealt, and what it shows or mucks at the
+//! end.
 ghost use Rattle.std.specs.Prelude.{◌≡◌, ◌++◌, Some, map, OnOk};
 ghost use Rattle.card_set.specs.Row.{slots_of};
 ghost use Rattle.canon_script.specs.Tidy.{HasTidyCards};

@@ -28,7 +28,8 @@ pub fn find_refusal(plays: &[Play], keep: Keep) -> Option<WriteRefusal>
     None
 }
 
-/// The first fact of the play that the format does not spell, in either dialect. Notes count where all are kept.
+/// The first fact of the play that the format does not spell, in either dialect. Notes count where
+/// all are kept.
 #[tactic(auto, unfolding(crate::specs::Spelled::unspelled))]
 pub fn spells(play: &Play, keep: Keep) -> Option<Unspelled>
     ensures { result ≡ unspelled keep play.now }

@@ -42,7 +42,9 @@ seat_said seats word = or_fault faults.BadAction (seat_named seats word)
 
 -- digits, a point and digits
 unfoldable pub has_fraction : List ℕ → Bool
-has_fraction word = let point = position_or_len (λ sign. sign == 46) word in are_digits (take point word) && are_digits (drop (point + 1) word)
+has_fraction word =
+    let point = position_or_len (λ sign. sign == 46) word in are_digits (take point word)
+    && are_digits (drop (point + 1) word)
 
 -- the amount that a word says: decimal digits, leading zeros among them
 unfoldable pub amount_said : List ℕ → Read ℕ
@@ -53,7 +55,8 @@ amount_said word =
 
 -- slots, if they are one to so many
 abbrev pub one_to : ℕ → List Slot → Read (List Slot)
-one_to most slots = if nat_le 1 (length slots) && nat_le (length slots) most then Ok slots else Err faults.BadAction
+one_to most slots =
+    if nat_le 1 (length slots) && nat_le (length slots) most then Ok slots else Err faults.BadAction
 
 -- one to so many slots, two letters each
 unfoldable pub slots_said : ℕ → List ℕ → Read (List Slot)
@@ -80,9 +83,12 @@ act_said seat act =
 -- what a seat does, in two words: a bet or raise to an amount, a discard of slots, a show of cards
 unfoldable pub act_with_said : ℕ → List ℕ → List ℕ → Read Said
 act_with_said seat act more =
-    if bytes_eq act (codes "cbr") then (amount_said more >>= λ chips. Ok (said.Raise (Some seat) (spelled.To chips)))
-    else if bytes_eq act (codes "sd") then (slots_said 5 more >>= λ slots. Ok (said.Discard seat slots))
-    else if bytes_eq act (codes "sm") then (cards_said 7 more >>= λ cards. Ok (said.Show seat cards))
+    if bytes_eq act (codes "cbr")
+    then (amount_said more >>= λ chips. Ok (said.Raise (Some seat) (spelled.To chips)))
+    else if bytes_eq act (codes "sd")
+    then (slots_said 5 more >>= λ slots. Ok (said.Discard seat slots))
+    else if bytes_eq act (codes "sm")
+    then (cards_said 7 more >>= λ cards. Ok (said.Show seat cards))
     else Err faults.BadAction
 
 -- d db cards: the board is dealt
@@ -106,7 +112,9 @@ three_say seats first second third =
 -- what four words say
 unfoldable pub four_say : ℕ → List ℕ → List ℕ → List ℕ → List ℕ → Read Said
 four_say seats first second third fourth =
-    if is_hole_deal first second then (seat_said seats third >>= λ seat. slots_said 7 fourth >>= λ slots. Ok (said.Hole seat slots))
+    if is_hole_deal first second
+    then (seat_said seats third
+    >>= λ seat. slots_said 7 fourth >>= λ slots. Ok (said.Hole seat slots))
     else Err faults.BadAction
 
 -- an event
@@ -118,7 +126,8 @@ unfoldable pub words_say : ℕ → List (List ℕ) → Read (Option Said)
 words_say seats [] = Ok None
 words_say seats (name ∷ act ∷ []) = two_say seats name act >>= an_event
 words_say seats (first ∷ second ∷ third ∷ []) = three_say seats first second third >>= an_event
-words_say seats (first ∷ second ∷ third ∷ fourth ∷ []) = four_say seats first second third fourth >>= an_event
+words_say seats (first ∷ second ∷ third ∷ fourth ∷ []) =
+    four_say seats first second third fourth >>= an_event
 words_say seats words = Err faults.BadAction
 
 -- what an action says in a hand with so many seats

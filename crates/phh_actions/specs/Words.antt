@@ -1,4 +1,5 @@
--- A text and its words: what stands behind the first # is commentary, and spaces divide what stands before it.
+-- A text and its words: what stands behind the first # is commentary, and spaces divide what stands
+-- before it.
 use Rattle.std.specs.Prelude.{ℕ, ◌==◌, List, take}
 use Rattle.std.specs.List.{position_or_len}
 

@@ -8,18 +8,21 @@ use Rattle.play_event.specs.Said as said
 use Rattle.play_event.specs.Said.{Said}
 use Rattle.chip_ledger.specs.SeatsSaid.{default_name}
 
--- The words of an event whose actor is named, and whose raise is spelled by the amount to which it goes. What a call is said
--- to add has no word. Other events have no words.
+-- The words of an event whose actor is named, and whose raise is spelled by the amount to which it
+-- goes. What a call is said to add has no word. Other events have no words.
 abbrev pub event_words : Said → List (List ℕ)
-event_words (said.Hole seat slots) = codes "d" ∷ codes "dh" ∷ default_name seat ∷ spelling slots ∷ []
+event_words (said.Hole seat slots) =
+    codes "d" ∷ codes "dh" ∷ default_name seat ∷ spelling slots ∷ []
 event_words (said.Board cards) = codes "d" ∷ codes "db" ∷ spelling (known_slots cards) ∷ []
 event_words (said.Fold (Some seat)) = default_name seat ∷ codes "f" ∷ []
 event_words (said.Call (Some seat) stated) = default_name seat ∷ codes "cc" ∷ []
-event_words (said.Raise (Some seat) (spelled.To amount)) = default_name seat ∷ codes "cbr" ∷ decimal amount ∷ []
+event_words (said.Raise (Some seat) (spelled.To amount)) =
+    default_name seat ∷ codes "cbr" ∷ decimal amount ∷ []
 event_words (said.BringIn (Some seat)) = default_name seat ∷ codes "pb" ∷ []
 event_words (said.Discard seat []) = default_name seat ∷ codes "sd" ∷ []
 event_words (said.Discard seat slots) = default_name seat ∷ codes "sd" ∷ spelling slots ∷ []
-event_words (said.Show seat cards) = default_name seat ∷ codes "sm" ∷ spelling (known_slots cards) ∷ []
+event_words (said.Show seat cards) =
+    default_name seat ∷ codes "sm" ∷ spelling (known_slots cards) ∷ []
 event_words (said.Muck seat) = default_name seat ∷ codes "sm" ∷ []
 event_words _ = []
 

@@ -13,8 +13,8 @@ use play_event::{Kind, Spelled};
 
 /// What an action says in a hand with so many seats; an action without a word says no event.
 ///
-/// The forms are those of the format's own document: `d dh pN cards`, `d db cards`, `pN f`, `pN cc`,
-/// `pN cbr amount`, `pN pb`, `pN sd`, `pN sd cards`, `pN sm` and `pN sm cards`.
+/// The forms are those of the format's own document: `d dh pN cards`, `d db cards`, `pN f`, `pN
+/// cc`, `pN cbr amount`, `pN pb`, `pN sd`, `pN sd cards`, `pN sm` and `pN sm cards`.
 pub fn read_action(text: &str, seats: u8) -> Result<Option<Kind>, ActionFault>
     requires { seats ≤ 10 }
     ensures { seen_by (option_map kind_said) result ≡ action_said seats text.now }
@@ -22,8 +22,8 @@ pub fn read_action(text: &str, seats: u8) -> Result<Option<Kind>, ActionFault>
     read_words(seats, before_commentary(text.as_bytes()))
 }
 
-// What the words of an action say: two are a seat and what it does, three have cards or an amount besides or deal to
-// the board, and four deal to a seat.
+// What the words of an action say: two are a seat and what it does, three have cards or an amount
+// besides or deal to the board, and four deal to a seat.
 #[tactic(auto, unfolding(crate::specs::Action::words_say))]
 fn read_words(seats: u8, text: &[u8]) -> Result<Option<Kind>, ActionFault>
     requires { seats ≤ 10 }

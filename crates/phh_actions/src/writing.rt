@@ -13,8 +13,9 @@ use chip_ledger::Seat;
 use play_event::{Kind, Spelled};
 use std::alloc::Global;
 
-/// The text of an event, as an action of the format says it. Ask first that its actor is named and that a raise is
-/// spelled by the amount to which it goes; the chips that a call is said to add are not written.
+/// The text of an event, as an action of the format says it. Ask first that its actor is named and
+/// that a raise is spelled by the amount to which it goes; the chips that a call is said to add are
+/// not written.
 #[tactic(auto, unfolding(crate::specs::Written::event_text))]
 pub fn event_text(alloc: Global, kind: Kind) -> Result<String, Memory>
     requires { IsTrue (has_words (kind_said kind)) }
@@ -135,8 +136,8 @@ fn letters_of(slot: Slot) -> [u8; 2]
     slot_text(slot)
 }
 
-/// The text of an event says that event again, in each hand in which an action can say it. The function does nothing: its
-/// contract is a law.
+/// The text of an event says that event again, in each hand in which an action can say it. The
+/// function does nothing: its contract is a law.
 #[tactic(auto, using(crate::proofs::SaidAgain::event_again))]
 pub fn law_of_words()
     ensures { (seats : ℕ) (event : Said) → seats ≤ 10 → IsInRange seats event

@@ -47,7 +47,10 @@ at_item key n = record { key = key; item = n }
 
 -- how a place is spelled: the key, and for an item a space and its number
 abbrev pub place_text : FieldPlace → List ℕ
-place_text place = if place.item == 0 then key_text place.key else (key_text place.key ++ (codes " " ++ decimal place.item))
+place_text place =
+    if place.item == 0
+    then key_text place.key
+    else (key_text place.key ++ (codes " " ++ decimal place.item))
 
 -- a fault at a place
 abbrev pub wrong : {A : Type 0} → FieldFaultKind → FieldPlace → Result A FieldFault
@@ -94,7 +97,8 @@ items_said seats key value = do
 
 -- a number from least to most
 unfoldable pub kept_within : ℕ → ℕ → FieldPlace → ℤ → Result ℕ FieldFault
-kept_within least most place (pos number) = if nat_le least number && nat_le number most then Ok number else wrong whats.AmountLimit place
+kept_within least most place (pos number) =
+    if nat_le least number && nat_le number most then Ok number else wrong whats.AmountLimit place
 kept_within least most place (negsuc number) = wrong whats.AmountLimit place
 
 -- an amount from least to most: a whole number of chips

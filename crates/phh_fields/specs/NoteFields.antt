@@ -1,4 +1,5 @@
--- The notes that the fields of a hand say, examined in this order. A note that equals its default is none.
+-- The notes that the fields of a hand say, examined in this order. A note that equals its default
+-- is none.
 use Rattle.std.specs.Prelude.{ℕ, ◌==◌, Bool, true, nat_le, ◌&&◌, if◌then◌else◌, List, [], length, take, replicate, Option, Some, None, option_map, Result, Ok}
 use Rattle.std.specs.Fmt.{decimal, signed_decimal}
 use Rattle.toml.specs.Data.{Data, string, integer, datetime, Members}
@@ -36,11 +37,22 @@ pub record PlainLabels : Type 0 where
 
 -- what is said of where a hand was played
 abbrev pub plain_labels : Labels → PlainLabels
-plain_labels labels = record { hand = labels.hand; table = labels.table; venue = labels.venue; currency = labels.currency }
+plain_labels labels =
+    record {
+      hand = labels.hand;
+      table = labels.table;
+      venue = labels.venue;
+      currency = labels.currency;
+    }
 
 -- who sits where at a table with so many seats
 abbrev pub plain_seating : ℕ → Seating → PlainSeating
-plain_seating count seating = record { names = take count seating.names; seats = option_map (take count) seating.seats; seat_count = seating.seat_count }
+plain_seating count seating =
+    record {
+      names = take count seating.names;
+      seats = option_map (take count) seating.seats;
+      seat_count = seating.seat_count;
+    }
 
 -- the notes of a hand with plain lists
 pub record PlainNotes : Type 0 where
@@ -54,8 +66,19 @@ pub record PlainNotes : Type 0 where
 abbrev pub plain_notes : ℕ → Notes → PlainNotes
 plain_notes count notes =
     record {
-      seating = record { names = take count notes.names; seats = option_map (take count) notes.seats; seat_count = notes.seat_count };
-      labels = record { hand = notes.hand; table = notes.table; venue = notes.venue; currency = notes.currency };
+      seating =
+          record {
+            names = take count notes.names;
+            seats = option_map (take count) notes.seats;
+            seat_count = notes.seat_count;
+          };
+      labels =
+          record {
+            hand = notes.hand;
+            table = notes.table;
+            venue = notes.venue;
+            currency = notes.currency;
+          };
       day = record { year = notes.year; month = notes.month; day = notes.day };
       time = notes.time;
       zone = notes.zone;
@@ -64,7 +87,9 @@ plain_notes count notes =
 -- the text of a note with this default; it is of at most 255 bytes
 unfoldable pub note_said : List ℕ → FieldPlace → List ℕ → Result (Option (List ℕ)) FieldFault
 note_said default place text =
-    if nat_le (length text) MOST_TEXT_BYTES then Ok (noted default text) else wrong (whats.TooMany quantities.TextBytes) place
+    if nat_le (length text) MOST_TEXT_BYTES
+    then Ok (noted default text)
+    else wrong (whats.TooMany quantities.TextBytes) place
 
 -- a text with this default
 unfoldable pub text_note_said : List ℕ → FieldPlace → Data → Result (Option (List ℕ)) FieldFault
@@ -78,7 +103,8 @@ label_said default place _ = wrong whats.WrongType place
 
 -- the names of the players of so many seats
 abbrev pub names_from : List Data → Result (List (Option (List ℕ))) FieldFault
-names_from items = each_from (λ n value. text_note_said (default_name n) (at_item keys.Players n) value) 1 items
+names_from items =
+    each_from (λ n value. text_note_said (default_name n) (at_item keys.Players n) value) 1 items
 
 -- the names of the players, none where the key does not stand
 unfoldable pub names_said : ℕ → Option Data → Result (List (Option (List ℕ))) FieldFault
@@ -91,11 +117,15 @@ numbers_from items = each_from (λ n value. number_said 1 255 (at_item keys.Seat
 
 -- the numbers that the players have at the table
 unfoldable pub seats_said : ℕ → Data → Result (Option (List ℕ)) FieldFault
-seats_said count value = items_said count keys.Seats value >>= numbers_from >>= λ numbers. Ok (unless_usual count numbers)
+seats_said count value =
+    items_said count keys.Seats value >>= numbers_from
+    >>= λ numbers. Ok (unless_usual count numbers)
 
 -- how many seats the table has
 unfoldable pub seat_count_said : ℕ → Data → Result (Option ℕ) FieldFault
-seat_count_said count value = number_said 1 255 (at_key keys.SeatCount) value >>= λ number. Ok (if number == count then None else Some number)
+seat_count_said count value =
+    number_said 1 255 (at_key keys.SeatCount) value
+    >>= λ number. Ok (if number == count then None else Some number)
 
 -- who sits where
 unfoldable pub seating_said : ℕ → Members → Result PlainSeating FieldFault
@@ -125,7 +155,9 @@ day_said members = do
   year ← read_if (number_said 1 9999 (at_key keys.Year)) (field keys.Year members)
   month ← read_if (number_said 1 12 (at_key keys.Month)) (field keys.Month members)
   day ← read_if (number_said 1 31 (at_key keys.Day)) (field keys.Day members)
-  if is_in_calendar year month day then Ok (record { year = year; month = month; day = day }) else wrong whats.WrongType (at_key keys.Day)
+  if is_in_calendar year month day
+      then Ok (record { year = year; month = month; day = day })
+      else wrong whats.WrongType (at_key keys.Day)
 
 -- the local time that a date-time is, if it has no day and no zone
 abbrev pub time_alone : Option Date → Option Time → Option Offset → Option Time
@@ -139,16 +171,27 @@ or_zero None = 0
 
 -- a time of a day; a second or a fraction that is not said is 0
 abbrev pub clock_of : Time → Clock
-clock_of time = record { hour = time.hour; minute = time.minute; second = or_zero time.second; nano = or_zero time.nanosecond }
+clock_of time =
+    record {
+      hour = time.hour;
+      minute = time.minute;
+      second = or_zero time.second;
+      nano = or_zero time.nanosecond;
+    }
 
 -- a day has the time
 abbrev pub is_clock : Clock → Bool
-is_clock clock = (nat_le clock.hour 23 && nat_le clock.minute 59) && (nat_le clock.second 59 && nat_le clock.nano 999999999)
+is_clock clock =
+    (nat_le clock.hour 23 && nat_le clock.minute 59)
+    && (nat_le clock.second 59 && nat_le clock.nano 999999999)
 
 -- the time of a day that a local time says
 unfoldable pub clock_said : Option Time → Result Clock FieldFault
 clock_said None = wrong whats.WrongType (at_key keys.Time)
-clock_said (Some time) = if is_clock (clock_of time) then Ok (clock_of time) else wrong whats.WrongType (at_key keys.Time)
+clock_said (Some time) =
+    if is_clock (clock_of time)
+    then Ok (clock_of time)
+    else wrong whats.WrongType (at_key keys.Time)
 
 -- the time of the day: a local time
 unfoldable pub time_said : Data → Result Clock FieldFault

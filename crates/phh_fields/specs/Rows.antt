@@ -13,7 +13,8 @@ use Rattle.phh_fields.specs.Fields.{at_key, at_item, wrong, list_said, items_sai
 
 -- amounts from least to most
 abbrev pub amounts_said : ℕ → ℕ → FieldKey → List Data → Result (List ℕ) FieldFault
-amounts_said least most key items = each_from (λ n value. amount_said least most (at_item key n) value) 1 items
+amounts_said least most key items =
+    each_from (λ n value. amount_said least most (at_item key n) value) 1 items
 
 -- an amount of up to so many chips for each of so many seats
 unfoldable pub row_said : ℕ → ℕ → FieldKey → Data → Result (List ℕ) FieldFault
@@ -33,7 +34,9 @@ ante_said stack place value = amount_said 0 MOST_CHIPS place value >>= λ ante. 
 
 -- the antes of seats with these stacks
 abbrev pub antes_from : List ℕ → List Data → Result (List ℕ) FieldFault
-antes_from stacks items = each_from (λ n value. ante_said (slice_index stacks (n - 1)) (at_item keys.Antes n) value) 1 items
+antes_from stacks items =
+    each_from (λ n value. ante_said (slice_index stacks (n - 1)) (at_item keys.Antes n) value) 1
+    items
 
 -- the antes of the seats
 unfoldable pub antes_said : List ℕ → Data → Result (List ℕ) FieldFault
@@ -46,7 +49,9 @@ posted blinds = blinds
 
 -- the rakes of so many pots, the lowest pot's first; a pot past the last one has 0
 unfoldable pub rakes_from : List Data → Result (List ℕ) FieldFault
-rakes_from items = amounts_said 0 MOST_AMOUNT keys.Rakes items >>= λ rakes. Ok (rakes ++ replicate (11 - length rakes) 0)
+rakes_from items =
+    amounts_said 0 MOST_AMOUNT keys.Rakes items
+    >>= λ rakes. Ok (rakes ++ replicate (11 - length rakes) 0)
 
 -- the rakes of eleven pots at most
 unfoldable pub rakes_said : Data → Result (List ℕ) FieldFault

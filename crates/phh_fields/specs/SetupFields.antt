@@ -38,7 +38,13 @@ plain_setup setup =
       antes = amounts_in setup.antes;
       dead_antes = setup.dead_antes;
       blinds = amounts_in setup.blinds;
-      sizes = record { bring_in = setup.bring_in; small_bet = setup.small_bet; big_bet = setup.big_bet; min_bet = setup.min_bet };
+      sizes =
+          record {
+            bring_in = setup.bring_in;
+            small_bet = setup.small_bet;
+            big_bet = setup.big_bet;
+            min_bet = setup.min_bet;
+          };
     }
 
 -- the game whose code the text is, if it is one of the eleven
@@ -47,11 +53,15 @@ game_named text = find (λ code. bytes_eq text (code_text code)) all_games
 
 -- the variant
 unfoldable pub variant_said : Data → Result Code FieldFault
-variant_said value = text_said (at_key keys.Variant) value >>= λ text. or_wrong whats.UnknownVariant (at_key keys.Variant) (game_named text)
+variant_said value =
+    text_said (at_key keys.Variant) value
+    >>= λ text. or_wrong whats.UnknownVariant (at_key keys.Variant) (game_named text)
 
 -- the antes are trimmed: they are not dead
 unfoldable pub trimming_said : Members → Result Bool FieldFault
-trimming_said members = read_if (flag_said (at_key keys.AnteTrimmingStatus)) (field keys.AnteTrimmingStatus members) >>= λ said. Ok (option_map_or (λ trimmed. trimmed) said false)
+trimming_said members =
+    read_if (flag_said (at_key keys.AnteTrimmingStatus)) (field keys.AnteTrimmingStatus members)
+    >>= λ said. Ok (option_map_or (λ trimmed. trimmed) said false)
 
 -- antes are dead where they are not trimmed and some seat posts one
 abbrev pub are_dead : Bool → List ℕ → Bool
@@ -61,11 +71,13 @@ are_dead trimmed antes = not trimmed && list_any (λ ante. nat_lt 0 ante) antes
 unfoldable pub blinds_said : Code → ℕ → Members → Result (List ℕ) FieldFault
 blinds_said code seats members =
     if is_stud code then Ok (replicate seats 0)
-    else (needed keys.BlindsOrStraddles members >>= row_said seats MOST_CHIPS keys.BlindsOrStraddles >>= λ blinds. Ok (posted blinds))
+    else (needed keys.BlindsOrStraddles members >>= row_said seats MOST_CHIPS keys.BlindsOrStraddles
+    >>= λ blinds. Ok (posted blinds))
 
 -- a size that the game uses; a size that it does not use is 0
 unfoldable pub size_said : Bool → FieldKey → Members → Result ℕ FieldFault
-size_said used key members = if used then (needed key members >>= amount_said 1 MOST_CHIPS (at_key key)) else Ok 0
+size_said used key members =
+    if used then (needed key members >>= amount_said 1 MOST_CHIPS (at_key key)) else Ok 0
 
 -- the bring-in of stud, the bets of fixed limit, and the least bet of the other limits
 unfoldable pub sizes_said : Code → Members → Result Sizes FieldFault
@@ -85,4 +97,12 @@ setup_said members = do
   trimmed ← trimming_said members
   blinds ← blinds_said code (length stacks) members
   sizes ← sizes_said code members
-  Ok (record { code = code; stacks = stacks; antes = antes; dead_antes = are_dead trimmed antes; blinds = blinds; sizes = sizes })
+  Ok
+      (record {
+        code = code;
+        stacks = stacks;
+        antes = antes;
+        dead_antes = are_dead trimmed antes;
+        blinds = blinds;
+        sizes = sizes;
+      })

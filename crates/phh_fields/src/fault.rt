@@ -1,4 +1,5 @@
-//! What is wrong with a hand, and where: the first fault in the order in which its fields are examined.
+//! What is wrong with a hand, and where: the first fault in the order in which its fields are
+//! examined.
 ghost use Rattle.std.specs.Prelude.{◌≡◌};
 ghost use Rattle.phh_fields.specs.Fields.{at_item as item_of, at_key as place_of, key_text};
 

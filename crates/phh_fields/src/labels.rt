@@ -45,8 +45,8 @@ pub fn read_labels(alloc: Global, table: &Table, place: u32) -> Result<Labels, S
     })
 }
 
-// The name of the hand at this place of its file, from 0, if there is one. Most files say none, and the number of a place
-// is spelled only where one is.
+// The name of the hand at this place of its file, from 0, if there is one. Most files say none, and
+// the number of a place is spelled only where one is.
 fn hand_at(alloc: Global, table: &Table, place: u32) -> Result<Option<Text>, Stop<FieldFault>>
     ensures said { Gives (λ note. note) result
         (or_none (label_said (decimal place) (at_key keys.Hand))

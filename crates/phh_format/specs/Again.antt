@@ -1,5 +1,5 @@
--- The hands that are read again of plays that were written: the same setups, rakes and finishing stacks, the canonical
--- scripts, and the kept notes.
+-- The hands that are read again of plays that were written: the same setups, rakes and finishing
+-- stacks, the canonical scripts, and the kept notes.
 use Rattle.std.specs.Prelude.{ℕ, ◌+◌, ◌-◌, List, [], ◌∷◌, map, take, slice_index_or, Some, None, option_and_then}
 use Rattle.std.specs.List.{range_with_len}
 use Rattle.play_event.specs.HistoryRules.{history_rules}
@@ -24,7 +24,13 @@ notes_again place count notes =
         seats = option_and_then (λ said. unless_usual count (take count said)) notes.seats;
         seat_count = notes.seat_count;
       };
-      labels = record { hand = kept_label place notes.hand; table = notes.table; venue = notes.venue; currency = notes.currency };
+      labels =
+          record {
+            hand = kept_label place notes.hand;
+            table = notes.table;
+            venue = notes.venue;
+            currency = notes.currency;
+          };
       day = record { year = notes.year; month = notes.month; day = notes.day };
       time = notes.time;
       zone = notes.zone;

@@ -18,9 +18,9 @@ ghost use Rattle.phh_format.specs.KeptNotes.{kept_in_phh};
 ghost use Rattle.hand_canon.specs.Sharp.{IsOther};
 ghost use Rattle.hand_records.specs.WriteRefusals.{first_refusal};
 
-/// Bytes that spell sound plays, no more of them and of their moves than a file may have, read as the hands of these plays:
-/// with their setups, rakes and finishing stacks, their canonical scripts, and their kept notes. The function does nothing:
-/// its contract is a law.
+/// Bytes that spell sound plays, no more of them and of their moves than a file may have, read as
+/// the hands of these plays: with their setups, rakes and finishing stacks, their canonical
+/// scripts, and their kept notes. The function does nothing: its contract is a law.
 pub fn law_of_reading_again()
     ensures { (plays : List Play) (bytes : List ℕ)
         → length plays ≤ MOST_HANDS → AllByRecursion IsSound plays
@@ -28,9 +28,10 @@ pub fn law_of_reading_again()
         → Spells plays bytes → reading bytes ≡ Ok (hands_again 0 plays) }
 {}
 
-/// What bytes say that spell sound plays, no more of them and of their moves than a file may have: as many hands, which are
-/// legal under the rules of hand histories, have the whole traces of the plays, state nothing that differs, and have all notes.
-/// It holds where the format spells the plays: no raise is closed. The function does nothing: its contract is a law.
+/// What bytes say that spell sound plays, no more of them and of their moves than a file may have:
+/// as many hands, which are legal under the rules of hand histories, have the whole traces of the
+/// plays, state nothing that differs, and have all notes. It holds where the format spells the
+/// plays: no raise is closed. The function does nothing: its contract is a law.
 pub fn law_of_reading_back()
     ensures { (plays : List Play) (bytes : List ℕ)
         → length plays ≤ MOST_HANDS → AllByRecursion IsSound plays
@@ -40,8 +41,8 @@ pub fn law_of_reading_back()
         → AreAgain (KeepsNotes kept_in_phh) 0 plays hands }
 {}
 
-/// A play that the format does not spell is written in no bytes: no hand that any bytes say is legal with the trace of the play.
-/// The function does nothing: its contract is a law.
+/// A play that the format does not spell is written in no bytes: no hand that any bytes say is
+/// legal with the trace of the play. The function does nothing: its contract is a law.
 pub fn law_of_sharpness()
     ensures { (play : Play) (fact : Unspelled) → unspelled play ≡ Some fact
         → (bytes : List ℕ) (hands : List Record) → reading bytes ≡ Ok (map plain hands)

@@ -44,7 +44,8 @@ IsAfter before (Some event) after = IsOneMore before (is_move (said_of event)) a
 -- the counts after a hand's first events, where the file had so many moves before the hand
 pub record AreCounted (earlier : ℕ) (script : List Event) (counts : EventCounts) : Type 0 where
   pub moves : counts.moves ≡ count_by is_move (map said_of script)
-  pub other_events : counts.other_events ≡ count_by (λ event. not (is_move event)) (map said_of script)
+  pub other_events :
+      counts.other_events ≡ count_by (λ event. not (is_move event)) (map said_of script)
   pub file_moves : counts.file_moves ≡ earlier + count_by is_move (map said_of script)
 
 -- an event, if there is one
@@ -62,15 +63,30 @@ unfoldable pub counted : EventCounts → FieldPlace → Bool → Result EventCou
 counted counts place moves =
     if moves
     then (if nat_le MOST_MOVES counts.moves then wrong (whats.TooMany quantities.Moves) place
-    else if nat_le MOST_FILE_MOVES counts.file_moves then wrong (whats.TooMany quantities.FileMoves) place
-    else Ok (record { moves = counts.moves + 1; other_events = counts.other_events; file_moves = counts.file_moves + 1 }))
-    else (if nat_le MOST_OTHER_EVENTS counts.other_events then wrong (whats.TooMany quantities.OtherEvents) place
-    else Ok (record { moves = counts.moves; other_events = counts.other_events + 1; file_moves = counts.file_moves }))
+    else if nat_le MOST_FILE_MOVES counts.file_moves
+    then wrong (whats.TooMany quantities.FileMoves) place
+    else Ok
+    (record {
+      moves = counts.moves + 1;
+      other_events = counts.other_events;
+      file_moves = counts.file_moves + 1;
+    }))
+    else (if nat_le MOST_OTHER_EVENTS counts.other_events
+    then wrong (whats.TooMany quantities.OtherEvents) place
+    else Ok
+    (record {
+      moves = counts.moves;
+      other_events = counts.other_events + 1;
+      file_moves = counts.file_moves;
+    }))
 
 -- what an action adds: no event, or one event that is counted
-unfoldable pub added : EventCounts → ℕ → Option Said → Result (List Numbered × EventCounts) FieldFault
+unfoldable pub added : EventCounts → ℕ → Option Said
+    → Result (List Numbered × EventCounts) FieldFault
 added counts n None = Ok ([], counts)
-added counts n (Some event) = counted counts (at_item keys.Actions n) (is_move event) >>= λ next. Ok ((kept_number n, event) ∷ [], next)
+added counts n (Some event) =
+    counted counts (at_item keys.Actions n) (is_move event)
+    >>= λ next. Ok ((kept_number n, event) ∷ [], next)
 
 -- what is wrong with an action
 abbrev pub action_fault : ActionFault → FieldFaultKind
@@ -84,12 +100,14 @@ at_place place (Ok x) = Ok x
 at_place place (Err fault) = wrong (action_fault fault) place
 
 -- an action
-unfoldable pub event_said : ℕ → EventCounts → ℕ → Data → Result (List Numbered × EventCounts) FieldFault
+unfoldable pub event_said : ℕ → EventCounts → ℕ → Data
+    → Result (List Numbered × EventCounts) FieldFault
 event_said seats counts n value = do
   text ← text_said (at_item keys.Actions n) value
   event ← at_place (at_item keys.Actions n) (action_said seats text)
   added counts n event
 
 -- the actions in order
-abbrev pub events_said : ℕ → EventCounts → List Data → Result (List Numbered × EventCounts) FieldFault
+abbrev pub events_said : ℕ → EventCounts → List Data
+    → Result (List Numbered × EventCounts) FieldFault
 events_said seats counts items = thread_from (event_said seats) counts 1 items

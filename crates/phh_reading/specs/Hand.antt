@@ -42,7 +42,13 @@ plain hand =
       rakes = hand.setup.rakes.rakes;
       rules = hand.rules;
       script = map numbered hand.script;
-      stated = record { finish = option_map amounts_in hand.stated.finish; wins = hand.stated.wins; pot_total = hand.stated.pot_total; values = hand.stated.values };
+      stated =
+          record {
+            finish = option_map amounts_in hand.stated.finish;
+            wins = hand.stated.wins;
+            pot_total = hand.stated.pot_total;
+            values = hand.stated.values;
+          };
       notes = plain_notes hand.setup.stacks.seats hand.notes;
     }
 
@@ -52,16 +58,27 @@ finish_stated finish = record { finish = finish; wins = None; pot_total = None; 
 
 -- the rakes, or none where they are not said
 unfoldable pub rakes_at : Members → Result (List ℕ) FieldFault
-rakes_at members = elim (field keys.Rakes members) [ Some value ↦ rakes_said value | None ↦ Ok (replicate 11 0) ]
+rakes_at members =
+    elim (field keys.Rakes members) [ Some value ↦ rakes_said value | None ↦ Ok (replicate 11 0) ]
 
--- the hand at this place of its file, from 0, after so many moves of the file; and the moves of the file after it
+-- the hand at this place of its file, from 0, after so many moves of the file; and the moves of the
+-- file after it
 unfoldable pub hand_said : ℕ → ℕ → Members → Result (PlainHand × ℕ) FieldFault
 hand_said file_moves place members = do
   setup ← setup_said members
   actions ← needed keys.Actions members >>= list_said (at_key keys.Actions)
   events ← events_said (length setup.stacks) (counts_after file_moves) actions
-  finish ← read_if (row_said (length setup.stacks) MOST_AMOUNT keys.FinishingStacks) (field keys.FinishingStacks members)
+  finish ← read_if (row_said (length setup.stacks) MOST_AMOUNT keys.FinishingStacks)
+      (field keys.FinishingStacks members)
   rakes ← rakes_at members
   notes ← notes_said place (length setup.stacks) members
-  let hand : PlainHand = record { setup = setup; rakes = rakes; rules = history_rules; script = events.0; stated = finish_stated finish; notes = notes }
+  let hand : PlainHand =
+      record {
+        setup = setup;
+        rakes = rakes;
+        rules = history_rules;
+        script = events.0;
+        stated = finish_stated finish;
+        notes = notes;
+      }
   Ok (hand, events.1.file_moves)

@@ -1,4 +1,5 @@
--- The hands of a document whose keys are numbers, in the order of the numbers, equal numbers in the order of the texts.
+-- The hands of a document whose keys are numbers, in the order of the numbers, equal numbers in the
+-- order of the texts.
 use Rattle.std.specs.Prelude.{ℕ, Bool, true, false, ◌&&◌, List, [], ◌∷◌, map}
 use Rattle.std.specs.declared.cmp.Ordering.{Ordering}
 use Rattle.std.specs.Ordering.{nat_cmp, match_ordering, ordering_then}
@@ -23,12 +24,16 @@ Entry = List ℕ × Data
 
 -- how two keys compare: by their numbers, and then by their texts
 abbrev pub key_cmp : List ℕ → List ℕ → Ordering
-key_cmp key other = ordering_then (nat_cmp (digits_value 10 key) (digits_value 10 other)) (slice_cmp nat_cmp key other)
+key_cmp key other =
+    ordering_then (nat_cmp (digits_value 10 key) (digits_value 10 other))
+    (slice_cmp nat_cmp key other)
 
 -- an entry at its place among others
 abbrev pub placed : List ℕ → Data → List Entry → List Entry
 placed key value [] = (key, value) ∷ []
-placed key value (next ∷ rest) = match_ordering (key_cmp key next.0) ((key, value) ∷ next ∷ rest) ((next.0, value) ∷ rest) (next ∷ placed key value rest)
+placed key value (next ∷ rest) =
+    match_ordering (key_cmp key next.0) ((key, value) ∷ next ∷ rest) ((next.0, value) ∷ rest)
+    (next ∷ placed key value rest)
 
 -- each of the entries placed among those before it
 abbrev pub placed_all : List Entry → Members → List Entry

@@ -25,15 +25,19 @@ in_hand number (Err fault) = Err (record { hand = number; fault = fault })
 
 -- a fault at a hand's variant
 abbrev pub at_variant : {A : Type 0} → ℕ → FieldFaultKind → Result A PhhHandFault
-at_variant number what = Err (record { hand = number; fault = record { what = what; place = at_key keys.Variant } })
+at_variant number what =
+    Err (record { hand = number; fault = record { what = what; place = at_key keys.Variant } })
 
--- the hand with this number, from 1, after so many moves of the file; and the moves of the file after it
+-- the hand with this number, from 1, after so many moves of the file; and the moves of the file
+-- after it
 unfoldable pub numbered_hand : ℕ → ℕ → Members → Result (List PlainHand × ℕ) PhhHandFault
 numbered_hand file_moves number members =
     if nat_lt MOST_HANDS number then at_variant number (whats.TooMany quantities.Hands)
-    else (in_hand number (hand_said file_moves (number - 1) members) >>= λ found. Ok (found.0 ∷ [], found.1))
+    else (in_hand number (hand_said file_moves (number - 1) members)
+    >>= λ found. Ok (found.0 ∷ [], found.1))
 
--- the hands of a document: one where it has a variant, those under its numbers, or none where nothing is in it
+-- the hands of a document: one where it has a variant, those under its numbers, or none where
+-- nothing is in it
 unfoldable pub hands_of : Members → Option (List Members)
 hands_of members =
     if is_some (field keys.Variant members) then Some (members ∷ [])
@@ -48,7 +52,8 @@ hands_said hands = thread_from numbered_hand 0 1 hands
 abbrev pub records_said : List Members → Result (List PlainHand) PhhHandFault
 records_said hands = hands_said hands >>= λ found. Ok found.0
 
--- the hands of a document that has some or none, and any other document lacks the variant of its first hand
+-- the hands of a document that has some or none, and any other document lacks the variant of its
+-- first hand
 abbrev pub those_said : Option (List Members) → Result (List PlainHand) PhhHandFault
 those_said (Some hands) = records_said hands
 those_said None = at_variant 1 whats.MissingField
@@ -90,7 +95,8 @@ wrong_of (faults.BadAction hand key) = Some (InHand hand key whats.BadAction)
 wrong_of (faults.TooMany hand key quantity) = Some (InHand hand key (whats.TooMany quantity))
 wrong_of faults.Memory = None
 
--- an answer is what is read: the records that it holds, or the fault that it names; want of memory says nothing
+-- an answer is what is read: the records that it holds, or the fault that it names; want of memory
+-- says nothing
 abbrev pub Reads : Result (List Record) PhhFault → Result (List PlainHand) Wrong → Type 0
 Reads (Ok records) read = read ≡ Ok (map plain records)
 Reads (Err fault) read = IfSome (wrong_of fault) (λ wrong. read ≡ Err wrong)

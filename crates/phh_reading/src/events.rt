@@ -27,7 +27,8 @@ pub struct EventCounts {
     pub file_moves: usize,
 }
 
-/// The events of the actions of a hand with so many seats, after so many moves of the file; and the counts after them.
+/// The events of the actions of a hand with so many seats, after so many moves of the file; and the
+/// counts after them.
 pub fn read_events(
     alloc: Global,
     seats: u8,

@@ -1,4 +1,5 @@
-//! The hands of a document are read in order: one where it has a variant, else those under its numbers.
+//! The hands of a document are read in order: one where it has a variant, else those under its
+//! numbers.
 ghost use Rattle.std.specs.Prelude.{◌≡◌, ◌≤◌, ◌+◌, map, sum_by, length, [], ◌∷◌, IfOk};
 ghost use Rattle.std.specs.List.{AllByRecursion};
 ghost use Rattle.toml.specs.View.{table_view};

@@ -27,8 +27,8 @@ use play_event::{Reopen, Rules, Setup};
 use std::alloc::Global;
 use toml::Table;
 
-/// The hand of a table at this place of its file, from 0, after so many moves of the file; and the moves of the file
-/// after it.
+/// The hand of a table at this place of its file, from 0, after so many moves of the file; and the
+/// moves of the file after it.
 #[tactic(auto, unfolding(crate::specs::Hand::hand_said))]
 pub fn read_hand(
     alloc: Global,

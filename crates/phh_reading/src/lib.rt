@@ -1,4 +1,5 @@
-//! Bytes in the Poker Hand History format are read as the records that they say, or refused with their first fault.
+//! Bytes in the Poker Hand History format are read as the records that they say, or refused with
+//! their first fault.
 #![tactic(auto)]
 
 pub mod events;

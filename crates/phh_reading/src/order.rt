@@ -1,4 +1,5 @@
-//! The tables of a document whose keys are numbers come in the order of the numbers, and then of the texts.
+//! The tables of a document whose keys are numbers come in the order of the numbers, and then of
+//! the texts.
 ghost use Rattle.std.specs.Prelude.{◌≡◌, ◌==◌, [], ◌∷◌, ◌++◌, map, IfOk, IsTrue, OnOk};
 ghost use Rattle.std.specs.List.{prefix_len};
 ghost use Rattle.toml.specs.View.{table_view, view};
@@ -12,8 +13,8 @@ use std::alloc::Global;
 use std::collections::BTreeMap;
 use toml::{Table, Value};
 
-// Values by the length of the number of their key, the digits of the number, and the key: the longer number is the
-// greater.
+// Values by the length of the number of their key, the digits of the number, and the key: the
+// longer number is the greater.
 type Numbered<'a> = BTreeMap<(usize, &'a [u8], &'a [u8]), &'a Value>;
 
 /// Whether each key is a number and each value a table.

@@ -17,8 +17,8 @@ use phh_fields::fault::{FieldFaultKind, FieldPlace};
 use std::alloc::Global;
 use toml::Table;
 
-/// The records that bytes in the Poker Hand History format say, one for each hand in the order of reading; or their
-/// first fault. Each record is sound, and under the rules of hand histories.
+/// The records that bytes in the Poker Hand History format say, one for each hand in the order of
+/// reading; or their first fault. Each record is sound, and under the rules of hand histories.
 #[tactic(auto, using(crate::proofs::Documents::no_document), unfolding(crate::specs::Reading::reading))]
 pub fn read(alloc: Global, bytes: &[u8]) -> Result<Records, PhhFault>
     ensures reads { Reads result (reading bytes.now) }

@@ -1,4 +1,5 @@
--- The one document that stands for plays: a hand by itself is its table, and several stand under 1, 2 and so on.
+-- The one document that stands for plays: a hand by itself is its table, and several stand under 1,
+-- 2 and so on.
 use Rattle.std.specs.Prelude.{◌≡◌, ℕ, ◌+◌, List, [], ◌∷◌, Some}
 use Rattle.std.specs.Fmt.{decimal}
 use Rattle.std.specs.Str.{IsUtf8}
@@ -15,7 +16,8 @@ hand_table place play = table_of (hand_fields place play)
 -- hands under their numbers, of which the first is at this place, from 0
 abbrev pub numbered_hands : ℕ → List Play → List Field
 numbered_hands place [] = []
-numbered_hands place (play ∷ rest) = (decimal (place + 1), Some (table (hand_table place play))) ∷ numbered_hands (place + 1) rest
+numbered_hands place (play ∷ rest) =
+    (decimal (place + 1), Some (table (hand_table place play))) ∷ numbered_hands (place + 1) rest
 
 -- the document of plays
 abbrev pub document : List Play → Members

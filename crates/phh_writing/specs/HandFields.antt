@@ -1,4 +1,5 @@
--- The fields of a hand that is written, each with its key, in the order in which a reader examines them.
+-- The fields of a hand that is written, each with its key, in the order in which a reader examines
+-- them.
 use Rattle.std.specs.Prelude.{ℕ, Bool, ◌&&◌, ◌||◌, ◌==◌, not, nat_lt, min, max, bytes_eq, if◌then◌else◌, pos, List, [], ◌∷◌, ◌++◌, length, map, take, codes, slice_index, Option, Some, None, option_map, unwrap_or, is_some}
 use Rattle.std.specs.Fmt.{decimal}
 use Rattle.std.specs.List.{list_any, range_with_len}
@@ -37,7 +38,8 @@ blinds_written blinds = blinds
 
 -- the blinds, in a game that has some
 abbrev pub blinds_field : Setup → Option Data
-blinds_field setup = if is_stud setup.code then None else Some (numbers (blinds_written (amounts_in setup.blinds)))
+blinds_field setup =
+    if is_stud setup.code then None else Some (numbers (blinds_written (amounts_in setup.blinds)))
 
 -- a size that the game uses
 abbrev pub size_field : Bool → ℕ → Option Data
@@ -63,7 +65,8 @@ script_of trace = canonical_script trace.setup (core_said trace)
 
 -- the rakes of so many pots, where something is taken from one of them
 abbrev pub rakes_field : ℕ → RakeRow → Option Data
-rakes_field pots row = if list_any (nat_lt 0) (take pots row.rakes) then Some (numbers (take pots row.rakes)) else None
+rakes_field pots row =
+    if list_any (nat_lt 0) (take pots row.rakes) then Some (numbers (take pots row.rakes)) else None
 
 -- what was played, and what it comes to
 abbrev pub trace_fields : Trace → List Field
@@ -76,16 +79,21 @@ trace_fields trace =
 -- the names of so many players, where one is said
 abbrev pub names_field : ℕ → Notes → Option Data
 names_field count notes =
-    if list_any is_some (take count notes.names) then Some (texts (map (name_written notes) (range_with_len 1 count))) else None
+    if list_any is_some (take count notes.names)
+    then Some (texts (map (name_written notes) (range_with_len 1 count)))
+    else None
 
 -- the number that a text is: a decimal number without leading zeros, of at most eighteen digits
 unfoldable pub number_written : List ℕ → Option ℕ
 number_written text =
-    if are_digits text && (not (slice_index text 0 == 48) || (length text == 1)) then number_of 999999999999999999 text else None
+    if are_digits text && (not (slice_index text 0 == 48) || (length text == 1))
+    then number_of 999999999999999999 text
+    else None
 
 -- a text that is a number is written as that number
 abbrev pub label : List ℕ → Data
-label text = unwrap_or (option_map (λ number. integer (pos number)) (number_written text)) (string text)
+label text =
+    unwrap_or (option_map (λ number. integer (pos number)) (number_written text)) (string text)
 
 -- the name of a hand at a place of its file, from 0; by default the name is that place
 abbrev pub hand_field : ℕ → Option (List ℕ) → Option Data
@@ -101,7 +109,14 @@ abbrev pub local_time : Clock → Data
 local_time clock =
     datetime (record {
       date = None;
-      time = Some (record { hour = clock.hour; minute = clock.minute; second = Some clock.second; nanosecond = fraction clock.nano });
+      time =
+          Some
+          (record {
+            hour = clock.hour;
+            minute = clock.minute;
+            second = Some clock.second;
+            nanosecond = fraction clock.nano;
+          });
       offset = None;
     })
 
@@ -129,4 +144,6 @@ note_fields place count notes =
 -- the fields of the hand at a place of its file, from 0
 abbrev pub hand_fields : ℕ → Play → List Field
 hand_fields place play =
-    setup_fields play.trace.setup ++ (trace_fields play.trace ++ note_fields place play.trace.setup.stacks.seats play.hand.notes)
+    setup_fields play.trace.setup
+    ++ (trace_fields play.trace
+    ++ note_fields place play.trace.setup.stacks.seats play.hand.notes)

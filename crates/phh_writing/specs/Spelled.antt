@@ -5,7 +5,9 @@ use Rattle.hand_records.specs.declared.trace.Play.{Play}
 use Rattle.hand_records.specs.declared.writing.Unspelled.{Unspelled}
 use Rattle.hand_records.specs.declared.writing.Unspelled.TheVariants as facts
 
--- The fact of a play that has no spelling: the format lets a seat raise again only after a full raise, so a raise that is
--- closed under that rule has none. Every other fact is spelled, and every note.
+-- The fact of a play that has no spelling: the format lets a seat raise again only after a full
+-- raise, so a raise that is closed under that rule has none. Every other fact is spelled, and every
+-- note.
 unfoldable pub unspelled : Play → Option Unspelled
-unspelled play = if list_any (λ move. move.closed) play.trace.moves then Some facts.ReopenedShort else None
+unspelled play =
+    if list_any (λ move. move.closed) play.trace.moves then Some facts.ReopenedShort else None

@@ -21,9 +21,9 @@ use std::alloc::Global;
 use toml::ser::Error;
 use toml::{Table, Value};
 
-/// The bytes of the document of some plays: one hand is its table, several stand under 1, 2 and so on, and no hands are no
-/// bytes. Nothing is written where the format does not spell one of them. It spells every note, so which are kept does not
-/// matter.
+/// The bytes of the document of some plays: one hand is its table, several stand under 1, 2 and so
+/// on, and no hands are no bytes. Nothing is written where the format does not spell one of them.
+/// It spells every note, so which are kept does not matter.
 pub fn write(alloc: Global, plays: &[Play], keep: Keep) -> Result<Vec<u8>, WriteRefusal>
     requires few { length plays.now ≤ MOST_HANDS }
     requires sound { AllByRecursion IsSound plays.now }

@@ -1,5 +1,5 @@
-//! Plays are written as the one document of the Poker Hand History format that stands for them, or the first play is named
-//! that the format does not spell.
+//! Plays are written as the one document of the Poker Hand History format that stands for them, or
+//! the first play is named that the format does not spell.
 #![tactic(auto)]
 
 mod document;

@@ -16,8 +16,8 @@ use std::alloc::Global;
 use toml::{Table, Value};
 use toml_datetime::{Datetime, Time};
 
-/// Puts the notes of a hand with so many seats into its table. `place` is the hand's place in its file, from 0, which is
-/// its name by default.
+/// Puts the notes of a hand with so many seats into its table. `place` is the hand's place in its
+/// file, from 0, which is its name by default.
 pub fn put_notes(
     alloc: Global,
     table: &mut Table,

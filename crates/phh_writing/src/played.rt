@@ -20,7 +20,8 @@ use play_event::Script;
 use std::alloc::Global;
 use toml::{Table, Value};
 
-/// Puts what was played in a hand into its table, as its canonical script, with the finishing stacks and the rakes.
+/// Puts what was played in a hand into its table, as its canonical script, with the finishing
+/// stacks and the rakes.
 #[tactic(auto, using(crate::proofs::CanonWords::canonical_words))]
 pub fn put_trace(alloc: Global, table: &mut Table, trace: &Trace) -> Result<(), Memory>
     requires tidy { IsTidy (core_said trace.now) }

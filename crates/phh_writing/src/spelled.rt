@@ -24,8 +24,8 @@ pub fn find_refusal(plays: &[Play], keep: Keep) -> Option<WriteRefusal>
     None
 }
 
-/// The first fact of the play that the format does not spell. It spells all notes, so which of them are kept does not
-/// matter.
+/// The first fact of the play that the format does not spell. It spells all notes, so which of them
+/// are kept does not matter.
 #[tactic(auto, unfolding(crate::specs::Spelled::unspelled))]
 pub fn spells(play: &Play, _keep: Keep) -> Option<Unspelled>
     ensures { result ≡ unspelled play.now }

@@ -10,22 +10,30 @@ use Rattle.play_event.specs.Price.{price}
 
 -- a call goes to the price, or as far as the chips reach
 abbrev pub call_target : Setup → List Move → ℕ → ℕ → ℕ
-call_target setup moves street seat = min (price setup moves street) (all_in setup moves street seat)
+call_target setup moves street seat =
+    min (price setup moves street) (all_in setup moves street seat)
 
 -- the chips that a seat put before this street
 abbrev pub put_before_street : Setup → List Move → ℕ → ℕ → ℕ
-put_before_street setup moves street seat = chips_put setup moves seat - street_chips setup moves street seat
+put_before_street setup moves street seat =
+    chips_put setup moves seat - street_chips setup moves street seat
 
 -- a raise by the unit goes to one unit, or to one above the price, and never above all chips
 abbrev pub unit_target : Setup → List Move → ℕ → ℕ → ℕ
 unit_target setup moves street seat =
-    min (if nat_lt (price setup moves street) (unit setup street) then unit setup street else price setup moves street + unit setup street) (all_in setup moves street seat)
+    min
+    (if nat_lt (price setup moves street) (unit setup street)
+    then unit setup street
+    else price setup moves street + unit setup street)
+    (all_in setup moves street seat)
 
 -- the street's chips to which a bet or raise takes its seat
 abbrev pub raise_target : Setup → List Move → ℕ → ℕ → Spelled → ℕ
 raise_target setup moves street seat (spelled.To amount) = amount
-raise_target setup moves street seat (spelled.Added amount) = street_chips setup moves street seat + amount
-raise_target setup moves street seat (spelled.HandTotal amount) = amount - put_before_street setup moves street seat
+raise_target setup moves street seat (spelled.Added amount) =
+    street_chips setup moves street seat + amount
+raise_target setup moves street seat (spelled.HandTotal amount) =
+    amount - put_before_street setup moves street seat
 raise_target setup moves street seat spelled.Unit = unit_target setup moves street seat
 
 -- a bring-in goes to its size, or as far as the chips reach

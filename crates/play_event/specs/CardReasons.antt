@@ -24,11 +24,13 @@ is_seat setup seat = nat_le 1 seat && nat_le seat setup.stacks.seats
 
 -- no card is owed to a seat
 abbrev pub is_owed_nothing : Setup → Past → ℕ → ℕ → Bool
-is_owed_nothing setup past street seat = not (is_seat setup seat) || (cards_owed setup past street seat == 0)
+is_owed_nothing setup past street seat =
+    not (is_seat setup seat) || (cards_owed setup past street seat == 0)
 
 -- a seat draws next
 abbrev pub is_next_to_draw : Setup → Past → ℕ → ℕ → Bool
-is_next_to_draw setup past street seat = option_map_or (λ next. next == seat) (next_to_draw setup past street) false
+is_next_to_draw setup past street seat =
+    option_map_or (λ next. next == seat) (next_to_draw setup past street) false
 
 -- a seat of the hand is live, and did not show or muck
 abbrev pub may_show : Setup → Past → ℕ → Bool
@@ -38,31 +40,42 @@ may_show setup past seat = is_seat setup seat && has_to_show past seat
 abbrev pub is_wrong_deal : ℕ → ℕ → Bool
 is_wrong_deal owed count = (count == 0) || nat_lt owed count
 
--- a show may have so many cards: all that the seat holds, or its down-cards alone where its up-cards are known
+-- a show may have so many cards: all that the seat holds, or its down-cards alone where its
+-- up-cards are known
 abbrev pub may_show_so_many : Setup → Past → List Place → ℕ → ℕ → Bool
 may_show_so_many setup past placed seat count =
     (count == held_count placed seat)
-    || ((count == held_down_count setup.code placed seat) && not (list_any is_unknown (up_cards setup.code past seat)))
+    || ((count == held_down_count setup.code placed seat)
+    && not (list_any is_unknown (up_cards setup.code past seat)))
 
 -- an event has another count of cards than it may
 abbrev pub is_wrong_count : Setup → Past → List Place → ℕ → Said → Bool
-is_wrong_count setup past placed street (said.Hole seat cards) = is_wrong_deal (cards_owed setup past street seat) (length cards)
-is_wrong_count setup past placed street (said.Board cards) = is_wrong_deal (board_cards_owed setup past street) (length cards)
-is_wrong_count setup past placed street (said.Discard seat cards) = nat_lt (held_count placed seat) (length cards)
-is_wrong_count setup past placed street (said.Show seat cards) = not (may_show_so_many setup past placed seat (length cards))
+is_wrong_count setup past placed street (said.Hole seat cards) =
+    is_wrong_deal (cards_owed setup past street seat) (length cards)
+is_wrong_count setup past placed street (said.Board cards) =
+    is_wrong_deal (board_cards_owed setup past street) (length cards)
+is_wrong_count setup past placed street (said.Discard seat cards) =
+    nat_lt (held_count placed seat) (length cards)
+is_wrong_count setup past placed street (said.Show seat cards) =
+    not (may_show_so_many setup past placed seat (length cards))
 is_wrong_count setup past placed street _ = false
 
 -- a card that is dealt, or that is named and taken to an unknown place, may not lie there
 abbrev pub is_card_taken : Code → List Place → ℕ → Said → Bool
 is_card_taken code placed street (said.Hole seat cards) = has_taken_card code placed street cards
-is_card_taken code placed street (said.Board cards) = has_taken_card code placed street (known_slots cards)
-is_card_taken code placed street (said.Discard seat cards) = has_misplaced_card code placed (after_discard street seat cards placed)
-is_card_taken code placed street (said.Show seat cards) = has_misplaced_card code placed (after_show code seat cards placed)
+is_card_taken code placed street (said.Board cards) =
+    has_taken_card code placed street (known_slots cards)
+is_card_taken code placed street (said.Discard seat cards) =
+    has_misplaced_card code placed (after_discard street seat cards placed)
+is_card_taken code placed street (said.Show seat cards) =
+    has_misplaced_card code placed (after_show code seat cards placed)
 is_card_taken code placed street _ = false
 
 -- the names find no place: there are more that no known card bears, and blanks, than unknown cards
 abbrev pub has_no_place : List Place → List Card → ℕ → Bool
-has_no_place covered names blanks = nat_lt (count_by (λ place. is_unknown place.slot) covered) (length (other_names covered names) + blanks)
+has_no_place covered names blanks =
+    nat_lt (count_by (λ place. is_unknown place.slot) covered)
+    (length (other_names covered names) + blanks)
 
 -- a known card is not among the names
 abbrev pub is_left_out : List Card → Slot → Bool
@@ -71,10 +84,14 @@ is_left_out names slots.Unknown = false
 
 -- a show names a card that the seat does not hold, or leaves out one that is known
 abbrev pub is_show_of_others : List Place → List Card → Bool
-is_show_of_others covered names = has_no_place covered names 0 || list_any (λ place. is_left_out names place.slot) covered
+is_show_of_others covered names =
+    has_no_place covered names 0 || list_any (λ place. is_left_out names place.slot) covered
 
 -- a card is named that the seat does not hold
 abbrev pub is_not_held : Code → List Place → Said → Bool
-is_not_held code placed (said.Discard seat cards) = has_no_place (filter (is_held_by seat) placed) (known_cards cards) (blanks_in cards)
-is_not_held code placed (said.Show seat cards) = is_show_of_others (filter (is_covered code seat (is_show_of_all placed seat cards)) placed) cards
+is_not_held code placed (said.Discard seat cards) =
+    has_no_place (filter (is_held_by seat) placed) (known_cards cards) (blanks_in cards)
+is_not_held code placed (said.Show seat cards) =
+    is_show_of_others (filter (is_covered code seat (is_show_of_all placed seat cards)) placed)
+    cards
 is_not_held code placed _ = false

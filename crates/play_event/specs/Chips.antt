@@ -6,7 +6,8 @@ use Rattle.play_event.specs.Past.{Move, moves_on}
 
 -- the blind of a seat as far as its stack goes, after the ante
 abbrev pub blind_posted : Setup → ℕ → ℕ
-blind_posted setup seat = min (amount_of setup.blinds seat) (amount_of setup.stacks seat - amount_of setup.antes seat)
+blind_posted setup seat =
+    min (amount_of setup.blinds seat) (amount_of setup.stacks seat - amount_of setup.antes seat)
 
 -- what a seat posts: the ante and the blind
 abbrev pub posted : Setup → ℕ → ℕ
@@ -15,7 +16,8 @@ posted setup seat = amount_of setup.antes seat + blind_posted setup seat
 -- the chips that a seat's moves add together
 abbrev pub chips_added : ℕ → List Move → ℕ
 chips_added seat [] = 0
-chips_added seat (move ∷ before) = (if move.seat == seat then move.to - move.from else 0) + chips_added seat before
+chips_added seat (move ∷ before) =
+    (if move.seat == seat then move.to - move.from else 0) + chips_added seat before
 
 -- the chips of the hand, ante included
 abbrev pub chips_put : Setup → List Move → ℕ → ℕ
@@ -31,7 +33,8 @@ brought setup street seat = if street == 1 then blind_posted setup seat else 0
 
 -- the chips of this street, the ante not counted
 abbrev pub street_chips : Setup → List Move → ℕ → ℕ → ℕ
-street_chips setup moves street seat = brought setup street seat + chips_added seat (moves_on street moves)
+street_chips setup moves street seat =
+    brought setup street seat + chips_added seat (moves_on street moves)
 
 -- the street's chips of a seat that puts all it has left
 abbrev pub all_in : Setup → List Move → ℕ → ℕ → ℕ

@@ -1,4 +1,5 @@
--- What is due: a deal, a draw, a bring-in, a move, or nothing on this street, and then the next street.
+-- What is due: a deal, a draw, a bring-in, a move, or nothing on this street, and then the next
+-- street.
 use Rattle.std.specs.Prelude.{ℕ, zero, suc, ◌+◌, ◌-◌, Bool, true, false, ◌&&◌, ◌||◌, ◌==◌, nat_lt, nat_le, not, if◌then◌else◌, List, [], ◌∷◌, Option, Some, None, unwrap_or}
 use Rattle.std.specs.Option.{option_map}
 use Rattle.std.specs.List.{list_any}
@@ -13,19 +14,25 @@ use Rattle.play_event.specs.Price.{price, owed}
 use Rattle.play_event.specs.Dealing.{is_deal_due, is_draw_due}
 use Rattle.play_event.specs.Showing.{is_show_due}
 
--- a seat has moved on this street since the price last rose there: at the event that raised it or after
+-- a seat has moved on this street since the price last rose there: at the event that raised it or
+-- after
 abbrev pub has_moved_since_rise : Setup → List Move → ℕ → ℕ → Bool
 has_moved_since_rise setup [] street seat = false
 has_moved_since_rise setup (move ∷ before) street seat =
     if move.street == street
-    then (move.seat == seat) || (nat_le move.to (price setup before street) && has_moved_since_rise setup before street seat)
+    then (move.seat == seat)
+    || (nat_le move.to (price setup before street)
+    && has_moved_since_rise setup before street seat)
     else has_moved_since_rise setup before street seat
 
--- a seat has a move to make: it is able, has not moved since the price rose, and owes chips or has an able opponent
+-- a seat has a move to make: it is able, has not moved since the price rose, and owes chips or has
+-- an able opponent
 abbrev pub has_to_move : Setup → List Move → ℕ → ℕ → Bool
 has_to_move setup moves street seat =
     is_able setup moves seat
-    && (if has_moved_since_rise setup moves street seat then false else (nat_lt 0 (owed setup moves street seat) || nat_le 2 (able_count setup moves)))
+    && (if has_moved_since_rise setup moves street seat
+    then false
+    else (nat_lt 0 (owed setup moves street seat) || nat_le 2 (able_count setup moves)))
 
 -- a move is due: some seat has one to make
 abbrev pub is_move_due : Setup → List Move → ℕ → Bool
@@ -35,10 +42,12 @@ is_move_due setup moves street = list_any (has_to_move setup moves street) (all_
 abbrev pub has_opened_betting : Act → Bool
 has_opened_betting act = is_raise act || is_bring_in act
 
--- a bring-in is due: on the first street of stud, with two able seats or more, before any bring-in or raise
+-- a bring-in is due: on the first street of stud, with two able seats or more, before any bring-in
+-- or raise
 abbrev pub is_bring_in_due : Setup → List Move → ℕ → Bool
 is_bring_in_due setup moves street =
-    is_stud setup.code && (street == 1) && nat_le 2 (able_count setup moves) && not (list_any (λ move. has_opened_betting move.act) (moves_on street moves))
+    is_stud setup.code && (street == 1) && nat_le 2 (able_count setup moves)
+    && not (list_any (λ move. has_opened_betting move.act) (moves_on street moves))
 
 -- what is due on this street, if something is
 abbrev pub due_on : Setup → Past → ℕ → Option Due
@@ -57,18 +66,22 @@ found_or None second = second
 -- the first of so many streets, from this one on, on which something is due, and what that is
 abbrev pub first_due : (ℕ → Option Due) → ℕ → ℕ → Option (ℕ × Due)
 first_due on zero street = None
-first_due on (suc rest) street = found_or (option_map (λ due. (street, due)) (on street)) (first_due on rest (street + 1))
+first_due on (suc rest) street =
+    found_or (option_map (λ due. (street, due)) (on street)) (first_due on rest (street + 1))
 
 -- after the last street each live seat shows or mucks, and then the hand is over
 abbrev pub showdown : Setup → Past → Due
 showdown setup past = if is_show_due setup past then dues.Show else dues.Over
 
--- What is due, and on which street: on the street of the past, or on the first one after it that has
--- something due. After the last street it is the showdown. With one live seat nothing is due.
+-- What is due, and on which street: on the street of the past, or on the first one after it that
+-- has something due. After the last street it is the showdown. With one live seat nothing is due.
 unfoldable pub turn : Setup → Past → ℕ × Due
 turn setup past =
     if nat_le (live_count setup (moves_of past)) 1 then (newest_street past, dues.Over)
-    else unwrap_or (first_due (due_on setup past) (street_count setup.code + 1 - newest_street past) (newest_street past)) (street_count setup.code, showdown setup past)
+    else unwrap_or
+    (first_due (due_on setup past) (street_count setup.code + 1 - newest_street past)
+    (newest_street past))
+    (street_count setup.code, showdown setup past)
 
 -- a script may not end while this is due
 abbrev pub is_unfinished : Due → Bool
@@ -90,10 +103,13 @@ is_after_betting dues.Move = false
 
 -- an able seat owes chips
 abbrev pub has_able_seat_to_call : Setup → List Move → ℕ → Bool
-has_able_seat_to_call setup moves street = list_any (λ seat. is_able setup moves seat && nat_lt 0 (owed setup moves street seat)) (all_seats setup)
+has_able_seat_to_call setup moves street =
+    list_any (λ seat. is_able setup moves seat && nat_lt 0 (owed setup moves street seat))
+    (all_seats setup)
 
 -- the hand is settled: two or more seats are live, and no betting can come any more
 abbrev pub is_settled : Setup → List Move → ℕ × Due → Bool
 is_settled setup moves now =
     nat_le 2 (live_count setup moves)
-    && (is_after_betting now.1 || (nat_le (able_count setup moves) 1 && not (has_able_seat_to_call setup moves now.0)))
+    && (is_after_betting now.1
+    || (nat_le (able_count setup moves) 1 && not (has_able_seat_to_call setup moves now.0)))

@@ -1,4 +1,5 @@
--- What the laws of play speak of: the first street with something due, legal events, and reasons that do not hold.
+-- What the laws of play speak of: the first street with something due, legal events, and reasons
+-- that do not hold.
 use Rattle.std.specs.Prelude.{◌≡◌, ◌≢◌, ◌⊎◌, ℕ, ◌≤◌, ◌<◌, Bool, false, List, [], ◌∷◌, Option, Some, None}
 use Rattle.play_event.specs.declared.event.Spelled.{Spelled}
 use Rattle.play_event.specs.declared.event.Spelled.TheVariants as spelled
@@ -34,7 +35,8 @@ NoneHold (reason ∷ rest) = (reason.0 ≡ false) × NoneHold rest
 -- events, the newest first, each of which is legal after those before it
 abbrev pub AreLegal : Setup → Rules → List Said → Type 0
 AreLegal setup rules [] = Unit {0}
-AreLegal setup rules (event ∷ before) = (why setup rules (past_of setup before) event ≡ None) × AreLegal setup rules before
+AreLegal setup rules (event ∷ before) =
+    (why setup rules (past_of setup before) event ≡ None) × AreLegal setup rules before
 
 -- legal events of a valid setup in no limit or pot limit
 pub record AreLegalUnfixed (setup : Setup) (rules : Rules) (events : List Said) : Type 0 where
@@ -48,11 +50,14 @@ moves_by setup events = moves_of (past_of setup events)
 
 -- after a past it is this seat's turn
 abbrev pub IsInTurn : Setup → Past → ℕ → Type 0
-IsInTurn setup past seat = mover setup (up_cards setup.code past) (moves_of past) (turn setup past).0 ≡ TheSeat seat
+IsInTurn setup past seat =
+    mover setup (up_cards setup.code past) (moves_of past) (turn setup past).0 ≡ TheSeat seat
 
 -- a raise of a named seat to the target that a spelling has
 abbrev pub spelled_out : Setup → Past → ℕ → Spelled → Said
-spelled_out setup past seat amount = Raise (Some seat) (spelled.To (raise_target setup (moves_of past) (turn setup past).0 seat amount))
+spelled_out setup past seat amount =
+    Raise (Some seat)
+    (spelled.To (raise_target setup (moves_of past) (turn setup past).0 seat amount))
 
 -- a place is one of some places
 abbrev pub IsAmong : List Place → Place → Type 0
@@ -61,4 +66,5 @@ IsAmong (first ∷ rest) place = (first ≡ place) ⊎ IsAmong rest place
 
 -- no two of the places clash
 abbrev pub NoneClash : List Place → Type 0
-NoneClash placed = (a b : Place) → IsAmong placed a → IsAmong placed b → a.number ≢ b.number → is_clash a b ≡ false
+NoneClash placed =
+    (a b : Place) → IsAmong placed a → IsAmong placed b → a.number ≢ b.number → is_clash a b ≡ false

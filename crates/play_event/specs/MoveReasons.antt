@@ -1,4 +1,5 @@
--- Why a seat may not fold, call, raise or bring in now. No card is read here: who is in turn is given.
+-- Why a seat may not fold, call, raise or bring in now. No card is read here: who is in turn is
+-- given.
 use Rattle.std.specs.Prelude.{ℕ, ◌-◌, Bool, true, false, ◌&&◌, ◌==◌, nat_lt, not, List, Option, Some, None}
 use Rattle.play_event.specs.declared.reason.Illegal.{Illegal}
 use Rattle.play_event.specs.declared.reason.Illegal.TheVariants as reasons
@@ -22,7 +23,8 @@ actor_of None (TheSeat seat) = seat
 actor_of None NoSeat = 0
 actor_of None Undecided = 0
 
--- a seat is named whose turn it is not; where it is not known whose turn it is, a seat that is not able
+-- a seat is named whose turn it is not; where it is not known whose turn it is, a seat that is not
+-- able
 abbrev pub is_other_seat : Setup → List Move → Option ℕ → InTurn → Bool
 is_other_seat setup moves None turn = false
 is_other_seat setup moves (Some seat) (TheSeat other) = not (seat == other)
@@ -45,38 +47,45 @@ is_undecided_move turn _ = false
 
 -- a fold where nothing is owed, and folds are not free
 abbrev pub has_nothing_to_call : Setup → Rules → List Move → ℕ → InTurn → Said → Bool
-has_nothing_to_call setup rules moves street turn (said.Fold named) = not rules.free_fold && (owed setup moves street (actor_of named turn) == 0)
+has_nothing_to_call setup rules moves street turn (said.Fold named) =
+    not rules.free_fold && (owed setup moves street (actor_of named turn) == 0)
 has_nothing_to_call setup rules moves street turn _ = false
 
 -- a raise of a seat that may not raise
 abbrev pub is_raise_closed : Setup → Rules → List Move → ℕ → InTurn → Said → Bool
-is_raise_closed setup rules moves street turn (said.Raise named amount) = not (may_raise setup rules moves street (actor_of named turn))
+is_raise_closed setup rules moves street turn (said.Raise named amount) =
+    not (may_raise setup rules moves street (actor_of named turn))
 is_raise_closed setup rules moves street turn _ = false
 
 -- a target is not legal and below the greatest that is
 abbrev pub is_below_targets : Setup → Rules → List Move → ℕ → ℕ → ℕ → Bool
 is_below_targets setup rules moves street seat target =
-    not (is_legal_target rules.reopen setup moves street seat target) && nat_lt target (greatest_target setup moves street seat)
+    not (is_legal_target rules.reopen setup moves street seat target)
+    && nat_lt target (greatest_target setup moves street seat)
 
 -- a target is above the greatest that is legal
 abbrev pub is_above_targets : Setup → List Move → ℕ → ℕ → ℕ → Bool
-is_above_targets setup moves street seat target = nat_lt (greatest_target setup moves street seat) target
+is_above_targets setup moves street seat target =
+    nat_lt (greatest_target setup moves street seat) target
 
 -- a raise to less than it may go to
 abbrev pub is_raise_too_small : Setup → Rules → List Move → ℕ → InTurn → Said → Bool
 is_raise_too_small setup rules moves street turn (said.Raise named amount) =
-    is_below_targets setup rules moves street (actor_of named turn) (raise_target setup moves street (actor_of named turn) amount)
+    is_below_targets setup rules moves street (actor_of named turn)
+    (raise_target setup moves street (actor_of named turn) amount)
 is_raise_too_small setup rules moves street turn _ = false
 
 -- a raise to more than it may go to
 abbrev pub is_raise_too_big : Setup → List Move → ℕ → InTurn → Said → Bool
 is_raise_too_big setup moves street turn (said.Raise named amount) =
-    is_above_targets setup moves street (actor_of named turn) (raise_target setup moves street (actor_of named turn) amount)
+    is_above_targets setup moves street (actor_of named turn)
+    (raise_target setup moves street (actor_of named turn) amount)
 is_raise_too_big setup moves street turn _ = false
 
 -- the chips that a call adds
 abbrev pub chips_to_call : Setup → List Move → ℕ → ℕ → ℕ
-chips_to_call setup moves street seat = call_target setup moves street seat - street_chips setup moves street seat
+chips_to_call setup moves street seat =
+    call_target setup moves street seat - street_chips setup moves street seat
 
 -- a call states other chips than it adds, and both numbers
 abbrev pub stated_and_due : ℕ → ℕ → Bool × Illegal
@@ -84,5 +93,6 @@ stated_and_due stated due = (not (stated == due), reasons.AmountDiffers stated d
 
 -- whether a call states other chips than it adds, beside its reason; no other event does
 abbrev pub amount_row : Setup → List Move → ℕ → InTurn → Said → Bool × Illegal
-amount_row setup moves street turn (said.Call named (Some stated)) = stated_and_due stated (chips_to_call setup moves street (actor_of named turn))
+amount_row setup moves street turn (said.Call named (Some stated)) =
+    stated_and_due stated (chips_to_call setup moves street (actor_of named turn))
 amount_row setup moves street turn _ = (false, reasons.AmountDiffers 0 0)

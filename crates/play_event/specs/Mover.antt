@@ -9,9 +9,11 @@ use Rattle.play_event.specs.Due.{has_to_move}
 
 -- the seats in turn, from this one on and once round the table
 abbrev pub seats_from : Setup → ℕ → List ℕ
-seats_from setup seat = range_with_len seat (setup.stacks.seats + 1 - seat) ++ range_with_len 1 (seat - 1)
+seats_from setup seat =
+    range_with_len seat (setup.stacks.seats + 1 - seat) ++ range_with_len 1 (seat - 1)
 
--- where the turn is passed to: after the newest of the street's moves to the next seat, and before any move to the opener
+-- where the turn is passed to: after the newest of the street's moves to the next seat, and before
+-- any move to the opener
 abbrev pub next_in_turn : Setup → InTurn → List Move → InTurn
 next_in_turn setup opener [] = opener
 next_in_turn setup opener (move ∷ before) = TheSeat (seat_after setup move.seat)
@@ -24,8 +26,11 @@ first_in_turn setup holds (TheSeat seat) = in_turn (find holds (seats_from setup
 
 -- whose turn it is on this street, the opener being this
 abbrev pub mover_after : Setup → InTurn → List Move → ℕ → InTurn
-mover_after setup opener moves street = first_in_turn setup (has_to_move setup moves street) (next_in_turn setup opener (moves_on street moves))
+mover_after setup opener moves street =
+    first_in_turn setup (has_to_move setup moves street)
+    (next_in_turn setup opener (moves_on street moves))
 
 -- whose turn it is on this street, if some seat has a move to make
 abbrev pub mover : Setup → UpCards → List Move → ℕ → InTurn
-mover setup ups moves street = mover_after setup (opener_by (opener_of setup.code) setup ups moves street) moves street
+mover setup ups moves street =
+    mover_after setup (opener_by (opener_of setup.code) setup ups moves street) moves street

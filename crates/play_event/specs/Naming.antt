@@ -13,7 +13,8 @@ use Rattle.play_event.specs.Places.{Place, is_held_by, is_up}
 abbrev pub without : Slot → List Card → List Card
 without slots.Unknown names = names
 without (slots.Known card) [] = []
-without (slots.Known card) (name ∷ rest) = if is_same_card card name then rest else (name ∷ without (slots.Known card) rest)
+without (slots.Known card) (name ∷ rest) =
+    if is_same_card card name then rest else (name ∷ without (slots.Known card) rest)
 
 -- the names that no known card of these places bears, each card taking one name
 abbrev pub other_names : List Place → List Card → List Card
@@ -32,7 +33,8 @@ is_named_slot names slots.Unknown = false
 -- how many places bear a named card
 abbrev pub named_count : List Card → List Place → ℕ
 named_count names [] = 0
-named_count names (place ∷ rest) = (if is_named_slot names place.slot then 1 else 0) + named_count names rest
+named_count names (place ∷ rest) =
+    (if is_named_slot names place.slot then 1 else 0) + named_count names rest
 
 -- how many of some places are unknown
 abbrev pub unknown_count : List Place → ℕ
@@ -45,21 +47,33 @@ pub record Found : Type 0 where
   pub others : List Card
   pub blanks : ℕ
 
--- a known card that is named is marked; an unknown one takes the next of the other names, and then a blank
+-- a known card that is named is marked; an unknown one takes the next of the other names, and then
+-- a blank
 abbrev pub found_by : (Place → Place) → List Card → Slot → List Card → ℕ → Place → Found
 found_by mark names (slots.Known card) others blanks place =
-    record { place = if is_named card names then mark place else place; others = others; blanks = blanks }
+    record {
+      place = if is_named card names then mark place else place;
+      others = others;
+      blanks = blanks;
+    }
 found_by mark names slots.Unknown (card ∷ others) blanks place =
-    record { place = mark (record place { slot = slots.Known card }); others = others; blanks = blanks }
+    record {
+      place = mark (record place { slot = slots.Known card });
+      others = others;
+      blanks = blanks;
+    }
 found_by mark names slots.Unknown [] zero place = record { place = place; others = []; blanks = 0 }
-found_by mark names slots.Unknown [] (suc blanks) place = record { place = mark place; others = []; blanks = blanks }
+found_by mark names slots.Unknown [] (suc blanks) place =
+    record { place = mark place; others = []; blanks = blanks }
 
 -- the places after the names found theirs, in the order of dealing
-abbrev pub after_names : (Place → Bool) → (Place → Place) → List Card → List Card → ℕ → List Place → List Place
+abbrev pub after_names : (Place → Bool) → (Place → Place) → List Card → List Card → ℕ → List Place
+    → List Place
 after_names covers mark names others blanks [] = []
 after_names covers mark names others blanks (place ∷ rest) =
     if covers place
-    then (let found = found_by mark names place.slot others blanks place in found.place ∷ after_names covers mark names found.others found.blanks rest)
+    then (let found = found_by mark names place.slot others blanks place in found.place
+    ∷ after_names covers mark names found.others found.blanks rest)
     else (place ∷ after_names covers mark names others blanks rest)
 
 -- how many names are blank
@@ -73,7 +87,8 @@ discarded_now street count place = record place { gone_after = Some count; disca
 -- the places after a discard, which covers the cards that the seat holds
 abbrev pub after_discard : ℕ → ℕ → List Slot → List Place → List Place
 after_discard street seat names placed =
-    after_names (is_held_by seat) (discarded_now street (length placed)) (known_cards names) (other_names (filter (is_held_by seat) placed) (known_cards names)) (blanks_in names) placed
+    after_names (is_held_by seat) (discarded_now street (length placed)) (known_cards names)
+    (other_names (filter (is_held_by seat) placed) (known_cards names)) (blanks_in names) placed
 
 -- how many cards a seat holds
 abbrev pub held_count : List Place → ℕ → ℕ

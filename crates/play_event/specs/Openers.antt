@@ -41,10 +41,14 @@ greatest_blind setup = greatest (map (amount_of setup.blinds) (all_seats setup))
 
 -- the last of the seats with the greatest blind
 abbrev pub last_big_blind : Setup → ℕ
-last_big_blind setup = unwrap_or (find (λ seat. amount_of setup.blinds seat == greatest_blind setup) (reverse (all_seats setup))) 0
+last_big_blind setup =
+    unwrap_or
+    (find (λ seat. amount_of setup.blinds seat == greatest_blind setup)
+    (reverse (all_seats setup)))
+    0
 
--- Who opens a street of a game with blinds. The first street is opened by the seat after the greatest blind, the last
--- of equal ones, and with two seats by p2; a later street by p1.
+-- Who opens a street of a game with blinds. The first street is opened by the seat after the
+-- greatest blind, the last of equal ones, and with two seats by p2; a later street by p1.
 abbrev pub blinds_opener : Setup → ℕ → ℕ
 blinds_opener setup street =
     if street == 1
@@ -64,21 +68,31 @@ razz_place card = 4 * low_ace card.rank + suits_before card.suit
 abbrev pub is_lower : List ℕ → List ℕ → Bool
 is_lower [] others = false
 is_lower (height ∷ rest) [] = false
-is_lower (height ∷ rest) (other ∷ others) = nat_lt height other || ((height == other) && is_lower rest others)
+is_lower (height ∷ rest) (other ∷ others) =
+    nat_lt height other || ((height == other) && is_lower rest others)
 
--- up-cards are weaker, the ace high: their class is, or it is the same and the first rank that differs is lower
+-- up-cards are weaker, the ace high: their class is, or it is the same and the first rank that
+-- differs is lower
 abbrev pub is_weaker_up_high : List Card → List Card → Bool
-is_weaker_up_high a b = nat_lt (up_high_class b) (up_high_class a) || ((up_high_class a == up_high_class b) && is_lower (ranks_of high_ace a) (ranks_of high_ace b))
+is_weaker_up_high a b =
+    nat_lt (up_high_class b) (up_high_class a)
+    || ((up_high_class a == up_high_class b)
+    && is_lower (ranks_of high_ace a) (ranks_of high_ace b))
 
--- up-cards are weaker in razz: their class is, or it is the same and the first rank that differs is higher
+-- up-cards are weaker in razz: their class is, or it is the same and the first rank that differs is
+-- higher
 abbrev pub is_weaker_low : List Card → List Card → Bool
-is_weaker_low a b = nat_lt (low_class b) (low_class a) || ((low_class a == low_class b) && is_lower (ranks_of low_ace b) (ranks_of low_ace a))
+is_weaker_low a b =
+    nat_lt (low_class b) (low_class a)
+    || ((low_class a == low_class b) && is_lower (ranks_of low_ace b) (ranks_of low_ace a))
 
--- The up-cards of one seat open before those of another. The first street is opened by the lowest card, in razz by the
--- highest; a later street by the best cards, in razz by the lowest.
+-- The up-cards of one seat open before those of another. The first street is opened by the lowest
+-- card, in razz by the highest; a later street by the best cards, in razz by the lowest.
 abbrev pub is_opener_before : Opener → Bool → List Card → List Card → Bool
-is_opener_before openers.LowUp true a b = nat_lt (card_stands deck_place a) (card_stands deck_place b)
-is_opener_before openers.HighUp true a b = nat_lt (card_stands razz_place b) (card_stands razz_place a)
+is_opener_before openers.LowUp true a b =
+    nat_lt (card_stands deck_place a) (card_stands deck_place b)
+is_opener_before openers.HighUp true a b =
+    nat_lt (card_stands razz_place b) (card_stands razz_place a)
 is_opener_before openers.LowUp false a b = is_weaker_up_high b a
 is_opener_before openers.HighUp false a b = is_weaker_low b a
 is_opener_before openers.Blinds first a b = false
@@ -90,14 +104,29 @@ able_seats setup moves = filter (is_able setup moves) (all_seats setup)
 -- the first of the able seats before which no other opens
 abbrev pub up_cards_opener : Setup → UpCards → List Move → ℕ → Option ℕ
 up_cards_opener setup ups moves street =
-    find (λ seat. not (list_any (λ other. is_opener_before (opener_of setup.code) (street == 1) (known_cards (ups other)) (known_cards (ups seat))) (able_seats setup moves))) (able_seats setup moves)
+    find
+    (λ seat.
+    not
+    (list_any
+    (λ other.
+    is_opener_before (opener_of setup.code) (street == 1)
+    (known_cards (ups other)) (known_cards (ups seat)))
+    (able_seats setup moves)))
+    (able_seats setup moves)
 
 -- an up-card of an able seat is unknown
 abbrev pub has_unknown_up_card : Setup → UpCards → List Move → Bool
-has_unknown_up_card setup ups moves = list_any (λ seat. list_any is_unknown (ups seat)) (able_seats setup moves)
+has_unknown_up_card setup ups moves =
+    list_any (λ seat. list_any is_unknown (ups seat)) (able_seats setup moves)
 
 -- who opens a street
 abbrev pub opener_by : Opener → Setup → UpCards → List Move → ℕ → InTurn
 opener_by openers.Blinds setup ups moves street = TheSeat (blinds_opener setup street)
-opener_by openers.LowUp setup ups moves street = if has_unknown_up_card setup ups moves then Undecided else in_turn (up_cards_opener setup ups moves street)
-opener_by openers.HighUp setup ups moves street = if has_unknown_up_card setup ups moves then Undecided else in_turn (up_cards_opener setup ups moves street)
+opener_by openers.LowUp setup ups moves street =
+    if has_unknown_up_card setup ups moves
+    then Undecided
+    else in_turn (up_cards_opener setup ups moves street)
+opener_by openers.HighUp setup ups moves street =
+    if has_unknown_up_card setup ups moves
+    then Undecided
+    else in_turn (up_cards_opener setup ups moves street)

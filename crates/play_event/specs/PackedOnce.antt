@@ -1,4 +1,5 @@
 -- What is packed is read back, so no two lists of events have one packed form.
+-- This is a proof: no reader needs it.
 use Rattle.std.proofs.Common.{◌≡◌, ℕ, ◌-◌, ◌/◌, ◌%◌, ◌^◌, ◌<◌, ◌≤◌, false, ltb, List, [], ◌∷◌, ◌++◌, length, map, slice_get, unwrap_or, Option, Some, None, IfSome, refl, sym, ◌∙◌, ap, subst, arith, nat_eq, length-append}
 use Rattle.std.specs.Int.{Width, w32, w64, byte_len, from_be_bytes, to_be_bytes}
 use Rattle.std.specs.Coded.{×_prop, Unit-prop, le_prop}
@@ -62,29 +63,51 @@ slot_again (slots.Known card) =
     rw (known, card_again card) refl
 
 -- a list of such bytes is read as the list
-each_again : {A : Type 0} (read : ℕ → A) (byte : A → ℕ) → ((x : A) → read (byte x) ≡ x) → (xs : List A) → map read (map byte xs) ≡ xs
+each_again : {A : Type 0} (read : ℕ → A) (byte : A → ℕ) → ((x : A) → read (byte x) ≡ x)
+    → (xs : List A) → map read (map byte xs) ≡ xs
 each_again read byte again [] = refl
-each_again read byte again (x ∷ xs) = ap (λ first. first ∷ map read (map byte xs)) (again x) ∙ ap (λ rest. x ∷ rest) (each_again read byte again xs)
+each_again read byte again (x ∷ xs) =
+    ap (λ first. first ∷ map read (map byte xs)) (again x)
+    ∙ ap (λ rest. x ∷ rest) (each_again read byte again xs)
 
 -- a counted row is read, and what stands behind it is left
-counted_again : (row rest : List ℕ) → length row ≤ 7 → counted_at (counted row ++ rest) ≡ Some (row, rest)
+counted_again : (row rest : List ℕ) → length row ≤ 7
+    → counted_at (counted row ++ rest) ≡ Some (row, rest)
 unfolding counted_at
 counted_again row rest few =
-    rw (le-leb (length row) 7 few, le-leb (length row) (length (row ++ rest)) (omega (arith, length-append row rest)), take_at row rest (length row) refl, drop_at row rest (length row) refl) refl
+    rw (
+      le-leb (length row) 7 few,
+      le-leb (length row) (length (row ++ rest)) (omega (arith, length-append row rest)),
+      take_at row rest (length row) refl,
+      drop_at row rest (length row) refl,
+    )
+    refl
 
 -- a row of slots
-slots_again : (row : SlotRow) (rest : List ℕ) → slots_at (counted (map slot_byte (slots_of row)) ++ rest) ≡ Some (slots_of row, rest)
+slots_again : (row : SlotRow) (rest : List ℕ)
+    → slots_at (counted (map slot_byte (slots_of row)) ++ rest) ≡ Some (slots_of row, rest)
 unfolding slots_at
 slots_again row rest =
-    let few : length (map slot_byte (slots_of row)) ≤ 7 = omega (arith, row.fits, length-map (slots_of row) slot_byte, length-take row.len row.slots) in
-    rw (counted_again (map slot_byte (slots_of row)) rest few, each_again slot_of slot_byte slot_again (slots_of row)) refl
+    let few : length (map slot_byte (slots_of row)) ≤ 7 =
+    omega (arith, row.fits, length-map (slots_of row) slot_byte, length-take row.len row.slots) in
+    rw (
+      counted_again (map slot_byte (slots_of row)) rest few,
+      each_again slot_of slot_byte slot_again (slots_of row),
+    )
+    refl
 
 -- a row of cards
-cards_again : (row : CardRow) (rest : List ℕ) → cards_at (counted (map card_byte (cards_of row)) ++ rest) ≡ Some (cards_of row, rest)
+cards_again : (row : CardRow) (rest : List ℕ)
+    → cards_at (counted (map card_byte (cards_of row)) ++ rest) ≡ Some (cards_of row, rest)
 unfolding cards_at
 cards_again row rest =
-    let few : length (map card_byte (cards_of row)) ≤ 7 = omega (arith, row.fits, length-map (cards_of row) card_byte, length-take row.len row.cards) in
-    rw (counted_again (map card_byte (cards_of row)) rest few, each_again card_of card_byte card_again (cards_of row)) refl
+    let few : length (map card_byte (cards_of row)) ≤ 7 =
+    omega (arith, row.fits, length-map (cards_of row) card_byte, length-take row.len row.cards) in
+    rw (
+      counted_again (map card_byte (cards_of row)) rest few,
+      each_again card_of card_byte card_again (cards_of row),
+    )
+    refl
 
 -- ---- seats and numbers
 
@@ -98,7 +121,8 @@ unfolding seat_at
 seat_again seat rest = rw (seat_within seat) refl
 
 -- an actor, where there is one
-actor_again : (actor : Option Seat) (rest : List ℕ) → actor_at (actor_byte actor ∷ rest) ≡ Some (seat_named actor, rest)
+actor_again : (actor : Option Seat) (rest : List ℕ)
+    → actor_at (actor_byte actor ∷ rest) ≡ Some (seat_named actor, rest)
 unfolding actor_at
 actor_again None rest = refl
 actor_again (Some seat) rest =
@@ -119,25 +143,36 @@ wide64 : IsWide w64 (2 ^ 64)
 wide64 = record { len = λ n. refl; again = from_be_bytes-to_be_bytes_8 }
 
 -- a number of so many bits
-number_again : (width : Width) (limit : ℕ) → IsWide width limit → (n : ℕ) (rest : List ℕ) → n < limit → number_at width (to_be_bytes width n ++ rest) ≡ Some (n, rest)
+number_again : (width : Width) (limit : ℕ) → IsWide width limit → (n : ℕ) (rest : List ℕ)
+    → n < limit → number_at width (to_be_bytes width n ++ rest) ≡ Some (n, rest)
 unfolding number_at
 number_again width limit wide n rest fits =
     let len = wide.len n in
-    let long : ltb (length (to_be_bytes width n ++ rest)) (byte_len width) ≡ false = le-ltb _ _ (omega (arith, length-append (to_be_bytes width n) rest)) in
-    rw (long, take_at (to_be_bytes width n) rest (byte_len width) len, drop_at (to_be_bytes width n) rest (byte_len width) len, wide.again n fits) refl
+    let long : ltb (length (to_be_bytes width n ++ rest)) (byte_len width) ≡ false =
+    le-ltb _ _ (omega (arith, length-append (to_be_bytes width n) rest)) in
+    rw (
+      long,
+      take_at (to_be_bytes width n) rest (byte_len width) len,
+      drop_at (to_be_bytes width n) rest (byte_len width) len,
+      wide.again n fits,
+    )
+    refl
 
 -- chips
-chips_again : (chips : ℕ) (rest : List ℕ) → chips < 2 ^ 64 → number_at w64 (to_be_bytes w64 chips ++ rest) ≡ Some (chips, rest)
+chips_again : (chips : ℕ) (rest : List ℕ) → chips < 2 ^ 64
+    → number_at w64 (to_be_bytes w64 chips ++ rest) ≡ Some (chips, rest)
 chips_again = number_again w64 (2 ^ 64) wide64
 
 -- stated chips, where they are stated
-stated_again : (stated : Option ℕ) (rest : List ℕ) → IfSome stated (λ chips. chips < 2 ^ 64) → stated_at (stated_bytes stated ++ rest) ≡ Some (stated, rest)
+stated_again : (stated : Option ℕ) (rest : List ℕ) → IfSome stated (λ chips. chips < 2 ^ 64)
+    → stated_at (stated_bytes stated ++ rest) ≡ Some (stated, rest)
 unfolding stated_at
 stated_again None rest fits = refl
 stated_again (Some chips) rest fits = rw (chips_again chips rest fits) refl
 
 -- an amount in its spelling
-amount_again : (amount : Spelled) (rest : List ℕ) → AmountFits amount → amount_at (amount_bytes amount ++ rest) ≡ Some (amount, rest)
+amount_again : (amount : Spelled) (rest : List ℕ) → AmountFits amount
+    → amount_at (amount_bytes amount ++ rest) ≡ Some (amount, rest)
 unfolding amount_at
 amount_again (spelled.To chips) rest fits = rw (chips_again chips rest fits) refl
 amount_again (spelled.Added chips) rest fits = rw (chips_again chips rest fits) refl
@@ -147,23 +182,37 @@ amount_again spelled.Unit rest fits = refl
 -- ---- events
 
 -- a kind of event
-kind_again : (kind : Kind) (rest : List ℕ) → ChipsFit kind → kind_at (kind_byte kind) (kind_bytes kind ++ rest) ≡ Some (kind_said kind, rest)
+kind_again : (kind : Kind) (rest : List ℕ) → ChipsFit kind
+    → kind_at (kind_byte kind) (kind_bytes kind ++ rest) ≡ Some (kind_said kind, rest)
 unfolding kind_at move_at hand_at
-kind_again (kinds.Hole seat cards) rest fits = rw (seat_again seat (counted (map slot_byte (slots_of cards)) ++ rest), slots_again cards rest) refl
+kind_again (kinds.Hole seat cards) rest fits =
+    rw (seat_again seat (counted (map slot_byte (slots_of cards)) ++ rest), slots_again cards rest)
+    refl
 kind_again (kinds.Board cards) rest fits = rw (cards_again cards rest) refl
 kind_again (kinds.Fold actor) rest fits = rw (actor_again actor rest) refl
-kind_again (kinds.Call actor stated) rest fits = rw (actor_again actor (stated_bytes stated ++ rest), stated_again stated rest fits) refl
-kind_again (kinds.Raise actor amount) rest fits = rw (actor_again actor (amount_bytes amount ++ rest), amount_again amount rest fits) refl
+kind_again (kinds.Call actor stated) rest fits =
+    rw (actor_again actor (stated_bytes stated ++ rest), stated_again stated rest fits) refl
+kind_again (kinds.Raise actor amount) rest fits =
+    rw (actor_again actor (amount_bytes amount ++ rest), amount_again amount rest fits) refl
 kind_again (kinds.BringIn actor) rest fits = rw (actor_again actor rest) refl
-kind_again (kinds.Discard seat cards) rest fits = rw (seat_again seat (counted (map slot_byte (slots_of cards)) ++ rest), slots_again cards rest) refl
-kind_again (kinds.Show seat cards) rest fits = rw (seat_again seat (counted (map card_byte (cards_of cards)) ++ rest), cards_again cards rest) refl
+kind_again (kinds.Discard seat cards) rest fits =
+    rw (seat_again seat (counted (map slot_byte (slots_of cards)) ++ rest), slots_again cards rest)
+    refl
+kind_again (kinds.Show seat cards) rest fits =
+    rw (seat_again seat (counted (map card_byte (cards_of cards)) ++ rest), cards_again cards rest)
+    refl
 kind_again (kinds.Muck seat) rest fits = rw (seat_again seat rest) refl
 
 -- an event is read back, whatever stands behind it
-pub event_again : (event : Event) (rest : List ℕ) → IsEvent event → event_at (packed_event event ++ rest) ≡ Some (numbered event, rest)
+pub event_again : (event : Event) (rest : List ℕ) → IsEvent event
+    → event_at (packed_event event ++ rest) ≡ Some (numbered event, rest)
 unfolding event_at packed_event
 event_again event rest fits =
-    rw (number_again w32 (2 ^ 32) wide32 event.at (kind_bytes event.kind ++ rest) fits.at, kind_again event.kind rest fits.chips) refl
+    rw (
+      number_again w32 (2 ^ 32) wide32 event.at (kind_bytes event.kind ++ rest) fits.at,
+      kind_again event.kind rest fits.chips,
+    )
+    refl
 
 -- ---- what is said of an event is the event
 
@@ -172,7 +221,8 @@ actor_same : (a b : Option Seat) → seat_named a ≡ seat_named b → a ≡ b
 actor_same None None same = refl
 actor_same None (Some seat) same = absurd cc
 actor_same (Some seat) None same = absurd cc
-actor_same (Some seat) (Some other) same = let number : seat.number ≡ other.number = cc in cc (seat_same seat other number)
+actor_same (Some seat) (Some other) same =
+    let number : seat.number ≡ other.number = cc in cc (seat_same seat other number)
 
 -- kinds that say the same are one
 kind_same : (a b : Kind) → kind_said a ≡ kind_said b → a ≡ b
@@ -181,9 +231,11 @@ kind_same (kinds.Hole seat cards) (kinds.Hole other others) same =
     let row : slots_of cards ≡ slots_of others = cc in
     cc (seat_same seat other number, slots_same cards others row)
 kind_same (kinds.Hole seat cards) _ same = absurd cc
-kind_same (kinds.Board cards) (kinds.Board others) same = let row : cards_of cards ≡ cards_of others = cc in cc (cards_same cards others row)
+kind_same (kinds.Board cards) (kinds.Board others) same =
+    let row : cards_of cards ≡ cards_of others = cc in cc (cards_same cards others row)
 kind_same (kinds.Board cards) _ same = absurd cc
-kind_same (kinds.Fold actor) (kinds.Fold other) same = let named : seat_named actor ≡ seat_named other = cc in cc (actor_same actor other named)
+kind_same (kinds.Fold actor) (kinds.Fold other) same =
+    let named : seat_named actor ≡ seat_named other = cc in cc (actor_same actor other named)
 kind_same (kinds.Fold actor) _ same = absurd cc
 kind_same (kinds.Call actor stated) (kinds.Call other others) same =
     let named : seat_named actor ≡ seat_named other = cc in
@@ -195,7 +247,8 @@ kind_same (kinds.Raise actor amount) (kinds.Raise other others) same =
     let chips : amount ≡ others = cc in
     cc (actor_same actor other named)
 kind_same (kinds.Raise actor amount) _ same = absurd cc
-kind_same (kinds.BringIn actor) (kinds.BringIn other) same = let named : seat_named actor ≡ seat_named other = cc in cc (actor_same actor other named)
+kind_same (kinds.BringIn actor) (kinds.BringIn other) same =
+    let named : seat_named actor ≡ seat_named other = cc in cc (actor_same actor other named)
 kind_same (kinds.BringIn actor) _ same = absurd cc
 kind_same (kinds.Discard seat cards) (kinds.Discard other others) same =
     let number : seat.number ≡ other.number = cc in
@@ -207,7 +260,8 @@ kind_same (kinds.Show seat cards) (kinds.Show other others) same =
     let row : cards_of cards ≡ cards_of others = cc in
     cc (seat_same seat other number, cards_same cards others row)
 kind_same (kinds.Show seat cards) _ same = absurd cc
-kind_same (kinds.Muck seat) (kinds.Muck other) same = let number : seat.number ≡ other.number = cc in cc (seat_same seat other number)
+kind_same (kinds.Muck seat) (kinds.Muck other) same =
+    let number : seat.number ≡ other.number = cc in cc (seat_same seat other number)
 kind_same (kinds.Muck seat) _ same = absurd cc
 
 -- events with one number that say the same are one
@@ -218,16 +272,22 @@ event_same a b same =
     ap (λ n. record { at = n; kind = a.kind }) at ∙ ap (λ k. record { at = b.at; kind = k }) kind
 
 -- lists of events with one packed form are one
-pub events_same : (a b : List Event) → AreEvents a → AreEvents b → packed_events a ≡ packed_events b → a ≡ b
+pub events_same : (a b : List Event) → AreEvents a → AreEvents b → packed_events a ≡ packed_events b
+    → a ≡ b
 unfolding packed_event
 events_same [] [] fit fits same = refl
 events_same [] (event ∷ rest) fit fits same = absurd cc
 events_same (event ∷ rest) [] fit fits same = absurd cc
 events_same (event ∷ rest) (other ∷ others) fit fits same =
-    let read : Some (numbered event, packed_events rest) ≡ Some (numbered other, packed_events others) =
-    sym (event_again event (packed_events rest) fit.0) ∙ ap event_at same ∙ event_again other (packed_events others) fits.0 in
-    let parts = some_pair_parts (numbered event) (numbered other) (packed_events rest) (packed_events others) read in
-    ap (λ first. first ∷ rest) (event_same event other parts.0) ∙ ap (λ later. other ∷ later) (events_same rest others fit.1 fits.1 parts.1)
+    let read :
+    Some (numbered event, packed_events rest) ≡ Some (numbered other, packed_events others) =
+    sym (event_again event (packed_events rest) fit.0) ∙ ap event_at same
+    ∙ event_again other (packed_events others) fits.0 in
+    let parts =
+    some_pair_parts (numbered event) (numbered other) (packed_events rest)
+    (packed_events others) read in
+    ap (λ first. first ∷ rest) (event_same event other parts.0)
+    ∙ ap (λ later. other ∷ later) (events_same rest others fit.1 fits.1 parts.1)
 
 -- ---- the events of packed bytes are one list
 
@@ -276,7 +336,10 @@ script_of bytes events kept = record { events = events; fit = kept.0; packed = k
 pub one_script : (bytes : List ℕ) → IsProp (PackedScript bytes)
 unfolding Kept script_of
 one_script bytes a b =
-    let same : a.events ≡ b.events = events_same a.events b.events a.fit b.fit (sym a.packed ∙ b.packed) in
-    let P : List Event → Type 0 = λ events. (kept : Kept bytes events) → a ≡ script_of bytes events kept in
-    let here : P a.events = λ kept. ap (script_of bytes a.events) (Kept-prop bytes a.events (a.fit, a.packed) kept) in
+    let same : a.events ≡ b.events =
+    events_same a.events b.events a.fit b.fit (sym a.packed ∙ b.packed) in
+    let P : List Event → Type 0 =
+    λ events. (kept : Kept bytes events) → a ≡ script_of bytes events kept in
+    let here : P a.events =
+    λ kept. ap (script_of bytes a.events) (Kept-prop bytes a.events (a.fit, a.packed) kept) in
     subst P same here (b.fit, b.packed)

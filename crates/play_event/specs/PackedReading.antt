@@ -1,4 +1,5 @@
--- What packed bytes say, read from left to right: what stands at their front, and the bytes behind it.
+-- What packed bytes say, read from left to right: what stands at their front, and the bytes behind
+-- it.
 use Rattle.std.specs.Prelude.{ℕ, ◌-◌, ◌==◌, ◌&&◌, nat_le, nat_lt, if◌then◌else◌, List, [], ◌∷◌, length, map, take, drop, Option, Some, None}
 use Rattle.std.specs.Int.{Width, w32, w64, byte_len, from_be_bytes}
 use Rattle.card_set.specs.declared.card.Card.{Card}
@@ -31,7 +32,9 @@ number_at width bytes =
 unfoldable pub counted_at : List ℕ → Option (List ℕ × List ℕ)
 counted_at bytes = do
   count ← byte_at bytes
-  if nat_le count.0 7 && nat_le count.0 (length count.1) then Some (take count.0 count.1, drop count.0 count.1) else None
+  if nat_le count.0 7 && nat_le count.0 (length count.1)
+      then Some (take count.0 count.1, drop count.0 count.1)
+      else None
 
 -- the seat with this number, where a hand has such a seat
 abbrev pub seat_numbered : ℕ → Option ℕ
@@ -48,7 +51,9 @@ seat_at bytes = do
 unfoldable pub actor_at : List ℕ → Option (Option ℕ × List ℕ)
 actor_at bytes = do
   number ← byte_at bytes
-  if number.0 == 0 then Some (None, number.1) else (seat_numbered number.0 >>= λ seat. Some (Some seat, number.1))
+  if number.0 == 0
+      then Some (None, number.1)
+      else (seat_numbered number.0 >>= λ seat. Some (Some seat, number.1))
 
 -- the card of a byte from 1 to 52: its place in the deck, counted from 1
 abbrev pub card_of : ℕ → Card
@@ -74,23 +79,33 @@ cards_at bytes = do
 unfoldable pub stated_at : List ℕ → Option (Option ℕ × List ℕ)
 stated_at bytes = do
   flag ← byte_at bytes
-  if flag.0 == 0 then Some (None, flag.1) else (number_at w64 flag.1 >>= λ chips. Some (Some chips.0, chips.1))
+  if flag.0 == 0
+      then Some (None, flag.1)
+      else (number_at w64 flag.1 >>= λ chips. Some (Some chips.0, chips.1))
 
 -- the amount of a raise
 unfoldable pub amount_at : List ℕ → Option (Spelled × List ℕ)
 amount_at bytes = do
   spelling ← byte_at bytes
-  if spelling.0 == 4 then Some (spelled.Unit, spelling.1) else (number_at w64 spelling.1 >>= λ chips. Some (
-    (if spelling.0 == 1 then spelled.To chips.0 else if spelling.0 == 2 then spelled.Added chips.0 else spelled.HandTotal chips.0),
-    chips.1,
-  ))
+  if spelling.0 == 4
+      then Some (spelled.Unit, spelling.1)
+      else (number_at w64 spelling.1 >>= λ chips. Some (
+        (if spelling.0 == 1
+            then spelled.To chips.0
+            else if spelling.0 == 2
+            then spelled.Added chips.0
+            else spelled.HandTotal chips.0),
+        chips.1,
+      ))
 
 -- what an event of the kind with this number says of an actor
 unfoldable pub move_at : ℕ → Option ℕ → List ℕ → Option (Said × List ℕ)
 move_at number actor bytes =
     if number == 3 then Some (said.Fold actor, bytes)
-    else if number == 4 then (stated_at bytes >>= λ stated. Some (said.Call actor stated.0, stated.1))
-    else if number == 5 then (amount_at bytes >>= λ amount. Some (said.Raise actor amount.0, amount.1))
+    else if number == 4
+    then (stated_at bytes >>= λ stated. Some (said.Call actor stated.0, stated.1))
+    else if number == 5
+    then (amount_at bytes >>= λ amount. Some (said.Raise actor amount.0, amount.1))
     else if number == 6 then Some (said.BringIn actor, bytes)
     else None
 
@@ -107,7 +122,8 @@ hand_at number seat bytes =
 unfoldable pub kind_at : ℕ → List ℕ → Option (Said × List ℕ)
 kind_at number bytes =
     if number == 2 then (cards_at bytes >>= λ cards. Some (said.Board cards.0, cards.1))
-    else if nat_le 3 number && nat_le number 6 then (actor_at bytes >>= λ actor. move_at number actor.0 actor.1)
+    else if nat_le 3 number && nat_le number 6
+    then (actor_at bytes >>= λ actor. move_at number actor.0 actor.1)
     else (seat_at bytes >>= λ seat. hand_at number seat.0 seat.1)
 
 -- an event

@@ -1,12 +1,14 @@
--- Where each dealt card lies: whose it is, what is known of it, and whether it is gone. No amount is read here.
+-- Where each dealt card lies: whose it is, what is known of it, and whether it is gone. No amount
+-- is read here.
 use Rattle.std.specs.Prelude.{ℕ, ◌+◌, Bool, true, false, ◌&&◌, ◌==◌, nat_lt, nat_le, if◌then◌else◌, List, [], ◌∷◌, ◌++◌, map, filter, length, count_by, Option, Some, None, is_none}
 use Rattle.card_set.specs.declared.card.Slot.{Slot}
 use Rattle.play_event.specs.declared.code.Code.{Code}
 use Rattle.play_event.specs.Streets.{deck_of, has_draw, down_cards_on, up_cards_on}
 
--- A dealt card: its owner, where that is a seat and not the board; its street; how many cards of that street its owner
--- had before it, and how many cards were dealt before it in all; the card as far as it is known; whether it was dealt
--- past the deck; after how many deals of cards it was gone, if it is; and the street of the draw that discarded it, or 0.
+-- A dealt card: its owner, where that is a seat and not the board; its street; how many cards of
+-- that street its owner had before it, and how many cards were dealt before it in all; the card as
+-- far as it is known; whether it was dealt past the deck; after how many deals of cards it was
+-- gone, if it is; and the street of the draw that discarded it, or 0.
 pub record Place : Type 0 where
   pub owner : Option ℕ
   pub street : ℕ
@@ -36,20 +38,33 @@ group_of placed street owner = filter (is_in_group owner street) placed
 abbrev pub places_dealt : Option ℕ → ℕ → Bool → (index number : ℕ) → List Slot → List Place
 places_dealt owner street late index number [] = []
 places_dealt owner street late index number (slot ∷ rest) =
-    record { owner = owner; street = street; index = index; number = number; slot = slot; past_deck = late; gone_after = None; discarded = 0 }
+    record {
+      owner = owner;
+      street = street;
+      index = index;
+      number = number;
+      slot = slot;
+      past_deck = late;
+      gone_after = None;
+      discarded = 0;
+    }
     ∷ places_dealt owner street late (index + 1) (number + 1) rest
 
--- A card that is dealt on this street now is dealt past the deck: it is dealt in a draw, and the cards dealt before the
--- draw and those discarded so far in it are more than the deck has.
+-- A card that is dealt on this street now is dealt past the deck: it is dealt in a draw, and the
+-- cards dealt before the draw and those discarded so far in it are more than the deck has.
 abbrev pub is_past_deck : Code → List Place → ℕ → Bool
 is_past_deck code placed street =
     has_draw code street
-    && nat_lt (deck_of code) (count_by (λ place. nat_lt place.street street) placed + count_by (λ place. place.discarded == street) placed)
+    && nat_lt (deck_of code)
+    (count_by (λ place. nat_lt place.street street) placed
+    + count_by (λ place. place.discarded == street) placed)
 
 -- the places after a deal
 abbrev pub after_deal : Code → Option ℕ → ℕ → List Slot → List Place → List Place
 after_deal code owner street cards placed =
-    placed ++ places_dealt owner street (is_past_deck code placed street) (count_by (is_in_group owner street) placed) (length placed) cards
+    placed
+    ++ places_dealt owner street (is_past_deck code placed street)
+    (count_by (is_in_group owner street) placed) (length placed) cards
 
 -- a seat holds the card: it was dealt to it and is not gone
 abbrev pub is_held_by : ℕ → Place → Bool
@@ -69,8 +84,10 @@ after_fold seat placed = map (folded_place seat (length placed)) placed
 
 -- a card was dealt face up: the cards of a street are dealt face down first
 abbrev pub is_up : Code → Place → Bool
-is_up code place = nat_lt 0 (up_cards_on code place.street) && nat_le (down_cards_on code place.street) place.index
+is_up code place =
+    nat_lt 0 (up_cards_on code place.street) && nat_le (down_cards_on code place.street) place.index
 
 -- the up-cards of a seat
 abbrev pub up_slots : Code → List Place → ℕ → List Slot
-up_slots code placed seat = map (λ place. place.slot) (filter (λ place. is_held_by seat place && is_up code place) placed)
+up_slots code placed seat =
+    map (λ place. place.slot) (filter (λ place. is_held_by seat place && is_up code place) placed)

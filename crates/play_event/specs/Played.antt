@@ -29,7 +29,8 @@ move_said move =
       unit_to = move.unit_to;
     }
 
--- a row says where a card lies: whose it is, its street, the card as far as it is known, and the draw that discarded it
+-- a row says where a card lies: whose it is, its street, the card as far as it is known, and the
+-- draw that discarded it
 pub record IsPlace (row : places.Place) (place : TracedPlace) : Type 0 where
   pub owner : option_map (λ seat. seat.number) row.owner ≡ place.owner
   pub street : row.street ≡ place.street

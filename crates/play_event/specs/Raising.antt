@@ -25,22 +25,29 @@ raises_on moves street = count_by (λ move. is_raise move.act) (moves_on street 
 -- the raises of this street are fewer than its cap; a street past the fourth has none
 abbrev pub is_within_cap : Option (List ℕ) → List Move → ℕ → Bool
 is_within_cap None moves street = true
-is_within_cap (Some caps) moves street = nat_lt 4 street || nat_lt (raises_on moves street) (slice_index caps (street - 1))
+is_within_cap (Some caps) moves street =
+    nat_lt 4 street || nat_lt (raises_on moves street) (slice_index caps (street - 1))
 
 -- what a seat owes reopens the betting to it: a full raise, or in fixed limit half a unit
 abbrev pub is_full_raise_owed : Limit → Setup → List Move → ℕ → ℕ → Bool
-is_full_raise_owed limits.No setup moves street seat = nat_le (full_raise setup moves street) (owed setup moves street seat)
-is_full_raise_owed limits.Pot setup moves street seat = nat_le (full_raise setup moves street) (owed setup moves street seat)
-is_full_raise_owed limits.Fixed setup moves street seat = nat_le (unit setup street) (2 * owed setup moves street seat)
+is_full_raise_owed limits.No setup moves street seat =
+    nat_le (full_raise setup moves street) (owed setup moves street seat)
+is_full_raise_owed limits.Pot setup moves street seat =
+    nat_le (full_raise setup moves street) (owed setup moves street seat)
+is_full_raise_owed limits.Fixed setup moves street seat =
+    nat_le (unit setup street) (2 * owed setup moves street seat)
 
 -- the betting is open to a seat: always, or where it has not moved on this street or owes enough
 abbrev pub is_reopened : Reopen → Setup → List Move → ℕ → ℕ → Bool
 is_reopened reopen.Always setup moves street seat = true
-is_reopened reopen.Full setup moves street seat = not (has_moved moves street seat) || is_full_raise_owed (limit_of setup.code) setup moves street seat
+is_reopened reopen.Full setup moves street seat =
+    not (has_moved moves street seat)
+    || is_full_raise_owed (limit_of setup.code) setup moves street seat
 
 -- another seat is able
 abbrev pub has_able_opponent : Setup → List Move → ℕ → Bool
-has_able_opponent setup moves seat = list_any (λ other. is_able setup moves other && not (other == seat)) (all_seats setup)
+has_able_opponent setup moves seat =
+    list_any (λ other. is_able setup moves other && not (other == seat)) (all_seats setup)
 
 -- a seat may raise
 abbrev pub may_raise : Setup → Rules → List Move → ℕ → ℕ → Bool
@@ -50,8 +57,9 @@ may_raise setup rules moves street seat =
     && is_within_cap rules.caps moves street
     && is_reopened rules.reopen setup moves street seat
 
--- whatever the rules of the notation, a raise needs rules by which betting always reopens: where full raises alone
--- reopen it, the seat may not raise, or its target is not legal
+-- whatever the rules of the notation, a raise needs rules by which betting always reopens: where
+-- full raises alone reopen it, the seat may not raise, or its target is not legal
 abbrev pub is_closed : Setup → List Move → ℕ → ℕ → ℕ → Bool
 is_closed setup moves street seat target =
-    not (is_reopened reopen.Full setup moves street seat) || not (is_legal_target reopen.Full setup moves street seat target)
+    not (is_reopened reopen.Full setup moves street seat)
+    || not (is_legal_target reopen.Full setup moves street seat target)

@@ -67,22 +67,32 @@ is_show _ = false
 
 -- an event of this kind may come: what is due asks for it, or it is a show and the hand is settled
 abbrev pub may_come : Setup → Past → ℕ × Due → Said → Bool
-may_come setup past now event = is_due_kind setup.code now.1 event || (is_show event && is_settled setup (moves_of past) now)
+may_come setup past now event =
+    is_due_kind setup.code now.1 event || (is_show event && is_settled setup (moves_of past) now)
 
--- the seat may not do it now: it is not its turn, it is owed no card, it does not draw next, or it has nothing to show
+-- the seat may not do it now: it is not its turn, it is owed no card, it does not draw next, or it
+-- has nothing to show
 abbrev pub is_wrong_seat : Setup → Past → ℕ → InTurn → Said → Bool
-is_wrong_seat setup past street in_turn (said.Hole seat cards) = is_owed_nothing setup past street seat
+is_wrong_seat setup past street in_turn (said.Hole seat cards) =
+    is_owed_nothing setup past street seat
 is_wrong_seat setup past street in_turn (said.Board cards) = false
-is_wrong_seat setup past street in_turn (said.Fold named) = is_other_seat setup (moves_of past) named in_turn
-is_wrong_seat setup past street in_turn (said.Call named stated) = is_other_seat setup (moves_of past) named in_turn
-is_wrong_seat setup past street in_turn (said.Raise named amount) = is_other_seat setup (moves_of past) named in_turn
-is_wrong_seat setup past street in_turn (said.BringIn named) = is_other_seat setup (moves_of past) named in_turn
-is_wrong_seat setup past street in_turn (said.Discard seat cards) = not (is_next_to_draw setup past street seat)
+is_wrong_seat setup past street in_turn (said.Fold named) =
+    is_other_seat setup (moves_of past) named in_turn
+is_wrong_seat setup past street in_turn (said.Call named stated) =
+    is_other_seat setup (moves_of past) named in_turn
+is_wrong_seat setup past street in_turn (said.Raise named amount) =
+    is_other_seat setup (moves_of past) named in_turn
+is_wrong_seat setup past street in_turn (said.BringIn named) =
+    is_other_seat setup (moves_of past) named in_turn
+is_wrong_seat setup past street in_turn (said.Discard seat cards) =
+    not (is_next_to_draw setup past street seat)
 is_wrong_seat setup past street in_turn (said.Show seat cards) = not (may_show setup past seat)
 is_wrong_seat setup past street in_turn (said.Muck seat) = not (may_show setup past seat)
 
--- the reasons of a kind that may come, on this street, where the places are these and so is the seat in turn
-abbrev pub reasons_by : Setup → Rules → Past → ℕ → InTurn → List Place → Said → List (Bool × Illegal)
+-- the reasons of a kind that may come, on this street, where the places are these and so is the
+-- seat in turn
+abbrev pub reasons_by : Setup → Rules → Past → ℕ → InTurn → List Place → Said
+    → List (Bool × Illegal)
 reasons_by setup rules past street in_turn placed event =
     let moves = moves_of past in
     (is_wrong_seat setup past street in_turn event, reasons.WrongSeat)
@@ -100,9 +110,12 @@ reasons_by setup rules past street in_turn placed event =
 -- the reasons of a kind that may come, on this street
 abbrev pub later_reasons : Setup → Rules → Past → ℕ → Said → List (Bool × Illegal)
 later_reasons setup rules past street event =
-    reasons_by setup rules past street (mover setup (up_cards setup.code past) (moves_of past) street) (places_of setup.code past) event
+    reasons_by setup rules past street
+    (mover setup (up_cards setup.code past) (moves_of past) street) (places_of setup.code past)
+    event
 
--- The twelve reasons in their order: the hand is over, an event of this kind may not come, and then the others.
+-- The twelve reasons in their order: the hand is over, an event of this kind may not come, and then
+-- the others.
 abbrev pub all_reasons : Setup → Rules → Past → ℕ × Due → Said → List (Bool × Illegal)
 all_reasons setup rules past now event =
     (is_hand_over setup past now.1 event, reasons.HandOver)

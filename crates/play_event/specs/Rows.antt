@@ -9,7 +9,9 @@ use Rattle.chip_ledger.specs.declared.rows.TheConstants.{MOST_AMOUNT}
 
 -- a list of two to ten amounts
 abbrev pub is_row : List ℕ → Bool
-is_row amounts = nat_le 2 (length amounts) && (nat_le (length amounts) 10 && list_all (λ amount. nat_le amount MOST_AMOUNT) amounts)
+is_row amounts =
+    nat_le 2 (length amounts)
+    && (nat_le (length amounts) 10 && list_all (λ amount. nat_le amount MOST_AMOUNT) amounts)
 
 -- the amounts and the fillers behind them
 abbrev pub filled : List ℕ → List ℕ
@@ -22,26 +24,46 @@ zeros (suc n) zero = refl
 zeros (suc n) (suc k) = zeros n k
 
 -- amounts and the fillers behind them are no more than a row may hold
-pub within : (amounts : List ℕ) (n : ℕ) → IsTrue (list_all (λ amount. nat_le amount MOST_AMOUNT) amounts) → (k : ℕ) → slice_index (amounts ++ replicate n 0) k ≤ MOST_AMOUNT
+pub within : (amounts : List ℕ) (n : ℕ)
+    → IsTrue (list_all (λ amount. nat_le amount MOST_AMOUNT) amounts) → (k : ℕ)
+    → slice_index (amounts ++ replicate n 0) k ≤ MOST_AMOUNT
 within [] n all k = omega (arith, zeros n k)
-within (amount ∷ rest) n all zero = leb-true amount MOST_AMOUNT (and_parts (nat_le amount MOST_AMOUNT) (list_all (λ other. nat_le other MOST_AMOUNT) rest) all).0
-within (amount ∷ rest) n all (suc k) = within rest n (and_parts (nat_le amount MOST_AMOUNT) (list_all (λ other. nat_le other MOST_AMOUNT) rest) all).1 k
+within (amount ∷ rest) n all zero =
+    leb-true amount MOST_AMOUNT
+    (and_parts (nat_le amount MOST_AMOUNT)
+    (list_all (λ other. nat_le other MOST_AMOUNT) rest) all).0
+within (amount ∷ rest) n all (suc k) =
+    within rest n
+    (and_parts (nat_le amount MOST_AMOUNT)
+    (list_all (λ other. nat_le other MOST_AMOUNT) rest) all).1
+    k
 
 -- behind the amounts stands 0
-pub behind : (amounts : List ℕ) (n k : ℕ) → length amounts ≤ k → slice_index (amounts ++ replicate n 0) k ≡ 0
+pub behind : (amounts : List ℕ) (n k : ℕ) → length amounts ≤ k
+    → slice_index (amounts ++ replicate n 0) k ≡ 0
 behind [] n k late = zeros n k
 behind (amount ∷ rest) n zero late = absurd (omega (arith, late))
 behind (amount ∷ rest) n (suc k) late = behind rest n k (omega (arith, late))
 
 -- amounts and fillers are ten
 pub whole : (amounts : List ℕ) → length amounts ≤ 10 → length (filled amounts) ≡ 10
-whole amounts few = omega (arith, length-append amounts (replicate (10 - length amounts) 0), length-replicate {A = ℕ} (10 - length amounts) 0)
+whole amounts few =
+    omega (
+      arith,
+      length-append amounts (replicate (10 - length amounts) 0),
+      length-replicate {A = ℕ} (10 - length amounts) 0,
+    )
 
 -- the row of these amounts
 abbrev pub row_of : (amounts : List ℕ) → IsTrue (is_row amounts) → SeatRow
 row_of amounts fits =
-    let first = and_parts (nat_le 2 (length amounts)) (nat_le (length amounts) 10 && list_all (λ amount. nat_le amount MOST_AMOUNT) amounts) fits in
-    let second = and_parts (nat_le (length amounts) 10) (list_all (λ amount. nat_le amount MOST_AMOUNT) amounts) first.1 in
+    let first =
+    and_parts (nat_le 2 (length amounts))
+    (nat_le (length amounts) 10 && list_all (λ amount. nat_le amount MOST_AMOUNT) amounts)
+    fits in
+    let second =
+    and_parts (nat_le (length amounts) 10)
+    (list_all (λ amount. nat_le amount MOST_AMOUNT) amounts) first.1 in
     record {
       seats = length amounts;
       amounts = filled amounts;

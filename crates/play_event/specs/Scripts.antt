@@ -1,4 +1,5 @@
--- A script as it took place: the past after each of its events, its first illegal event, and whether it ends early.
+-- A script as it took place: the past after each of its events, its first illegal event, and
+-- whether it ends early.
 use Rattle.std.specs.Prelude.{◌≡◌, ℕ, ◌+◌, ◌<◌, Bool, List, [], ◌∷◌, length, take, reverse, slice_get, Option, Some, None, option_and_then}
 use Rattle.play_event.specs.declared.reason.Illegal.{Illegal}
 use Rattle.play_event.specs.declared.setup.Setup.{Setup}
@@ -19,7 +20,14 @@ use Rattle.play_event.specs.Reasons.{why}
 -- a move of a seat to a target
 abbrev pub move_to : Setup → List Move → ℕ → ℕ → Act → ℕ → Resolved
 move_to setup moves street seat act target =
-    past.Moved (record { street = street; seat = seat; act = act; from = street_chips setup moves street seat; to = target })
+    past.Moved
+    (record {
+      street = street;
+      seat = seat;
+      act = act;
+      from = street_chips setup moves street seat;
+      to = target;
+    })
 
 -- an event as it takes place on a street, after these moves, where the seat in turn is this
 abbrev pub resolved_by : Setup → List Move → ℕ → InTurn → Said → Resolved
@@ -44,7 +52,8 @@ resolved_by setup moves street in_turn (said.Muck seat) = past.Mucked street sea
 -- an event as it takes place on a street after a past
 abbrev pub resolved_on : Setup → Past → ℕ → Said → Resolved
 resolved_on setup before street event =
-    resolved_by setup (moves_of before) street (mover setup (up_cards setup.code before) (moves_of before) street) event
+    resolved_by setup (moves_of before) street
+    (mover setup (up_cards setup.code before) (moves_of before) street) event
 
 -- the past with one event more
 unfoldable pub with_event : Setup → Said → Past → Past
@@ -61,14 +70,17 @@ past_after setup script count = past_of setup (reverse (take count script))
 
 -- why the event at an index, from 0, is illegal after those before it, if it is
 abbrev pub why_at : Setup → Rules → List Said → ℕ → Option Illegal
-why_at setup rules script index = option_and_then (why setup rules (past_after setup script index)) (slice_get script index)
+why_at setup rules script index =
+    option_and_then (why setup rules (past_after setup script index)) (slice_get script index)
 
 -- a script has no illegal event: each is legal after those before it
 abbrev pub HasNoIllegalEvent : Setup → Rules → List Said → Type 0
-HasNoIllegalEvent setup rules script = (index : ℕ) → index < length script → why_at setup rules script index ≡ None
+HasNoIllegalEvent setup rules script =
+    (index : ℕ) → index < length script → why_at setup rules script index ≡ None
 
 -- the events before this one are legal, and this one is illegal for the reason
-pub record IsFirstIllegal (setup : Setup) (rules : Rules) (script : List Said) (index : ℕ) (reason : Illegal) : Type 0 where
+pub record IsFirstIllegal (setup : Setup) (rules : Rules) (script : List Said) (index : ℕ)
+    (reason : Illegal) : Type 0 where
   pub legal_before : (earlier : ℕ) → earlier < index → why_at setup rules script earlier ≡ None
   pub illegal : why_at setup rules script index ≡ Some reason
 
@@ -84,7 +96,10 @@ past_at_end setup script = past_of setup (reverse script)
 abbrev pub illegal_event_from : Setup → Rules → Past → ℕ → List Said → Option (ℕ × Illegal)
 illegal_event_from setup rules past number [] = None
 illegal_event_from setup rules past number (event ∷ rest) =
-    elim (why setup rules past event) [ Some reason ↦ Some (number, reason) | None ↦ illegal_event_from setup rules (with_event setup event past) (number + 1) rest ]
+    elim (why setup rules past event) [
+      | Some reason ↦ Some (number, reason)
+      | None ↦ illegal_event_from setup rules (with_event setup event past) (number + 1) rest
+    ]
 
 -- the first illegal event of a script, counted from 1, and why it is
 abbrev pub illegal_event : Setup → Rules → List Said → Option (ℕ × Illegal)

@@ -33,7 +33,8 @@ has_mucked past seat = list_any (is_muck_of seat) past
 
 -- a seat has still to show or muck: it is live and did neither
 abbrev pub has_to_show : Past → ℕ → Bool
-has_to_show past seat = is_live (moves_of past) seat && not (has_shown past seat || has_mucked past seat)
+has_to_show past seat =
+    is_live (moves_of past) seat && not (has_shown past seat || has_mucked past seat)
 
 -- some seat has still to show or muck
 abbrev pub is_show_due : Setup → Past → Bool

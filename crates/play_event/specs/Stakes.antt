@@ -1,4 +1,5 @@
--- The stakes of a hand after its moves: what of each seat's chips counts, what is returned, the pots, and what a seat ends with.
+-- The stakes of a hand after its moves: what of each seat's chips counts, what is returned, the
+-- pots, and what a seat ends with.
 use Rattle.std.specs.Prelude.{ℕ, ◌+◌, List, map, sum_by}
 use Rattle.chip_ledger.specs.Pots.{PlainPot, Stake, counted, dead_chips, pots_of, returned, whole_share}
 use Rattle.chip_ledger.specs.Rakes.{nets_of}
@@ -10,11 +11,13 @@ use Rattle.play_event.specs.Seats.{is_live, all_seats}
 
 -- the chips of a seat that count: all that it put, but for its ante where antes are dead
 abbrev pub counted_put : Setup → List Move → ℕ → ℕ
-counted_put setup moves seat = counted setup.dead_antes (chips_put setup moves seat) (amount_of setup.antes seat)
+counted_put setup moves seat =
+    counted setup.dead_antes (chips_put setup moves seat) (amount_of setup.antes seat)
 
 -- the stake of a seat
 abbrev pub stake_after : Setup → List Move → ℕ → Stake
-stake_after setup moves seat = record { seat = seat; chips = counted_put setup moves seat; live = is_live moves seat }
+stake_after setup moves seat =
+    record { seat = seat; chips = counted_put setup moves seat; live = is_live moves seat }
 
 -- the stakes of all seats
 abbrev pub stakes_after : Setup → List Move → List Stake
@@ -36,12 +39,15 @@ pots_after setup moves = pots_of (stakes_after setup moves) (dead_antes_of setup
 abbrev pub nets_after : Setup → List Move → List PlainPot
 nets_after setup moves = nets_of setup.rakes (pots_after setup moves)
 
--- what a seat ends with: the chips that it has left, what is returned to it, and its shares of the pots, where these are
--- what each seat gets of each pot
+-- what a seat ends with: the chips that it has left, what is returned to it, and its shares of the
+-- pots, where these are what each seat gets of each pot
 abbrev pub finishing_stack : Setup → List Move → List (ℕ → ℕ) → ℕ → ℕ
-finishing_stack setup moves shares seat = chips_left setup moves seat + (returned_after setup moves seat + sum_by (λ share. share seat) shares)
+finishing_stack setup moves shares seat =
+    chips_left setup moves seat
+    + (returned_after setup moves seat + sum_by (λ share. share seat) shares)
 
--- the shares of a hand that is won by folds: the net of each pot goes to the last live seat, which alone may win it
+-- the shares of a hand that is won by folds: the net of each pot goes to the last live seat, which
+-- alone may win it
 abbrev pub shares_by_folds : Setup → List Move → List (ℕ → ℕ)
 shares_by_folds setup moves = map whole_share (nets_after setup moves)
 

@@ -1,4 +1,5 @@
--- What is read from a game's table: its limit, who opens, its deck, and what a street deals, draws and bets.
+-- What is read from a game's table: its limit, who opens, its deck, and what a street deals, draws
+-- and bets.
 use Rattle.std.specs.Prelude.{ℕ, ◌-◌, Bool, true, false, slice_get}
 use Rattle.std.specs.Option.{option_map_or}
 use Rattle.play_event.specs.declared.code.Code.{Code}
@@ -24,19 +25,23 @@ deck_of code = (game_of code).deck
 
 -- how many cards the street with this number, from 1, deals face down to each live seat
 abbrev pub down_cards_on : Code → ℕ → ℕ
-down_cards_on code street = option_map_or (λ s. s.down) (slice_get (game_of code).streets (street - 1)) 0
+down_cards_on code street =
+    option_map_or (λ s. s.down) (slice_get (game_of code).streets (street - 1)) 0
 
 -- how many it deals face up
 abbrev pub up_cards_on : Code → ℕ → ℕ
-up_cards_on code street = option_map_or (λ s. s.up) (slice_get (game_of code).streets (street - 1)) 0
+up_cards_on code street =
+    option_map_or (λ s. s.up) (slice_get (game_of code).streets (street - 1)) 0
 
 -- the street draws
 abbrev pub has_draw : Code → ℕ → Bool
-has_draw code street = option_map_or (λ s. s.draws) (slice_get (game_of code).streets (street - 1)) false
+has_draw code street =
+    option_map_or (λ s. s.draws) (slice_get (game_of code).streets (street - 1)) false
 
 -- the bet size of the street
 abbrev pub size_on : Code → ℕ → Size
-size_on code street = option_map_or (λ s. s.size) (slice_get (game_of code).streets (street - 1)) sizes.Least
+size_on code street =
+    option_map_or (λ s. s.size) (slice_get (game_of code).streets (street - 1)) sizes.Least
 
 -- a bet of this size, in chips
 abbrev pub chips_of_size : Setup → Size → ℕ

@@ -1,4 +1,5 @@
--- The cards on the table after a past: the places of its deals, as discards, folds and shows left them.
+-- The cards on the table after a past: the places of its deals, as discards, folds and shows left
+-- them.
 use Rattle.std.specs.Prelude.{if◌then◌else◌, List, [], ◌∷◌, Some, None}
 use Rattle.card_set.specs.Known.{known_slots}
 use Rattle.play_event.specs.declared.code.Code.{Code}
@@ -10,8 +11,10 @@ use Rattle.play_event.specs.Naming.{after_discard, after_show}
 -- the places after one event more
 abbrev pub places_after : Code → Resolved → List Place → List Place
 places_after code (Dealt street seat cards) placed = after_deal code (Some seat) street cards placed
-places_after code (Boarded street cards) placed = after_deal code None street (known_slots cards) placed
-places_after code (Moved move) placed = if is_fold move.act then after_fold move.seat placed else placed
+places_after code (Boarded street cards) placed =
+    after_deal code None street (known_slots cards) placed
+places_after code (Moved move) placed =
+    if is_fold move.act then after_fold move.seat placed else placed
 places_after code (Discarded street seat cards) placed = after_discard street seat cards placed
 places_after code (Shown street seat cards) placed = after_show code seat cards placed
 places_after code (Mucked street seat) placed = placed

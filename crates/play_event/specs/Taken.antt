@@ -29,7 +29,8 @@ abbrev pub is_gone_before : Option ℕ → ℕ → Bool
 is_gone_before (Some count) number = nat_le count number
 is_gone_before None number = false
 
--- a place may bear the card of another: the other was gone before it was dealt, and it was dealt past the deck
+-- a place may bear the card of another: the other was gone before it was dealt, and it was dealt
+-- past the deck
 abbrev pub may_repeat : Place → Place → Bool
 may_repeat place other = place.past_deck && is_gone_before other.gone_after place.number
 
@@ -37,10 +38,13 @@ may_repeat place other = place.past_deck && is_gone_before other.gone_after plac
 abbrev pub is_clash : Place → Place → Bool
 is_clash a b = not (may_repeat a b || may_repeat b a) && is_one_card a.slot b.slot
 
--- a slot may not be dealt behind these places, past the deck or not: the deck lacks its card, or a place bears it that
--- is not gone, or bears it at all where the slot is not dealt past the deck
+-- a slot may not be dealt behind these places, past the deck or not: the deck lacks its card, or a
+-- place bears it that is not gone, or bears it at all where the slot is not dealt past the deck
 abbrev pub is_taken : Code → List Place → Bool → Slot → Bool
-is_taken code placed late (slots.Known card) = not (is_in_deck code card) || list_any (λ place. not (late && is_some place.gone_after) && is_borne_by card place.slot) placed
+is_taken code placed late (slots.Known card) =
+    not (is_in_deck code card)
+    || list_any (λ place. not (late && is_some place.gone_after) && is_borne_by card place.slot)
+    placed
 is_taken code placed late slots.Unknown = false
 
 -- the card of a slot stands again among others
@@ -55,14 +59,17 @@ has_repeat (slot ∷ rest) = is_repeated slot rest || has_repeat rest
 
 -- one of the cards may not be dealt on this street behind these places, or two of them are one card
 abbrev pub has_taken_card : Code → List Place → ℕ → List Slot → Bool
-has_taken_card code placed street cards = list_any (is_taken code placed (is_past_deck code placed street)) cards || has_repeat cards
+has_taken_card code placed street cards =
+    list_any (is_taken code placed (is_past_deck code placed street)) cards || has_repeat cards
 
 -- the places whose card became known
 abbrev pub newly_known : (before after : List Place) → List Place
 newly_known [] after = []
 newly_known (old ∷ olds) [] = []
 newly_known (old ∷ olds) (new ∷ news) =
-    if is_unknown old.slot && not (is_unknown new.slot) then (new ∷ newly_known olds news) else newly_known olds news
+    if is_unknown old.slot && not (is_unknown new.slot)
+    then (new ∷ newly_known olds news)
+    else newly_known olds news
 
 -- the deck lacks the card of a slot
 abbrev pub is_foreign : Code → Slot → Bool
@@ -71,7 +78,9 @@ is_foreign code slots.Unknown = false
 
 -- a place may not bear its card among these places: the deck lacks it, or it clashes with another
 abbrev pub is_misplaced : Code → List Place → Place → Bool
-is_misplaced code placed place = is_foreign code place.slot || list_any (λ other. not (other.number == place.number) && is_clash place other) placed
+is_misplaced code placed place =
+    is_foreign code place.slot
+    || list_any (λ other. not (other.number == place.number) && is_clash place other) placed
 
 -- a card that became known may not lie there
 abbrev pub has_misplaced_card : Code → (before after : List Place) → Bool

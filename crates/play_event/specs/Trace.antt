@@ -1,4 +1,5 @@
--- What the trace of a hand keeps of its past: the moves, the places of the cards, and who showed and who mucked.
+-- What the trace of a hand keeps of its past: the moves, the places of the cards, and who showed
+-- and who mucked.
 use Rattle.std.specs.Prelude.{ℕ, Bool, ◌&&◌, nat_le, not, List, [], ◌∷◌, ◌++◌, map, filter, flat_map, Option, Some, None}
 use Rattle.std.specs.List.{list_any, range_with_len}
 use Rattle.card_set.specs.declared.card.Slot.{Slot}
@@ -17,8 +18,9 @@ use Rattle.card_set.specs.Known.{is_unknown}
 use Rattle.play_event.specs.Places.{Place, is_in_group, is_held_by}
 use Rattle.play_event.specs.Table.{places_of}
 
--- A move of the trace: the chips of the street that its seat had put before it and after it; the price before it; whether
--- it needs rules by which betting always reopens; and where a raise by the unit would have gone in fixed limit, or 0.
+-- A move of the trace: the chips of the street that its seat had put before it and after it; the
+-- price before it; whether it needs rules by which betting always reopens; and where a raise by the
+-- unit would have gone in fixed limit, or 0.
 pub record TracedMove : Type 0 where
   pub street : ℕ
   pub seat : ℕ
@@ -54,8 +56,8 @@ abbrev pub traced_moves : Setup → List Move → List TracedMove
 traced_moves setup [] = []
 traced_moves setup (move ∷ before) = traced_moves setup before ++ traced_move setup move before ∷ []
 
--- A place of the trace: whose card it is, the street on which it was dealt, the card as far as it is known, and the
--- street of the draw that discarded it, or 0.
+-- A place of the trace: whose card it is, the street on which it was dealt, the card as far as it
+-- is known, and the street of the draw that discarded it, or 0.
 pub record TracedPlace : Type 0 where
   pub owner : Option ℕ
   pub street : ℕ
@@ -64,7 +66,13 @@ pub record TracedPlace : Type 0 where
 
 -- what the trace keeps of a place
 abbrev pub traced_place : Place → TracedPlace
-traced_place place = record { owner = place.owner; street = place.street; slot = place.slot; discarded = place.discarded }
+traced_place place =
+    record {
+      owner = place.owner;
+      street = place.street;
+      slot = place.slot;
+      discarded = place.discarded;
+    }
 
 -- the owners of cards: the seats from p1 upward, and then the board
 abbrev pub owners : Setup → List (Option ℕ)
@@ -76,11 +84,13 @@ streets_of setup = range_with_len 1 (street_count setup.code)
 
 -- the places of one street, owner by owner
 abbrev pub places_on : Setup → List Place → ℕ → List Place
-places_on setup placed street = flat_map (λ owner. filter (is_in_group owner street) placed) (owners setup)
+places_on setup placed street =
+    flat_map (λ owner. filter (is_in_group owner street) placed) (owners setup)
 
 -- the places by street, then by owner, then in the order of dealing
 abbrev pub ordered_places : Setup → Past → List Place
-ordered_places setup past = flat_map (places_on setup (places_of setup.code past)) (streets_of setup)
+ordered_places setup past =
+    flat_map (places_on setup (places_of setup.code past)) (streets_of setup)
 
 -- the places of the trace
 abbrev pub traced_places : Setup → Past → List TracedPlace
@@ -92,12 +102,16 @@ is_contested setup past = nat_le 2 (live_count setup (moves_of past))
 
 -- a card that a seat holds is unknown
 abbrev pub has_unknown_card : Setup → Past → ℕ → Bool
-has_unknown_card setup past seat = list_any (λ place. is_held_by seat place && is_unknown place.slot) (places_of setup.code past)
+has_unknown_card setup past seat =
+    list_any (λ place. is_held_by seat place && is_unknown place.slot) (places_of setup.code past)
 
 -- a live seat of a contested hand is shown where it did not muck and all its cards are known
 abbrev pub is_shown : Setup → Past → ℕ → Bool
-is_shown setup past seat = is_contested setup past && is_live (moves_of past) seat && not (has_mucked past seat) && not (has_unknown_card setup past seat)
+is_shown setup past seat =
+    is_contested setup past && is_live (moves_of past) seat && not (has_mucked past seat)
+    && not (has_unknown_card setup past seat)
 
 -- else it is mucked
 abbrev pub is_mucked : Setup → Past → ℕ → Bool
-is_mucked setup past seat = is_contested setup past && is_live (moves_of past) seat && not (is_shown setup past seat)
+is_mucked setup past seat =
+    is_contested setup past && is_live (moves_of past) seat && not (is_shown setup past seat)

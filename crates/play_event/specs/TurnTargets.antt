@@ -31,15 +31,20 @@ may_raise_now setup rules moves street (TheSeat seat) = may_raise setup rules mo
 -- the seat in turn has a target, where this is due on this street
 abbrev pub has_targets_at : Setup → Rules → Past → ℕ × Due → Bool
 has_targets_at setup rules past now =
-    is_bet_due now.1 && may_raise_now setup rules (moves_of past) now.0 (mover setup (up_cards setup.code past) (moves_of past) now.0)
+    is_bet_due now.1
+    && may_raise_now setup rules (moves_of past) now.0
+    (mover setup (up_cards setup.code past) (moves_of past) now.0)
 
--- the seat in turn has a target: a move or a bring-in is due, it is known whose it is, and that seat may raise
+-- the seat in turn has a target: a move or a bring-in is due, it is known whose it is, and that
+-- seat may raise
 abbrev pub has_targets : Setup → Rules → Past → Bool
 has_targets setup rules past = has_targets_at setup rules past (turn setup past)
 
 -- the least and the greatest legal target of a seat, and its all-in
-pub record AreTargets (setup : Setup) (rules : Rules) (moves : List Move) (street seat least greatest all_in : ℕ) : Type 0 where
+pub record AreTargets (setup : Setup) (rules : Rules) (moves : List Move)
+    (street seat least greatest all_in : ℕ) : Type 0 where
   pub least_legal : is_legal_target rules.reopen setup moves street seat least ≡ true
   pub greatest_legal : is_legal_target rules.reopen setup moves street seat greatest ≡ true
-  pub within : (target : ℕ) → is_legal_target rules.reopen setup moves street seat target ≡ true → (least ≤ target) × (target ≤ greatest)
+  pub within : (target : ℕ) → is_legal_target rules.reopen setup moves street seat target ≡ true
+      → (least ≤ target) × (target ≤ greatest)
   pub all_in_is : all_in ≡ chips.all_in setup moves street seat

@@ -36,7 +36,8 @@ pub record IsValid (setup : Setup) : Type 0 where
   pub same_antes : setup.antes.seats ≡ setup.stacks.seats
   pub same_blinds : setup.blinds.seats ≡ setup.stacks.seats
   pub few_seats : setup.stacks.seats ≤ (game_of setup.code).seats
-  pub stacks : (seat : ℕ) → 1 ≤ seat → seat ≤ setup.stacks.seats → IsSize (amount_of setup.stacks seat)
+  pub stacks : (seat : ℕ) → 1 ≤ seat → seat ≤ setup.stacks.seats
+      → IsSize (amount_of setup.stacks seat)
   pub antes : (seat : ℕ) → amount_of setup.antes seat ≤ amount_of setup.stacks seat
   pub blinds : (seat : ℕ) → amount_of setup.blinds seat ≤ MOST_CHIPS
   pub bring_in : IsSizeWhere (is_stud setup.code) setup.bring_in

@@ -27,8 +27,8 @@ ghost use Rattle.play_event.specs.Targets.{floor, is_legal_target, least_target,
 ghost use Rattle.play_event.specs.TurnTargets.{AreTargets, has_targets};
 ghost use Rattle.play_event.specs.ValidSetup.{IsValid};
 
-/// What is due is due on the first street, from that of the past on, on which something is. The function does
-/// nothing: its contract is a law.
+/// What is due is due on the first street, from that of the past on, on which something is. The
+/// function does nothing: its contract is a law.
 pub fn law_of_streets()
     ensures due_is_first { (setup : Setup) (past : Past) (street : ℕ) (due : Due)
         → turn setup past ≡ (street, due) → is_unfinished due ≡ true
@@ -47,7 +47,8 @@ pub fn law_of_movers()
         → mover setup ups moves street ≡ TheSeat seat → is_able setup moves seat ≡ true }
 {}
 
-/// After legal events no seat has put more than its stack, and what it put and what it has left are the stack.
+/// After legal events no seat has put more than its stack, and what it put and what it has left are
+/// the stack.
 pub fn law_of_chips()
     ensures puts_within { (setup : Setup) (rules : Rules) (events : List Said) (seat : ℕ)
         → IsValid setup → AreLegal setup rules events
@@ -58,8 +59,8 @@ pub fn law_of_chips()
         + chips_left setup (moves_by setup events) seat ≡ amount_of setup.stacks seat }
 {}
 
-/// The least and the greatest legal target are legal, in each limit, and no legal target is outside them; so a seat
-/// that may raise has a target.
+/// The least and the greatest legal target are legal, in each limit, and no legal target is outside
+/// them; so a seat that may raise has a target.
 pub fn law_of_targets()
     ensures { (setup : Setup) (rules : Rules) (moves : List Move) (street seat : ℕ)
         → AreTargets setup rules moves street seat
@@ -67,8 +68,8 @@ pub fn law_of_targets()
         (greatest_target setup moves street seat) (all_in setup moves street seat) }
 {}
 
-/// A raise of a named seat is legal only if the seat in turn has targets, and a raise of the seat in turn to a legal target
-/// is legal.
+/// A raise of a named seat is legal only if the seat in turn has targets, and a raise of the seat
+/// in turn to a legal target is legal.
 pub fn law_of_raises()
     ensures only { (setup : Setup) (rules : Rules) (past : Past) (seat : ℕ) (amount : Spelled)
         → why setup rules past (Raise (Some seat) amount) ≡ None
@@ -79,8 +80,8 @@ pub fn law_of_raises()
         → why setup rules past (Raise (Some seat) (spelled.To target)) ≡ None }
 {}
 
-/// In no limit and pot limit the least raise that is not all-in goes above the price, and no further above it than a
-/// full raise, also if betting always reopens.
+/// In no limit and pot limit the least raise that is not all-in goes above the price, and no
+/// further above it than a full raise, also if betting always reopens.
 pub fn law_of_floors()
     ensures above_price { (setup : Setup) (rules : Rules) (events : List Said)
         → AreLegalUnfixed setup rules events → (reopens : Reopen) (street : ℕ)
@@ -109,15 +110,15 @@ pub fn law_of_reasons()
         → why setup rules past event ≡ None }
 {}
 
-/// No legal event makes two places clash: after legal events no two bear one card, but where one was gone before the
-/// other was dealt past the deck.
+/// No legal event makes two places clash: after legal events no two bear one card, but where one
+/// was gone before the other was dealt past the deck.
 pub fn law_of_places()
     ensures { (setup : Setup) (rules : Rules) (events : List Said) → AreLegal setup rules events
         → NoneClash (places_of setup.code (past_of setup events)) }
 {}
 
-/// The walk by which hands that are written out are computed tells the first illegal event of a script, or that it
-/// has none.
+/// The walk by which hands that are written out are computed tells the first illegal event of a
+/// script, or that it has none.
 pub fn law_of_scripts()
     ensures refused { (setup : Setup) (rules : Rules) (script : List Said)
         → (index : ℕ) (reason : Illegal)
@@ -127,8 +128,8 @@ pub fn law_of_scripts()
         → illegal_event setup rules script ≡ None → HasNoIllegalEvent setup rules script }
 {}
 
-/// A raise without actor, however it is spelled, has the reason and the outcome of a raise of the seat in turn to the
-/// target that the spelling has.
+/// A raise without actor, however it is spelled, has the reason and the outcome of a raise of the
+/// seat in turn to the target that the spelling has.
 pub fn law_of_spellings()
     ensures same_reason { (setup : Setup) (rules : Rules) (past : Past) (seat : ℕ)
         → (amount : Spelled) → IsInTurn setup past seat

@@ -1,4 +1,5 @@
-//! What is said of a hand: its setup, its rules, and the script of its events; and the rules of play.
+//! What is said of a hand: its setup, its rules, and the script of its events; and the rules of
+//! play.
 #![tactic(auto)]
 
 mod card_rows;

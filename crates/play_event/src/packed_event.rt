@@ -51,8 +51,8 @@ impl PackedEvent {
         self.len += 1;
     }
 
-    /// Puts the bytes so far behind those of a script. All fifteen are copied and the rest is cut off
-    /// again, since a copy of a fixed size needs no call.
+    /// Puts the bytes so far behind those of a script. All fifteen are copied and the rest is cut
+    /// off again, since a copy of a fixed size needs no call.
     pub(crate) fn append_to(&self, script: &mut Vec<u8>) -> Result<(), AllocError>
         ensures appended { OnOk result (script.new.items ≡ script.old.items ++ self.now) }
         ensures unchanged { OnErr result (script.new.items ≡ script.old.items) }

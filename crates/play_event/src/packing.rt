@@ -22,8 +22,8 @@ pub fn law_of_packing()
         → AreEvents a → AreEvents b → packed_events a ≡ packed_events b → a ≡ b }
 {}
 
-/// Puts the packed form of the event behind those of others. Without memory for it nothing changes. Before the first one there
-/// is made room for the events of most hands.
+/// Puts the packed form of the event behind those of others. Without memory for it nothing changes.
+/// Before the first one there is made room for the events of most hands.
 pub(crate) fn append(script: &mut Vec<u8>, event: Event) -> Result<(), AllocError>
     ensures appended { OnOk result (script.new.items ≡ script.old.items ++ packed_event event) }
     ensures unchanged { OnErr result (script.new.items ≡ script.old.items) }

@@ -1,4 +1,5 @@
-//! What was played, as the trace of a hand keeps it: a move with its amounts, and the place of a dealt card.
+//! What was played, as the trace of a hand keeps it: a move with its amounts, and the place of a
+//! dealt card.
 use card_set::Slot;
 use chip_ledger::Seat;
 

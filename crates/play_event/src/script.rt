@@ -75,8 +75,8 @@ impl Script {
         }
     }
 
-    /// A script without events, and with room for about so many, so that it need not move as they come. More of them find
-    /// room, too.
+    /// A script without events, and with room for about so many, so that it need not move as they
+    /// come. More of them find room, too.
     pub fn with_room(alloc: Global, events: usize) -> Result<Self, AllocError>
         ensures { IfOk result (λ script. script ≡ []) }
     {

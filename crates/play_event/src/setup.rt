@@ -1,9 +1,10 @@
-//! A setup is what stands before the first card: the game, the stacks, what is posted, the bet sizes, and the rakes.
+//! A setup is what stands before the first card: the game, the stacks, what is posted, the bet
+//! sizes, and the rakes.
 use crate::code::Code;
 use chip_ledger::{RakeRow, SeatRow};
 
-/// What a hand begins with. Amounts are chips; a row's first seat is p1, the first after the button where
-/// there are blinds, and the last seat is the button.
+/// What a hand begins with. Amounts are chips; a row's first seat is p1, the first after the button
+/// where there are blinds, and the last seat is the button.
 #[derive(Clone, Copy, Debug, PartialEq, Eq)]
 pub struct Setup {
     pub code: Code,

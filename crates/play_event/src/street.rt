@@ -11,7 +11,8 @@ pub enum Size {
     Least,
 }
 
-/// What a street deals to each live seat and to the board, whether it draws, and the size of its bets.
+/// What a street deals to each live seat and to the board, whether it draws, and the size of its
+/// bets.
 #[derive(Clone, Copy, Debug, PartialEq, Eq, Hash)]
 pub struct Street {
     /// Cards face down for each live seat.

@@ -22,7 +22,8 @@ abbrev pub has_owner_folded : List Move → Option ℕ → Bool
 has_owner_folded moves (Some seat) = not (is_live moves seat)
 has_owner_folded moves None = false
 
--- a card is gone when the deals of a street come: it was discarded there or before, or its seat folded before
+-- a card is gone when the deals of a street come: it was discarded there or before, or its seat
+-- folded before
 abbrev pub is_gone_by : List Move → ℕ → Place → Bool
 is_gone_by moves street place =
     (nat_lt 0 place.discarded && nat_le place.discarded street)
@@ -45,8 +46,9 @@ AreGoneByStreet moves placed =
     (a b : Place) → IsAmong placed a → IsAmong placed b
     → is_gone_before a.gone_after b.number ≡ true → is_gone_by moves b.street a ≡ true
 
--- the places of a legal past: no two clash; what was gone before a deal was so by its street; what is gone by a street
--- was dealt before it; and what was dealt past the deck was dealt where the whole draw needs more cards than the deck has
+-- the places of a legal past: no two clash; what was gone before a deal was so by its street; what
+-- is gone by a street was dealt before it; and what was dealt past the deck was dealt where the
+-- whole draw needs more cards than the deck has
 pub record AreLawful (code : Code) (moves : List Move) (placed : List Place) : Type 0 where
   pub apart : NoneClash placed
   pub gone_when : AreGoneByStreet moves placed
@@ -55,7 +57,8 @@ pub record AreLawful (code : Code) (moves : List Move) (placed : List Place) : T
   pub late : (place : Place) → IsAmong placed place → place.past_deck ≡ true
       → NeedsMoreThanDeck code placed place.street
 
--- Of two unknown cards of one seat, the one dealt first is discarded with the other, where it was held at that draw.
+-- Of two unknown cards of one seat, the one dealt first is discarded with the other, where it was
+-- held at that draw.
 abbrev pub OutFirst : Place → Place → Type 0
 OutFirst first second =
     first.owner ≡ second.owner → is_unknown first.slot ≡ true → is_unknown second.slot ≡ true
@@ -69,22 +72,24 @@ UnknownsFirst [] = Unit {0}
 UnknownsFirst (first ∷ rest) =
     ((second : Place) → IsAmong rest second → OutFirst first second) × UnknownsFirst rest
 
--- What holds of the places of a legal past with these moves, up to its newest street: their numbers are below how many
--- they are; a card is gone where it was discarded or its seat folded, since a later street than its own; and the rest as
--- for lawful places.
-pub record PlacesLaw (code : Code) (moves : List Move) (newest : ℕ) (placed : List Place) : Type 0 where
-  pub number_within : (place : Place) → IsAmong placed place → place.number < length placed
-  pub gone_within : (place : Place) (count : ℕ) → IsAmong placed place
-      → place.gone_after ≡ Some count → count ≤ length placed
-  pub since : (place : Place) → IsAmong placed place → 1 ≤ place.street
-  pub reached : (place : Place) → IsAmong placed place → place.street ≤ newest
-  pub out_reached : (place : Place) → IsAmong placed place → place.discarded ≤ newest
-  pub gone_is : (place : Place) → IsAmong placed place
-      → is_some place.gone_after ≡ (nat_lt 0 place.discarded || has_owner_folded moves place.owner)
-  pub out_after : (place : Place) → IsAmong placed place → 0 < place.discarded
-      → place.street < place.discarded
-  pub folded_after : (place : Place) (street : ℕ) → IsAmong placed place
-      → has_owner_folded (moves_before street moves) place.owner ≡ true → place.street < street
-  pub gone_when : AreGoneByStreet moves placed
-  pub late : (place : Place) → IsAmong placed place → place.past_deck ≡ true
-      → NeedsMoreThanDeck code placed place.street
+-- What holds of the places of a legal past with these moves, up to its newest street: their numbers
+-- are below how many they are; a card is gone where it was discarded or its seat folded, since a
+-- later street than its own; and the rest as for lawful places.
+pub record PlacesLaw (code : Code) (moves : List Move) (newest : ℕ) (placed : List Place) : Type 0
+  where
+    pub number_within : (place : Place) → IsAmong placed place → place.number < length placed
+    pub gone_within : (place : Place) (count : ℕ) → IsAmong placed place
+        → place.gone_after ≡ Some count → count ≤ length placed
+    pub since : (place : Place) → IsAmong placed place → 1 ≤ place.street
+    pub reached : (place : Place) → IsAmong placed place → place.street ≤ newest
+    pub out_reached : (place : Place) → IsAmong placed place → place.discarded ≤ newest
+    pub gone_is : (place : Place) → IsAmong placed place
+        → is_some place.gone_after
+        ≡ (nat_lt 0 place.discarded || has_owner_folded moves place.owner)
+    pub out_after : (place : Place) → IsAmong placed place → 0 < place.discarded
+        → place.street < place.discarded
+    pub folded_after : (place : Place) (street : ℕ) → IsAmong placed place
+        → has_owner_folded (moves_before street moves) place.owner ≡ true → place.street < street
+    pub gone_when : AreGoneByStreet moves placed
+    pub late : (place : Place) → IsAmong placed place → place.past_deck ≡ true
+        → NeedsMoreThanDeck code placed place.street

@@ -1,5 +1,5 @@
--- An event with its actor named, the target that a raise comes to after a past, and a script in full: with each actor named
--- and each raise spelled by its target.
+-- An event with its actor named, the target that a raise comes to after a past, and a script in
+-- full: with each actor named and each raise spelled by its target.
 use Rattle.std.specs.Prelude.{ℕ, List, [], ◌∷◌, Option, Some, unwrap_or}
 use Rattle.play_event.specs.Amounts.{raise_target}
 use Rattle.play_event.specs.Due.{turn}
@@ -30,7 +30,8 @@ in_turn_after setup past =
 -- the target of a raise after a past, by the seat that it names or else by the seat in turn
 abbrev pub target_after : Setup → Past → Option ℕ → Spelled → ℕ
 target_after setup past named amount =
-    raise_target setup (moves_of past) (turn setup past).0 (actor_of named (in_turn_after setup past)) amount
+    raise_target setup (moves_of past) (turn setup past).0
+    (actor_of named (in_turn_after setup past)) amount
 
 -- an event with the seat in turn as its actor, where it is a move that names none
 abbrev pub with_turn : InTurn → Said → Said
@@ -40,7 +41,8 @@ with_turn Undecided event = event
 
 -- an event that says to how many chips of the street it goes, where it is a raise
 abbrev pub with_target : Setup → Past → Said → Said
-with_target setup past (Raise named amount) = Raise named (spelled.To (target_after setup past named amount))
+with_target setup past (Raise named amount) =
+    Raise named (spelled.To (target_after setup past named amount))
 with_target setup past event = event
 
 -- an event in full, after a past
@@ -50,4 +52,5 @@ in_full setup past event = with_target setup past (with_turn (in_turn_after setu
 -- events in full, the newest first
 abbrev pub all_in_full : Setup → List Said → List Said
 all_in_full setup [] = []
-all_in_full setup (event ∷ before) = in_full setup (past_of setup before) event ∷ all_in_full setup before
+all_in_full setup (event ∷ before) =
+    in_full setup (past_of setup before) event ∷ all_in_full setup before

@@ -48,7 +48,9 @@ byte_of faults.Memory = 0
 
 -- the line that tells a fault of a log with its line and its byte
 abbrev pub bad_acpc_line : AcpcFault → List ℕ
-bad_acpc_line fault = codes "bad input: line " ++ (decimal (line_of fault) ++ (codes ", byte " ++ (decimal (byte_of fault)
+bad_acpc_line fault =
+    codes "bad input: line "
+    ++ (decimal (line_of fault) ++ (codes ", byte " ++ (decimal (byte_of fault)
     ++ (codes ": " ++ (acpc_fault_text fault ++ codes "\n")))))
 
 -- the status of a log's fault: a limit that is passed, or else bad input
@@ -63,4 +65,6 @@ acpc_fault_line fault = bad_acpc_line fault
 
 -- the line of a fault of a game's file
 abbrev pub bad_game_line : AcpcFault → List ℕ
-bad_game_line fault = codes "bad game: line " ++ (decimal (line_of fault) ++ (codes ": " ++ (acpc_fault_text fault ++ codes "\n")))
+bad_game_line fault =
+    codes "bad game: line "
+    ++ (decimal (line_of fault) ++ (codes ": " ++ (acpc_fault_text fault ++ codes "\n")))

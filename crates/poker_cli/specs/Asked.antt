@@ -9,5 +9,7 @@ use Rattle.poker_cli.specs.declared.replies.PlayQuestion.TheVariants as asked_ar
 -- an answer to what is asked
 abbrev pub IsAsked : PlayQuestion → List Play → Answer → Type 0
 IsAsked asked_are.GameFile plays answer = IsReply questions.GameFile plays answer
-IsAsked (asked_are.Options hand events) plays answer = IsReply (questions.Options hand events) plays answer
-IsAsked (asked_are.Equity hand street) plays answer = IsReply (questions.Equity hand street) plays answer
+IsAsked (asked_are.Options hand events) plays answer =
+    IsReply (questions.Options hand events) plays answer
+IsAsked (asked_are.Equity hand street) plays answer =
+    IsReply (questions.Equity hand street) plays answer

@@ -1,6 +1,7 @@
--- For every input within the limits that reads as hands, `convert` answers 0 exactly when the replay of every hand is legal, every
--- stated fact agrees and every fact to be kept has a spelling in the target notation. The bytes that it writes read back there as
--- the same hands. Otherwise nothing is written, and the first refused hand is named, with its first illegal action.
+-- For every input within the limits that reads as hands, `convert` answers 0 exactly when the
+-- replay of every hand is legal, every stated fact agrees and every fact to be kept has a spelling
+-- in the target notation. The bytes that it writes read back there as the same hands. Otherwise
+-- nothing is written, and the first refused hand is named, with its first illegal action.
 use Rattle.std.specs.Prelude.{◌≡◌, ◌⊎◌, ℕ, ◌<◌, ◌≤◌, List, length, codes, None, Some}
 use Rattle.std.specs.Io.KnownBytes.{Appends}
 use Rattle.command_words.specs.Words.{Request}
@@ -26,19 +27,21 @@ use Rattle.poker_cli.specs.declared.task.Format.{Format}
 use Rattle.poker_cli.specs.declared.task.Format.TheVariants as readers
 use Rattle.poker_cli.specs.declared.task.Task.TheVariants as tasks
 
--- a request is to convert: its input is read by the one notation and its hands are written by the other, with so many of their
--- notes, and each log under the game that its file gives
+-- a request is to convert: its input is read by the one notation and its hands are written by the
+-- other, with so many of their notes, and each log under the game that its file gives
 abbrev pub AsksToConvert : Files → Request → (from to : Format) → Keep → Type 0
 AsksToConvert files request from to keep = IsWay files request (way (tasks.Convert to keep) from)
 
--- an input within the limit reads as hands; the replay of every hand is legal, every stated fact agrees, and these are the plays;
--- every fact to be kept has a spelling in the target notation
-pub record CanConvert (from to : Format) (keep : Keep) (bytes : List ℕ) (plays : List Play) : Type 0 where
-  pub within : length bytes ≤ most_input
-  pub legal : ReadAsPlays (SayRecords from bytes) plays
-  pub spelled : first_refusal_in to keep plays ≡ None
+-- an input within the limit reads as hands; the replay of every hand is legal, every stated fact
+-- agrees, and these are the plays; every fact to be kept has a spelling in the target notation
+pub record CanConvert (from to : Format) (keep : Keep) (bytes : List ℕ) (plays : List Play) : Type 0
+  where
+    pub within : length bytes ≤ most_input
+    pub legal : ReadAsPlays (SayRecords from bytes) plays
+    pub spelled : first_refusal_in to keep plays ≡ None
 
--- the hands of an input can be converted, and this output spells them in the target notation, and reads back there as the same hands
+-- the hands of an input can be converted, and this output spells them in the target notation, and
+-- reads back there as the same hands
 pub record ConvertsInto (from to : Format) (keep : Keep) (bytes output : List ℕ) : Type 0 where
   pub plays : List Play
   pub can : CanConvert from to keep bytes plays
@@ -54,24 +57,27 @@ pub record TellsAlone (out diag : Sinks) (line : List ℕ) : Type 0 where
   pub unwritten : out.holds ≡ out.held
   pub told : IsTold diag line
 
--- All is done, of which the number is 0: the hands can be converted, exactly the bytes that spell them were put behind what the
--- output held, and no line was told.
-pub record IsConverted (from to : Format) (keep : Keep) (bytes : List ℕ) (out diag : Sinks) : Type 0 where
-  pub output : List ℕ
-  pub converts : ConvertsInto from to keep bytes output
-  pub written : Appends out.held out.holds output
-  pub quiet : diag.holds ≡ diag.held
+-- All is done, of which the number is 0: the hands can be converted, exactly the bytes that spell
+-- them were put behind what the output held, and no line was told.
+pub record IsConverted (from to : Format) (keep : Keep) (bytes : List ℕ) (out diag : Sinks) : Type 0
+  where
+    pub output : List ℕ
+    pub converts : ConvertsInto from to keep bytes output
+    pub written : Appends out.held out.holds output
+    pub quiet : diag.holds ≡ diag.held
 
--- The output failed: the hands can be converted, and of the bytes that spell them a part of the front was written.
-pub record IsCutShort (from to : Format) (keep : Keep) (bytes : List ℕ) (out diag : Sinks) : Type 0 where
-  pub output : List ℕ
-  pub converts : ConvertsInto from to keep bytes output
-  pub written : AppendsPart out.held out.holds output
-  pub failed : Rose out.before out.now
-  pub told : IsTold diag (codes "write fault\n")
+-- The output failed: the hands can be converted, and of the bytes that spell them a part of the
+-- front was written.
+pub record IsCutShort (from to : Format) (keep : Keep) (bytes : List ℕ) (out diag : Sinks) : Type 0
+  where
+    pub output : List ℕ
+    pub converts : ConvertsInto from to keep bytes output
+    pub written : AppendsPart out.held out.holds output
+    pub failed : Rose out.before out.now
+    pub told : IsTold diag (codes "write fault\n")
 
--- A hand is refused: the bytes read as hands, and this is the number, from 1, of the first that is refused, and why: its first
--- illegal action, or what else is wrong with it first.
+-- A hand is refused: the bytes read as hands, and this is the number, from 1, of the first that is
+-- refused, and why: its first illegal action, or what else is wrong with it first.
 pub record NamesRefused (from : Format) (bytes : List ℕ) (out diag : Sinks) : Type 0 where
   pub within : length bytes ≤ most_input
   pub number : ℕ
@@ -79,24 +85,28 @@ pub record NamesRefused (from : Format) (bytes : List ℕ) (out diag : Sinks) : 
   pub first : ReadAsRefused (SayRecords from bytes) number why
   pub told : TellsAlone out diag (refused_line number why)
 
--- A fact has no spelling: all hands are legal and every stated fact agrees, and this is the number of the first hand with a fact
--- to be kept that the target notation does not spell, and its first such fact.
-pub record NamesUnspelled (from to : Format) (keep : Keep) (bytes : List ℕ) (out diag : Sinks) : Type 0 where
+-- A fact has no spelling: all hands are legal and every stated fact agrees, and this is the number
+-- of the first hand with a fact to be kept that the target notation does not spell, and its first
+-- such fact.
+pub record NamesUnspelled (from to : Format) (keep : Keep) (bytes : List ℕ) (out diag : Sinks) :
+    Type 0 where
   pub within : length bytes ≤ most_input
   pub number : ℕ
   pub fact : Unspelled
   pub first : HasUnspelled (SayRecords from bytes) (unspelled_in to keep) number fact
   pub told : TellsAlone out diag (unspelled_line number fact)
 
--- The bytes do not read as hands: this is their first fault, which is answered by this status and this line.
-pub record NamesFault (from : Format) (bytes : List ℕ) (out diag : Sinks) (status : Status) : Type 0 where
-  pub within : length bytes ≤ most_input
-  pub fault : FormatFault
-  pub have : HaveFault from bytes fault
-  pub answer : Answer
-  pub answered : to_fault fault ≡ Some answer
-  pub same : answer.status ≡ status
-  pub told : TellsAlone out diag answer.line
+-- The bytes do not read as hands: this is their first fault, which is answered by this status and
+-- this line.
+pub record NamesFault (from : Format) (bytes : List ℕ) (out diag : Sinks) (status : Status) : Type 0
+  where
+    pub within : length bytes ≤ most_input
+    pub fault : FormatFault
+    pub have : HaveFault from bytes fault
+    pub answer : Answer
+    pub answered : to_fault fault ≡ Some answer
+    pub same : answer.status ≡ status
+    pub told : TellsAlone out diag answer.line
 
 -- The bytes are too many.
 pub record IsTooLong (bytes : List ℕ) (out diag : Sinks) : Type 0 where
@@ -108,17 +118,26 @@ abbrev pub IsOfLogs : Format → Type 0
 IsOfLogs (readers.Acpc game) = Unit {0}
 IsOfLogs reader = ⊥
 
--- How a conversion ends, status by status: the bytes are read by the one notation and written by the other, with so many notes.
-abbrev pub ConversionEnds : (from to : Format) → Keep → (bytes : List ℕ) → (out diag : Sinks) → Status → Type 0
+-- How a conversion ends, status by status: the bytes are read by the one notation and written by
+-- the other, with so many notes.
+abbrev pub ConversionEnds : (from to : Format) → Keep → (bytes : List ℕ) → (out diag : Sinks)
+    → Status → Type 0
 ConversionEnds from to keep bytes out diag statuses.Done = IsConverted from to keep bytes out diag
 ConversionEnds from to keep bytes out diag statuses.Refused = NamesRefused from bytes out diag
-ConversionEnds from to keep bytes out diag statuses.Unspelled = NamesUnspelled from to keep bytes out diag
-ConversionEnds from to keep bytes out diag statuses.BadInput = NamesFault from bytes out diag statuses.BadInput
-ConversionEnds from to keep bytes out diag statuses.Limit = IsTooLong bytes out diag ⊎ NamesFault from bytes out diag statuses.Limit
-ConversionEnds from to keep bytes out diag statuses.WriteFault = IsCutShort from to keep bytes out diag
-ConversionEnds from to keep bytes out diag statuses.ReadFault = TellsAlone out diag (codes "read fault\n")
-ConversionEnds from to keep bytes out diag statuses.Memory = TellsAlone out diag (codes "out of memory\n")
-ConversionEnds from to keep bytes out diag statuses.ShelfFault = (IsOfLogs from ⊎ IsOfLogs to) × TellsAlone out diag (codes "shelf fault\n")
+ConversionEnds from to keep bytes out diag statuses.Unspelled =
+    NamesUnspelled from to keep bytes out diag
+ConversionEnds from to keep bytes out diag statuses.BadInput =
+    NamesFault from bytes out diag statuses.BadInput
+ConversionEnds from to keep bytes out diag statuses.Limit =
+    IsTooLong bytes out diag ⊎ NamesFault from bytes out diag statuses.Limit
+ConversionEnds from to keep bytes out diag statuses.WriteFault =
+    IsCutShort from to keep bytes out diag
+ConversionEnds from to keep bytes out diag statuses.ReadFault =
+    TellsAlone out diag (codes "read fault\n")
+ConversionEnds from to keep bytes out diag statuses.Memory =
+    TellsAlone out diag (codes "out of memory\n")
+ConversionEnds from to keep bytes out diag statuses.ShelfFault =
+    (IsOfLogs from ⊎ IsOfLogs to) × TellsAlone out diag (codes "shelf fault\n")
 ConversionEnds from to keep bytes out diag statuses.Usage = ⊥
 ConversionEnds from to keep bytes out diag statuses.GameMissing = ⊥
 ConversionEnds from to keep bytes out diag statuses.BadGame = ⊥
@@ -126,16 +145,19 @@ ConversionEnds from to keep bytes out diag statuses.NoSuch = ⊥
 ConversionEnds from to keep bytes out diag statuses.Differs = ⊥
 ConversionEnds from to keep bytes out diag statuses.FileMissing = ⊥
 
--- a status where an input within the limit reads as hands: all is done, or a hand is refused or unspelled, or a device failed, or
--- memory ran out
+-- a status where an input within the limit reads as hands: all is done, or a hand is refused or
+-- unspelled, or a device failed, or memory ran out
 abbrev pub IsOfHands : Status → Type 0
 IsOfHands statuses.Refused = Unit {0}
 IsOfHands statuses.Unspelled = Unit {0}
 IsOfHands status = RefusesNothing status
 
--- The headline: a conversion ends as its status says; an input within the limit that reads as hands is not told as bad input or
--- as a limit; and wherever the hands can be converted, all is done, or a device failed, or memory ran out.
-pub record Headline (from to : Format) (keep : Keep) (bytes : List ℕ) (out diag : Sinks) (status : Status) : Type 0 where
+-- The headline: a conversion ends as its status says; an input within the limit that reads as hands
+-- is not told as bad input or as a limit; and wherever the hands can be converted, all is done, or
+-- a device failed, or memory ran out.
+pub record Headline (from to : Format) (keep : Keep) (bytes : List ℕ) (out diag : Sinks)
+    (status : Status) : Type 0 where
   pub ends : ConversionEnds from to keep bytes out diag status
-  pub reads : length bytes ≤ most_input → (records : List Record) → SayRecords from bytes records → IsOfHands status
+  pub reads : length bytes ≤ most_input → (records : List Record) → SayRecords from bytes records
+      → IsOfHands status
   pub exactly : (plays : List Play) → CanConvert from to keep bytes plays → RefusesNothing status

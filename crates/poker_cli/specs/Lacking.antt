@@ -15,24 +15,30 @@ use Rattle.command_words.specs.Words.{Sides, PlainSides, SidesUnder}
 -- a file lacks this
 abbrev pub Lacks : Option (List ℕ) → Lack → Type 0
 Lacks file lacks.TooLong = (text : List ℕ) × ((file ≡ Some text) × (most_input < length text))
-Lacks file (lacks.Bad fault) = (text : List ℕ) × ((file ≡ Some text) × ((length text ≤ most_input) × (game_said text ≡ Err fault)))
+Lacks file (lacks.Bad fault) =
+    (text : List ℕ)
+    × ((file ≡ Some text) × ((length text ≤ most_input) × (game_said text ≡ Err fault)))
 
--- a file gives no game for this reason; where it could not be read or memory ran out nothing is known of it
+-- a file gives no game for this reason; where it could not be read or memory ran out nothing is
+-- known of it
 abbrev pub HasNoGame : Option (List ℕ) → NoGame → Type 0
 HasNoGame file reasons.Missing = file ≡ None
 HasNoGame file (reasons.Lacking lack) = Lacks file lack
 HasNoGame file reasons.ShelfFault = Unit {0}
 HasNoGame file reasons.Memory = Unit {0}
 
--- two files cannot be compared for this reason, which is one of the file of a game: only logs have one
+-- two files cannot be compared for this reason, which is one of the file of a game: only logs have
+-- one
 abbrev pub HasNoGameFor : Files → Sides → NoGame → Type 0
 HasNoGameFor files (PlainSides from other) reason = ⊥
 HasNoGameFor files (SidesUnder game from other) reason = HasNoGame (files game) reason
 
--- a file is not compared with for this reason; where it could not be read or memory ran out nothing is known of it
+-- a file is not compared with for this reason; where it could not be read or memory ran out nothing
+-- is known of it
 abbrev pub HasNoFile : Option (List ℕ) → NoFile → Type 0
 HasNoFile file no_files.Missing = file ≡ None
-HasNoFile file no_files.TooLong = (text : List ℕ) × ((file ≡ Some text) × (most_input < length text))
+HasNoFile file no_files.TooLong =
+    (text : List ℕ) × ((file ≡ Some text) × (most_input < length text))
 HasNoFile file no_files.ShelfFault = Unit {0}
 HasNoFile file no_files.Memory = Unit {0}
 

@@ -28,7 +28,10 @@ no_text_line hand = codes "bad input: hand " ++ (decimal hand ++ codes ": Text\n
 
 -- the line of a fault at a member of a hand
 abbrev pub bad_member_line : ℕ → List ℕ → MemberFaultKind → List ℕ
-bad_member_line hand path what = codes "bad input: hand " ++ (decimal hand ++ (codes ", " ++ (path ++ (codes ": " ++ (ohh_fault_text what ++ codes "\n")))))
+bad_member_line hand path what =
+    codes "bad input: hand "
+    ++ (decimal hand
+    ++ (codes ", " ++ (path ++ (codes ": " ++ (ohh_fault_text what ++ codes "\n")))))
 
 -- the status of a fault: a limit that is passed, or else bad input
 abbrev pub ohh_status : Wrong → Status

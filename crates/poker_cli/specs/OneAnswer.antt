@@ -12,7 +12,8 @@ pub record ReadAlike (answer other : Answer) : Type 0 where
   pub line : answer.line ≡ other.line
   pub document : parse_document answer.output ≡ parse_document other.output
 
--- two answers are one: they are the same, but for how the document of hands in the Poker Hand History format is spelled
+-- two answers are one: they are the same, but for how the document of hands in the Poker Hand
+-- History format is spelled
 abbrev pub AreOneAnswer : Task → Answer → Answer → Type 0
 AreOneAnswer (tasks.Convert readers.Phh keep) answer other = ReadAlike answer other
 AreOneAnswer task answer other = answer ≡ other

@@ -1,5 +1,6 @@
--- What plays are as they are written in a notation, the first of them that has no spelling there, which notes are kept, when two
--- files are the same, and what it means that bytes read back as plays: the words of each notation.
+-- What plays are as they are written in a notation, the first of them that has no spelling there,
+-- which notes are kept, when two files are the same, and what it means that bytes read back as
+-- plays: the words of each notation.
 use Rattle.std.specs.Prelude.{◌≡◌, ℕ, List, Option}
 use Rattle.acpc_format.specs.KeptNotes.{kept_in_acpc}
 use Rattle.acpc_writing.specs.Spelled as facts_in_acpc
@@ -50,7 +51,8 @@ AreSameIn readers.Phh bytes too = AreSameTable bytes too
 AreSameIn (readers.Ohh dialect) bytes too = bytes ≡ too
 AreSameIn (readers.Acpc game) bytes too = bytes ≡ too
 
--- bytes read back as plays in a notation: as many hands, each legal and with the whole trace of its play, stated facts that agree,
--- and the kept notes
+-- bytes read back as plays in a notation: as many hands, each legal and with the whole trace of its
+-- play, stated facts that agree, and the kept notes
 abbrev pub ReadsBack : Format → List Play → List ℕ → Type 0
-ReadsBack to plays bytes = ReadBack (SayRecords to bytes) (HaveFault to bytes) (KeepsNotes (kept_in to)) plays
+ReadsBack to plays bytes =
+    ReadBack (SayRecords to bytes) (HaveFault to bytes) (KeepsNotes (kept_in to)) plays

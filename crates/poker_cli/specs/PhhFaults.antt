@@ -35,7 +35,10 @@ limit_line quantity = codes "limit: " ++ (limit_text quantity ++ codes "\n")
 
 -- the line of a fault at a key of a hand
 abbrev pub bad_hand_line : ℕ → List ℕ → FieldFaultKind → List ℕ
-bad_hand_line hand key what = codes "bad input: hand " ++ (decimal hand ++ (codes ", " ++ (key ++ (codes ": " ++ (phh_fault_text what ++ codes "\n")))))
+bad_hand_line hand key what =
+    codes "bad input: hand "
+    ++ (decimal hand
+    ++ (codes ", " ++ (key ++ (codes ": " ++ (phh_fault_text what ++ codes "\n")))))
 
 -- the status of a fault: a limit that is passed, or else bad input
 abbrev pub phh_status : Wrong → Status

@@ -24,12 +24,17 @@ reason_text reasons.NothingToCall = codes "NothingToCall"
 reason_text reasons.RaiseClosed = codes "RaiseClosed"
 reason_text reasons.RaiseTooSmall = codes "RaiseTooSmall"
 reason_text reasons.RaiseTooBig = codes "RaiseTooBig"
-reason_text (reasons.AmountDiffers stated due) = codes "AmountDiffers stated " ++ (decimal stated ++ (codes ", due " ++ decimal due))
+reason_text (reasons.AmountDiffers stated due) =
+    codes "AmountDiffers stated " ++ (decimal stated ++ (codes ", due " ++ decimal due))
 
--- which event of a script is illegal, by its number and that of its action, and why; or what else is wrong with the script
+-- which event of a script is illegal, by its number and that of its action, and why; or what else
+-- is wrong with the script
 abbrev pub fault_text : ReplayFault → List ℕ
-fault_text (faults.Illegal event at why) = codes "event " ++ (decimal event ++ (codes ", action " ++ (decimal at ++ (codes ": " ++ reason_text why))))
-fault_text (faults.EndsEarly events) = codes "ends early after " ++ (decimal events ++ codes " events")
+fault_text (faults.Illegal event at why) =
+    codes "event "
+    ++ (decimal event ++ (codes ", action " ++ (decimal at ++ (codes ": " ++ reason_text why))))
+fault_text (faults.EndsEarly events) =
+    codes "ends early after " ++ (decimal events ++ codes " events")
 fault_text (faults.RakeTooBig pot) = codes "pot " ++ (decimal pot ++ codes ": rake too big")
 fault_text (faults.NoShownHand pot) = codes "pot " ++ (decimal pot ++ codes ": no shown hand")
 fault_text faults.Memory = []
@@ -44,7 +49,10 @@ which_text (whiches.Value seat) = codes "value p" ++ decimal seat.number
 -- a stated fact that differs, with both numbers
 abbrev pub difference_text : FactDiffers → List ℕ
 difference_text differs =
-    which_text differs.which ++ (codes " stated " ++ (signed_decimal differs.stated ++ (codes ", replayed " ++ signed_decimal differs.replayed)))
+    which_text differs.which
+    ++ (codes " stated "
+    ++ (signed_decimal differs.stated
+    ++ (codes ", replayed " ++ signed_decimal differs.replayed)))
 
 -- why a hand is refused
 abbrev pub refusal_text : Refusal → List ℕ
@@ -53,4 +61,5 @@ refusal_text (refusals.Fact differs) = difference_text differs
 
 -- the line of the refused hand with this number
 abbrev pub refused_line : ℕ → Refusal → List ℕ
-refused_line number why = codes "refused: hand " ++ (decimal number ++ (codes ": " ++ (refusal_text why ++ codes "\n")))
+refused_line number why =
+    codes "refused: hand " ++ (decimal number ++ (codes ": " ++ (refusal_text why ++ codes "\n")))

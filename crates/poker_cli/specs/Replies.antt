@@ -32,17 +32,22 @@ no_hand number hands = refusal statuses.NoSuch (codes "no such hand: " ++ of_tex
 -- the hand with this number has not so many events, but these
 abbrev pub no_event : ℕ → ℕ → ℕ → Answer
 no_event number events all =
-    refusal statuses.NoSuch (codes "no such event: hand " ++ (decimal number ++ (codes ": " ++ of_text events all)))
+    refusal statuses.NoSuch
+    (codes "no such event: hand " ++ (decimal number ++ (codes ": " ++ of_text events all)))
 
 -- the hand with this number has no board of this street
 abbrev pub no_street : ℕ → ℕ → Answer
 no_street number street =
-    refusal statuses.NoSuch (codes "no such street: hand " ++ (decimal number ++ (codes ": " ++ (decimal street ++ codes "\n"))))
+    refusal statuses.NoSuch
+    (codes "no such street: hand "
+    ++ (decimal number ++ (codes ": " ++ (decimal street ++ codes "\n"))))
 
 -- this seat of the hand with this number has a card that stayed unknown
 abbrev pub no_cards : ℕ → ℕ → Answer
 no_cards number seat =
-    refusal statuses.NoSuch (codes "no such cards: hand " ++ (decimal number ++ (codes ": p" ++ (decimal seat ++ codes "\n"))))
+    refusal statuses.NoSuch
+    (codes "no such cards: hand "
+    ++ (decimal number ++ (codes ": p" ++ (decimal seat ++ codes "\n"))))
 
 -- a game has no seat with this number, of so many
 abbrev pub no_seat : ℕ → ℕ → Answer
@@ -51,27 +56,35 @@ no_seat number seats = refusal statuses.NoSuch (codes "no such seat: " ++ of_tex
 -- What is legal after so many events of the hand with this number.
 pub data AreOptionsAt (number events : ℕ) (plays : List Play) : Answer → Type 0 where
   -- no hand has this number
-  NoHand : hand_numbered plays number ≡ None → AreOptionsAt number events plays (no_hand number (length plays))
+  NoHand : hand_numbered plays number ≡ None
+      → AreOptionsAt number events plays (no_hand number (length plays))
   -- it has fewer events
-  NoEvent : (play : Play) → hand_numbered plays number ≡ Some play → length play.hand.script < events
+  NoEvent : (play : Play) → hand_numbered plays number ≡ Some play
+      → length play.hand.script < events
       → AreOptionsAt number events plays (no_event number events (length play.hand.script))
   -- these are its options after them
-  Listed : (play : Play) → hand_numbered plays number ≡ Some play → events ≤ length play.hand.script → (options : Options)
-      → AreOptions play.hand.setup play.hand.rules (past_after play.hand.setup (script_said play.hand) events) options
+  Listed : (play : Play) → hand_numbered plays number ≡ Some play → events ≤ length play.hand.script
+      → (options : Options)
+      → AreOptions play.hand.setup play.hand.rules
+      (past_after play.hand.setup (script_said play.hand) events) options
       → AreOptionsAt number events plays (done (options_said number events options))
 
 -- How often each live seat of the hand with this number would win from a street on.
 pub data IsEquityAt (number street : ℕ) (plays : List Play) : Answer → Type 0 where
   -- no hand has this number
-  NoneNumbered : hand_numbered plays number ≡ None → IsEquityAt number street plays (no_hand number (length plays))
+  NoneNumbered : hand_numbered plays number ≡ None
+      → IsEquityAt number street plays (no_hand number (length plays))
   -- it has no board of this street
-  NoBoard : (play : Play) → hand_numbered plays number ≡ Some play → HasNoEquity play.trace street lacking.NoStreet
+  NoBoard : (play : Play) → hand_numbered plays number ≡ Some play
+      → HasNoEquity play.trace street lacking.NoStreet
       → IsEquityAt number street plays (no_street number street)
   -- a live seat has a card that stayed unknown, and this is the first
   NoCards : (play : Play) → hand_numbered plays number ≡ Some play → (seat : Seat)
-      → HasNoEquity play.trace street (lacking.UnknownCards seat) → IsEquityAt number street plays (no_cards number seat.number)
+      → HasNoEquity play.trace street (lacking.UnknownCards seat)
+      → IsEquityAt number street plays (no_cards number seat.number)
   -- this is its equity
-  Counted : (play : Play) → hand_numbered plays number ≡ Some play → (row : EquityRow) → IsEquityOn play.trace street row
+  Counted : (play : Play) → hand_numbered plays number ≡ Some play → (row : EquityRow)
+      → IsEquityOn play.trace street row
       → IsEquityAt number street plays (done (equity_said number street play.trace row))
 
 -- the lines that a seat saw of plays, the first of which stands at this place of their file, from 0
@@ -87,7 +100,8 @@ most_view_bytes = 268435456
 -- What a seat saw of the hands of a log under its game.
 pub data AreViews (game : Game) (seat : Seat) (plays : List Play) : Answer → Type 0 where
   -- the game has no such seat
-  NoSeat : game.stacks.seats < seat.number → AreViews game seat plays (no_seat seat.number game.stacks.seats)
+  NoSeat : game.stacks.seats < seat.number
+      → AreViews game seat plays (no_seat seat.number game.stacks.seats)
   -- its lines are too many bytes
   TooMany : seat.number ≤ game.stacks.seats → most_view_bytes < length (each_view game seat 0 plays)
       → AreViews game seat plays (refusal statuses.Limit (codes "limit: view bytes 268435456\n"))

@@ -11,16 +11,18 @@ use Rattle.poker_cli.specs.Answer.{Answer, Files, GivesGame, GivesNoGame, IsAnsw
 
 -- the line where the words are no command
 abbrev pub usage_line : List ℕ
-usage_line = codes "usage: handref check|replay|report|convert|game|load|views|options|session|equity|judge|compare [options]\n"
+usage_line =
+    codes
+    "usage: handref check|replay|report|convert|game|load|views|options|session|equity|judge|compare [options]\n"
 
--- A run may end with this status where this is the answer to its input: with the answer's own, or with that of a
--- fault of writing, where there is something to write.
+-- A run may end with this status where this is the answer to its input: with the answer's own, or
+-- with that of a fault of writing, where there is something to write.
 abbrev pub MayEnd : Answer → Status → Type 0
 MayEnd answer statuses.WriteFault = answer.status ≡ statuses.Done
 MayEnd answer status = answer.status ≡ status
 
--- The line of a status that depends on no input: none after Done, and those of faults, of words that are no command, and of a
--- file that is not there.
+-- The line of a status that depends on no input: none after Done, and those of faults, of words
+-- that are no command, and of a file that is not there.
 abbrev pub fixed_line : Status → Option (List ℕ)
 fixed_line statuses.Usage = Some usage_line
 fixed_line statuses.ReadFault = Some (codes "read fault\n")
@@ -38,7 +40,8 @@ line_of answer status = unwrap_or (fixed_line status) answer.line
 
 -- a line is told whole, or a part of it where the count of faults rose
 abbrev pub TellsLine : (before now : ℕ) → Option (List ℕ) → Option (List ℕ) → List ℕ → Type 0
-TellsLine before now old new line = Appends old new line ⊎ (Rose before now × AppendsPart old new line)
+TellsLine before now old new line =
+    Appends old new line ⊎ (Rose before now × AppendsPart old new line)
 
 -- what is written: after Done the whole output, after a fault of writing a part of it
 abbrev pub Writes : Option (List ℕ) → Option (List ℕ) → Answer → Status → Type 0
@@ -55,19 +58,23 @@ pub record Sinks : Type 0 where
 
 -- what changed of a sink, by what it tells that it holds and how often it failed
 abbrev pub change_of : {K : Type 0} → (K → Option (List ℕ)) → (K → ℕ) → K → K → Sinks
-change_of held faults old new = record { held = held old; holds = held new; before = faults old; now = faults new }
+change_of held faults old new =
+    record { held = held old; holds = held new; before = faults old; now = faults new }
 
 -- no file is on a shelf
 abbrev pub no_files : Files
 no_files name = None
 
--- What holds of the files and the bytes of a request, where the shelf and the source tell them. Where hands are made, nothing
--- is asked of either, and where no log is read or written, and nothing compared, nothing of the shelf.
+-- What holds of the files and the bytes of a request, where the shelf and the source tell them.
+-- Where hands are made, nothing is asked of either, and where no log is read or written, and
+-- nothing compared, nothing of the shelf.
 abbrev pub WhereTold : Request → Option (List ℕ) → Option Files → (Files → List ℕ → Type 0) → Type 0
 WhereTold (Load seed hands) left told P = P no_files []
 WhereTold (Plain from task) left told P = IfSome left (λ bytes. P no_files bytes)
-WhereTold (Under name logs) left told P = IfSome left (λ bytes. IfSome told (λ files. P files bytes))
-WhereTold (Compare sides file notes) left told P = IfSome left (λ bytes. IfSome told (λ files. P files bytes))
+WhereTold (Under name logs) left told P =
+    IfSome left (λ bytes. IfSome told (λ files. P files bytes))
+WhereTold (Compare sides file notes) left told P =
+    IfSome left (λ bytes. IfSome told (λ files. P files bytes))
 
 -- hands are made
 abbrev pub MakesHands : Request → Type 0
@@ -97,7 +104,8 @@ IsGameMissing (Under name logs) files = files name ≡ None
 IsGameMissing (Compare (SidesUnder game from other) file notes) files = files game ≡ None
 IsGameMissing request files = ⊥
 
--- the file that hands are to be compared with is not there; that of a game, where one is asked for, gives its game
+-- the file that hands are to be compared with is not there; that of a game, where one is asked for,
+-- gives its game
 abbrev pub IsFileMissing : Request → Files → Type 0
 IsFileMissing (Compare (PlainSides from other) file notes) files = files file ≡ None
 IsFileMissing (Compare (SidesUnder game from other) file notes) files =
@@ -110,10 +118,11 @@ GivesNone file = (file ≡ None) ⊎ ((answer : Answer) × GivesNoGame file answ
 
 -- a file is not there, or too long
 abbrev pub IsNotThere : Option (List ℕ) → Type 0
-IsNotThere file = (file ≡ None) ⊎ ((text : List ℕ) × ((file ≡ Some text) × (most_input < length text)))
+IsNotThere file =
+    (file ≡ None) ⊎ ((text : List ℕ) × ((file ≡ Some text) × (most_input < length text)))
 
--- the shelf tells that the file of the game that is asked for is not there, or gives no game; or that the file that hands are to
--- be compared with is not there, or too long
+-- the shelf tells that the file of the game that is asked for is not there, or gives no game; or
+-- that the file that hands are to be compared with is not there, or too long
 abbrev pub LacksFile : Request → Option Files → Type 0
 LacksFile (Under name logs) (Some files) = GivesNone (files name)
 LacksFile (Compare (PlainSides from other) file notes) (Some files) = IsNotThere (files file)
@@ -121,17 +130,18 @@ LacksFile (Compare (SidesUnder game from other) file notes) (Some files) =
     GivesNone (files game) ⊎ IsNotThere (files file)
 LacksFile request told = ⊥
 
--- A run that got to its answer: the answer to its files and its input, the status that follows from it, what was written of
--- its output, and its line.
-pub record Answers (request : Request) (files : Files) (bytes : List ℕ) (out diag : Sinks) (status : Status) : Type 0 where
+-- A run that got to its answer: the answer to its files and its input, the status that follows from
+-- it, what was written of its output, and its line.
+pub record Answers (request : Request) (files : Files) (bytes : List ℕ) (out diag : Sinks)
+    (status : Status) : Type 0 where
   pub answer : Answer
   pub to_input : IsAnswerIn request files bytes answer
   pub ends : MayEnd answer status
   pub written : Writes out.held out.holds answer status
   pub line : TellsLine diag.before diag.now diag.held diag.holds (line_of answer status)
 
--- How a run of a request on these files and bytes may end: with the answer to them, or before it, where a file is not there, a
--- file or the input could not be read, or memory ran out.
+-- How a run of a request on these files and bytes may end: with the answer to them, or before it,
+-- where a file is not there, a file or the input could not be read, or memory ran out.
 abbrev pub Ends : Request → Files → List ℕ → Sinks → Sinks → Status → Type 0
 Ends request files bytes out diag statuses.Usage = ⊥
 Ends request files bytes out diag statuses.ReadFault = ReadsHands request
@@ -179,7 +189,8 @@ RefusesNothing statuses.ShelfFault = Unit {0}
 RefusesNothing statuses.Memory = Unit {0}
 RefusesNothing _ = ⊥
 
--- a status of a run that reads and refuses nothing: all is done, or the output could not be written, or memory ran out
+-- a status of a run that reads and refuses nothing: all is done, or the output could not be
+-- written, or memory ran out
 abbrev pub NeedsNoInput : Status → Type 0
 NeedsNoInput statuses.Done = Unit {0}
 NeedsNoInput statuses.WriteFault = Unit {0}
@@ -195,8 +206,9 @@ ReadsNothing statuses.FileMissing = Unit {0}
 ReadsNothing statuses.BadGame = Unit {0}
 ReadsNothing _ = ⊥
 
--- What a run that ends with this status keeps: a fault of a device is told only where its count of faults rose in the run, and
--- the line of a status that depends on no input is told. `reads` and `asks` are the counts of the source and of the shelf.
+-- What a run that ends with this status keeps: a fault of a device is told only where its count of
+-- faults rose in the run, and the line of a status that depends on no input is told. `reads` and
+-- `asks` are the counts of the source and of the shelf.
 pub record Tells (status : Status) (reads asks : ℕ × ℕ) (out diag : Sinks) : Type 0 where
   pub read_fault : status ≡ statuses.ReadFault → Rose reads.0 reads.1
   pub write_fault : status ≡ statuses.WriteFault → Rose out.before out.now
@@ -204,7 +216,8 @@ pub record Tells (status : Status) (reads asks : ℕ × ℕ) (out diag : Sinks) 
   pub fixed_line : IfSome (fixed_line status) (TellsLine diag.before diag.now diag.held diag.holds)
 
 -- Which devices a run that ends with this status leaves as they were.
-pub record Leaves {S K D : Type 0} (status : Status) (input read : S) (out written : K) (diag told : D) : Type 0 where
+pub record Leaves {S K D : Type 0} (status : Status) (input read : S) (out written : K)
+    (diag told : D) : Type 0 where
   pub unread : ReadsNothing status → read ≡ input
   pub nothing_written : WritesNothing status → written ≡ out
   pub quiet : status ≡ statuses.Done → told ≡ diag

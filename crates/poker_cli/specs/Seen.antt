@@ -8,16 +8,18 @@ use Rattle.hand_records.specs.declared.trace.Play.{Play}
 use Rattle.poker_cli.specs.AnswerParts.{Answer}
 use Rattle.poker_cli.specs.Replies.{AreViews, each_view, most_view_bytes}
 
--- The lines of plays are kept, and they are not too many bytes; or they are not kept, since the game
--- has no such seat or they are too many bytes.
-pub record AreSeen (game : Game) (seat : Seat) (kept : Bool) (lines : List ℕ) (plays : List Play) : Type 0 where
+-- The lines of plays are kept, and they are not too many bytes; or they are not kept, since the
+-- game has no such seat or they are too many bytes.
+pub record AreSeen (game : Game) (seat : Seat) (kept : Bool) (lines : List ℕ) (plays : List Play) :
+    Type 0 where
   pub all : kept ≡ true → lines ≡ each_view game seat 0 plays
   pub few : kept ≡ true → length (each_view game seat 0 plays) ≤ most_view_bytes
   pub not_kept : kept ≡ false → (game.stacks.seats < seat.number)
       ⊎ (most_view_bytes < length (each_view game seat 0 plays))
 
 -- All records have plays, and an answer is that with what a seat saw of these.
-pub record AreViewsOf (game : Game) (seat : Seat) (records : List Record) (answer : Answer) : Type 0 where
-  pub plays : List Play
-  pub are : ArePlaysOf records plays
-  pub said : AreViews game seat plays answer
+pub record AreViewsOf (game : Game) (seat : Seat) (records : List Record) (answer : Answer) : Type 0
+  where
+    pub plays : List Play
+    pub are : ArePlaysOf records plays
+    pub said : AreViews game seat plays answer

@@ -5,4 +5,5 @@ use Rattle.poker_cli.specs.Answer as definition
 
 -- the status and the bytes of an answer
 abbrev pub answer_told : made.Answer → definition.Answer
-answer_told answer = record { status = answer.status; output = answer.output.items; line = string_bytes answer.line }
+answer_told answer =
+    record { status = answer.status; output = answer.output.items; line = string_bytes answer.line }

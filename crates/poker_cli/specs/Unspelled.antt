@@ -25,4 +25,5 @@ fact_text (facts.Note name) = codes "Note " ++ note_text name
 
 -- the line of a hand with this number, one of whose facts has no spelling
 abbrev pub unspelled_line : ℕ → Unspelled → List ℕ
-unspelled_line number fact = codes "unspelled: hand " ++ (decimal number ++ (codes ": " ++ (fact_text fact ++ codes "\n")))
+unspelled_line number fact =
+    codes "unspelled: hand " ++ (decimal number ++ (codes ": " ++ (fact_text fact ++ codes "\n")))

@@ -1,4 +1,5 @@
--- What is printed where each hand is judged: a line for the verdict on each, and how many of them are legal.
+-- What is printed where each hand is judged: a line for the verdict on each, and how many of them
+-- are legal.
 use Rattle.std.specs.Prelude.{◌≡◌, ℕ, ◌+◌, List, [], ◌∷◌, ◌++◌, length, codes}
 use Rattle.std.specs.Fmt.{decimal}
 use Rattle.convert_core.specs.Verdicts.{AreVerdictsOn, Legal, Refused, Verdict, legal_plays}
@@ -18,15 +19,18 @@ verdict_line number verdict =
 -- the lines of hands, the first of which has this number
 unfoldable pub each_verdict : ℕ → List Verdict → List ℕ
 each_verdict number [] = []
-each_verdict number (verdict ∷ others) = verdict_line number verdict ++ each_verdict (number + 1) others
+each_verdict number (verdict ∷ others) =
+    verdict_line number verdict ++ each_verdict (number + 1) others
 
 -- the last line: how many hands are legal, of how many
 abbrev pub judged_end : ℕ → ℕ → List ℕ
-judged_end legal hands = codes "legal hands: " ++ (decimal legal ++ (codes " of " ++ (decimal hands ++ codes "\n")))
+judged_end legal hands =
+    codes "legal hands: " ++ (decimal legal ++ (codes " of " ++ (decimal hands ++ codes "\n")))
 
 -- all of them
 abbrev pub judged_said : List Verdict → List ℕ
-judged_said verdicts = each_verdict 1 verdicts ++ judged_end (length (legal_plays verdicts)) (length verdicts)
+judged_said verdicts =
+    each_verdict 1 verdicts ++ judged_end (length (legal_plays verdicts)) (length verdicts)
 
 -- The lines of these verdicts are printed, and the legal hands among them counted.
 pub record ArePrinted (text : List ℕ) (legal : ℕ) (verdicts : List Verdict) : Type 0 where

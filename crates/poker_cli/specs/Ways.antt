@@ -40,9 +40,10 @@ way task reader = record { reader = reader; task = task }
 abbrev pub plain_way : PlainNotation → NamedTask PlainNotation → Way
 plain_way from task = way (task_in plain_format task) (plain_format from)
 
--- how hands are read where logs are under a game, and what is made of them: logs are read or viewed, or hands of
--- another notation are written as logs
+-- how hands are read where logs are under a game, and what is made of them: logs are read or
+-- viewed, or hands of another notation are written as logs
 abbrev pub way_under : Game → Logs → Way
 way_under game (logs_are.Read task) = way (task_in (format_under game) task) (readers.Acpc game)
 way_under game (logs_are.Viewed seat) = way (tasks.Views game seat) (readers.Acpc game)
-way_under game (logs_are.Written from keep) = way (tasks.Convert (readers.Acpc game) keep) (plain_format from)
+way_under game (logs_are.Written from keep) =
+    way (tasks.Convert (readers.Acpc game) keep) (plain_format from)

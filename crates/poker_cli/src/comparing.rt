@@ -1,4 +1,5 @@
-//! A request to compare is answered by the bytes of the other file and, where logs are read, under the game of its file.
+//! A request to compare is answered by the bytes of the other file and, where logs are read, under
+//! the game of its file.
 ghost use Rattle.std.specs.Prelude.{◌≡◌, ◌≤◌, length, IfErr, IfOk, IfSome, IsErrOf};
 ghost use Rattle.command_words.specs.Requests.{sides_in};
 ghost use Rattle.command_words.specs.Words.{Compare};
@@ -30,8 +31,9 @@ pub enum NoFile {
     Memory,
 }
 
-/// The answer where the hands that the source has left are compared with those of the file of this name. The shelf is asked
-/// for the file of a game first, where logs are read, and then for that file, once each.
+/// The answer where the hands that the source has left are compared with those of the file of this
+/// name. The shelf is asked for the file of a game first, where logs are read, and then for that
+/// file, once each.
 pub fn reply_to_comparison<S: Source, H: Shelf>(
     alloc: Global,
     sides: Sides<'_>,
@@ -51,7 +53,8 @@ pub fn reply_to_comparison<S: Source, H: Shelf>(
     ensures unread { IfOk result (λ answer. ReadsNothing answer.status → input.new ≡ input.old) }
     ensures missing { IsErrOf result NoAnswer.GameMissing → IfSome (H.files shelf.old) (λ files.
         IsGameMissing (Compare (sides_in sides.entry) name.now notes) files) }
-    ensures file_missing { IsErrOf result NoAnswer.FileMissing → IfSome (H.files shelf.old) (λ files.
+    ensures file_missing { IsErrOf result NoAnswer.FileMissing
+        → IfSome (H.files shelf.old) (λ files.
         IsFileMissing (Compare (sides_in sides.entry) name.now notes) files) }
     ensures unasked { IfErr result (λ why. ComesFirst why → input.new ≡ input.old) }
     ensures without_file { LacksFile (Compare (sides_in sides.entry) name.now notes)

@@ -1,4 +1,5 @@
-//! The hands of an input are compared with those of another file, or what is wrong with either is told.
+//! The hands of an input are compared with those of another file, or what is wrong with either is
+//! told.
 ghost use Rattle.std.specs.Prelude.{◌≡◌, ◌≤◌, ◌+◌, All, length, option_map, IfErr, IfOk, string_bytes};
 ghost use Rattle.std.specs.List.{AllByRecursion};
 ghost use Rattle.convert_core.specs.Conversion.{IsPlaysRefusal, ReadAsPlays};
@@ -70,8 +71,8 @@ pub fn comparison_under(
     }
 }
 
-/// The answer to bytes that are not too many, whose hands are compared with those of another file. What is wrong with them
-/// comes before what is wrong inside that file.
+/// The answer to bytes that are not too many, whose hands are compared with those of another file.
+/// What is wrong with them comes before what is wrong inside that file.
 pub fn answer_to_comparison(
     alloc: Global,
     by: &Comparison,

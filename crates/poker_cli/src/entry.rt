@@ -27,9 +27,9 @@ use std::alloc::Global;
 const USAGE: &[u8] =
     b"usage: handref check|replay|report|convert|game|load|views|options|session|equity|judge|compare [options]\n";
 
-/// Runs the program on its words, without its own name. It reads the file of a game from the shelf where the words
-/// name one, and behind it the file that hands are compared with, then the input to its end, writes the output where all is done, and tells one line beside it where it is
-/// not.
+/// Runs the program on its words, without its own name. It reads the file of a game from the shelf
+/// where the words name one, and behind it the file that hands are compared with, then the input to
+/// its end, writes the output where all is done, and tells one line beside it where it is not.
 pub fn run<S: Source, H: Shelf, K: Sink, D: Sink>(
     alloc: Global,
     words: &[String],
@@ -139,7 +139,8 @@ fn run_request<S: Source, H: Shelf, K: Sink, D: Sink>(
     }
 }
 
-// The answer to a request: to hands that are made, or else by the file of its game and by all that the source has left.
+// The answer to a request: to hands that are made, or else by the file of its game and by all that
+// the source has left.
 fn reply<S: Source, H: Shelf>(
     alloc: Global,
     request: Request<'_>,

@@ -1,5 +1,5 @@
-//! An input has one answer, none is refused whose hands are all legal, equal hands come to equal outputs, by whatever way, and
-//! compare as the same.
+//! An input has one answer, none is refused whose hands are all legal, equal hands come to equal
+//! outputs, by whatever way, and compare as the same.
 ghost use Rattle.std.specs.Prelude.{◌≡◌, ◌⊎◌, ◌↔◌, ◌≤◌, ℕ, Bool, true, false, List, None, Ok, length};
 ghost use Rattle.std.specs.List.{AllByRecursion};
 ghost use Rattle.acpc_game.specs.declared.game.Game.{Game};
@@ -34,9 +34,9 @@ ghost use Rattle.convert_core.specs.Conversion.{ReadAsPlays};
 ghost use Rattle.convert_core.specs.Judged.{ArePlaysOf};
 ghost use Rattle.convert_core.specs.SameAnswers.{AreSameAnswers};
 
-/// The bytes of an input have one answer to a task, as they are read; where hands are written in the Poker Hand History
-/// format, TOML reads all answers alike. And they have one where they are compared with another file. The function does
-/// nothing: its contract is a law.
+/// The bytes of an input have one answer to a task, as they are read; where hands are written in
+/// the Poker Hand History format, TOML reads all answers alike. And they have one where they are
+/// compared with another file. The function does nothing: its contract is a law.
 pub fn law_of_one_answer()
     ensures task { (task : Task) (reader : Format) (bytes : List ℕ) (answer other : Answer)
         → IsAnswer task reader bytes answer → IsAnswer task reader bytes other
@@ -45,14 +45,16 @@ pub fn law_of_one_answer()
         → IsComparison by file bytes answer → IsComparison by file bytes other → answer ≡ other }
 {}
 
-/// A run on an input that is not too long, and whose hands are all legal and agree with what is stated of them, ends with
-/// Done, or a device failed, or the status is Memory: on hands in a notation without games, and on a log whose game's file
-/// gives its game. Where something is asked of the hands, or what a seat saw of them, it may also end with the status of the
-/// reply to that, as Unspelled where the first hand fits no game, and NoSuch where there is no such hand.
-/// Where hands are converted, each fact that is to be kept has a spelling in the other notation. Where hands are judged, they
-/// need not be legal. Where they are compared, all hands of the other file are legal and agree, too, and the status may also be
-/// that of the comparison: Differs, where they are not the same. A run that makes hands ends with Done, or the output failed, or the status is Memory, whatever input and
-/// files there are. The function does nothing: its contract is a law.
+/// A run on an input that is not too long, and whose hands are all legal and agree with what is
+/// stated of them, ends with Done, or a device failed, or the status is Memory: on hands in a
+/// notation without games, and on a log whose game's file gives its game. Where something is asked
+/// of the hands, or what a seat saw of them, it may also end with the status of the reply to that,
+/// as Unspelled where the first hand fits no game, and NoSuch where there is no such hand. Where
+/// hands are converted, each fact that is to be kept has a spelling in the other notation. Where
+/// hands are judged, they need not be legal. Where they are compared, all hands of the other file
+/// are legal and agree, too, and the status may also be that of the comparison: Differs, where they
+/// are not the same. A run that makes hands ends with Done, or the output failed, or the status is
+/// Memory, whatever input and files there are. The function does nothing: its contract is a law.
 pub fn law_of_legal_inputs()
     ensures show { (request : Request) (command : Command) (reader : Format)
         → (files : Files) (bytes : List ℕ) (records : List Record) (plays : List Play)
@@ -93,7 +95,8 @@ pub fn law_of_legal_inputs()
     ensures compare { (request : Request) (by : Comparison) (files : Files) (text bytes : List ℕ)
         → (plays others : List Play) (out diag : Sinks) (status : Status)
         → AsksToCompare files request by text → length bytes ≤ most_input
-        → ReadAsPlays (SayRecords by.from bytes) plays → ReadAsPlays (SayRecords by.other text) others
+        → ReadAsPlays (SayRecords by.from bytes) plays
+        → ReadAsPlays (SayRecords by.other text) others
         → Ends request files bytes out diag status
         → RefusesNothing status ⊎ ((compared by.notes plays others).status ≡ status) }
     ensures load { (seed hands : ℕ) (files : Files) (bytes : List ℕ)
@@ -101,9 +104,9 @@ pub fn law_of_legal_inputs()
         → Ends (Load seed hands) files bytes out diag status → NeedsNoInput status }
 {}
 
-/// Two inputs, in any notations, that are converted into one notation with one choice of notes: their
-/// outputs are the same exactly where their hands have the same traces and the same kept notes, hand
-/// by hand. The function does nothing: its contract is a law.
+/// Two inputs, in any notations, that are converted into one notation with one choice of notes:
+/// their outputs are the same exactly where their hands have the same traces and the same kept
+/// notes, hand by hand. The function does nothing: its contract is a law.
 pub fn law_of_equal_runs()
     ensures { (from other to : Format) (keep : Keep) (bytes too output written : List ℕ)
         → (plays others : List Play)
@@ -113,8 +116,8 @@ pub fn law_of_equal_runs()
         ↔ AreSameIn to output written }
 {}
 
-/// An output is converted to its own notation once more as the same output, whichever notes are kept
-/// then, unless a device fails, memory is wanting, or the output is too long for an input. The
+/// An output is converted to its own notation once more as the same output, whichever notes are
+/// kept then, unless a device fails, memory is wanting, or the output is too long for an input. The
 /// function does nothing: its contract is a law.
 pub fn law_of_runs_again()
     ensures { (from to : Format) (keep again : Keep) (bytes output : List ℕ)
@@ -126,10 +129,10 @@ pub fn law_of_runs_again()
 {}
 
 /// A conversion may go by another notation. Where bytes are converted with all notes, a run on the
-/// output and a run on the bytes, into a third notation and with one choice of notes, tell the same:
-/// the same output, or the same hand and its same fact without a spelling; unless a device fails,
-/// memory is wanting, or the output is too long for an input. The function does nothing: its contract
-/// is a law.
+/// output and a run on the bytes, into a third notation and with one choice of notes, tell the
+/// same: the same output, or the same hand and its same fact without a spelling; unless a device
+/// fails, memory is wanting, or the output is too long for an input. The function does nothing: its
+/// contract is a law.
 pub fn law_of_runs_by_way()
     ensures { (from by to : Format) (keep : Keep) (bytes output : List ℕ)
         → ConvertsInto from by keeps.All bytes output
@@ -140,8 +143,9 @@ pub fn law_of_runs_by_way()
         (told_by by to keep output by_out by_diag by_status by_way) }
 {}
 
-/// The comparison of plays is done exactly where there are as many on either side and hand by hand the traces are the same and,
-/// where notes are looked at, the notes. The function does nothing: its contract is a law.
+/// The comparison of plays is done exactly where there are as many on either side and hand by hand
+/// the traces are the same and, where notes are looked at, the notes. The function does nothing:
+/// its contract is a law.
 pub fn law_of_compared_hands()
     ensures notes { (plays others : List Play)
         → AllByRecursion IsSound plays → AllByRecursion IsSound others
@@ -153,17 +157,20 @@ pub fn law_of_compared_hands()
         ↔ AllPaired (λ place play other. play.trace ≡ other.trace) 0 plays others }
 {}
 
-/// What was converted is the same as its source. A run that compares an output with the input that it was converted from, or
-/// that input with it, is done, unless a device fails or memory is wanting: always where notes are not looked at, and where they
-/// are, if all of them were kept. The function does nothing: its contract is a law.
+/// What was converted is the same as its source. A run that compares an output with the input that
+/// it was converted from, or that input with it, is done, unless a device fails or memory is
+/// wanting: always where notes are not looked at, and where they are, if all of them were kept. The
+/// function does nothing: its contract is a law.
 pub fn law_of_compared_conversions()
-    ensures source { (request : Request) (files : Files) (from to : Format) (keep : Keep) (notes : Bool)
+    ensures source { (request : Request) (files : Files) (from to : Format) (keep : Keep)
+        (notes : Bool)
         → (bytes output : List ℕ) (out diag : Sinks) (status : Status)
         → (into : ConvertsInto from to keep bytes output)
         → (notes ≡ true → first_refusal_in to keeps.All into.plays ≡ None)
         → AsksToCompare files request (record { from = from; other = to; notes = notes }) output
         → Ends request files bytes out diag status → RefusesNothing status }
-    ensures output { (request : Request) (files : Files) (from to : Format) (keep : Keep) (notes : Bool)
+    ensures output { (request : Request) (files : Files) (from to : Format) (keep : Keep)
+        (notes : Bool)
         → (bytes output : List ℕ) (out diag : Sinks) (status : Status)
         → (into : ConvertsInto from to keep bytes output)
         → (notes ≡ true → first_refusal_in to keeps.All into.plays ≡ None)
@@ -172,9 +179,10 @@ pub fn law_of_compared_conversions()
         → Ends request files output out diag status → RefusesNothing status }
 {}
 
-/// Two files are the same hands, notes included, exactly where they are converted with all notes into the same output, whichever
-/// notation that is in. A run that compares them is done only where the outputs are the same; and where these are, it is done,
-/// unless a device fails or memory is wanting. The function does nothing: its contract is a law.
+/// Two files are the same hands, notes included, exactly where they are converted with all notes
+/// into the same output, whichever notation that is in. A run that compares them is done only where
+/// the outputs are the same; and where these are, it is done, unless a device fails or memory is
+/// wanting. The function does nothing: its contract is a law.
 pub fn law_of_compared_outputs()
     ensures { (request : Request) (files : Files) (from other to : Format)
         → (bytes too output written : List ℕ) (out diag : Sinks) (status : Status)

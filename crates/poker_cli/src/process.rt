@@ -1,5 +1,5 @@
-//! A process is run on the words after its own name, over its streams and the files of the system, and ends with the number of a
-//! status.
+//! A process is run on the words after its own name, over its streams and the files of the system,
+//! and ends with the number of a status.
 ghost use Rattle.std.specs.Prelude.{◌≡◌, ◌≢◌, [], IfErr, IfOk};
 ghost use Rattle.std.specs.Process.{exit_status};
 ghost use Rattle.std.specs.IoError.{error_kind};
@@ -16,8 +16,8 @@ use std::io::{self, Read, Write};
 use std::process::ExitCode;
 use std::rt::{Env, Files};
 
-/// Runs the program as the process that it is in, over these streams and the files of the system, and returns the status to
-/// end with.
+/// Runs the program as the process that it is in, over these streams and the files of the system,
+/// and returns the status to end with.
 pub fn run_process<R: Read + Drop, W: Write + Drop, D: Write + Drop>(
     rt: &(impl Env + Files + AllocGlobal),
     input: R,

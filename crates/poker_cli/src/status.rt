@@ -19,7 +19,8 @@ pub enum Status {
     ReadFault,
     /// The output could not be written.
     WriteFault,
-    /// The input, the file of a game or that of a comparison is too long, or has more of something than is read.
+    /// The input, the file of a game or that of a comparison is too long, or has more of something
+    /// than is read.
     Limit,
     /// There was not enough memory.
     Memory,

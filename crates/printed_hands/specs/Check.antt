@@ -12,7 +12,9 @@ each_hand lines number (play ∷ others) = lines number play ++ each_hand lines 
 
 -- the line of a hand: what each seat ends with
 abbrev pub check_line : ℕ → Play → List ℕ
-check_line number play = codes "hand " ++ (decimal number ++ (codes ":" ++ (spaced (amounts_in play.trace.finish) ++ codes "\n")))
+check_line number play =
+    codes "hand "
+    ++ (decimal number ++ (codes ":" ++ (spaced (amounts_in play.trace.finish) ++ codes "\n")))
 
 -- the last line: how many hands there are
 abbrev pub check_end : ℕ → List ℕ

@@ -1,4 +1,5 @@
--- What is printed of what a hand comes to: what is returned, who gets what of each pot, and what each seat ends with.
+-- What is printed of what a hand comes to: what is returned, who gets what of each pot, and what
+-- each seat ends with.
 use Rattle.std.specs.Prelude.{ℕ, ◌+◌, nat_lt, Bool, if◌then◌else◌, List, [], ◌∷◌, ◌++◌, codes, flat_map}
 use Rattle.std.specs.Fmt.{decimal}
 use Rattle.chip_ledger.specs.declared.pots.Pot.{Pot}
@@ -14,7 +15,10 @@ seat_text seat = 112 ∷ decimal seat
 
 -- the line of what is returned to a seat, if something is
 abbrev pub return_line : ℕ → ℕ → List ℕ
-return_line seat amount = if nat_lt 0 amount then codes "return " ++ (seat_text seat ++ (32 ∷ decimal amount ++ codes "\n")) else []
+return_line seat amount =
+    if nat_lt 0 amount
+    then codes "return " ++ (seat_text seat ++ (32 ∷ decimal amount ++ codes "\n"))
+    else []
 
 -- the lines of what is returned to seats, the first of which has this number
 abbrev pub return_lines : ℕ → List ℕ → List ℕ
@@ -25,7 +29,8 @@ return_lines seat (amount ∷ others) = return_line seat amount ++ return_lines 
 abbrev pub rake_entry : ℕ → List (List ℕ)
 rake_entry rake = if nat_lt 0 rake then (codes "rake " ++ decimal rake) ∷ [] else []
 
--- what is said of a pot: each share that is more than nothing, from this seat on, and then the rake, if one is taken
+-- what is said of a pot: each share that is more than nothing, from this seat on, and then the
+-- rake, if one is taken
 abbrev pub entries : ℕ → List ℕ → ℕ → List (List ℕ)
 entries seat [] rake = rake_entry rake
 entries seat (amount ∷ others) rake =
@@ -52,14 +57,20 @@ listed_from is_first others = if is_first then listed others else behind others
 -- the line of a pot
 abbrev pub pot_line : ℕ → Pot → SeatRow → ℕ → List ℕ
 pot_line number pot share rake =
-    codes "pot " ++ (decimal number ++ (32 ∷ decimal pot.chips ++ (codes ": " ++ (listed (entries 1 (amounts_in share) rake) ++ codes "\n"))))
+    codes "pot "
+    ++ (decimal number
+    ++ (32
+    ∷ decimal pot.chips
+    ++ (codes ": "
+    ++ (listed (entries 1 (amounts_in share) rake) ++ codes "\n"))))
 
 -- the lines of pots, the first of which has this number, each with its shares and its rake
 abbrev pub pot_lines : ℕ → List Pot → List SeatRow → List ℕ → List ℕ
 pot_lines number [] shares rakes = []
 pot_lines number (pot ∷ pots) [] rakes = []
 pot_lines number (pot ∷ pots) (share ∷ shares) [] = []
-pot_lines number (pot ∷ pots) (share ∷ shares) (rake ∷ rakes) = pot_line number pot share rake ++ pot_lines (number + 1) pots shares rakes
+pot_lines number (pot ∷ pots) (share ∷ shares) (rake ∷ rakes) =
+    pot_line number pot share rake ++ pot_lines (number + 1) pots shares rakes
 
 -- the last lines of a hand
 abbrev pub ending_lines : Trace → List ℕ

@@ -1,4 +1,5 @@
--- The steps of a hand: what each event did, and the chips that each seat has left and has put after it.
+-- The steps of a hand: what each event did, and the chips that each seat has left and has put after
+-- it.
 use Rattle.std.specs.Prelude.{◌≡◌, ℕ, ◌≤◌, ◌+◌, ◌-◌, List, [], ◌∷◌, ◌++◌, length, map, codes}
 use Rattle.std.specs.Fmt.{decimal}
 use Rattle.chip_ledger.specs.SeatRow.{amount_of}
@@ -20,7 +21,8 @@ use Rattle.play_event.specs.declared.setup.Setup.{Setup}
 use Rattle.printed_hands.specs.Ending.{ending_lines}
 use Rattle.chip_ledger.specs.AmountTexts.{spaced}
 
--- an event as it took place: a move with its actor named and its target spelled, and cards as the script has them
+-- an event as it took place: a move with its actor named and its target spelled, and cards as the
+-- script has them
 abbrev pub event_named : Resolved → Said
 event_named (past.Dealt street seat slots) = Hole seat slots
 event_named (past.Boarded street cards) = Board cards
@@ -42,24 +44,31 @@ pub record HasPut (setup : Setup) (moves : List Move) (put : SeatRow) : Type 0 w
 
 -- what a move adds is no more than a row may hold, where its seat is one of the row
 abbrev pub MayAdd : rows.Move → SeatRow → Type 0
-MayAdd moved put = moved.seat.number ≤ put.seats → amount_of put moved.seat.number + (moved.to - moved.from) ≤ MOST_AMOUNT
+MayAdd moved put =
+    moved.seat.number ≤ put.seats
+    → amount_of put moved.seat.number + (moved.to - moved.from) ≤ MOST_AMOUNT
 
 -- the line of an event with this number, after which these are the moves
 abbrev pub step_line : Setup → ℕ → Resolved → List Move → List ℕ
-step_line setup number event moves = decimal number ++ (32 ∷ event_text (event_named event) ++ chips_text setup moves)
+step_line setup number event moves =
+    decimal number ++ (32 ∷ event_text (event_named event) ++ chips_text setup moves)
 
 -- the lines of a past, the oldest event first, whose number is 1
 unfoldable pub step_lines : Setup → Past → List ℕ
 step_lines setup [] = []
-step_lines setup (event ∷ before) = step_lines setup before ++ step_line setup (length before + 1) event (moves_of (event ∷ before))
+step_lines setup (event ∷ before) =
+    step_lines setup before ++ step_line setup (length before + 1) event (moves_of (event ∷ before))
 
 -- the first two lines of a hand: its number and its game, and what is posted
 abbrev pub head_lines : ℕ → Setup → List ℕ
 head_lines number setup =
-    codes "hand " ++ (decimal number ++ (32 ∷ code_text setup.code ++ (codes "\n0 posts" ++ chips_text setup [])))
+    codes "hand "
+    ++ (decimal number
+    ++ (32 ∷ code_text setup.code ++ (codes "\n0 posts" ++ chips_text setup [])))
 
 -- the lines of a hand
 abbrev pub replay_lines : ℕ → Play → List ℕ
 replay_lines number play =
     head_lines number play.hand.setup
-    ++ (step_lines play.hand.setup (past_at_end play.hand.setup (script_said play.hand)) ++ ending_lines play.trace)
+    ++ (step_lines play.hand.setup (past_at_end play.hand.setup (script_said play.hand))
+    ++ ending_lines play.trace)

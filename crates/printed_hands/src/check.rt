@@ -1,4 +1,5 @@
-//! One line a hand says what each seat ends with, and one line behind them how many hands there are.
+//! One line a hand says what each seat ends with, and one line behind them how many hands there
+//! are.
 ghost use Rattle.std.specs.Prelude.{◌≡◌, ◌++◌, OnOk, string_bytes};
 ghost use Rattle.printed_hands.specs.Check.{check_end, check_line};
 

@@ -1,4 +1,5 @@
-//! The last lines of a hand: what is returned, who gets what of each pot, and what each seat ends with.
+//! The last lines of a hand: what is returned, who gets what of each pot, and what each seat ends
+//! with.
 ghost use Rattle.std.specs.Prelude.{◌≡◌, ◌+◌, ◌++◌, ◌≤◌, length, OnOk, string_bytes};
 ghost use Rattle.printed_hands.specs.Ending.{divided, ending_lines, entries, listed_from, pot_line, pot_lines, rake_entry, return_line, return_lines};
 

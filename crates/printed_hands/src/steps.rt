@@ -22,8 +22,8 @@ use phh_actions::event_text;
 use play_event::{Act, Kind, Move, Setup, Spelled};
 use std::alloc::Global;
 
-/// Puts the lines of the hand with this number at the end of a text: what each event did, with the chips of the seats after
-/// it, and what the hand came to.
+/// Puts the lines of the hand with this number at the end of a text: what each event did, with the
+/// chips of the seats after it, and what the hand came to.
 pub fn push_replay_lines(
     alloc: Global,
     text: &mut String,

@@ -1,4 +1,5 @@
--- The text of a report: a line for each game that was played, one for all hands, and one for each name.
+-- The text of a report: a line for each game that was played, one for all hands, and one for each
+-- name.
 use Rattle.std.specs.Prelude.{ℕ, ℤ, pos, ◌-ℤ◌, List, [], ◌∷◌, ◌++◌, length, map, filter, fold, flat_map, sum_by, count_by, codes, bytes_eq}
 use Rattle.std.specs.Fmt.{decimal, signed_decimal}
 use Rattle.std.specs.List.{list_any}
@@ -18,7 +19,8 @@ pub record Seated : Type 0 where
   pub started : ℕ
   pub finished : ℕ
 
--- what a report takes of a hand: the code of its game, the chips of its pots together, and its seats from p1 upward
+-- what a report takes of a hand: the code of its game, the chips of its pots together, and its
+-- seats from p1 upward
 pub record Hand : Type 0 where
   pub game : List ℕ
   pub pots : ℕ
@@ -85,19 +87,22 @@ net_of hands name =
 
 -- how many hands have a seat with this name
 abbrev pub hands_with : List Hand → List ℕ → ℕ
-hands_with hands name = count_by (λ hand. list_any (λ seat. bytes_eq name seat.name) hand.seats) hands
+hands_with hands name =
+    count_by (λ hand. list_any (λ seat. bytes_eq name seat.name) hand.seats) hands
 
 -- the line of a name with this net and so many hands
 abbrev pub name_line : ℤ → ℕ → List ℕ → List ℕ
 name_line net hands name =
-    right_in 20 (signed_decimal net) ++ (right_in 8 (decimal hands) ++ (codes "  " ++ (name ++ codes "\n")))
+    right_in 20 (signed_decimal net)
+    ++ (right_in 8 (decimal hands) ++ (codes "  " ++ (name ++ codes "\n")))
 
 -- the report on hands
 abbrev pub report_on : List Hand → List ℕ
 report_on hands =
     flat_map (game_line hands) game_codes
     ++ (hands_line (codes "total") hands
-    ++ flat_map (λ name. name_line (net_of hands name) (hands_with hands name) name) (names_of hands))
+    ++ flat_map (λ name. name_line (net_of hands name) (hands_with hands name) name)
+    (names_of hands))
 
 -- the report on plays
 abbrev pub report_said : List Play → List ℕ

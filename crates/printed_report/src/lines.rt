@@ -10,7 +10,8 @@ use card_set::Memory;
 use std::alloc::Global;
 use text_columns::{push_left, push_number, push_right, push_signed};
 
-/// Puts the line of some hands at the end of a text: a title, how many they are, and the chips of their pots together.
+/// Puts the line of some hands at the end of a text: a title, how many they are, and the chips of
+/// their pots together.
 pub fn push_hands_line(
     alloc: Global,
     text: &mut String,
@@ -30,7 +31,8 @@ pub fn push_hands_line(
     Ok(())
 }
 
-/// Puts the line of a name at the end of a text: its net chips, how many hands it has, and the name.
+/// Puts the line of a name at the end of a text: its net chips, how many hands it has, and the
+/// name.
 pub fn push_name_line(
     alloc: Global,
     text: &mut String,

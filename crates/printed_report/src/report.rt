@@ -1,4 +1,5 @@
-//! The report on hands: a line for each game that was played, one for all hands, and one for each name.
+//! The report on hands: a line for each game that was played, one for all hands, and one for each
+//! name.
 ghost use Rattle.std.specs.Prelude.{◌≡◌, ◌≤◌, ◌<◌, ◌++◌, ◌∷◌, [], List, flat_map, length, option_to_list, slice_get, IfOk, OnOk, string_bytes};
 ghost use Rattle.std.specs.List.{AllByRecursion};
 ghost use Rattle.first_fault.specs.declared.limits.TheConstants.{MOST_HANDS};
@@ -81,9 +82,9 @@ impl OpenReport {
     }
 }
 
-/// The text of the report on these hands: a line for each game that was played, in the order of the table of games, one for all
-/// hands, and one for each name, in the order in which names are first seen. Pots are counted before rakes are taken. A seat
-/// without a name has its default, as `p2`.
+/// The text of the report on these hands: a line for each game that was played, in the order of the
+/// table of games, one for all hands, and one for each name, in the order in which names are first
+/// seen. Pots are counted before rakes are taken. A seat without a name has its default, as `p2`.
 ///
 /// # Errors
 ///

@@ -39,7 +39,8 @@ pub fn no_tally() -> Tally
     }
 }
 
-/// The tally with one more seat, in the hand with this number. A name that has several seats in a hand has one hand more.
+/// The tally with one more seat, in the hand with this number. A name that has several seats in a
+/// hand has one hand more.
 pub fn with_seat(tally: Tally, number: u64, play: &Play, seat: Seat) -> Tally
     requires { IsWithin MOST_SEATS tally }
     ensures { result ≡ with_seat_said number tally (seated_in play.now seat.number) }

@@ -15,14 +15,18 @@ pub record IsHandOf (b next : RunningNumbers) (t after : CardState) : Type 0 whe
   pub hand : IsSameHand b next
   pub seats : after.seats ≡ t.seats
 
--- An event is answered, where `b` and `t` are the betting and the cards before it, and `next` and `after` behind it.
-pub record Advances (b next : RunningNumbers) (t after : CardState) (event : Said) (answer : Result (Option Move) Illegal) : Type 0 where
+-- An event is answered, where `b` and `t` are the betting and the cards before it, and `next` and
+-- `after` behind it.
+pub record Advances (b next : RunningNumbers) (t after : CardState) (event : Said)
+    (answer : Result (Option Move) Illegal) : Type 0 where
   -- it is refused for the first reason that holds
-  pub refused : WhereTogether b t (λ past. IfErr answer (λ reason. reason_after b past event ≡ Some reason))
+  pub refused :
+      WhereTogether b t (λ past. IfErr answer (λ reason. reason_after b past event ≡ Some reason))
   -- it is taken where it is legal
   pub legal : WhereTogether b t (λ past. OnOk answer (reason_after b past event ≡ None))
   -- betting and cards stand for the past with it
-  pub stands : WhereTogether b t (λ past. OnOk answer (StandTogether next after (past_with b past event)))
+  pub stands :
+      WhereTogether b t (λ past. OnOk answer (StandTogether next after (past_with b past event)))
   -- a move is told as the trace keeps it
   pub told : WhereTogether b t (λ past. IfOk answer (IsToldOf b event past))
   pub same : IsHandOf b next t after

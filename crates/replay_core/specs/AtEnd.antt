@@ -28,8 +28,10 @@ use Rattle.replay_core.specs.Events.{AreMovesOf}
 use Rattle.replay_core.specs.Showdowns.{ShowTheSame}
 use Rattle.replay_core.specs.Together.{StandTogether}
 
--- betting and cards stand at the end of a script: its events are legal, and nothing is due but shows
-pub record StandAtEnd (setup : Setup) (rules : Rules) (script : List Said) (b : RunningNumbers) (t : CardState) : Type 0 where
+-- betting and cards stand at the end of a script: its events are legal, and nothing is due but
+-- shows
+pub record StandAtEnd (setup : Setup) (rules : Rules) (script : List Said) (b : RunningNumbers)
+    (t : CardState) : Type 0 where
   pub same_setup : b.setup ≡ setup
   pub legal : AreLegal setup rules (reverse script)
   pub stands : StandTogether b t (past_at_end setup script)
@@ -52,13 +54,17 @@ pub record IsAtEnd (setup : Setup) (past : Past) (hand : HandAtEnd) : Type 0 whe
   -- the seats that are live, and the chips that each seat put
   pub stakes : AreRowsOf setup (moves_of past) hand.puts hand.live
   -- the chips that each seat has left
-  pub left : (seat : ℕ) → 1 ≤ seat → seat ≤ setup.stacks.seats → amount_of hand.left seat ≡ chips_left setup (moves_of past) seat
+  pub left : (seat : ℕ) → 1 ≤ seat → seat ≤ setup.stacks.seats
+      → amount_of hand.left seat ≡ chips_left setup (moves_of past) seat
   -- who is shown, and who mucks
   pub shown : flagged hand.shown ≡ filter (is_shown setup past) (all_seats setup)
   pub mucked : flagged hand.mucked ≡ filter (is_mucked setup past) (all_seats setup)
   -- hands and board are those of the trace, and can be compared where the game's pick is usable
-  pub shows : ShowTheSame (showdown_of hand.hands hand.board hand.shown) (showdown_in setup (core_of setup past))
-  pub playable : (held : ℕ) (pick : Pick) → IsUsable (game_of setup.code) held pick → ArePlayable held pick hand.hands hand.board hand.shown
+  pub shows :
+      ShowTheSame (showdown_of hand.hands hand.board hand.shown)
+      (showdown_in setup (core_of setup past))
+  pub playable : (held : ℕ) (pick : Pick) → IsUsable (game_of setup.code) held pick
+      → ArePlayable held pick hand.hands hand.board hand.shown
   -- the cards and the moves of the trace
   pub places : map place_said hand.places ≡ traced_places setup past
   pub moves : AreMovesOf setup past hand.moves

@@ -17,20 +17,28 @@ use Rattle.play_event.specs.Stakes.{pots_after, returned_after}
 abbrev pub flag_count : LiveRow → ℕ
 flag_count row = count_by (flag_of row) (seats_of row.seats)
 
--- a seat is shown: the hand is contested, the seat is live and did not muck, and no card of it is unknown
+-- a seat is shown: the hand is contested, the seat is live and did not muck, and no card of it is
+-- unknown
 abbrev pub is_shown_by : (live mucked unknown : LiveRow) → ℕ → Bool
-is_shown_by live mucked unknown seat = nat_le 2 (flag_count live) && flag_of live seat && not (flag_of mucked seat) && not (flag_of unknown seat)
+is_shown_by live mucked unknown seat =
+    nat_le 2 (flag_count live) && flag_of live seat && not (flag_of mucked seat)
+    && not (flag_of unknown seat)
 
 -- a seat is mucked: the hand is contested, and the seat is live and not shown
 abbrev pub is_mucked_by : (live shown : LiveRow) → ℕ → Bool
-is_mucked_by live shown seat = nat_le 2 (flag_count live) && flag_of live seat && not (flag_of shown seat)
+is_mucked_by live shown seat =
+    nat_le 2 (flag_count live) && flag_of live seat && not (flag_of shown seat)
 
 -- the rows have the chips that each seat put in these moves, and the seats that are live after them
-pub record AreRowsOf (setup : Setup) (moves : List Move) (put : SeatRow) (live : LiveRow) : Type 0 where
-  pub puts : (seat : ℕ) → 1 ≤ seat → seat ≤ setup.stacks.seats → amount_of put seat ≡ chips_put setup moves seat
-  pub lives : (seat : ℕ) → 1 ≤ seat → seat ≤ setup.stacks.seats → flag_of live seat ≡ is_live moves seat
+pub record AreRowsOf (setup : Setup) (moves : List Move) (put : SeatRow) (live : LiveRow) : Type 0
+  where
+    pub puts : (seat : ℕ) → 1 ≤ seat → seat ≤ setup.stacks.seats
+        → amount_of put seat ≡ chips_put setup moves seat
+    pub lives : (seat : ℕ) → 1 ≤ seat → seat ≤ setup.stacks.seats
+        → flag_of live seat ≡ is_live moves seat
 
 -- a row has the pots of the rules after a past, and what is returned to each seat
 pub record ArePotsOf (setup : Setup) (past : Past) (row : PotRow) : Type 0 where
   pub pots : plain_pots row ≡ pots_after setup (moves_of past)
-  pub returned : (seat : ℕ) → 1 ≤ seat → seat ≤ setup.stacks.seats → amount_of row.returned seat ≡ returned_after setup (moves_of past) seat
+  pub returned : (seat : ℕ) → 1 ≤ seat → seat ≤ setup.stacks.seats
+      → amount_of row.returned seat ≡ returned_after setup (moves_of past) seat

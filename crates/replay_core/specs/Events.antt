@@ -24,23 +24,28 @@ said_by script = map said_of script
 abbrev pub AreMovesOf : Setup → Past → List rows.Move → Type 0
 AreMovesOf setup past moves = map move_said moves ≡ traced_moves setup (moves_of past)
 
--- the event with this number, from 1, is the first illegal one: this is the number of its action, and why
-pub record IsIllegalAt (setup : Setup) (rules : Rules) (script : List Event) (event at : ℕ) (reason : Illegal) : Type 0 where
+-- the event with this number, from 1, is the first illegal one: this is the number of its action,
+-- and why
+pub record IsIllegalAt (setup : Setup) (rules : Rules) (script : List Event) (event at : ℕ)
+    (reason : Illegal) : Type 0 where
   pub counted : 1 ≤ event
   pub first : IsFirstIllegal setup rules (said_by script) (event - 1) reason
   pub action : option_map (λ (e : Event). e.at) (slice_get script (event - 1)) ≡ Some at
 
 -- an event is refused after a past: it is illegal, or there is no memory for its move
 abbrev pub IsRefusedEvent : RunningNumbers → Event → ℕ → Past → ReplayFault → Type 0
-IsRefusedEvent b event number past (faults.Illegal told at reason) = (told ≡ number) × (at ≡ event.at) × (reason_after b past (said_of event) ≡ Some reason)
+IsRefusedEvent b event number past (faults.Illegal told at reason) =
+    (told ≡ number) × (at ≡ event.at) × (reason_after b past (said_of event) ≡ Some reason)
 IsRefusedEvent b event number past (faults.EndsEarly events) = ⊥
 IsRefusedEvent b event number past (faults.RakeTooBig pot) = ⊥
 IsRefusedEvent b event number past (faults.NoShownHand pot) = ⊥
 IsRefusedEvent b event number past faults.Memory = Unit {0}
 
--- the events of a script are refused: the first illegal one is told, or there is no memory for the moves
+-- the events of a script are refused: the first illegal one is told, or there is no memory for the
+-- moves
 abbrev pub AreRefused : Setup → Rules → List Event → ReplayFault → Type 0
-AreRefused setup rules script (faults.Illegal event at reason) = IsIllegalAt setup rules script event at reason
+AreRefused setup rules script (faults.Illegal event at reason) =
+    IsIllegalAt setup rules script event at reason
 AreRefused setup rules script (faults.EndsEarly events) = ⊥
 AreRefused setup rules script (faults.RakeTooBig pot) = ⊥
 AreRefused setup rules script (faults.NoShownHand pot) = ⊥

@@ -14,27 +14,36 @@ use Rattle.replay_core.specs.declared.fault.ReplayFault.{ReplayFault}
 use Rattle.replay_core.specs.declared.fault.ReplayFault.TheVariants as faults
 use Rattle.replay_core.specs.Events.{IsIllegalAt, said_by}
 
--- all events are legal, so many of them, and a deal, a draw, a bring-in or a move is due after the last one
-pub record HasEarlyEnd (setup : Setup) (rules : Rules) (script : List Event) (events : ℕ) : Type 0 where
-  pub legal : AreLegal setup rules (reverse (said_by script))
-  pub early : has_early_end setup (said_by script) ≡ true
-  pub counted : events ≡ length script
+-- all events are legal, so many of them, and a deal, a draw, a bring-in or a move is due after the
+-- last one
+pub record HasEarlyEnd (setup : Setup) (rules : Rules) (script : List Event) (events : ℕ) : Type 0
+  where
+    pub legal : AreLegal setup rules (reverse (said_by script))
+    pub early : has_early_end setup (said_by script) ≡ true
+    pub counted : events ≡ length script
 
 -- the script is played to its end, and the rake of this pot is the first above its chips
-pub record HasRakeAbove (setup : Setup) (rules : Rules) (script : List Event) (pot : ℕ) : Type 0 where
-  pub played : IsPlayed setup rules (said_by script)
-  pub above : first_rake_above setup.rakes (core_after setup (said_by script)).pots ≡ Some pot
+pub record HasRakeAbove (setup : Setup) (rules : Rules) (script : List Event) (pot : ℕ) : Type 0
+  where
+    pub played : IsPlayed setup rules (said_by script)
+    pub above : first_rake_above setup.rakes (core_after setup (said_by script)).pots ≡ Some pot
 
--- the script is played to its end, no rake is above its pot, and this pot is the first that has no shown hand
-pub record HasUnshownPot (setup : Setup) (rules : Rules) (script : List Event) (pot : ℕ) : Type 0 where
-  pub played : IsPlayed setup rules (said_by script)
-  pub no_rake_above : first_rake_above setup.rakes (core_after setup (said_by script)).pots ≡ None
-  pub unshown : first_unshown (showdown_in setup (core_after setup (said_by script))) (core_after setup (said_by script)).pots ≡ Some pot
+-- the script is played to its end, no rake is above its pot, and this pot is the first that has no
+-- shown hand
+pub record HasUnshownPot (setup : Setup) (rules : Rules) (script : List Event) (pot : ℕ) : Type 0
+  where
+    pub played : IsPlayed setup rules (said_by script)
+    pub no_rake_above : first_rake_above setup.rakes (core_after setup (said_by script)).pots ≡ None
+    pub unshown :
+        first_unshown (showdown_in setup (core_after setup (said_by script)))
+        (core_after setup (said_by script)).pots
+        ≡ Some pot
 
--- A fault tells what is wrong with a script. No script has two of these faults, and a legal hand has none; want of memory
--- says nothing of the script.
+-- A fault tells what is wrong with a script. No script has two of these faults, and a legal hand
+-- has none; want of memory says nothing of the script.
 abbrev pub IsFaultOf : Setup → Rules → List Event → ReplayFault → Type 0
-IsFaultOf setup rules script (faults.Illegal event at reason) = IsIllegalAt setup rules script event at reason
+IsFaultOf setup rules script (faults.Illegal event at reason) =
+    IsIllegalAt setup rules script event at reason
 IsFaultOf setup rules script (faults.EndsEarly events) = HasEarlyEnd setup rules script events
 IsFaultOf setup rules script (faults.RakeTooBig pot) = HasRakeAbove setup rules script pot
 IsFaultOf setup rules script (faults.NoShownHand pot) = HasUnshownPot setup rules script pot

@@ -1,4 +1,5 @@
--- For which pasts the betting and the cards of a hand stand together, what a step tells, and what a replay answers.
+-- For which pasts the betting and the cards of a hand stand together, what a step tells, and what a
+-- replay answers.
 pub mod Together
 pub mod Told
 pub mod Advances

@@ -13,7 +13,8 @@ use Rattle.play_event.specs.Scripts.{past_at_end}
 use Rattle.trace_laws.specs.Conserved.{IsConserved}
 
 -- the hand is legal, and this is its trace
-pub record IsReplayOf (setup : Setup) (rules : Rules) (script : List Said) (replayed : Trace) : Type 0 where
+pub record IsReplayOf (setup : Setup) (rules : Rules) (script : List Said) (replayed : Trace) : Type
+    0 where
   pub trace : IsTraceOf setup (past_at_end setup script) replayed
   pub legal : IsLegalHand setup rules script
   -- no chip is made or lost

@@ -2,9 +2,11 @@
 use Rattle.std.specs.Prelude.{◌≡◌, ℕ, ◌≤◌, true}
 use Rattle.variant_table.specs.Shares.{Showdown}
 
--- they are of the same seats, the same of them are shown, these hold the same cards, and the board is the same
+-- they are of the same seats, the same of them are shown, these hold the same cards, and the board
+-- is the same
 pub record ShowTheSame (a b : Showdown) : Type 0 where
   pub seats : a.seats ≡ b.seats
   pub shown : (seat : ℕ) → 1 ≤ seat → seat ≤ a.seats → a.shown seat ≡ b.shown seat
-  pub holding : (seat : ℕ) → 1 ≤ seat → seat ≤ a.seats → a.shown seat ≡ true → a.holding seat ≡ b.holding seat
+  pub holding : (seat : ℕ) → 1 ≤ seat → seat ≤ a.seats → a.shown seat ≡ true
+      → a.holding seat ≡ b.holding seat
   pub board : a.board ≡ b.board

@@ -19,7 +19,9 @@ abbrev pub moves_told : Option rows.Move → List TracedMove
 moves_told None = []
 moves_told (Some move) = move_said move ∷ []
 
--- the moves of the trace after an event are those before it and the one that is told; of an event of cards none is told
+-- the moves of the trace after an event are those before it and the one that is told; of an event
+-- of cards none is told
 abbrev pub IsToldOf : RunningNumbers → Said → Past → Option rows.Move → Type 0
 IsToldOf b event past told =
-    traced_moves b.setup (moves_of (past_with b past event)) ≡ traced_moves b.setup (moves_of past) ++ moves_told told
+    traced_moves b.setup (moves_of (past_with b past event))
+    ≡ traced_moves b.setup (moves_of past) ++ moves_told told

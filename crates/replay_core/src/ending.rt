@@ -17,8 +17,8 @@ use play_event::HandRow;
 use std::alloc::Global;
 use variant_table::Variant;
 
-/// A hand that was played to its end: who is live, what each seat put and has left, who is shown and who mucks, the hands
-/// and the board, and the cards and the moves of the trace.
+/// A hand that was played to its end: who is live, what each seat put and has left, who is shown
+/// and who mucks, the hands and the board, and the cards and the moves of the trace.
 #[derive(Drop)]
 pub struct HandAtEnd {
     pub live: LiveRow,

@@ -1,10 +1,12 @@
 //! Why a script has no trace.
 use play_event::Illegal;
 
-/// Why a script has no trace, in the order in which it is looked for. Want of memory may stand in place of each.
+/// Why a script has no trace, in the order in which it is looked for. Want of memory may stand in
+/// place of each.
 #[derive(Clone, Copy, Debug, PartialEq, Eq)]
 pub enum ReplayFault {
-    /// An event is illegal after legal ones. It is counted from 1, and `at` is the number of its action.
+    /// An event is illegal after legal ones. It is counted from 1, and `at` is the number of its
+    /// action.
     Illegal { event: u32, at: u32, why: Illegal },
     /// All events are legal, and a deal, a draw, a bring-in or a move is due.
     EndsEarly { events: u32 },

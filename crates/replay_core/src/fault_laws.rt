@@ -9,8 +9,8 @@ ghost use Rattle.replay_core.specs.Faults.{IsFaultOf};
 ghost use Rattle.replay_core.specs.declared.fault.ReplayFault.TheVariants as faults;
 ghost use Rattle.replay_core.specs.declared.fault.ReplayFault.{ReplayFault};
 
-/// Of a script one fault holds at most, but for want of memory, and of a legal hand none. The function does nothing: its
-/// contract is a law.
+/// Of a script one fault holds at most, but for want of memory, and of a legal hand none. The
+/// function does nothing: its contract is a law.
 pub fn law_of_one_fault()
     ensures one { (setup : Setup) (rules : Rules) (script : List Event) (fault other : ReplayFault)
         → fault ≢ faults.Memory → other ≢ faults.Memory

@@ -33,7 +33,8 @@ use variant_table::Variant;
 
 /// A hand of the game `V` at some moment: its betting and its cards.
 ///
-/// What the calls say of the past holds for every past for which betting and cards stand (`StandTogether`).
+/// What the calls say of the past holds for every past for which betting and cards stand
+/// (`StandTogether`).
 #[derive(Drop)]
 pub struct HandInPlay<V: Variant> {
     pub betting: Betting<V>,
@@ -78,8 +79,9 @@ impl<V: Variant> HandInPlay<V> {
         self.betting.stacks()
     }
 
-    /// One event more. It is illegal exactly by the rules, and the hand is then as it was. A fold, a call, a raise or a
-    /// bring-in is told as the trace keeps it, and of other events nothing is told.
+    /// One event more. It is illegal exactly by the rules, and the hand is then as it was. A fold,
+    /// a call, a raise or a bring-in is told as the trace keeps it, and of other events nothing is
+    /// told.
     pub fn advance(&mut self, event: &Event) -> Result<Option<Move>, Illegal>
         requires seats { self.old.betting.table.setup.stacks.seats ≡ self.old.cards.state.seats }
         ensures advanced { Advances
@@ -126,8 +128,9 @@ impl<V: Variant> HandInPlay<V> {
         Ok(Some(moved))
     }
 
-    /// The up-cards of each seat, where no seat has moved on the street yet: there they decide in stud who opens it. After
-    /// that nobody reads them, and the row is empty. Where blinds decide who opens, no card is dealt face up.
+    /// The up-cards of each seat, where no seat has moved on the street yet: there they decide in
+    /// stud who opens it. After that nobody reads them, and the row is empty. Where blinds decide
+    /// who opens, no card is dealt face up.
     pub fn opening_up_cards(&self) -> UpRow
         ensures seats { result.seats ≡ self.now.cards.state.seats }
         ensures ups { WhereTogether self.now.betting.table self.now.cards.state

@@ -19,8 +19,8 @@ use play_event::Place;
 use std::alloc::Global;
 use variant_table::Variant;
 
-/// All cards that were dealt, in the order of the trace: by street, then by owner, p1 first and the board last, then in the
-/// order of dealing.
+/// All cards that were dealt, in the order of the trace: by street, then by owner, p1 first and the
+/// board last, then in the order of dealing.
 pub fn places_of<V: Variant>(alloc: Global, cards: &Cards<V>) -> Result<Places, Memory>
     ensures { (setup : Setup) (past : Past) → setup.code ≡ V.CODE
         → setup.stacks.seats ≡ cards.now.state.seats → StandsFor cards.now.state past

@@ -25,7 +25,8 @@ use variant_table::{F2L3D, F7S, F7S8, FB, FO8, FR, FT, N2L1D, NS, NT, PO, Varian
 
 /// The trace of a script under its setup and rules, or what is wrong with the script.
 ///
-/// It goes over the events once. Ask for a valid setup and for a script within the limits of a hand.
+/// It goes over the events once. Ask for a valid setup and for a script within the limits of a
+/// hand.
 pub fn replay(
     alloc: Global,
     setup: &Setup,
@@ -40,7 +41,8 @@ pub fn replay(
     ensures legal { OnOk result (IsLegalHand setup.now rules.now (said_by script.now)) }
     ensures fault { IfErr result (IsFaultOf setup.now rules.now script.now) }
 
-    // What follows: no chip is made or lost, the canonical script can be written, and stated facts can be compared.
+    // What follows: no chip is made or lost, the canonical script can be written, and stated facts
+    // can be compared.
     ensures conserved { IfOk result
         (IsConserved setup.now (past_at_end setup.now (said_by script.now))) }
     ensures tidy { IfOk result (λ trace. IsTidy (core_said trace)) }

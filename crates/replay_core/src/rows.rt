@@ -5,7 +5,8 @@ ghost use Rattle.replay_core.specs.EndRows.{flag_count, is_mucked_by, is_shown_b
 
 use chip_ledger::{LiveRow, Seat};
 
-/// Which seats are shown: the live seats of a contested hand that did not muck, and all of whose cards are known.
+/// Which seats are shown: the live seats of a contested hand that did not muck, and all of whose
+/// cards are known.
 pub fn shown_row(live: &LiveRow, mucked: &LiveRow, unknown: &LiveRow) -> LiveRow
     requires mucked { mucked.now.seats ≡ live.now.seats }
     requires unknown { unknown.now.seats ≡ live.now.seats }

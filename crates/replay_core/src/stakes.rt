@@ -14,7 +14,8 @@ use chip_ledger::{LiveRow, PotRow, Seat, SeatRow, total};
 use play_event::Setup;
 use side_pots::pots;
 
-/// The pots of a hand after which each seat has put so much and these seats are live, and what is returned.
+/// The pots of a hand after which each seat has put so much and these seats are live, and what is
+/// returned.
 pub fn pots_of(setup: &Setup, puts: &SeatRow, live: &LiveRow) -> PotRow
     requires valid { IsValid setup.now }
     requires puts { puts.now.seats ≡ setup.now.stacks.seats }

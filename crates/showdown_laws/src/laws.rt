@@ -16,7 +16,8 @@ ghost use Rattle.play_event.specs.declared.setup.Setup.{Setup};
 ghost use Rattle.play_laws.specs.LegalPlaces.{places_by};
 ghost use Rattle.showdown_laws.specs.ContestedEnd.{EndContested};
 
-/// Where a contested hand ends, each live seat has as many cards as a hand has, and the board as many as a board.
+/// Where a contested hand ends, each live seat has as many cards as a hand has, and the board as
+/// many as a board.
 pub fn law_of_whole_hands()
     ensures hands { (setup : Setup) (rules : Rules) (events : List Said) (seat : ℕ)
         → EndContested setup rules events → 1 ≤ seat → seat ≤ setup.stacks.seats

@@ -1,4 +1,5 @@
-//! Where a contested hand ends, each live seat has a whole hand, the board is full, and the cards are all different.
+//! Where a contested hand ends, each live seat has a whole hand, the board is full, and the cards
+//! are all different.
 #![tactic(auto)]
 
 mod laws;

@@ -7,7 +7,8 @@ use Rattle.showdown_split.specs.SeatPoints.{ranking_by}
 -- two rankings say the same of the seats that contend, and of their low hands where one is shown
 pub record AreAlike (contending : ℕ → Bool) (a b : Ranking) : Type 0 where
   pub beats : (m n : ℕ) → IsTrue (contending m) → IsTrue (contending n) → a.beats m n ↔ b.beats m n
-  pub beats_low : IsLowShown contending b → (m n : ℕ) → IsTrue (contending m) → IsTrue (contending n) → a.beats_low m n ↔ b.beats_low m n
+  pub beats_low : IsLowShown contending b → (m n : ℕ) → IsTrue (contending m)
+      → IsTrue (contending n) → a.beats_low m n ↔ b.beats_low m n
   pub has_low : (n : ℕ) → IsTrue (contending n) → a.has_low n ↔ b.has_low n
 
 -- by these points, high and low, the shown seats compare as they do in the game

@@ -16,4 +16,10 @@ holding hands n = known_cards (slots_of_hand hands n)
 
 -- what the rows show
 abbrev pub showdown_of : HandRow → CardRow → LiveRow → Showdown
-showdown_of hands board shown = record { seats = shown.seats; shown = flag_of shown; holding = holding hands; board = cards_of board }
+showdown_of hands board shown =
+    record {
+      seats = shown.seats;
+      shown = flag_of shown;
+      holding = holding hands;
+      board = cards_of board;
+    }

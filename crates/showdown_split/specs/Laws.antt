@@ -7,10 +7,13 @@ use Rattle.variant_table.specs.Shares.{IsLowShown, Showdown, is_contender, ranki
 
 -- a seat contends, and no other contending seat beats it
 abbrev pub IsUnbeaten : (ℕ → Bool) → (ℕ → ℕ → Type 0) → ℕ → Type 0
-IsUnbeaten contending beats seat = IsTrue (contending seat) × ((other : ℕ) → IsTrue (contending other) → ¬ (beats other seat))
+IsUnbeaten contending beats seat =
+    IsTrue (contending seat) × ((other : ℕ) → IsTrue (contending other) → ¬ (beats other seat))
 
--- so many winners stand before a seat that no chip is left for it: the chips are fewer than the winners, and no more than those before it
-pub record IsTooLate (seats : ℕ) (contending : ℕ → Bool) (beats : ℕ → ℕ → Type 0) (chips seat : ℕ) : Type 0 where
+-- so many winners stand before a seat that no chip is left for it: the chips are fewer than the
+-- winners, and no more than those before it
+pub record IsTooLate (seats : ℕ) (contending : ℕ → Bool) (beats : ℕ → ℕ → Type 0) (chips seat : ℕ) :
+    Type 0 where
   pub wins : ℕ → Bool
   pub told : TellsWinners contending beats wins
   pub few : chips < count_to wins seats
@@ -18,15 +21,18 @@ pub record IsTooLate (seats : ℕ) (contending : ℕ → Bool) (beats : ℕ → 
 
 -- why a seat has no part of chips: it does not contend, or is beaten, or comes too late
 abbrev pub HasNoPart : ℕ → (ℕ → Bool) → (ℕ → ℕ → Type 0) → ℕ → ℕ → Type 0
-HasNoPart seats contending beats chips seat = (¬ (IsUnbeaten contending beats seat)) ⊎ IsTooLate seats contending beats chips seat
+HasNoPart seats contending beats chips seat =
+    (¬ (IsUnbeaten contending beats seat)) ⊎ IsTooLate seats contending beats chips seat
 
--- each chip of a pot that several seats may win goes to an unbeaten seat: high, or low where a low hand is shown
+-- each chip of a pot that several seats may win goes to an unbeaten seat: high, or low where a low
+-- hand is shown
 abbrev pub GoesToBest : Code → Showdown → PlainPot → (ℕ → ℕ) → Type 0
 GoesToBest code showdown pot share =
     let contending = is_contender showdown pot in
     let ranking = ranking_of code showdown in
     (seat : ℕ) → 1 ≤ seat → seat ≤ showdown.seats → 2 ≤ length pot.eligible → 0 < share seat
-    → IsUnbeaten contending ranking.beats seat ⊎ (IsLowShown contending ranking × IsUnbeaten contending ranking.beats_low seat)
+    → IsUnbeaten contending ranking.beats seat
+    ⊎ (IsLowShown contending ranking × IsUnbeaten contending ranking.beats_low seat)
 
 -- a seat without a share of such a pot has no part of the whole, or none of either half
 abbrev pub LeavesNoneOut : Code → Showdown → PlainPot → (ℕ → ℕ) → Type 0

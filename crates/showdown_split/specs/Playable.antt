@@ -12,16 +12,21 @@ use Rattle.hand_order.specs.Choices.{CanPick}
 use Rattle.play_event.specs.declared.card_rows.HandRow.{HandRow}
 use Rattle.showdown_split.specs.Hands.{holding}
 
--- each shown seat up to this one has cards that the pick can use, all different from one another and from the board's
-pub record ArePlayableTo (last held : ℕ) (pick : Pick) (hands : HandRow) (board : CardRow) (shown : LiveRow) : Type 0 where
-  pub usable : (n : ℕ) → 1 ≤ n → n ≤ last → flag_of shown n ≡ true → CanPick held pick (holding hands n) (cards_of board)
-  pub different : (n : ℕ) → 1 ≤ n → n ≤ last → flag_of shown n ≡ true → AllDifferent (holding hands n ++ cards_of board)
+-- each shown seat up to this one has cards that the pick can use, all different from one another
+-- and from the board's
+pub record ArePlayableTo (last held : ℕ) (pick : Pick) (hands : HandRow) (board : CardRow)
+    (shown : LiveRow) : Type 0 where
+  pub usable : (n : ℕ) → 1 ≤ n → n ≤ last → flag_of shown n ≡ true
+      → CanPick held pick (holding hands n) (cards_of board)
+  pub different : (n : ℕ) → 1 ≤ n → n ≤ last → flag_of shown n ≡ true
+      → AllDifferent (holding hands n ++ cards_of board)
 
 -- each shown seat has
 abbrev pub ArePlayable : ℕ → Pick → HandRow → CardRow → LiveRow → Type 0
 ArePlayable held pick hands board shown = ArePlayableTo shown.seats held pick hands board shown
 
--- each pot is of so many seats, one of them may win it, and it has no more chips than a row may hold
+-- each pot is of so many seats, one of them may win it, and it has no more chips than a row may
+-- hold
 pub record AreWinnable (seats : ℕ) (pots : List Pot) : Type 0 where
   pub same_seats : All (λ (pot : Pot). pot.eligible.seats ≡ seats) pots
   pub winnable : All (λ (pot : Pot). flagged pot.eligible ≢ []) pots

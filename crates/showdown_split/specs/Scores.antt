@@ -6,4 +6,5 @@ use Rattle.showdown_split.specs.declared.scores.Scores.{Scores}
 
 -- the points of seat number n, none where it has no hand
 abbrev pub points_of : Scores → ℕ → Option ℕ
-points_of scores n = option_map (λ (s : Score). s.points) (slice_index_or scores.scores (n - 1) None)
+points_of scores n =
+    option_map (λ (s : Score). s.points) (slice_index_or scores.scores (n - 1) None)

@@ -18,7 +18,10 @@ is_same (Some x) (Some y) = x == y
 -- the most points of the seats up to this one that pass a test
 abbrev pub best_to : (ℕ → Bool) → (ℕ → Option ℕ) → ℕ → Option ℕ
 best_to test points zero = None
-best_to test points (suc seat) = if test (suc seat) then better (best_to test points seat) (points (suc seat)) else best_to test points seat
+best_to test points (suc seat) =
+    if test (suc seat)
+    then better (best_to test points seat) (points (suc seat))
+    else best_to test points seat
 
 -- the seat is one of the row's, and its flag is true
 abbrev pub is_flagged : LiveRow → ℕ → Bool
@@ -34,4 +37,5 @@ ranking_by points low = record {
 
 -- which seats are shown, and no cards
 abbrev pub shown_only : LiveRow → Showdown
-shown_only shown = record { seats = shown.seats; shown = flag_of shown; holding = λ n. []; board = [] }
+shown_only shown =
+    record { seats = shown.seats; shown = flag_of shown; holding = λ n. []; board = [] }

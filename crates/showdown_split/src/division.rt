@@ -1,4 +1,5 @@
-//! Chips are divided evenly among winners, and the chips that remain go one each to the first of them.
+//! Chips are divided evenly among winners, and the chips that remain go one each to the first of
+//! them.
 ghost use Rattle.std.specs.Prelude.{◌≡◌, ◌≤◌, ◌<◌, ◌+◌, ℕ};
 ghost use Rattle.chip_ledger.specs.declared.rows.TheConstants.{MOST_AMOUNT};
 ghost use Rattle.chip_ledger.specs.LiveRow.{flag_of};

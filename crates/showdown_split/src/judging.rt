@@ -18,7 +18,8 @@ use hand_order::{HandOrder, Pick, Score, best_of};
 use play_event::HandRow;
 use variant_table::Variant;
 
-/// The scores of the shown seats in a game: in its first order, and in the second where it pays by two.
+/// The scores of the shown seats in a game: in its first order, and in the second where it pays by
+/// two.
 pub fn judged<V: Variant>(hands: &HandRow, board: &CardRow, shown: &LiveRow) -> (Scores, Scores)
     requires seats { hands.now.seats ≡ shown.now.seats }
     requires playable { ArePlayable V.Award.HELD V.PICK hands.now board.now shown.now }
@@ -30,7 +31,8 @@ pub fn judged<V: Variant>(hands: &HandRow, board: &CardRow, shown: &LiveRow) -> 
     (high, low)
 }
 
-// The scores of the shown seats in the second order, in a game that pays by two; in another game none.
+// The scores of the shown seats in the second order, in a game that pays by two; in another game
+// none.
 fn low_scores<V: Variant>(hands: &HandRow, board: &CardRow, shown: &LiveRow) -> Scores
     requires seats { hands.now.seats ≡ shown.now.seats }
     requires playable { ArePlayable V.Second.HELD V.PICK hands.now board.now shown.now }

@@ -1,4 +1,5 @@
-//! What the shares of a pot mean, whatever gave them. The functions do nothing: each contract is a law.
+//! What the shares of a pot mean, whatever gave them. The functions do nothing: each contract is a
+//! law.
 ghost use Rattle.std.specs.Prelude.{◌≡◌, ℕ, List};
 ghost use Rattle.chip_ledger.specs.Pots.{PlainPot};
 ghost use Rattle.play_event.specs.declared.code.Code.{Code};
@@ -15,14 +16,15 @@ pub fn only_the_best_shown_hands_win()
         → AreSharesOf code showdown pot share → GoesToBest code showdown pot share }
 {}
 
-/// A seat without a share may not win the pot, is not shown, is beaten, or comes too late for an odd chip.
+/// A seat without a share may not win the pot, is not shown, is beaten, or comes too late for an
+/// odd chip.
 pub fn no_winner_is_left_out()
     ensures { (code : Code) (showdown : Showdown) (pot : PlainPot) (share : ℕ → ℕ)
         → AreSharesOf code showdown pot share → LeavesNoneOut code showdown pot share }
 {}
 
-/// Where one seat is live, the net of each pot goes to this seat, whatever is shown: so the shares of a hand that is won by
-/// folds are its shares.
+/// Where one seat is live, the net of each pot goes to this seat, whatever is shown: so the shares
+/// of a hand that is won by folds are its shares.
 pub fn the_last_live_seat_wins()
     ensures { (setup : Setup) (moves : List Move) (showdown : Showdown) → live_count setup moves ≡ 1
         → AllShared setup.code showdown (nets_after setup moves) (shares_by_folds setup moves) }

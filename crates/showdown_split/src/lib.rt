@@ -1,5 +1,5 @@
-//! Each pot of a hand, less its rake, goes to the shown seats that no other one beats, or in halves where a low hand is
-//! shown.
+//! Each pot of a hand, less its rake, goes to the shown seats that no other one beats, or in halves
+//! where a low hand is shown.
 #![tactic(auto)]
 
 ghost use Rattle.std.specs.Prelude.{◌≡◌, ◌+◌, ℕ, None, Some, All, IfOk, IfErr, OnOk};
@@ -38,9 +38,10 @@ pub struct NoShownHand {
 
 /// What each seat gets of each pot of a hand, less its rake, the lowest pot first.
 ///
-/// `hands` are the hole cards of the seats, of which the known ones count, and `shown` says which seats are
-/// shown: of other seats no card is looked at. A shown seat and the board have as many cards as the game's
-/// pick can use. Without a shown hand for a pot that two or more seats may win nothing is paid.
+/// `hands` are the hole cards of the seats, of which the known ones count, and `shown` says which
+/// seats are shown: of other seats no card is looked at. A shown seat and the board have as many
+/// cards as the game's pick can use. Without a shown hand for a pot that two or more seats may win
+/// nothing is paid.
 pub fn split<V: Variant>(
     pots: &PotRow,
     rakes: &RakeRow,

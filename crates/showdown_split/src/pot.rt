@@ -13,7 +13,8 @@ use crate::scores::Scores;
 use crate::winners::{best, winners};
 use chip_ledger::{LiveRow, Pot, Seat, SeatRow};
 
-/// What each seat gets of the pot, none where two or more seats may win it and none of them is shown.
+/// What each seat gets of the pot, none where two or more seats may win it and none of them is
+/// shown.
 pub fn shares_of(pot: &Pot, shown: &LiveRow, high: &Scores, low: &Scores) -> Option<SeatRow>
     requires seats { pot.now.eligible.seats ≡ shown.now.seats }
     requires some { flagged pot.now.eligible ≢ [] }
@@ -57,8 +58,8 @@ fn chips_if(flag: bool, chips: u64) -> u64
     if flag { chips } else { 0 }
 }
 
-// What each seat gets of chips for which some seats contend: where one of them has a low hand, the chips are
-// halved, and the high half has the odd one.
+// What each seat gets of chips for which some seats contend: where one of them has a low hand, the
+// chips are halved, and the high half has the odd one.
 fn contested(chips: u64, contending: &LiveRow, high: &Scores, low: &Scores) -> SeatRow
     requires some { flagged contending.now ≢ [] }
     requires bounded { chips ≤ MOST_AMOUNT }

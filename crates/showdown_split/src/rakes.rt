@@ -5,7 +5,8 @@ ghost use Rattle.chip_ledger.specs.Rakes.{HaveRakes, chips_in, first_rake_above}
 
 use chip_ledger::{PotRow, RakeRow};
 
-/// The number of the first pot whose rake is above its chips, none where [`split`](crate::split) takes these rakes.
+/// The number of the first pot whose rake is above its chips, none where [`split`](crate::split)
+/// takes these rakes.
 pub fn first_rake_above(pots: &PotRow, rakes: &RakeRow) -> Option<u8>
     ensures first { result ≡ first_rake_above rakes.now (plain_pots pots.now) }
     ensures none { IfNone result (HaveRakes (plain_pots pots.now) rakes.now) }

@@ -10,4 +10,5 @@ levels_above stakes below = filter (nat_lt below) (levels stakes)
 -- above 0 of live seats
 pub record AreLevels (stakes : List Stake) (xs : List ℕ) : Type 0 where
   pub rising : AllPairs (λ x y. x < y) xs
-  pub exact : (x : ℕ) → Contains xs x ↔ ((0 < x) × Any (λ (s : Stake). (s.live ≡ true) × (s.chips ≡ x)) stakes)
+  pub exact : (x : ℕ)
+      → Contains xs x ↔ ((0 < x) × Any (λ (s : Stake). (s.live ≡ true) × (s.chips ≡ x)) stakes)

@@ -1,4 +1,5 @@
-//! A level's pot has every seat's chips between the level below and it, for the live seats that reach it.
+//! A level's pot has every seat's chips between the level below and it, for the live seats that
+//! reach it.
 ghost use Rattle.std.specs.Prelude.{◌≡◌, ◌+◌, ◌*◌, ◌≤◌, ◌&&◌, ℕ, nat_le};
 ghost use Rattle.chip_ledger.specs.declared.rows.LiveRow.{LiveRow};
 ghost use Rattle.chip_ledger.specs.declared.rows.TheConstants.{MOST_AMOUNT};

@@ -23,7 +23,8 @@ is_done setup past dues.Over = false
 abbrev pub HasCome : Setup → Past → ℕ → Due → Type 0
 HasCome setup past street (dues.Deal on) = (on ≡ street) × (has_draw setup.code street ≡ false)
 HasCome setup past street (dues.Draw on) = (on ≡ street) × (is_deal_due setup past street ≡ false)
-HasCome setup past street dues.Show = (street ≡ street_count setup.code) × (due_on setup past street ≡ None)
+HasCome setup past street dues.Show =
+    (street ≡ street_count setup.code) × (due_on setup past street ≡ None)
 HasCome setup past street dues.BringIn = ⊥
 HasCome setup past street dues.Move = ⊥
 HasCome setup past street dues.Over = ⊥

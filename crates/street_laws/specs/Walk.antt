@@ -20,18 +20,27 @@ has_no_move_later moves street = list_all (λ (move : Move). nat_le move.street 
 abbrev pub street_cards : Code → ℕ → Due
 street_cards code street = if has_draw code street then dues.Draw street else dues.Deal street
 
--- what comes when the betting of a street is closed: the cards of the next street, or after the last one the showdown
+-- what comes when the betting of a street is closed: the cards of the next street, or after the
+-- last one the showdown
 abbrev pub turn_behind : Code → ℕ → ℕ × Due
-turn_behind code street = if nat_lt street (street_count code) then (street + 1, street_cards code (street + 1)) else (street, dues.Show)
+turn_behind code street =
+    if nat_lt street (street_count code)
+    then (street + 1, street_cards code (street + 1))
+    else (street, dues.Show)
 
 -- what is due on a street whose cards are dealt: a bring-in, a move, or what comes behind it
 abbrev pub betting_turn : Code → ℕ → (bring_in move : Bool) → ℕ × Due
 betting_turn code street bring_in move =
-    if bring_in then (street, dues.BringIn) else if move then (street, dues.Move) else turn_behind code street
+    if bring_in
+    then (street, dues.BringIn)
+    else if move
+    then (street, dues.Move)
+    else turn_behind code street
 
 -- what is due after a move
 abbrev pub turn_after : Code → ℕ → (few bring_in move : Bool) → ℕ × Due
-turn_after code street few bring_in move = if few then (street, dues.Over) else betting_turn code street bring_in move
+turn_after code street few bring_in move =
+    if few then (street, dues.Over) else betting_turn code street bring_in move
 
 -- what is due on this street and behind it, the showdown being this
 abbrev pub walked : Code → ℕ → (bring_in move : Bool) → Due → ℕ × Due

@@ -5,7 +5,8 @@ use Rattle.play_event.specs.declared.code.Code.{Code}
 use Rattle.variant_table.specs.Shares.{Showdown}
 use Rattle.showdown_split.specs.Laws.{GoesToBest}
 
--- there is a share for each pot, and a seat that gets chips of a pot that two or more seats may win is unbeaten
+-- there is a share for each pot, and a seat that gets chips of a pot that two or more seats may win
+-- is unbeaten
 abbrev pub AllGoToBest : Code → Showdown → List PlainPot → List (ℕ → ℕ) → Type 0
 AllGoToBest code showdown [] [] = Unit {0}
 AllGoToBest code showdown [] (share ∷ shares) = ⊥

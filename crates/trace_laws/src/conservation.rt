@@ -19,15 +19,16 @@ ghost use Rattle.hand_canon.specs.WholeTrace.{IsTraceOf};
 ghost use Rattle.hand_records.specs.declared.trace.Trace.{Trace};
 ghost use Rattle.trace_laws.specs.Winners.{AllGoToBest};
 
-/// The pots of a whole trace, before rakes, and what is returned are together all chips that the seats put.
+/// The pots of a whole trace, before rakes, and what is returned are together all chips that the
+/// seats put.
 pub fn law_of_pots_and_returns()
     ensures { (setup : Setup) (past : Past) (trace : Trace) → IsTraceOf setup past trace
         → sum_by (λ (pot : Pot). pot.chips) (pots_in trace.pots) + total_of trace.pots.returned
         ≡ all_chips_put setup (moves_of past) }
 {}
 
-/// After legal events the finishing stacks and the pots, before rakes, are together the starting stacks and the shares: so
-/// what leaves the hand is that part of the pots that no seat gets.
+/// After legal events the finishing stacks and the pots, before rakes, are together the starting
+/// stacks and the shares: so what leaves the hand is that part of the pots that no seat gets.
 pub fn law_of_finishing_stacks()
     ensures { (setup : Setup) (rules : Rules) (events : List Said) (trace : Trace)
         → IsValid setup → AreLegal setup rules events
@@ -36,8 +37,8 @@ pub fn law_of_finishing_stacks()
         ≡ total_of setup.stacks + sum_by total_of (shares_in trace.shares) }
 {}
 
-/// A seat that gets chips of a pot that two or more seats may win is a shown one of them that no other shown one beats, in
-/// the first order or, where a low hand is shown, in the low order.
+/// A seat that gets chips of a pot that two or more seats may win is a shown one of them that no
+/// other shown one beats, in the first order or, where a low hand is shown, in the low order.
 pub fn law_of_winners()
     ensures { (setup : Setup) (past : Past) (trace : Trace) → IsTraceOf setup past trace
         → AllGoToBest setup.code (showdown_in setup (core_of setup past))

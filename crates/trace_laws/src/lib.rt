@@ -1,5 +1,5 @@
-//! The laws of whole traces: a past has at most one, its pots and returns are what was put, and only
-//! unbeaten shown hands win contested pots.
+//! The laws of whole traces: a past has at most one, its pots and returns are what was put, and
+//! only unbeaten shown hands win contested pots.
 #![tactic(auto)]
 
 mod conservation;

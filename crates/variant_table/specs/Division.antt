@@ -6,27 +6,34 @@ abbrev pub count_to : (ℕ → Bool) → ℕ → ℕ
 count_to test zero = 0
 count_to test (suc seat) = count_to test seat + (if test (suc seat) then 1 else 0)
 
--- what a seat gets of chips that are divided among the winners of so many seats: the even part, and one of the
--- chips that remain, which go one each to the winners from p1 upward
+-- what a seat gets of chips that are divided among the winners of so many seats: the even part, and
+-- one of the chips that remain, which go one each to the winners from p1 upward
 abbrev pub divided : ℕ → (ℕ → Bool) → ℕ → ℕ → ℕ
 divided seats wins chips seat =
     if wins seat
-    then chips / count_to wins seats + (if nat_lt (count_to wins (seat - 1)) (chips % count_to wins seats) then 1 else 0)
+    then chips / count_to wins seats
+    + (if nat_lt (count_to wins (seat - 1)) (chips % count_to wins seats) then 1 else 0)
     else 0
 
--- a test is true exactly of the winners: the seats that contend and that no other contending seat beats
+-- a test is true exactly of the winners: the seats that contend and that no other contending seat
+-- beats
 abbrev pub TellsWinners : (ℕ → Bool) → (ℕ → ℕ → Type 0) → (ℕ → Bool) → Type 0
 TellsWinners contending beats wins =
-    (seat : ℕ) → IsTrue (wins seat) ↔ (IsTrue (contending seat) × ((other : ℕ) → IsTrue (contending other) → ¬ (beats other seat)))
+    (seat : ℕ)
+    → IsTrue (wins seat)
+    ↔ (IsTrue (contending seat)
+    × ((other : ℕ) → IsTrue (contending other) → ¬ (beats other seat)))
 
 -- each of so many seats has its part of chips that are divided among the winners
-pub record AreParts (seats : ℕ) (contending : ℕ → Bool) (beats : ℕ → ℕ → Type 0) (chips : ℕ) (share : ℕ → ℕ) : Type 0 where
+pub record AreParts (seats : ℕ) (contending : ℕ → Bool) (beats : ℕ → ℕ → Type 0) (chips : ℕ)
+    (share : ℕ → ℕ) : Type 0 where
   pub wins : ℕ → Bool
   pub told : TellsWinners contending beats wins
   pub parts : (seat : ℕ) → 1 ≤ seat → seat ≤ seats → share seat ≡ divided seats wins chips seat
 
 -- each seat has its parts of both halves of a pot, of which the high half has the odd chip
-pub record AreHalves (seats : ℕ) (contending : ℕ → Bool) (beats beats_low : ℕ → ℕ → Type 0) (chips : ℕ) (share : ℕ → ℕ) : Type 0 where
+pub record AreHalves (seats : ℕ) (contending : ℕ → Bool) (beats beats_low : ℕ → ℕ → Type 0)
+    (chips : ℕ) (share : ℕ → ℕ) : Type 0 where
   pub high : ℕ → ℕ
   pub low : ℕ → ℕ
   pub high_parts : AreParts seats contending beats (chips - chips / 2) high

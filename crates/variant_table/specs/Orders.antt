@@ -10,7 +10,8 @@ use Rattle.low_rank.specs.Razz as razz
 use Rattle.low_rank.specs.DeuceSeven as deuce_seven
 use Rattle.badugi_rank.specs.Badugi as badugi
 
--- an order: how many cards a hand has, which cards are a hand, and when one hand is weaker than another
+-- an order: how many cards a hand has, which cards are a hand, and when one hand is weaker than
+-- another
 pub record Order : Type 1 where
   pub held : ℕ
   pub is_hand : List Card → Type 0
@@ -34,7 +35,8 @@ razz_order = record { held = 5; is_hand = razz.IsHand; is_weaker = razz.IsWeaker
 
 -- five cards, deuce-to-seven
 abbrev pub deuce_seven_order : Order
-deuce_seven_order = record { held = 5; is_hand = deuce_seven.IsHand; is_weaker = deuce_seven.IsWeaker }
+deuce_seven_order =
+    record { held = 5; is_hand = deuce_seven.IsHand; is_weaker = deuce_seven.IsWeaker }
 
 -- four cards, badugi
 abbrev pub badugi_order : Order
@@ -54,7 +56,8 @@ award_of games.N2L1D = deuce_seven_order
 award_of games.F2L3D = deuce_seven_order
 award_of games.FB = badugi_order
 
--- the order by which a game pays the second half of a pot, where it splits pots; else the first order again
+-- the order by which a game pays the second half of a pot, where it splits pots; else the first
+-- order again
 abbrev pub second_of : Code → Order
 second_of games.FO8 = eight_low_order
 second_of games.F7S8 = eight_low_order

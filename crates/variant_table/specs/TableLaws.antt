@@ -1,4 +1,5 @@
 -- The table of games keeps what a variant keeps, for each code.
+-- This is a proof: no reader needs it.
 use Rattle.std.proofs.Common.{◌≡◌, ℕ, length, refl, sym, ◌∙◌, subst, arith}
 use Rattle.play_event.specs.declared.code.Code.{Code}
 use Rattle.play_event.specs.declared.code.Code.TheVariants as games
@@ -15,7 +16,8 @@ same_order order = record {
   weaker_is = λ a b. (λ weaker. weaker, λ weaker. weaker);
 }
 
--- the streets deal a whole hand and board, and the deck has the cards of a full table: this is computed for each code
+-- the streets deal a whole hand and board, and the deck has the cards of a full table: this is
+-- computed for each code
 pub table_adds_up : (code : Code) → AddsUp (game_of code)
 table_adds_up games.FT = record { hole = refl; board = refl; fits = omega arith }
 table_adds_up _ = record { hole = refl; board = refl; fits = omega arith }
@@ -32,18 +34,25 @@ pub same_held : (code : Code) → (second_of code).held ≡ (award_of code).held
 same_held games.FT = refl
 same_held _ = refl
 
--- so does a pick that is that of the game, in an order whose hands have as many cards as the award's
-pub usable_award : (code : Code) (held : ℕ) (pick : Pick) → held ≡ (award_of code).held → pick ≡ (game_of code).pick → IsUsable (game_of code) held pick
+-- so does a pick that is that of the game, in an order whose hands have as many cards as the
+-- award's
+pub usable_award : (code : Code) (held : ℕ) (pick : Pick) → held ≡ (award_of code).held
+    → pick ≡ (game_of code).pick → IsUsable (game_of code) held pick
 usable_award code held pick same_held same_pick =
     subst (λ (p : Pick). IsUsable (game_of code) held p) (sym same_pick)
-    (subst (λ (h : ℕ). IsUsable (game_of code) h (game_of code).pick) (sym same_held) (award_can_pick code))
+    (subst (λ (h : ℕ). IsUsable (game_of code) h (game_of code).pick) (sym same_held)
+    (award_can_pick code))
 
 -- or as many as the second order's
-pub usable_second : (code : Code) (held : ℕ) (pick : Pick) → held ≡ (second_of code).held → pick ≡ (game_of code).pick → IsUsable (game_of code) held pick
-usable_second code held pick same same_pick = usable_award code held pick (same ∙ same_held code) same_pick
+pub usable_second : (code : Code) (held : ℕ) (pick : Pick) → held ≡ (second_of code).held
+    → pick ≡ (game_of code).pick → IsUsable (game_of code) held pick
+usable_second code held pick same same_pick =
+    usable_award code held pick (same ∙ same_held code) same_pick
 
 -- the values of a game are its own
-pub values_of : (code : Code) → let game = game_of code in AreValuesOf game game.split game.pick game.limit game.opener game.deck game.seats (length game.streets)
+pub values_of : (code : Code)
+    → let game = game_of code in AreValuesOf game game.split game.pick game.limit game.opener
+    game.deck game.seats (length game.streets)
 values_of code =
     let game = game_of code in record {
       split_is = refl;

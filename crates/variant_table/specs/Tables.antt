@@ -16,5 +16,7 @@ street_at game number = unwrap_or (slice_get game.streets (number - 1)) no_stree
 
 -- a table has the values of the game, and its streets in order, as far as there are any
 pub record IsTableOf (game : Game) (table : GameTable) : Type 0 where
-  pub values : AreValuesOf game table.split table.pick table.limit table.opener table.deck table.seats table.streets
+  pub values :
+      AreValuesOf game table.split table.pick table.limit table.opener table.deck table.seats
+      table.streets
   pub rows : table.rows ≡ map (street_at game) (1 ∷ 2 ∷ 3 ∷ 4 ∷ 5 ∷ [])

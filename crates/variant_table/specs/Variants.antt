@@ -10,7 +10,8 @@ use Rattle.hand_order.specs.Choices.{CanPick}
 use Rattle.variant_table.specs.Orders.{Order}
 
 -- the values are those of the game
-pub record AreValuesOf (game : Game) (split : Bool) (pick : Pick) (limit : Limit) (opener : Opener) (deck seats streets : ℕ) : Type 0 where
+pub record AreValuesOf (game : Game) (split : Bool) (pick : Pick) (limit : Limit) (opener : Opener)
+    (deck seats streets : ℕ) : Type 0 where
   pub split_is : split ≡ game.split
   pub pick_is : pick ≡ game.pick
   pub limit_is : limit ≡ game.limit
@@ -20,7 +21,8 @@ pub record AreValuesOf (game : Game) (split : Bool) (pick : Pick) (limit : Limit
   pub streets_is : streets ≡ length game.streets
 
 -- an order compares the hands that this one does, and as it does
-pub record IsOrder (order : Order) (held : ℕ) (is_hand : List Card → Type 0) (is_weaker : List Card → List Card → Type 0) : Type 0 where
+pub record IsOrder (order : Order) (held : ℕ) (is_hand : List Card → Type 0)
+    (is_weaker : List Card → List Card → Type 0) : Type 0 where
   pub held_is : held ≡ order.held
   pub hand_is : (cards : List Card) → is_hand cards ↔ order.is_hand cards
   pub weaker_is : (a b : List Card) → is_weaker a b ↔ order.is_weaker a b
@@ -35,12 +37,16 @@ abbrev pub board_cards : List Street → ℕ
 board_cards [] = 0
 board_cards (street ∷ rest) = street.board + board_cards rest
 
--- the streets deal the cards of a hand and of the board, and a full table has no more cards than the deck
+-- the streets deal the cards of a hand and of the board, and a full table has no more cards than
+-- the deck
 pub record AddsUp (game : Game) : Type 0 where
   pub hole : hole_cards game.streets ≡ game.hole
   pub board : board_cards game.streets ≡ game.board
   pub fits : game.seats * game.hole + game.board ≤ game.deck
 
--- the pick can use the cards of a whole hand and a whole board, in an order whose hands have so many cards
+-- the pick can use the cards of a whole hand and a whole board, in an order whose hands have so
+-- many cards
 abbrev pub IsUsable : Game → ℕ → Pick → Type 0
-IsUsable game held pick = (hole board : List Card) → length hole ≡ game.hole → length board ≡ game.board → CanPick held pick hole board
+IsUsable game held pick =
+    (hole board : List Card) → length hole ≡ game.hole → length board ≡ game.board
+    → CanPick held pick hole board

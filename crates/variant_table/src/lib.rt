@@ -1,4 +1,5 @@
-//! The eleven games as types: each has the table of its code, and one generic function over `Variant` plays them all.
+//! The eleven games as types: each has the table of its code, and one generic function over
+//! `Variant` plays them all.
 #![tactic(auto)]
 
 mod deck;

@@ -177,7 +177,8 @@ impl Variant for FR {
     ghost second = { same_order razz_order };
 }
 
-// Two cards down and one up, then three times one up, and one down. The bets grow with the third street.
+// Two cards down and one up, then three times one up, and one down. The bets grow with the third
+// street.
 fn stud_street(number: u8) -> Street
     requires first { 1 ≤ number }
     requires last { number ≤ 5 }

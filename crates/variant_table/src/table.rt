@@ -26,7 +26,8 @@ pub struct GameTable {
     pub seats: u8,
     /// How many streets there are.
     pub streets: u8,
-    /// The streets in order. Past the last one they deal nothing, draw nothing, and have the least bet.
+    /// The streets in order. Past the last one they deal nothing, draw nothing, and have the least
+    /// bet.
     pub rows: [Street; 5],
 }
 

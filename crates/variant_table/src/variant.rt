@@ -20,7 +20,8 @@ use play_event::{Code, Limit, Opener, Street};
 pub trait Variant {
     /// The order by which a pot is paid, or the first half of it.
     type Award: HandOrder;
-    /// The order by which the second half is paid where `SPLIT` is true; else `Award`, and not used.
+    /// The order by which the second half is paid where `SPLIT` is true; else `Award`, and not
+    /// used.
     type Second: HandOrder;
 
     ghost CODE: { Code };

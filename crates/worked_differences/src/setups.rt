@@ -1,5 +1,5 @@
-//! Setups that differ. The function does nothing: its contract is computed from the definition of the
-//! first difference.
+//! Setups that differ. The function does nothing: its contract is computed from the definition of
+//! the first difference.
 ghost use Rattle.std.specs.Prelude.{◌≡◌, None, Some};
 ghost use Rattle.hand_differences.specs.FirstDifference.{Antes, BetSizes, Blinds, Rake, SeatCount, Stacks, Variant};
 ghost use Rattle.hand_records.specs.declared.record.Record.{Record};

@@ -4,7 +4,8 @@ ghost use Rattle.hand_differences.specs.DifferenceText.{difference_text};
 ghost use Rattle.hand_differences.specs.FirstDifference.{Antes, BetSizes, Blinds, Card, Move, Note, Rake, SeatCount, Shown, Stacks, Variant};
 ghost use Rattle.hand_records.specs.declared.notes.NoteName.TheVariants as names;
 
-/// Each kind of difference in its words. The function does nothing: its contract is computed from the definition.
+/// Each kind of difference in its words. The function does nothing: its contract is computed from
+/// the definition.
 pub fn told_differences()
     ensures variant { difference_text Variant ≡ codes "Variant" }
     ensures seat_count { difference_text SeatCount ≡ codes "SeatCount" }

@@ -1,5 +1,5 @@
-//! Traces that differ. The function does nothing: its contract is computed from the definition of the
-//! first difference.
+//! Traces that differ. The function does nothing: its contract is computed from the definition of
+//! the first difference.
 ghost use Rattle.std.specs.Prelude.{◌≡◌, None, Some, codes};
 ghost use Rattle.hand_differences.specs.FirstDifference.{Card, Move, Shown};
 ghost use Rattle.hand_records.specs.declared.record.Record.{Record};

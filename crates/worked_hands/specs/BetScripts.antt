@@ -54,7 +54,8 @@ over_three target = unseen_twos ++ raise 3 3 ∷ raise 1 target ∷ []
 
 -- a raise to 1000 on the first street, and a bet of 100 on the second
 abbrev pub small_bet_later : List Said
-small_bet_later = heads_up_deals ++ raise 2 1000 ∷ call 1 ∷ board (codes "AhQh2s") ∷ raise 1 100 ∷ []
+small_bet_later =
+    heads_up_deals ++ raise 2 1000 ∷ call 1 ∷ board (codes "AhQh2s") ∷ raise 1 100 ∷ []
 
 -- p3 raises in pot limit
 abbrev pub pot_raised_to : ℕ → List Said
@@ -64,7 +65,8 @@ pot_raised_to target = unseen_fours ++ raise 3 target ∷ []
 abbrev pub pot_raised_again : List Said
 pot_raised_again = pot_raised_to 7 ++ raise 1 9 ∷ call 2 ∷ raise 3 20 ∷ []
 
--- p3 raises to 20 in fixed limit, p1 goes all-in to 25, half a unit more, p2 calls, and p3 raises to 30
+-- p3 raises to 20 in fixed limit, p1 goes all-in to 25, half a unit more, p2 calls, and p3 raises
+-- to 30
 abbrev pub half_bet_more : List Said
 half_bet_more = unseen_twos ++ raise 3 20 ∷ raise 1 25 ∷ call 2 ∷ raise 3 30 ∷ []
 
@@ -88,9 +90,12 @@ two_units_later = heads_up_deals ++ calls ∷ calls ∷ board (codes "AhQh2s") �
 abbrev pub unit_over_bring_in : List Said
 unit_over_bring_in = two_deuces ++ bring_in 1 ∷ raises ∷ []
 
--- p1 brings in 3, above the small bet of 2; p2 goes all-in to 4, and p3 raises to the bring-in and a unit
+-- p1 brings in 3, above the small bet of 2; p2 goes all-in to 4, and p3 raises to the bring-in and
+-- a unit
 abbrev pub full_bring_in : List Said
-full_bring_in = three_dealt (codes "????2c") (codes "????3d") (codes "????4h") ++ bring_in 1 ∷ raise 2 4 ∷ raise 3 5 ∷ []
+full_bring_in =
+    three_dealt (codes "????2c") (codes "????3d") (codes "????4h") ++ bring_in 1 ∷ raise 2 4
+    ∷ raise 3 5 ∷ []
 
 -- p3 raises to 10 over blinds that are below the unit, and p1 raises to 14
 abbrev pub over_low_blinds : List Said

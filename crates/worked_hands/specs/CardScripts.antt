@@ -14,11 +14,14 @@ without_chips = brought_in (three_dealt (codes "????2c") (codes "??????") (codes
 
 -- p1 brings in with a deuce of clubs, p2 calls, both have a second up-card, and a seat checks
 abbrev pub opened_by : ℕ → List ℕ → List ℕ → List Said
-opened_by seat first second = two_deuces ++ bring_in 1 ∷ call 2 ∷ deal 1 first ∷ deal 2 second ∷ call seat ∷ []
+opened_by seat first second =
+    two_deuces ++ bring_in 1 ∷ call 2 ∷ deal 1 first ∷ deal 2 second ∷ call seat ∷ []
 
--- p1 of razz brings in with a king, p2 calls with a deuce, they get a nine and a trey, and p2 checks
+-- p1 of razz brings in with a king, p2 calls with a deuce, they get a nine and a trey, and p2
+-- checks
 abbrev pub razz_opened : List Said
-razz_opened = king_and_deuce ++ bring_in 1 ∷ call 2 ∷ deal 1 (codes "9h") ∷ deal 2 (codes "3h") ∷ call 2 ∷ []
+razz_opened =
+    king_and_deuce ++ bring_in 1 ∷ call 2 ∷ deal 1 (codes "9h") ∷ deal 2 (codes "3h") ∷ call 2 ∷ []
 
 -- cards for one seat alone
 abbrev pub dealt : ℕ → List ℕ → List Said
@@ -71,7 +74,8 @@ first_draw =
 
 -- in the second draw p1 stands pat, and p2 discards and is dealt the two of clubs
 abbrev pub second_draw : List ℕ → List Said
-second_draw cards = thirty_cards ++ (first_draw ++ stand_pat 1 ∷ discard 2 cards ∷ deal 2 (codes "2c") ∷ [])
+second_draw cards =
+    thirty_cards ++ (first_draw ++ stand_pat 1 ∷ discard 2 cards ∷ deal 2 (codes "2c") ∷ [])
 
 -- p3 raises to 10, by which p1 is all-in, and p1 draws first
 abbrev pub all_in_draws : List Said
@@ -81,7 +85,8 @@ all_in_draws = unseen_fives ++ raise 3 10 ∷ call 1 ∷ call 2 ∷ stand_pat 1 
 abbrev pub kept_cards_shown : List Said
 kept_cards_shown =
     two_dealt (codes "2c3c4c5c7c") (codes "??????????") ++ call 2 ∷ call 1
-    ∷ discard 1 (codes "2c3c4c") ∷ stand_pat 2 ∷ deal 1 (codes "8d9dTd") ∷ call 1 ∷ call 2 ∷ show 1 (codes "5c7c") ∷ []
+    ∷ discard 1 (codes "2c3c4c") ∷ stand_pat 2 ∷ deal 1 (codes "8d9dTd") ∷ call 1 ∷ call 2
+    ∷ show 1 (codes "5c7c") ∷ []
 
 -- the cards of two seats, in pieces and out of order
 abbrev pub mixed_deals : List Said

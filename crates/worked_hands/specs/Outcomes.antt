@@ -21,13 +21,15 @@ AllLegalBy rules setup script = illegal_event setup rules script ≡ None
 
 -- the event with this number is the first illegal one of a script, for this reason
 abbrev pub IllegalAtBy : Rules → ℕ → Illegal → Setup → List Said → Type 0
-IllegalAtBy rules number reason setup script = illegal_event setup rules script ≡ Some (number, reason)
+IllegalAtBy rules number reason setup script =
+    illegal_event setup rules script ≡ Some (number, reason)
 
 -- no event of a script is illegal by the rules of hand histories
 abbrev pub AllLegal : Setup → List Said → Type 0
 AllLegal setup script = AllLegalBy history_rules setup script
 
--- the event with this number is the first illegal one by the rules of hand histories, for this reason
+-- the event with this number is the first illegal one by the rules of hand histories, for this
+-- reason
 abbrev pub IllegalAt : ℕ → Illegal → Setup → List Said → Type 0
 IllegalAt number reason setup script = IllegalAtBy history_rules number reason setup script
 
@@ -37,11 +39,13 @@ due_after setup script = turn setup (past_at_end setup script)
 
 -- the chips that each seat put by the end of a script
 abbrev pub puts_after : Setup → List Said → List ℕ
-puts_after setup script = map (chips_put setup (moves_of (past_at_end setup script))) (all_seats setup)
+puts_after setup script =
+    map (chips_put setup (moves_of (past_at_end setup script))) (all_seats setup)
 
 -- what each seat ends with after a script that is won by folds
 abbrev pub ends_with : Setup → List Said → List ℕ
-ends_with setup script = map (stack_by_folds setup (moves_of (past_at_end setup script))) (all_seats setup)
+ends_with setup script =
+    map (stack_by_folds setup (moves_of (past_at_end setup script))) (all_seats setup)
 
 -- the seats that are shown after a script
 abbrev pub shown_after : Setup → List Said → List ℕ
@@ -57,7 +61,8 @@ moves_after setup script = traced_moves setup (moves_of (past_at_end setup scrip
 
 -- the targets of its raises that need rules by which betting always reopens
 abbrev pub closed_after : Setup → List Said → List ℕ
-closed_after setup script = map (λ move. move.to) (filter (λ move. move.closed) (moves_after setup script))
+closed_after setup script =
+    map (λ move. move.to) (filter (λ move. move.closed) (moves_after setup script))
 
 -- where a raise by the unit would have gone at each of its moves
 abbrev pub units_after : Setup → List Said → List ℕ
@@ -65,4 +70,5 @@ units_after setup script = map (λ move. move.unit_to) (moves_after setup script
 
 -- the cards of its trace
 abbrev pub cards_after : Setup → List Said → List Slot
-cards_after setup script = map (λ place. place.slot) (traced_places setup (past_at_end setup script))
+cards_after setup script =
+    map (λ place. place.slot) (traced_places setup (past_at_end setup script))

@@ -17,7 +17,8 @@ early_shows =
 abbrev pub checked : List ℕ → List Said
 checked cards =
     three_dealt (codes "????") cards (codes "Ac2h") ++ call 3 ∷ fold 1 ∷ call 2
-    ∷ board (codes "KhKdQs") ∷ call 2 ∷ call 3 ∷ board (codes "Qc") ∷ call 2 ∷ call 3 ∷ board (codes "Js") ∷ call 2 ∷ call 3 ∷ []
+    ∷ board (codes "KhKdQs") ∷ call 2 ∷ call 3 ∷ board (codes "Qc") ∷ call 2 ∷ call 3
+    ∷ board (codes "Js") ∷ call 2 ∷ call 3 ∷ []
 
 -- the same, where p2 holds the ace of spades and the deuce of diamonds
 abbrev pub checked_down : List Said
@@ -87,8 +88,8 @@ shown_called = all_in ++ call 1 ∷ show 1 (codes "9s8h") ∷ []
 abbrev pub mucked_called : List Said
 mucked_called = all_in ++ call 1 ∷ muck 1 ∷ []
 
--- p1 of stud is all-in by its bring-in, both are dealt all cards, of which this is p1's second up-card, and p1 shows
--- its three down-cards
+-- p1 of stud is all-in by its bring-in, both are dealt all cards, of which this is p1's second
+-- up-card, and p1 shows its three down-cards
 abbrev pub three_shown : List ℕ → List Said
 three_shown second =
     two_dealt (codes "????2c") (codes "????3d") ++ bring_in 1 ∷ call 2

@@ -21,8 +21,10 @@ slots_named text = unwrap_or (slots_spelled text) []
 abbrev pub cards_named : List ℕ → List Card
 cards_named text = known_cards (slots_named text)
 
--- a hand of a game, and whether its antes are dead: bring-in, small bet, big bet and least bet; stacks, antes and blinds
-abbrev pub hand_of : Code → Bool → (bring_in small big least : ℕ) → (stacks antes blinds : List ℕ) → IsTrue (is_row stacks) → IsTrue (is_row antes) → IsTrue (is_row blinds) → Setup
+-- a hand of a game, and whether its antes are dead: bring-in, small bet, big bet and least bet;
+-- stacks, antes and blinds
+abbrev pub hand_of : Code → Bool → (bring_in small big least : ℕ) → (stacks antes blinds : List ℕ)
+    → IsTrue (is_row stacks) → IsTrue (is_row antes) → IsTrue (is_row blinds) → Setup
 hand_of code dead bring_in small big least stacks antes blinds stacks_fit antes_fit blinds_fit =
     record {
       code = code;

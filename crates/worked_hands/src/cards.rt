@@ -1,5 +1,5 @@
-//! Deals, draws, and cards that are taken or not held. Each function does nothing: its contract is computed from
-//! the rules.
+//! Deals, draws, and cards that are taken or not held. Each function does nothing: its contract is
+//! computed from the rules.
 ghost use Rattle.std.specs.Prelude.{codes};
 ghost use Rattle.play_event.specs.declared.reason.Illegal.TheVariants.{WrongKind, WrongSeat, WrongCount, CardTaken, NotHeld};
 ghost use Rattle.worked_hands.specs.Outcomes.{AllLegal, IllegalAt};

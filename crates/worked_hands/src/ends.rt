@@ -1,5 +1,5 @@
-//! How hands end: shows, mucks, the showdown, and scripts that stop too early or go on. Each function does
-//! nothing: its contract is computed from the rules.
+//! How hands end: shows, mucks, the showdown, and scripts that stop too early or go on. Each
+//! function does nothing: its contract is computed from the rules.
 ghost use Rattle.std.specs.Prelude.{[], codes, false, ◌∷◌, ◌≡◌};
 ghost use Rattle.play_event.specs.declared.reason.Due.TheVariants as dues;
 ghost use Rattle.play_event.specs.declared.reason.Illegal.TheVariants.{HandOver, WrongKind, WrongSeat, WrongCount, CardTaken, NotHeld};

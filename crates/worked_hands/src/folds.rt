@@ -1,5 +1,5 @@
-//! Hands that are won by folds on the first street of no-limit hold'em. Each function does nothing: its contract
-//! is computed from the rules.
+//! Hands that are won by folds on the first street of no-limit hold'em. Each function does nothing:
+//! its contract is computed from the rules.
 ghost use Rattle.std.specs.Prelude.{Some, [], false, slice_get, true, ◌∷◌, ◌≡◌};
 ghost use Rattle.play_event.specs.declared.reason.Illegal.TheVariants.{HandOver, WrongSeat, RaiseTooSmall, RaiseTooBig};
 ghost use Rattle.play_event.specs.Scripts.{has_early_end};

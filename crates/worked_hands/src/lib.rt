@@ -1,4 +1,5 @@
-//! Hands that are written out: what the rules give for each is computed from the definitions of play.
+//! Hands that are written out: what the rules give for each is computed from the definitions of
+//! play.
 #![tactic(auto)]
 
 mod cards;

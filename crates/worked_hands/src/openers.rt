@@ -1,5 +1,5 @@
-//! Who brings in, and who opens a street, by up-cards. Each function does nothing: its contract is computed from
-//! the rules.
+//! Who brings in, and who opens a street, by up-cards. Each function does nothing: its contract is
+//! computed from the rules.
 ghost use Rattle.std.specs.Prelude.{[], codes, ◌∷◌, ◌≡◌};
 ghost use Rattle.play_event.specs.declared.reason.Illegal.TheVariants.{WrongKind, WrongSeat, UpCardUnknown};
 ghost use Rattle.worked_hands.specs.Outcomes.{AllLegal, IllegalAt, puts_after};

@@ -1,5 +1,5 @@
-//! The setups of the worked hands are valid, and some setups are not. Each function does nothing: its contract is
-//! proved from the conditions.
+//! The setups of the worked hands are valid, and some setups are not. Each function does nothing:
+//! its contract is proved from the conditions.
 ghost use Rattle.play_event.specs.ValidSetup.{IsValid};
 ghost use Rattle.worked_hands.specs.Setups.{ante_all_in, antes_and_blinds, deep_stacks, draw_short, eight_in_stud, first_short, fixed_limit, greater_second_blind, heads_up, limit_short, limit_three, low_blinds, no_dead_antes, no_limit, no_stack, one_able, one_dead_ante, pot_limit, pot_short, raked, razz, single_draw, stud, stud_short, stud_three, third_short, triple_draw, unused_small_bet};
 

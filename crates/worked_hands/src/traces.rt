@@ -1,5 +1,5 @@
-//! What a trace keeps: who is shown, closed raises, units, and the cards in their order. Each function does
-//! nothing: its contract is computed from the rules.
+//! What a trace keeps: who is shown, closed raises, units, and the cards in their order. Each
+//! function does nothing: its contract is computed from the rules.
 ghost use Rattle.std.specs.Prelude.{[], codes, ◌∷◌, ◌≡◌};
 ghost use Rattle.worked_hands.specs.Words.{slots_named};
 ghost use Rattle.worked_hands.specs.Outcomes.{cards_after, closed_after, mucked_after, shown_after, units_after};

@@ -1,4 +1,5 @@
--- Hands whose traces and canonical scripts are computed, traces as numbers, notes, stated facts and plays.
+-- Hands whose traces and canonical scripts are computed, traces as numbers, notes, stated facts and
+-- plays.
 pub mod TraceNumbers
 pub mod Setups
 pub mod Scripts

@@ -1,5 +1,5 @@
--- What is computed of a written hand: its canonical script, whether that is legal, complete, and leaves the same trace,
--- and whether a trace is that of the hand.
+-- What is computed of a written hand: its canonical script, whether that is legal, complete, and
+-- leaves the same trace, and whether a trace is that of the hand.
 use Rattle.std.specs.Prelude.{◌≡◌, true, false, List}
 use Rattle.play_event.specs.declared.setup.Rules.{Rules}
 use Rattle.play_event.specs.declared.setup.Setup.{Setup}

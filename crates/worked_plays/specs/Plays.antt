@@ -11,7 +11,8 @@ use Rattle.hand_records.specs.SoundRecord.{script_said}
 use Rattle.worked_hands.specs.Words.{deal, fold, raise}
 
 -- a record says a hand
-pub record SaysHand (setup : Setup) (rules : Rules) (script : List Said) (notes : Notes) (hand : Record) : Type 0 where
+pub record SaysHand (setup : Setup) (rules : Rules) (script : List Said) (notes : Notes)
+    (hand : Record) : Type 0 where
   pub same_setup : hand.setup ≡ setup
   pub same_rules : hand.rules ≡ rules
   pub same_script : script_said hand ≡ script

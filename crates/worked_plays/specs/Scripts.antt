@@ -4,7 +4,8 @@ use Rattle.play_event.specs.Said.{Said}
 use Rattle.worked_hands.specs.Words.{deal, board, fold, call, raise, bring_in, discard, show, muck, stand_pat, folds, calls, raises, raises_to}
 use Rattle.worked_hands.specs.CardScripts.{first_draw, thirty_cards}
 
--- pot-limit Omaha: deals in pieces and out of order, cards that become known by the show, and a known hand that mucks
+-- pot-limit Omaha: deals in pieces and out of order, cards that become known by the show, and a
+-- known hand that mucks
 abbrev pub omaha_hand : List Said
 omaha_hand =
     deal 3 (codes "??????Kd") ∷ deal 1 (codes "AcAd") ∷ deal 2 (codes "????????")
@@ -25,8 +26,8 @@ stud_hand =
     ∷ deal 1 (codes "??") ∷ deal 2 (codes "7c") ∷ call 1 ∷ call 2
     ∷ show 2 (codes "6c7c5c") ∷ muck 1 ∷ []
 
--- single draw: an all-in, shows before and between the draws, cards that become known by discards and shows, and a seat
--- that showed and was dealt an unknown card
+-- single draw: an all-in, shows before and between the draws, cards that become known by discards
+-- and shows, and a seat that showed and was dealt an unknown card
 abbrev pub mixed_draw : List Said
 mixed_draw =
     deal 3 (codes "????") ∷ deal 1 (codes "2c??4c") ∷ deal 3 (codes "????Th")
@@ -76,7 +77,8 @@ short_deck_hand =
     ∷ board (codes "KhKdQs") ∷ show 2 (codes "AsKs") ∷ board (codes "Qc") ∷ board (codes "Js")
     ∷ show 1 (codes "JhJd") ∷ []
 
--- a match: after a short all-in p3 raises again, which only rules allow by which betting always reopens
+-- a match: after a short all-in p3 raises again, which only rules allow by which betting always
+-- reopens
 abbrev pub reopened_hand : List Said
 reopened_hand =
     deal 1 (codes "????") ∷ deal 2 (codes "????") ∷ deal 3 (codes "????")

@@ -26,13 +26,19 @@ filler_at [] zero x k late early = absurd (omega (arith, early))
 filler_at [] (suc n) x zero late early = refl
 filler_at [] (suc n) x (suc k) late early = filler_at [] n x k (omega arith) (omega (arith, early))
 filler_at (y ∷ xs) n x zero late early = absurd (omega (arith, late))
-filler_at (y ∷ xs) n x (suc k) late early = filler_at xs n x k (omega (arith, late)) (omega (arith, early))
+filler_at (y ∷ xs) n x (suc k) late early =
+    filler_at xs n x k (omega (arith, late)) (omega (arith, early))
 
 -- a list and its fillers are so many
 pub filled_to : {X : Type 0} (xs : List X) (most : ℕ) (x : X)
     → length xs ≤ most → length (xs ++ replicate (most - length xs) x) ≡ most
 filled_to xs most x few =
-    omega (arith, few, length-append xs (replicate (most - length xs) x), length-replicate {A = _} (most - length xs) x)
+    omega (
+      arith,
+      few,
+      length-append xs (replicate (most - length xs) x),
+      length-replicate {A = _} (most - length xs) x,
+    )
 
 -- two to ten flags
 abbrev pub is_flags : List Bool → Bool
@@ -65,7 +71,9 @@ pots_of pots returned fits =
       returned = returned;
       most = few;
       full = filled_to pots 11 no_pot few;
-      filler = λ k late early. filler_at pots (11 - length pots) no_pot k late (omega (arith, few, early));
+      filler =
+          λ k late early.
+          filler_at pots (11 - length pots) no_pot k late (omega (arith, few, early));
     }
 
 -- the row of these shares
@@ -77,7 +85,9 @@ shares_of shares fits =
       shares = shares ++ replicate (11 - length shares) no_amounts;
       most = few;
       full = filled_to shares 11 no_amounts few;
-      filler = λ k late early. filler_at shares (11 - length shares) no_amounts k late (omega (arith, few, early));
+      filler =
+          λ k late early.
+          filler_at shares (11 - length shares) no_amounts k late (omega (arith, few, early));
     }
 
 -- the row of what these seats won or lost

@@ -1,5 +1,5 @@
--- The words in which traces are written out, and hands with their whole traces: one that is won by folds and one that is won
--- by the only shown hand.
+-- The words in which traces are written out, and hands with their whole traces: one that is won by
+-- folds and one that is won by the only shown hand.
 use Rattle.std.proofs.Common.{refl}
 use Rattle.std.specs.Prelude.{ℕ, true, false, List, [], ◌∷◌, ◌++◌, codes, map, Option, Some, None}
 use Rattle.chip_ledger.specs.declared.numbers.Seat.{Seat}
@@ -38,11 +38,12 @@ p5 = seat_of 5 refl
 abbrev pub p6 : Seat
 p6 = seat_of 6 refl
 
--- the cards of a text, dealt on a street to a seat, or to the board where none is said, and discarded in the draw of the last
--- street, or kept where it is 0
+-- the cards of a text, dealt on a street to a seat, or to the board where none is said, and
+-- discarded in the draw of the last street, or kept where it is 0
 abbrev pub placed : Option Seat → ℕ → List ℕ → ℕ → List Place
 placed owner street cards gone =
-    map (λ slot. record { owner = owner; street = street; slot = slot; gone = gone }) (slots_named cards)
+    map (λ slot. record { owner = owner; street = street; slot = slot; gone = gone })
+    (slots_named cards)
 
 -- cards of a seat that are kept
 abbrev pub kept_by : Seat → ℕ → List ℕ → List Place
@@ -56,11 +57,20 @@ on_board street cards = placed None street cards 0
 abbrev pub dealt_to : Seat → List ℕ → List Place
 dealt_to seat cards = kept_by seat 1 cards
 
--- what a seat did on a street of fixed limit: the chips of the street that it had put before and after, the price before,
--- and where a raise by the unit would have gone
+-- what a seat did on a street of fixed limit: the chips of the street that it had put before and
+-- after, the price before, and where a raise by the unit would have gone
 abbrev pub moved_fixed : ℕ → Seat → Act → (from to price unit_to : ℕ) → Move
 moved_fixed street seat act from to price unit_to =
-    record { street = street; seat = seat; act = act; from = from; to = to; price = price; closed = false; unit_to = unit_to }
+    record {
+      street = street;
+      seat = seat;
+      act = act;
+      from = from;
+      to = to;
+      price = price;
+      closed = false;
+      unit_to = unit_to;
+    }
 
 -- the same in another limit, where no unit is kept
 abbrev pub moved : ℕ → Seat → Act → (from to price : ℕ) → Move
@@ -81,13 +91,16 @@ abbrev pub steal_trace : Trace
 steal_trace =
     record {
       setup = no_limit;
-      places = dealt_to p1 (codes "????") ++ (dealt_to p2 (codes "Ks7d") ++ dealt_to p3 (codes "AcAd"));
+      places =
+          dealt_to p1 (codes "????") ++ (dealt_to p2 (codes "Ks7d") ++ dealt_to p3 (codes "AcAd"));
       moves =
           moved 1 p3 acts.Raise 0 6 2 ∷ moved 1 p1 acts.Fold 1 1 6 ∷ moved 1 p2 acts.Fold 2 2 6
           ∷ [];
       shown = flags_of (false ∷ false ∷ false ∷ []) refl;
       mucked = flags_of (false ∷ false ∷ false ∷ []) refl;
-      pots = pots_of (pot_of 5 (false ∷ false ∷ true ∷ []) refl ∷ []) (row_of (0 ∷ 0 ∷ 4 ∷ []) refl) refl;
+      pots =
+          pots_of (pot_of 5 (false ∷ false ∷ true ∷ []) refl ∷ []) (row_of (0 ∷ 0 ∷ 4 ∷ []) refl)
+          refl;
       shares = shares_of (row_of (0 ∷ 0 ∷ 5 ∷ []) refl ∷ []) refl;
       finish = row_of (99 ∷ 98 ∷ 103 ∷ []) refl;
     }

@@ -45,4 +45,5 @@ dated year month day = record no_notes { year = year; month = month; day = day }
 -- a time of the day
 abbrev pub timed : (hour minute second nano : ℕ) → Notes
 timed hour minute second nano =
-    record no_notes { time = Some (record { hour = hour; minute = minute; second = second; nano = nano }) }
+    record no_notes
+    { time = Some (record { hour = hour; minute = minute; second = second; nano = nano }) }

@@ -14,7 +14,8 @@ chip_from_p2 = record steal_trace { finish = row_of (99 ∷ 97 ∷ 104 ∷ []) r
 -- the four chips that nobody called are in the pot, and p3 wins them
 abbrev pub returned_in_pot : Trace
 returned_in_pot = record steal_trace {
-  pots = pots_of (pot_of 9 (false ∷ false ∷ true ∷ []) refl ∷ []) (row_of (0 ∷ 0 ∷ 0 ∷ []) refl) refl;
+  pots =
+      pots_of (pot_of 9 (false ∷ false ∷ true ∷ []) refl ∷ []) (row_of (0 ∷ 0 ∷ 0 ∷ []) refl) refl;
   shares = shares_of (row_of (0 ∷ 0 ∷ 9 ∷ []) refl ∷ []) refl;
 }
 

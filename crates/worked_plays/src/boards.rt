@@ -1,4 +1,5 @@
-//! Canonical scripts of hold'em, Omaha and stud. Each function does nothing: its contract is computed from the rules.
+//! Canonical scripts of hold'em, Omaha and stud. Each function does nothing: its contract is
+//! computed from the rules.
 ghost use Rattle.std.specs.Prelude.{◌≡◌, [], ◌∷◌, codes};
 ghost use Rattle.worked_hands.specs.Words.{deal, board, fold, call, raise, bring_in, show, muck};
 ghost use Rattle.worked_hands.specs.Outcomes.{AllLegal};

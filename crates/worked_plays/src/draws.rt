@@ -8,7 +8,8 @@ ghost use Rattle.worked_plays.specs.Outcomes.{HasCompleteCanon, HasLegalCanon, H
 ghost use Rattle.worked_plays.specs.Scripts.{badugi_hand, folded_draw, mixed_draw, past_the_deck};
 ghost use Rattle.worked_plays.specs.Setups.{badugi, three_in_single_draw};
 
-/// All discards come before the deals, and a seat that showed and then was dealt an unknown card mucks.
+/// All discards come before the deals, and a seat that showed and then was dealt an unknown card
+/// mucks.
 pub fn single_draws()
     ensures the_hand_is_legal { AllLegal three_in_single_draw mixed_draw }
     ensures its_canon { canon_of three_in_single_draw mixed_draw
@@ -22,7 +23,8 @@ pub fn single_draws()
     ensures it_has_the_trace { HasSameTrace three_in_single_draw mixed_draw }
 {}
 
-/// The seats that are live when the draw begins discard, also one that folds after it; a hand won by folds has no showdown.
+/// The seats that are live when the draw begins discard, also one that folds after it; a hand won
+/// by folds has no showdown.
 pub fn folded_draws()
     ensures the_hand_is_legal { AllLegal three_in_single_draw folded_draw }
     ensures its_canon { canon_of three_in_single_draw folded_draw

@@ -1,5 +1,6 @@
-//! Stated facts beside the trace of a written hand: the first that differs is found, in the order finishing stacks, wins,
-//! pots, values. Each function does nothing: its contract is computed from the rules.
+//! Stated facts beside the trace of a written hand: the first that differs is found, in the order
+//! finishing stacks, wins, pots, values. Each function does nothing: its contract is computed from
+//! the rules.
 ghost use Rattle.std.specs.Prelude.{◌≡◌, None, Some, negsuc, pos};
 ghost use Rattle.hand_canon.specs.Agreement.{Finish, Pots, Value, Win, comparison, first_difference};
 ghost use Rattle.worked_plays.specs.StatedFacts.{all_states, finish_states, nothing_stated, pot_states, value_states, win_states};

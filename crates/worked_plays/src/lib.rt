@@ -1,5 +1,6 @@
-//! Hands that are written out, with what is computed of each from the definitions: its whole trace, its canonical script,
-//! that this is legal and leaves the same trace, stated facts that differ, notes that are not allowed, and sound plays.
+//! Hands that are written out, with what is computed of each from the definitions: its whole trace,
+//! its canonical script, that this is legal and leaves the same trace, stated facts that differ,
+//! notes that are not allowed, and sound plays.
 #![tactic(auto)]
 
 mod boards;

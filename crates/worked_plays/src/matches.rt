@@ -1,5 +1,5 @@
-//! Canonical scripts of short deck, and of matches with rules of their own. Each function does nothing: its contract is
-//! computed from the rules.
+//! Canonical scripts of short deck, and of matches with rules of their own. Each function does
+//! nothing: its contract is computed from the rules.
 ghost use Rattle.std.specs.Prelude.{◌≡◌, [], ◌∷◌, codes};
 ghost use Rattle.play_event.specs.declared.reason.Illegal.TheVariants as reasons;
 ghost use Rattle.canon_script.specs.CanonScript.{canon_of};
@@ -10,7 +10,8 @@ ghost use Rattle.worked_plays.specs.Outcomes.{HasCompleteCanon, HasLegalCanon, H
 ghost use Rattle.worked_plays.specs.Scripts.{capped_hand, reopened_hand, short_deck_hand};
 ghost use Rattle.worked_plays.specs.Setups.{four_raises, short_deck};
 
-/// After an all-in before the flop the board is dealt street by street, and both seats show at the end.
+/// After an all-in before the flop the board is dealt street by street, and both seats show at the
+/// end.
 pub fn short_deck_hands()
     ensures the_hand_is_legal { AllLegal short_deck short_deck_hand }
     ensures its_canon { canon_of short_deck short_deck_hand

@@ -1,5 +1,5 @@
-//! Notes of hands with three seats, allowed ones and others. Each function does nothing: its contract is computed from the
-//! definition of allowed notes.
+//! Notes of hands with three seats, allowed ones and others. Each function does nothing: its
+//! contract is computed from the definition of allowed notes.
 ghost use Rattle.std.specs.Prelude.{[], codes, None, Some, replicate};
 ghost use Rattle.hand_records.specs.AllowedNotes.{AreAllowed};
 ghost use Rattle.worked_plays.specs.WrittenNotes.{at_table, dated, named, no_notes, numbered, seated, timed};
@@ -13,8 +13,8 @@ pub fn texts()
     ensures bytes_256 { ¬ (AreAllowed 3 (at_table (replicate 256 65))) }
 {}
 
-/// No note equals its default: the second seat is `p2`, seats are numbered from 1, and a table has as many seats as
-/// the hand. Seats that the hand has not are not named.
+/// No note equals its default: the second seat is `p2`, seats are numbered from 1, and a table has
+/// as many seats as the hand. Seats that the hand has not are not named.
 pub fn players()
     ensures two_names { AreAllowed 3 (named (Some (codes "p2")) (Some (codes "P2")) None) }
     ensures the_default_name { ¬ (AreAllowed 3 (named None (Some (codes "p2")) None)) }

@@ -1,5 +1,5 @@
-//! Whole traces of hands that are written out, and traces that they do not have. Each function does nothing: its
-//! contract is computed from the rules.
+//! Whole traces of hands that are written out, and traces that they do not have. Each function does
+//! nothing: its contract is computed from the rules.
 ghost use Rattle.play_event.specs.HistoryRules.{history_rules};
 ghost use Rattle.hand_canon.specs.LegalHand.{IsLegalHand};
 ghost use Rattle.worked_hands.specs.Setups.{antes_and_blinds, no_limit, pot_limit, single_draw, stud, triple_draw};
@@ -30,8 +30,8 @@ pub fn traces_of_showdowns()
     ensures a_muck_that_is_shown { ¬ (HasTrace single_draw checked_draw muck_shown) }
 {}
 
-/// Hold'em: shows before the river, with chips that are returned; and a card that becomes known by a show, in a pot that two
-/// equal hands divide, whose odd chip goes to the lower seat.
+/// Hold'em: shows before the river, with chips that are returned; and a card that becomes known by
+/// a show, in a pot that two equal hands divide, whose odd chip goes to the lower seat.
 pub fn traces_of_holdem()
     ensures early_shows { HasTrace antes_and_blinds early_shows early_trace }
     ensures a_divided_pot { HasTrace no_limit named_at_showdown divided_trace }
@@ -43,7 +43,8 @@ pub fn traces_of_omaha_and_stud()
     ensures stud { HasTrace stud stud_hand stud_trace }
 {}
 
-/// Single draw: cards that become known by discards and shows, a seat that showed and mucks, and a hand that is won by folds.
+/// Single draw: cards that become known by discards and shows, a seat that showed and mucks, and a
+/// hand that is won by folds.
 pub fn traces_of_single_draws()
     ensures mixed { HasTrace three_in_single_draw mixed_draw mixed_trace }
     ensures folded { HasTrace three_in_single_draw folded_draw folded_trace }
