@@ -1,14 +1,24 @@
 -- Rows by name, one at the end more.
-use Rattle.std.proofs.Common.{◌≡◌, Bool, true, false, if◌then◌else◌, List, [], ◌∷◌, ◌++◌, Option, Some, None, refl, ap, subst, ◌∙◌}
+use Rattle.std.proofs.Common.{◌≡◌, ◌||◌, Bool, true, false, if◌then◌else◌, List, [], ◌∷◌, ◌++◌, Option, Some, None, is_some, refl, ap, subst, ◌∙◌}
 use Rattle.std.specs.Prelude.{find}
 use Rattle.std.specs.Bool.{Decides}
 use Rattle.std.specs.Str.{bytes_eq}
 use Rattle.std.proofs.lemmas.Slice.Eq.{bytes_eq-Decides}
-use Rattle.clap.specs.Walk.{Row, Text, at_row}
+use Rattle.clap.specs.Walk.{Row, Text, at_row, has_row}
 
 -- the first row of a name
 abbrev pub row_named : Text → List Row → Option Row
 row_named name rows = find (λ row. bytes_eq row.id name) rows
+
+-- a name has a row where its first row is found, and only there
+pub has_row-named : (name : Text) (rows : List Row) → has_row name rows ≡ is_some (row_named name rows)
+has_row-named name [] = refl
+has_row-named name (row ∷ rows) = go (bytes_eq row.id name) (has_row-named name rows)
+  where
+    go : (b : Bool) → has_row name rows ≡ is_some (row_named name rows)
+        → (b || has_row name rows) ≡ is_some (if b then Some row else row_named name rows)
+    go true e = refl
+    go false e = e
 
 end-step : (b : Bool) (row : Row) (rows rest missing changed : List Row) (found : Option Row) → (if b then Some row else found) ≡ None
     → (found ≡ None → rest ≡ rows ++ missing) → (if b then changed else row ∷ rest) ≡ row ∷ (rows ++ missing)

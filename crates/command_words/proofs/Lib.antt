@@ -5,3 +5,4 @@ mod Walking
 mod Parses
 mod Asked
 mod SeatNumbers
+mod Taken

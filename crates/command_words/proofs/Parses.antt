@@ -1,39 +1,27 @@
--- The parser of command lines finds the first word as the command, and each option's value under its name.
-use Rattle.std.proofs.Common.{◌≡◌, ◌&&◌, ◌||◌, not, Bool, true, false, if◌then◌else◌, List, [], ◌∷◌, ◌++◌, codes, Option, Some, None, is_some, option_map, refl, ap, sym, subst, ◌∙◌}
+-- The parser of command lines takes the words of a command; it finds the first as the command, and each option's value under its
+-- name.
+use Rattle.std.proofs.Common.{◌≡◌, ◌&&◌, not, Bool, true, false, if◌then◌else◌, List, [], ◌∷◌, ◌++◌, codes, Option, Some, None, is_some, option_map, refl, ap, sym, subst, ◌∙◌}
 use Rattle.std.specs.Prelude.{fold, option_and_then, slice_get}
 use Rattle.std.specs.Bool.{Decides}
+use Rattle.std.specs.List.{list_all}
 use Rattle.std.specs.Str.{bytes_eq}
 use Rattle.std.proofs.lemmas.Slice.Eq.{bytes_eq-Decides}
 use Rattle.std.proofs.lemmas.List.{append-nil}
 use Rattle.clap.specs.Lexer.{long_of, strip_byte}
-use Rattle.clap.specs.Walk.{Row, Rule, Text, Walk, action_of, first_of, has_row, more_values, nothing_held, one_of, reading_by, row_text, used, walk_from, walked, with_default}
-use Rattle.clap.specs.declared.builder.action.ArgAction.TheVariants.{Set, SetTrue}
+use Rattle.clap.specs.Takes.{default_passes, is_valid, settle_passes, turn_passes, use_passes, walk_passes}
+use Rattle.clap.specs.Walk.{Row, Rule, Text, Walk, action_of, finished, first_of, has_row, more_values, nothing_held, one_of, reading_by, row_text, used, walk_from, walked, with_default}
+use Rattle.clap.specs.declared.builder.action.ArgAction.TheVariants.{Set}
 use Rattle.clap.specs.declared.parser.matches.ValueSource.{ValueSource}
 use Rattle.clap.specs.declared.parser.matches.ValueSource.TheVariants.{CommandLine, DefaultValue}
-use Rattle.clap.specs.Simple.{App, built, filled, help_rule, is_simple, matches_of, new_app, new_rule, with_index, with_rule}
+use Rattle.clap.specs.Simple.{Shape, built, filled, help_rule, is_simple, matches_of, new_rule, with_index}
 use Rattle.clap.proofs.OnLiterals.{clap_on_literals}
 use Rattle.command_words.specs.Requests.{flag_text}
 use Rattle.command_words.specs.Options.{Options, is_complete, is_flag, is_of_other, no_options, options_said, with_flag, with_new, with_option, with_other, with_word}
-use Rattle.command_words.proofs.Finds.{Hold, Named, at_row-end, given, hold_given, row_named}
-use Rattle.command_words.proofs.Walking.{IsBetween, IsFlag, IsOption, alone, apart, first, joined}
+use Rattle.command_words.specs.Parser.{are_taken, flag_rule, handref, option_rule}
+use Rattle.command_words.proofs.Finds.{Hold, Named, at_row-end, given, has_row-named, hold_given, row_named}
+use Rattle.command_words.proofs.Walking.{IsBetween, IsFlag, IsOption, alone, alone_taken, apart, first, first_taken, joined, joined_taken, option_taken, value_taken}
 use Rattle.list_laws.proofs.Options.{followed, none_from_not}
 use Rattle.std.proofs.lemmas.Option.{same_Some}
-
--- the parser: a word for the command, the options, and the flags
-abbrev pub option_rule : Text → Rule
-option_rule name = record (new_rule name) { long = Some name }
-
-abbrev pub flag_rule : Text → Rule
-flag_rule name = record (option_rule name) { action = Some SetTrue }
-
-abbrev pub without_own_name : App
-without_own_name = let named = new_app (codes "handref") in record named { top = record named.top { no_binary_name = true } }
-
-abbrev pub handref : App
-handref = fold with_rule without_own_name
-    (new_rule (codes "command") ∷ option_rule (codes "from") ∷ option_rule (codes "to") ∷ option_rule (codes "game") ∷ option_rule (codes "seed")
-    ∷ option_rule (codes "hands") ∷ option_rule (codes "seat") ∷ option_rule (codes "hand") ∷ option_rule (codes "after") ∷ option_rule (codes "street")
-    ∷ option_rule (codes "with") ∷ option_rule (codes "as") ∷ flag_rule (codes "drop-notes") ∷ flag_rule (codes "no-notes") ∷ [])
 
 -- the rows that it finds in words
 unfoldable pub rows_found : List Text → List Row
@@ -43,9 +31,12 @@ pub handref_is_simple : is_simple handref ≡ true
 unfolding clap_on_literals
 handref_is_simple = refl
 
--- its arguments, as they are built
+-- the parser as it is built, and its arguments
+abbrev shape : Shape
+shape = (built handref).top
+
 abbrev arguments : List Rule
-arguments = (built handref).top.rules
+arguments = shape.rules
 
 abbrev command : Rule
 command = with_index 1 (filled (new_rule (codes "command")))
@@ -105,11 +96,16 @@ record IsGiven (options : Options) (name value : Text) (more : Options) : Type 0
   empty : (first : Text) (rows : List Row) → Hold (named first options) rows → row_named argument.id rows ≡ None
   same : (first : Text) → given (given_row argument value) (named first options) ≡ named first more
 
+-- an option passes once
+option_once : (name value : Text) (rows : List Row) → has_row name rows ≡ false → use_passes false (option name) (value ∷ []) rows ≡ true
+unfolding clap_on_literals
+option_once name value rows none = rw none refl
+
 from_given : (options : Options) (value : Text) → options.from ≡ None → IsGiven options (codes "from") value (record options { from = Some value })
 unfolding clap_on_literals
 from_given options value none = record {
   argument = option (codes "from");
-  stands = record { by_name = refl; by_id = refl; takes = refl; most = refl; own = refl };
+  stands = record { by_name = refl; by_id = refl; takes = refl; most = refl; own = refl; once = option_once (codes "from") };
   sets = refl;
   empty = λ first rows held. held.1.1.1.0 ∙ ap (option_map (given_row (option (codes "from")))) none;
   same = λ first. refl;
@@ -119,7 +115,7 @@ to_given : (options : Options) (value : Text) → options.to ≡ None → IsGive
 unfolding clap_on_literals
 to_given options value none = record {
   argument = option (codes "to");
-  stands = record { by_name = refl; by_id = refl; takes = refl; most = refl; own = refl };
+  stands = record { by_name = refl; by_id = refl; takes = refl; most = refl; own = refl; once = option_once (codes "to") };
   sets = refl;
   empty = λ first rows held. held.1.1.1.1.0 ∙ ap (option_map (given_row (option (codes "to")))) none;
   same = λ first. refl;
@@ -129,7 +125,7 @@ game_given : (options : Options) (value : Text) → options.game ≡ None → Is
 unfolding clap_on_literals
 game_given options value none = record {
   argument = option (codes "game");
-  stands = record { by_name = refl; by_id = refl; takes = refl; most = refl; own = refl };
+  stands = record { by_name = refl; by_id = refl; takes = refl; most = refl; own = refl; once = option_once (codes "game") };
   sets = refl;
   empty = λ first rows held. held.1.1.1.1.1.0 ∙ ap (option_map (given_row (option (codes "game")))) none;
   same = λ first. refl;
@@ -139,7 +135,7 @@ seed_given : (options : Options) (value : Text) → options.seed ≡ None → Is
 unfolding clap_on_literals
 seed_given options value none = record {
   argument = option (codes "seed");
-  stands = record { by_name = refl; by_id = refl; takes = refl; most = refl; own = refl };
+  stands = record { by_name = refl; by_id = refl; takes = refl; most = refl; own = refl; once = option_once (codes "seed") };
   sets = refl;
   empty = λ first rows held. held.1.1.1.1.1.1.0 ∙ ap (option_map (given_row (option (codes "seed")))) none;
   same = λ first. refl;
@@ -149,7 +145,7 @@ hands_given : (options : Options) (value : Text) → options.hands ≡ None → 
 unfolding clap_on_literals
 hands_given options value none = record {
   argument = option (codes "hands");
-  stands = record { by_name = refl; by_id = refl; takes = refl; most = refl; own = refl };
+  stands = record { by_name = refl; by_id = refl; takes = refl; most = refl; own = refl; once = option_once (codes "hands") };
   sets = refl;
   empty = λ first rows held. held.1.1.1.1.1.1.1.0 ∙ ap (option_map (given_row (option (codes "hands")))) none;
   same = λ first. refl;
@@ -159,7 +155,7 @@ seat_given : (options : Options) (value : Text) → options.seat ≡ None → Is
 unfolding clap_on_literals
 seat_given options value none = record {
   argument = option (codes "seat");
-  stands = record { by_name = refl; by_id = refl; takes = refl; most = refl; own = refl };
+  stands = record { by_name = refl; by_id = refl; takes = refl; most = refl; own = refl; once = option_once (codes "seat") };
   sets = refl;
   empty = λ first rows held. held.1.1.1.1.1.1.1.1.0 ∙ ap (option_map (given_row (option (codes "seat")))) none;
   same = λ first. refl;
@@ -169,7 +165,7 @@ hand_given : (options : Options) (value : Text) → options.hand ≡ None → Is
 unfolding clap_on_literals
 hand_given options value none = record {
   argument = option (codes "hand");
-  stands = record { by_name = refl; by_id = refl; takes = refl; most = refl; own = refl };
+  stands = record { by_name = refl; by_id = refl; takes = refl; most = refl; own = refl; once = option_once (codes "hand") };
   sets = refl;
   empty = λ first rows held. held.1.1.1.1.1.1.1.1.1.0 ∙ ap (option_map (given_row (option (codes "hand")))) none;
   same = λ first. refl;
@@ -179,7 +175,7 @@ after_given : (options : Options) (value : Text) → options.after ≡ None → 
 unfolding clap_on_literals
 after_given options value none = record {
   argument = option (codes "after");
-  stands = record { by_name = refl; by_id = refl; takes = refl; most = refl; own = refl };
+  stands = record { by_name = refl; by_id = refl; takes = refl; most = refl; own = refl; once = option_once (codes "after") };
   sets = refl;
   empty = λ first rows held. held.1.1.1.1.1.1.1.1.1.1.0 ∙ ap (option_map (given_row (option (codes "after")))) none;
   same = λ first. refl;
@@ -189,7 +185,7 @@ street_given : (options : Options) (value : Text) → options.street ≡ None �
 unfolding clap_on_literals
 street_given options value none = record {
   argument = option (codes "street");
-  stands = record { by_name = refl; by_id = refl; takes = refl; most = refl; own = refl };
+  stands = record { by_name = refl; by_id = refl; takes = refl; most = refl; own = refl; once = option_once (codes "street") };
   sets = refl;
   empty = λ first rows held. held.1.1.1.1.1.1.1.1.1.1.1.0 ∙ ap (option_map (given_row (option (codes "street")))) none;
   same = λ first. refl;
@@ -200,7 +196,7 @@ with_given : (options : Options) (value : Text) → options.other_file ≡ None
 unfolding clap_on_literals
 with_given options value none = record {
   argument = option (codes "with");
-  stands = record { by_name = refl; by_id = refl; takes = refl; most = refl; own = refl };
+  stands = record { by_name = refl; by_id = refl; takes = refl; most = refl; own = refl; once = option_once (codes "with") };
   sets = refl;
   empty = λ first rows held. held.1.1.1.1.1.1.1.1.1.1.1.1.0 ∙ ap (option_map (given_row (option (codes "with")))) none;
   same = λ first. refl;
@@ -211,7 +207,7 @@ as_given : (options : Options) (value : Text) → options.other_notation ≡ Non
 unfolding clap_on_literals
 as_given options value none = record {
   argument = option (codes "as");
-  stands = record { by_name = refl; by_id = refl; takes = refl; most = refl; own = refl };
+  stands = record { by_name = refl; by_id = refl; takes = refl; most = refl; own = refl; once = option_once (codes "as") };
   sets = refl;
   empty = λ first rows held. held.1.1.1.1.1.1.1.1.1.1.1.1.1.0 ∙ ap (option_map (given_row (option (codes "as")))) none;
   same = λ first. refl;
@@ -275,27 +271,57 @@ held_more first name value options more rows is held =
     (subst (λ (all : Named). Hold all (rows ++ given_row is.argument value ∷ [])) (is.same first)
     (hold_given (named first options) rows (given_row is.argument value) none held))
 
+-- A walk over words that the parser takes ends between options, where it takes what is behind them.
+record Goes (walk : Walk) (words : List Text) (first : Text) (options : Options) : Type 0 where
+  at : IsAt (over walk words) first options
+  taken : (others : List Text) → walk_passes shape [] (over walk words) others ≡ true → walk_passes shape [] walk (words ++ others) ≡ true
+
+-- the name of an argument had no row
+new_name : (name : Text) (rows : List Row) → row_named name rows ≡ None → has_row name rows ≡ false
+new_name name rows none = has_row-named name rows ∙ ap is_some none
+
+one_turn : (walk : Walk) (word first : Text) (options : Options) → turn_passes shape [] walk word ≡ true → IsAt (over walk (word ∷ [])) first options
+    → Goes walk (word ∷ []) first options
+unfolding walk_passes
+one_turn walk word first options turn at = record { at = at; taken = λ others passes. rw turn passes }
+
+two_turns : (walk : Walk) (word value first : Text) (options : Options) → turn_passes shape [] walk word ≡ true
+    → turn_passes shape [] (walked arguments [] walk word) value ≡ true → IsAt (over walk (word ∷ value ∷ [])) first options
+    → Goes walk (word ∷ value ∷ []) first options
+unfolding walk_passes
+two_turns walk word value first options turn next at = record { at = at; taken = λ others passes. rw (turn, next) passes }
+
 one_joined : (walk : Walk) (first word name value : Text) (options more : Options) → IsAt walk first options
-    → long_of word ≡ Some (name, Some value) → IsGiven options name value more → IsAt (over walk (word ∷ [])) first more
-one_joined walk first word name value options more at is new = record {
-  rows = used new.argument (value ∷ []) at.rows;
-  between = joined arguments walk at.rows word name value new.argument at.between new.stands is;
-  held = held_more first name value options more at.rows new at.held;
-}
+    → long_of word ≡ Some (name, Some value) → IsGiven options name value more → Goes walk (word ∷ []) first more
+one_joined walk first word name value options more at is new =
+    one_turn walk word first more
+    (joined_taken shape walk at.rows word name value new.argument refl at.between new.stands
+    (new_name new.argument.id at.rows (new.empty first at.rows at.held)) is)
+    (record {
+      rows = used new.argument (value ∷ []) at.rows;
+      between = joined arguments walk at.rows word name value new.argument at.between new.stands is;
+      held = held_more first name value options more at.rows new at.held;
+    })
 
 one_apart : (walk : Walk) (first word name value : Text) (options more : Options) → IsAt walk first options
     → long_of word ≡ Some (name, None) → strip_byte 45 value ≡ None → IsGiven options name value more
-    → IsAt (over walk (word ∷ value ∷ [])) first more
-one_apart walk first word name value options more at is plain new = record {
-  rows = used new.argument (value ∷ []) at.rows;
-  between = apart arguments walk at.rows word name value new.argument at.between new.stands is plain;
-  held = held_more first name value options more at.rows new at.held;
-}
+    → Goes walk (word ∷ value ∷ []) first more
+one_apart walk first word name value options more at is plain new =
+    two_turns walk word value first more
+    (option_taken shape walk at.rows word name new.argument refl at.between new.stands is)
+    (value_taken shape walk at.rows word name value new.argument at.between new.stands is plain)
+    (record {
+      rows = used new.argument (value ∷ []) at.rows;
+      between = apart arguments walk at.rows word name value new.argument at.between new.stands
+          (new_name new.argument.id at.rows (new.empty first at.rows at.held)) is plain;
+      held = held_more first name value options more at.rows new at.held;
+    })
 
 -- A flag that stands besides others: it did not stand yet.
 record IsSet (options : Options) (name : Text) (more : Options) : Type 0 where
   argument : Rule
   stands : IsFlag arguments name argument
+  empty : (first : Text) (rows : List Row) → Hold (named first options) rows → row_named argument.id rows ≡ None
   held : (first : Text) (rows : List Row) → Hold (named first options) rows → Hold (named first more) (used argument [] rows)
 
 -- the row of a flag that had none comes last
@@ -305,27 +331,38 @@ flag_last name rows none =
     let without = at_row-end name (λ _. []) [] rows none ∙ append-nil rows in
     rw without (at_row-end name (more_values CommandLine (codes "true" ∷ [])) (given_row (flag name) (codes "true") ∷ []) rows none)
 
+-- a flag passes once
+flag_once : (name : Text) (rows : List Row) → has_row name rows ≡ false → use_passes false (flag name) [] rows ≡ true
+unfolding clap_on_literals
+flag_once name rows none = rw none refl
+
 drop_notes_set : (options : Options) → options.drops_notes ≡ false → IsSet options (codes "drop-notes") (record options { drops_notes = true })
 unfolding clap_on_literals
 drop_notes_set options off = record {
   argument = flag (codes "drop-notes");
-  stands = record { by_name = refl; takes = refl };
+  stands = record { by_name = refl; takes = refl; once = flag_once (codes "drop-notes") };
+  empty = empty;
   held = λ first rows held.
-      let none : row_named (codes "drop-notes") rows ≡ None = held.0 ∙ ap (flag_row (codes "drop-notes")) off in
-      rw (flag_last (codes "drop-notes") rows none)
-      (hold_given (named first options) rows (given_row (flag (codes "drop-notes")) (codes "true")) none held);
+      rw (flag_last (codes "drop-notes") rows (empty first rows held))
+      (hold_given (named first options) rows (given_row (flag (codes "drop-notes")) (codes "true")) (empty first rows held) held);
 }
+  where
+    empty : (first : Text) (rows : List Row) → Hold (named first options) rows → row_named (codes "drop-notes") rows ≡ None
+    empty first rows held = held.0 ∙ ap (flag_row (codes "drop-notes")) off
 
 no_notes_set : (options : Options) → options.ignores_notes ≡ false → IsSet options (codes "no-notes") (record options { ignores_notes = true })
 unfolding clap_on_literals
 no_notes_set options off = record {
   argument = flag (codes "no-notes");
-  stands = record { by_name = refl; takes = refl };
+  stands = record { by_name = refl; takes = refl; once = flag_once (codes "no-notes") };
+  empty = empty;
   held = λ first rows held.
-      let none : row_named (codes "no-notes") rows ≡ None = held.1.0 ∙ ap (flag_row (codes "no-notes")) off in
-      rw (flag_last (codes "no-notes") rows none)
-      (hold_given (named first options) rows (given_row (flag (codes "no-notes")) (codes "true")) none held);
+      rw (flag_last (codes "no-notes") rows (empty first rows held))
+      (hold_given (named first options) rows (given_row (flag (codes "no-notes")) (codes "true")) (empty first rows held) held);
 }
+  where
+    empty : (first : Text) (rows : List Row) → Hold (named first options) rows → row_named (codes "no-notes") rows ≡ None
+    empty first rows held = held.1.0 ∙ ap (flag_row (codes "no-notes")) off
 
 -- a flag is this one, or one of the others
 either_flag : (options more taken : Options) (name own : Text) (stood : Bool) (others : Option Options) (is : Bool)
@@ -349,28 +386,41 @@ is_set options more name e =
         either_flag options more taken name own stood others (bytes_eq name own) (bytes_eq-Decides name own) here there
 
 one_flag : (walk : Walk) (first word name : Text) (options more : Options) → IsAt walk first options
-    → long_of word ≡ Some (name, None) → with_flag options name ≡ Some more → IsAt (over walk (word ∷ [])) first more
+    → long_of word ≡ Some (name, None) → with_flag options name ≡ Some more → Goes walk (word ∷ []) first more
 one_flag walk first word name options more at is e =
     let new = is_set options more name e in
-    record {
+    one_turn walk word first more
+    (alone_taken shape walk at.rows word name new.argument refl at.between new.stands
+    (new_name new.argument.id at.rows (new.empty first at.rows at.held)) is)
+    (record {
       rows = used new.argument [] at.rows;
       between = alone arguments walk at.rows word name new.argument at.between new.stands is;
       held = new.held first at.rows at.held;
-    }
+    })
 
 -- what holds at the end of a walk over some words, from wherever it starts with these options
 abbrev Reaches : List Text → Text → Options → Type 0
 Reaches words first more = (walk : Walk) (options : Options) → IsAt walk first options → options_said options words ≡ Some more
-    → IsAt (over walk words) first more
+    → Goes walk words first more
+
+behind_one : (walk : Walk) (word : Text) (words : List Text) (first : Text) (options more : Options) → Goes walk (word ∷ []) first options
+    → Goes (over walk (word ∷ [])) words first more → Goes walk (word ∷ words) first more
+behind_one walk word words first options more one others =
+    record { at = others.at; taken = λ rest passes. one.taken (words ++ rest) (others.taken rest passes) }
+
+behind_two : (walk : Walk) (word value : Text) (words : List Text) (first : Text) (options more : Options) → Goes walk (word ∷ value ∷ []) first options
+    → Goes (over walk (word ∷ value ∷ [])) words first more → Goes walk (word ∷ value ∷ words) first more
+behind_two walk word value words first options more two others =
+    record { at = others.at; taken = λ rest passes. two.taken (words ++ rest) (others.taken rest passes) }
 
 last : (walk : Walk) (first word : Text) (options more : Options) (found : Option (Text × Option Text)) → IsAt walk first options
-    → long_of word ≡ found → with_word options found None ≡ Some more → IsAt (over walk (word ∷ [])) first more
+    → long_of word ≡ found → with_word options found None ≡ Some more → Goes walk (word ∷ []) first more
 last walk first word options more None at is e = cc
 last walk first word options more (Some (name, Some value)) at is e =
     one_joined walk first word name value options more at is (is_given options more name value e).1
 last walk first word options more (Some (name, None)) at is e = go (is_flag name) e
   where
-    go : (b : Bool) → (if b then with_flag options name else None) ≡ Some more → IsAt (over walk (word ∷ [])) first more
+    go : (b : Bool) → (if b then with_flag options name else None) ≡ Some more → Goes walk (word ∷ []) first more
     go true e = one_flag walk first word name options more at is e
     go false e = cc
 
@@ -378,42 +428,76 @@ next : (walk : Walk) (first word value : Text) (words : List Text) (options more
     → Reaches (value ∷ words) first more → Reaches words first more → IsAt walk first options → long_of word ≡ found
     → option_and_then (λ some. if is_complete found then options_said some (value ∷ words) else options_said some words)
     (with_word options found (Some value)) ≡ Some more
-    → IsAt (over walk (word ∷ value ∷ words)) first more
-next walk first word value words options more None behind_one behind_two at is e = cc
-next walk first word value words options more (Some (name, Some own)) behind_one behind_two at is e =
+    → Goes walk (word ∷ value ∷ words) first more
+next walk first word value words options more None from_value from_words at is e = cc
+next walk first word value words options more (Some (name, Some own)) from_value from_words at is e =
     let step = followed (with_option options name own) (λ some. options_said some (value ∷ words)) more e in
     let new = is_given options step.0 name own step.1.0 in
-    behind_one (over walk (word ∷ [])) step.0 (one_joined walk first word name own options step.0 at is new.1) step.1.1
-next walk first word value words options more (Some (name, None)) behind_one behind_two at is e =
+    let one = one_joined walk first word name own options step.0 at is new.1 in
+    behind_one walk word (value ∷ words) first step.0 more one (from_value (over walk (word ∷ [])) step.0 one.at step.1.1)
+next walk first word value words options more (Some (name, None)) from_value from_words at is e =
     go (is_flag name) e
   where
     go : (b : Bool) → option_and_then (λ some. if b then options_said some (value ∷ words) else options_said some words)
         (if b then with_flag options name else with_option options name value) ≡ Some more
-        → IsAt (over walk (word ∷ value ∷ words)) first more
+        → Goes walk (word ∷ value ∷ words) first more
     go true e =
         let step = followed (with_flag options name) (λ some. options_said some (value ∷ words)) more e in
-        behind_one (over walk (word ∷ [])) step.0 (one_flag walk first word name options step.0 at is step.1.0) step.1.1
+        let one = one_flag walk first word name options step.0 at is step.1.0 in
+        behind_one walk word (value ∷ words) first step.0 more one (from_value (over walk (word ∷ [])) step.0 one.at step.1.1)
     go false e =
         let step = followed (with_option options name value) (λ some. options_said some words) more e in
         let new = is_given options step.0 name value step.1.0 in
-        behind_two (over walk (word ∷ value ∷ [])) step.0 (one_apart walk first word name value options step.0 at is new.0 new.1) step.1.1
+        let two = one_apart walk first word name value options step.0 at is new.0 new.1 in
+        behind_two walk word value words first step.0 more two (from_words (over walk (word ∷ value ∷ [])) step.0 two.at step.1.1)
 
 reaches : (words : List Text) (first : Text) (more : Options) → Reaches words first more
 unfolding options_said
-reaches [] first more walk options at e = subst (λ (o : Options). IsAt walk first o) (same_Some _ _ e) at
+reaches [] first more walk options at e =
+    record { at = subst (λ (o : Options). IsAt walk first o) (same_Some _ _ e) at; taken = λ others passes. passes }
 reaches (word ∷ []) first more walk options at e = last walk first word options more (long_of word) at refl e
 reaches (word ∷ value ∷ words) first more walk options at e =
     next walk first word value words options more (long_of word) (reaches (value ∷ words) first more) (reaches words first more) at refl e
 
+-- before the first word
+begin : IsBetween arguments (walk_from nothing_held) []
+begin = record { idle = refl; reading = refl; here = refl; rows = refl; passes = refl }
+
 -- the first word is the command's
-begins : (word : Text) → strip_byte 45 word ≡ None → IsAt (over (walk_from nothing_held) (word ∷ [])) word no_options
+begins : (word : Text) → strip_byte 45 word ≡ None → Goes (walk_from nothing_held) (word ∷ []) word no_options
 unfolding clap_on_literals
-begins word plain = record {
-  rows = used command (word ∷ []) [];
-  between = first arguments (walk_from nothing_held) [] word command (record { idle = refl; reading = refl; here = refl; rows = refl })
-      refl plain refl refl refl refl refl;
-  held = (refl, (refl, (refl, (refl, (refl, (refl, (refl, (refl, (refl, (refl, (refl, (refl, (refl, (refl, _))))))))))))));
-}
+begins word plain =
+    one_turn (walk_from nothing_held) word word no_options
+    (first_taken shape (walk_from nothing_held) [] word command begin refl plain refl refl)
+    (record {
+      rows = used command (word ∷ []) [];
+      between = first arguments (walk_from nothing_held) [] word command begin refl plain refl refl refl refl refl refl;
+      held = (refl, (refl, (refl, (refl, (refl, (refl, (refl, (refl, (refl, (refl, (refl, (refl, (refl, (refl, _))))))))))))));
+    })
+
+-- a walk over all words of a command
+whole : (word : Text) (words : List Text) (options : Options) → strip_byte 45 word ≡ None → options_said no_options words ≡ Some options
+    → Goes (walk_from nothing_held) (word ∷ words) word options
+whole word words options plain said =
+    let one = begins word plain in
+    behind_one (walk_from nothing_held) word words word no_options options one
+    (reaches words word options (over (walk_from nothing_held) (word ∷ [])) no_options one.at said)
+
+-- what the parser asks behind the walk
+asks_no_more : (end : Walk) (rows : List Row) → IsBetween arguments end rows
+    → (settle_passes arguments false end.held && (list_all default_passes arguments && is_valid shape (finished arguments end.held) false)) ≡ true
+unfolding clap_on_literals
+asks_no_more end rows between = rw between.passes refl
+
+-- the parser takes the words of a command
+pub takes_words : (word : Text) (words : List Text) (options : Options) → strip_byte 45 word ≡ None → options_said no_options words ≡ Some options
+    → are_taken (word ∷ words) ≡ true
+unfolding are_taken walk_passes
+takes_words word words options plain said =
+    let all = whole word words options plain said in
+    let passes : walk_passes shape [] (walk_from nothing_held) (word ∷ words) ≡ true =
+    subst (λ (some : List Text). walk_passes shape [] (walk_from nothing_held) some ≡ true) (append-nil (word ∷ words)) (all.taken [] refl) in
+    rw (handref_is_simple, all.at.between.here, passes, asks_no_more (over (walk_from nothing_held) (word ∷ words)) all.at.rows all.at.between) refl
 
 -- an argument without defaults adds no row
 without_default : (b : Bool) (rows : List Row) → (if b then rows else rows) ≡ rows
@@ -440,16 +524,6 @@ two_defaults [] argument other after rows none_before none_after =
 two_defaults (rule ∷ before) argument other after rows none_before none_after =
     ap (λ (some : List Row). fold with_default some (before ++ argument ∷ other ∷ after)) (no_default rule rows none_before.0)
     ∙ two_defaults before argument other after rows none_before.1 none_after
-
--- a name has a row where its first row is found, and only there
-has_row-named : (name : Text) (rows : List Row) → has_row name rows ≡ is_some (row_named name rows)
-has_row-named name [] = refl
-has_row-named name (row ∷ rows) = go (bytes_eq row.id name) (has_row-named name rows)
-  where
-    go : (b : Bool) → has_row name rows ≡ is_some (row_named name rows)
-        → (b || has_row name rows) ≡ is_some (if b then Some row else row_named name rows)
-    go true e = refl
-    go false e = e
 
 -- a flag's row at the end: its default where it did not stand
 abbrev last_flag_row : Text → Bool → Row
@@ -571,7 +645,7 @@ pub finds : (word : Text) (words : List Text) (options : Options) → strip_byte
     → IsFound word options (rows_found (word ∷ words))
 unfolding rows_found
 finds word words options plain said =
-    let at = reaches words word options (over (walk_from nothing_held) (word ∷ [])) no_options (begins word plain) said in
+    let at = (whole word words options plain said).at in
     let rows : rows_found (word ∷ words) ≡ with_defaults at.rows =
     ap (λ (some : List Row). fold with_default some arguments) at.between.rows ∙ two_have_defaults at.rows in
     let held = drop_notes_settled word options at.rows at.held in

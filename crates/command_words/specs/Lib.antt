@@ -3,3 +3,4 @@ pub mod Options
 pub mod Numbers
 pub mod Words
 pub mod Requests
+pub mod Parser

@@ -1,29 +1,36 @@
 //! The words of a command are read by a parser of command lines.
-ghost use Rattle.std.specs.Prelude.{◌≡◌, map, option_map, string_bytes, IfOk, Ok, None, Some, is_some, true, false};
+ghost use Rattle.std.specs.Prelude.{◌≡◌, map, option_map, string_bytes, IfErr, IfOk, Ok, None, Some, is_some, true, false};
 ghost use Rattle.clap.specs.Simple.{new_rule};
-ghost use Rattle.clap.specs.Words.{found_of, rule_of};
+ghost use Rattle.clap.specs.Words.{app_of, found_of, kind_of, rule_of};
 ghost use Rattle.clap.specs.declared.builder.action.ArgAction.TheVariants.{SetTrue};
+ghost use Rattle.clap.specs.declared.error.kind.ErrorKind.TheVariants.{OutOfMemory};
 ghost use Rattle.command_words.specs.Requests.{AreFound, IsSaidBy, options_in, request_in};
 ghost use Rattle.command_words.specs.Options.{Options as OptionsSaid};
+ghost use Rattle.command_words.specs.Parser.{are_taken, handref};
 ghost use Rattle.command_words.specs.Words.{request_said};
 
 use crate::options::{Options, read_options};
 use crate::request::{Request, request_of};
 use card_set::Memory;
 use clap::{Arg, ArgAction, ArgMatches};
-use std::alloc::Global;
+use std::alloc::{AllocError, Global};
 
-/// What the words ask for, or `None` where they ask for nothing. Only where they ask for something
-/// is memory taken.
+/// What the words ask for, or `None` where they ask for nothing. Want of memory is told only of
+/// words that the parser takes, at which it fails for nothing else.
+#[tactic(auto, using(crate::proofs::Taken::all_taken))]
 pub fn read_words<'a>(alloc: Global, words: &'a [String]) -> Result<Option<Request<'a>>, Memory>
     ensures read { IfOk result (λ request. option_map request_in request
         ≡ request_said (map string_bytes words.now)) }
     ensures none { request_said (map string_bytes words.now) ≡ None → result ≡ Ok None }
+    ensures memory { IfErr result (λ _. are_taken (map string_bytes words.now) ≡ true) }
 {
     if request_in_words(words).is_none() {
         return Ok(None);
     }
-    let matches = parsed(alloc, words)?;
+    let matches = match parsed(alloc, words) {
+        Ok(matches) => matches,
+        Err(error) => return Err(want_of_memory(&error)),
+    };
     let Some(word) = matches.get_str("command") else {
         return Ok(None);
     };
@@ -40,14 +47,30 @@ fn request_in_words(words: &[String]) -> Option<Request<'_>>
     request_of(word.as_str(), options)
 }
 
-// The words of a command, by the names of what they are. Every error of the parser is told as want
-// of memory.
-fn parsed<'a>(alloc: Global, words: &'a [String]) -> Result<ArgMatches<'a>, Memory>
+// An error of the parser, where it is want of memory.
+fn want_of_memory(_error: &clap::Error) -> Memory
+    requires { kind_of _error.now ≡ OutOfMemory }
+{
+    Memory
+}
+
+// The words of a command, by the names of what they are. The parser takes them all, so that it
+// fails only for want of memory.
+fn parsed<'a>(alloc: Global, words: &'a [String]) -> Result<ArgMatches<'a>, clap::Error>
     requires { is_some (request_said (map string_bytes words.now)) ≡ true }
-    ensures { IfOk result (λ matches. IsSaidBy (map string_bytes words.now) (found_of matches)) }
+    ensures said { IfOk result (λ matches.
+        IsSaidBy (map string_bytes words.now) (found_of matches)) }
+    ensures memory { IfErr result (λ error. kind_of error ≡ OutOfMemory) }
+{
+    parser(alloc)?.try_get_matches_from(words)
+}
+
+// The parser.
+fn parser<'a>(alloc: Global) -> Result<clap::Command<'a>, AllocError>
+    ensures { IfOk result (λ parser. app_of parser ≡ handref) }
 {
     let command = Arg::new(alloc, "command");
-    let handref = clap::Command::new(alloc, "handref")
+    clap::Command::new(alloc, "handref")
         .no_binary_name(true)
         .arg(command)?
         .arg(option(alloc, "from"))?
@@ -62,11 +85,7 @@ fn parsed<'a>(alloc: Global, words: &'a [String]) -> Result<ArgMatches<'a>, Memo
         .arg(option(alloc, "with"))?
         .arg(option(alloc, "as"))?
         .arg(flag(alloc, "drop-notes"))?
-        .arg(flag(alloc, "no-notes"))?;
-    match handref.try_get_matches_from(words) {
-        Ok(matches) => Ok(matches),
-        Err(_) => Err(Memory),
-    }
+        .arg(flag(alloc, "no-notes"))
 }
 
 // An option of this name.

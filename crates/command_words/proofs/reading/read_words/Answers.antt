@@ -9,8 +9,8 @@ use Rattle.command_words.proofs.reading.read_words.Goals as goal
 
 pub returns-clause-read : goal.returns-clause-read
 returns-clause-read c =
-    let found = found_of c.in_ok-matches.matches in
-    let said = c.in_ok-matches.ensures in
+    let found = found_of c.in-Ok.matches in
+    let said = c.in-Ok.ensures.said in
     let first : Some c.in-Some.word.now ≡ first_value found (codes "command") = search rules in
     c.request_of.ensures
     ∙ ap (request_by c.in-Some.word.now) (c.options_found.ensures said.options said.values)

@@ -1,0 +1,31 @@
+-- The parser of the words of a command: the command's word, options with a value, and flags.
+use Rattle.std.specs.Prelude.{Bool, true, List, [], ◌∷◌, Some, codes, fold}
+use Rattle.clap.specs.Words.{App, Rule, Text, new_app, new_rule, takes, with_rule}
+use Rattle.clap.specs.declared.builder.action.ArgAction.TheVariants.{SetTrue}
+
+-- an option has a name and a value
+abbrev pub option_rule : Text → Rule
+option_rule name = record (new_rule name) { long = Some name }
+
+-- a flag has a name alone
+abbrev pub flag_rule : Text → Rule
+flag_rule name = record (option_rule name) { action = Some SetTrue }
+
+-- a parser that is given all words, and none of them is the program's name
+abbrev pub without_own_name : App
+without_own_name =
+    let named = new_app (codes "handref") in
+    record named { top = record named.top { no_binary_name = true } }
+
+-- the parser
+abbrev pub handref : App
+handref = fold with_rule without_own_name (new_rule (codes "command")
+    ∷ option_rule (codes "from") ∷ option_rule (codes "to") ∷ option_rule (codes "game")
+    ∷ option_rule (codes "seed") ∷ option_rule (codes "hands") ∷ option_rule (codes "seat")
+    ∷ option_rule (codes "hand") ∷ option_rule (codes "after") ∷ option_rule (codes "street")
+    ∷ option_rule (codes "with") ∷ option_rule (codes "as")
+    ∷ flag_rule (codes "drop-notes") ∷ flag_rule (codes "no-notes") ∷ [])
+
+-- the parser takes the words: it fails at them only for want of memory
+unfoldable pub are_taken : List Text → Bool
+are_taken words = takes handref words
