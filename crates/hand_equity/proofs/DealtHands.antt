@@ -83,7 +83,7 @@ held_places setup rules events seat are least most =
     (λ place among is. (law.places.since place among, omega (arith, law.places.reached place among, law.past.within))))
 
 -- the board of a street, in both orders
-board_here : (setup : Setup) (rules : Rules) (events : List Said) (street : ℕ) → AreFlopEvents setup rules events → 1 ≤ street → street ≤ 4 → dealt_slots (traced_places setup (past_of setup events)) None street ≡ map slot_of (group_of (places_of setup.code (past_of setup events)) street None)
+pub board_here : (setup : Setup) (rules : Rules) (events : List Said) (street : ℕ) → AreFlopEvents setup rules events → 1 ≤ street → street ≤ 4 → dealt_slots (traced_places setup (past_of setup events)) None street ≡ map slot_of (group_of (places_of setup.code (past_of setup events)) street None)
 board_here setup rules events street are least most =
     let placed = places_of setup.code (past_of setup events) in
     dealt_same (finals_of setup placed (street_count setup.code)) None street

@@ -22,4 +22,5 @@ pub mod Places
 pub mod Ready
 pub mod SameOrder
 pub mod SameTable
+pub mod SomeLive
 pub mod Totals

@@ -18,11 +18,13 @@ use Rattle.list_laws.proofs.NumbersOfRange.{find_none}
 use Rattle.play_event.specs.declared.setup.Setup.{Setup}
 use Rattle.play_event.specs.Games.{game_of}
 use Rattle.play_event.specs.Laws.{IsAmong}
+use Rattle.play_event.specs.Past.{moves_of}
 use Rattle.play_event.specs.Places.{Place, is_same_owner}
+use Rattle.play_event.specs.Played.{move_said}
 use Rattle.play_event.specs.Said.{Said}
 use Rattle.play_event.specs.Scripts.{past_of}
 use Rattle.play_event.specs.Table.{places_of}
-use Rattle.play_event.specs.Trace.{TracedPlace, traced_places}
+use Rattle.play_event.specs.Trace.{TracedPlace, traced_moves, traced_places}
 use Rattle.play_event.proofs.ClashLaws.{among_append}
 use Rattle.play_laws.proofs.DiscardCounts.{is_out_of}
 use Rattle.play_laws.proofs.InDeck.{legal_cards}
@@ -32,9 +34,11 @@ use Rattle.showdown_laws.proofs.ApartCards.{both_different}
 use Rattle.showdown_laws.proofs.DealtOnce.{dealt_once}
 use Rattle.showdown_laws.proofs.StreetSplits.{is_before}
 use Rattle.hand_equity.specs.Equity.{plays_board}
-use Rattle.hand_equity.specs.Street.{IsReady, board_slots, deals_board, first_unknown, is_live_on, is_unknown_seat, traced}
+use Rattle.hand_equity.specs.LiveHands.{IsLive}
+use Rattle.hand_equity.specs.Street.{IsReady, board_slots, deals_board, first_unknown, is_live_on, is_unknown_seat, standing_on, traced}
 use Rattle.hand_equity.proofs.DealtHands.{AreFlopEvents, board_few, board_is, held_places, reached, slot_of, whole}
 use Rattle.hand_equity.proofs.FlopGames.{IsFlopGame, flop_game}
+use Rattle.hand_equity.proofs.SomeLive.{folded_rows, some_live}
 
 known_few : (cards : List Slot) → length (known_cards cards) ≤ length cards
 known_few [] = omega arith
@@ -124,12 +128,26 @@ all_known play street seat none inside live =
     let never = find_none (is_unknown_seat play.trace street) 1 seats seat (ap is_some none) inside.0 (omega (arith, inside.1)) in
     sym (ap (λ (b : Bool). b && list_any is_unknown (held_slots (traced play.trace) seat)) live) ∙ never
 
+-- a seat is live when the board of a street is dealt
+live_seat : (play : Play) (street : ℕ) → IsSound play → IsDealtOn play street → (seat : ℕ) × IsLive (standing_on play.trace street).hands seat
+unfolding events_of
+live_seat play street sound on =
+    let setup = play.hand.setup in
+    let past = past_of setup (events_of play) in
+    let some : 0 < length (dealt_slots (traced_places setup past) None street) =
+    subst (λ (placed : List TracedPlace). 0 < length (dealt_slots placed None street)) (same_places play sound) on.some in
+    let found = some_live setup play.hand.rules (events_of play) street (flop_events play street sound on) (omega (arith, on.least)) on.most some in
+    let inside : found.0 ≤ play.trace.setup.stacks.seats = subst (λ (s : Setup). found.0 ≤ s.stacks.seats) (sym sound.trace.same_setup) found.1.0.1 in
+    let rows : map move_said play.trace.moves ≡ traced_moves setup (moves_of past) = ap (λ (core : TraceCore). core.moves) sound.trace.core in
+    (found.0, ((found.1.0.0, inside), sym (folded_rows setup street found.0 play.trace.moves (moves_of past) rows) ∙ found.1.1))
+
 pub ready : (play : Play) (street : ℕ) → IsSound play → IsReady play.trace street
 ready play street sound = record {
   held = λ seat. held_few play seat sound;
   board = λ dealt.
       let on = dealt_on play street dealt in
       subst (λ (placed : List TracedPlace). length (board_slots placed street) ≤ 5) (sym (same_places play sound)) (board_few play.hand.setup play.hand.rules (events_of play) street (flop_events play street sound on) on.most);
+  some = λ dealt. live_seat play street sound (dealt_on play street dealt);
   complete = λ dealt none.
       let on = dealt_on play street dealt in
       let few = subst (λ (placed : List TracedPlace). length (board_slots placed street) ≤ 5) (sym (same_places play sound)) (board_few play.hand.setup play.hand.rules (events_of play) street (flop_events play street sound on) on.most) in

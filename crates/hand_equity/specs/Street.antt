@@ -15,6 +15,7 @@ use Rattle.hand_equity.specs.declared.refusal.NoEquity.{NoEquity}
 use Rattle.hand_equity.specs.declared.refusal.NoEquity.TheVariants as refusals
 use Rattle.hand_equity.specs.declared.row.EquityRow.{EquityRow}
 use Rattle.hand_equity.specs.Equity.{CanComplete, IsEquity, plays_board}
+use Rattle.hand_equity.specs.LiveHands.{IsLive}
 use Rattle.hand_equity.specs.Rest.{Standing}
 
 -- the places of a trace, with plain numbers for seats
@@ -82,10 +83,13 @@ HasNoEquity trace street (refusals.UnknownCards seat) =
     (deals_board trace street ≡ true) × (first_unknown trace street ≡ Some seat.number)
 
 -- what a trace guarantees: no seat has more cards than a row, and where a board is dealt on a
--- street, it can be completed for the seats that are live then, if their cards are known
+-- street, a seat is live then, and the board can be completed for those that are, if their cards
+-- are known
 pub record IsReady (trace : Trace) (street : ℕ) : Type 0 where
   pub held : (seat : ℕ) → length (held_slots (traced trace) seat) ≤ 7
   pub board : deals_board trace street ≡ true
       → length (board_slots (traced trace) street) ≤ 5
+  pub some : deals_board trace street ≡ true
+      → (seat : ℕ) × IsLive (standing_on trace street).hands seat
   pub complete : deals_board trace street ≡ true → first_unknown trace street ≡ None
       → CanComplete trace.setup.code (standing_on trace street)

@@ -1,7 +1,8 @@
 //! The equity of a played hand on a street: of the seats that are live when it begins.
-ghost use Rattle.std.specs.Prelude.{◌≡◌, IfErr, IfOk, IsTrue};
+ghost use Rattle.std.specs.Prelude.{◌≡◌, ◌+◌, IfErr, IfOk, IsTrue, sum, true};
 ghost use Rattle.hand_canon.specs.Sound.{IsSound};
 ghost use Rattle.hand_equity.specs.Equity.{plays_board};
+ghost use Rattle.play_event.specs.Games.{game_of};
 ghost use Rattle.hand_equity.specs.Street.{HasNoEquity, IsEquityOn, IsReady};
 
 use crate::counting::equity;
@@ -24,8 +25,15 @@ use variant_table::{FO8, FT, NS, NT, PO, Variant};
 #[tactic(auto, using(crate::proofs::Ready::ready))]
 pub fn equity_of(play: &Play, street: u8) -> Result<EquityRow, NoEquity>
     requires { IsSound play.now }
+
+    // The rule, exactly.
     ensures equity { IfOk result (IsEquityOn play.now.trace street) }
     ensures refused { IfErr result (HasNoEquity play.now.trace street) }
+
+    // What follows from it: each board is won or shared, and by a low too, or has none.
+    ensures together { IfOk result (λ row. row.total ≡ sum row.wins + row.shared) }
+    ensures together_low { IfOk result (λ row. (game_of play.now.trace.setup.code).split ≡ true
+        → row.total ≡ sum row.low_wins + row.low_shared + row.low_none) }
 {
     match play.trace.setup.code {
         Code::FT => equity_in::<FT>(&play.trace, street),
@@ -46,6 +54,9 @@ fn equity_in<V: Variant>(trace: &Trace, street: u8) -> Result<EquityRow, NoEquit
     requires ready { IsReady trace.now street }
     ensures equity { IfOk result (IsEquityOn trace.now street) }
     ensures refused { IfErr result (HasNoEquity trace.now street) }
+    ensures together { IfOk result (λ row. row.total ≡ sum row.wins + row.shared) }
+    ensures together_low { IfOk result (λ row. (game_of trace.now.setup.code).split ≡ true
+        → row.total ≡ sum row.low_wins + row.low_shared + row.low_none) }
 {
     if street < 2 || 4 < street || !deals_on(trace.places.as_slice(), street) {
         return Err(NoEquity::NoStreet);
