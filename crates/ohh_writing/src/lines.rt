@@ -1,5 +1,5 @@
 //! Plays are written as the one list of lines that stands for them.
-ghost use Rattle.std.specs.Prelude.{◌≡◌, ◌⊎◌, ◌≤◌, List, [], ◌∷◌, ◌++◌, None, Some, length, IfOk, IfErr, OnOk};
+ghost use Rattle.std.specs.Prelude.{◌≡◌, ◌⊎◌, ◌≤◌, ◌<◌, ◌+◌, List, [], ◌∷◌, ◌++◌, None, Some, length, vec_capacity, vec_len, IfOk, IfErr, IsOk, OnErr, OnOk};
 ghost use Rattle.std.specs.List.{AllByRecursion};
 ghost use Rattle.hand_canon.specs.Sound.{IsSound};
 ghost use Rattle.first_fault.specs.declared.limits.TheConstants.{MOST_HANDS};
@@ -53,7 +53,7 @@ fn spell(alloc: Global, dialect: Dialect, plays: &[Play]) -> Result<Vec<u8>, Mem
 }
 
 /// Puts the line of the play at a place of its file, from 0, behind those of the plays before it,
-/// and an empty line between.
+/// and an empty line between; all of it or nothing.
 pub fn push_line(
     alloc: Global,
     out: &mut Vec<u8>,
@@ -62,11 +62,16 @@ pub fn push_line(
     play: &Play,
 ) -> Result<(), Memory>
     requires { IsSound play.now }
-    ensures { (before : List AnyPlay) → length before ≡ place → Spells dialect before out.old.items
+    ensures spells { (before : List AnyPlay) → length before ≡ place
+        → Spells dialect before out.old.items
         → OnOk result (Spells dialect (before ++ play.now ∷ []) out.new.items) }
+    ensures unchanged { OnErr result (out.new.items ≡ out.old.items) }
 {
-    push_empty_line(out, place)?;
+    // The text comes first, and then the room for all that is put, so that no step fails behind
+    // one that put something.
     let text = make_text(alloc, dialect, place, play)?;
+    out.reserve(text.len() + 2)?;
+    push_empty_line(out, place)?;
     out.extend_from_slice(text.as_slice())?;
     out.push(b'\n')?;
     Ok(())
@@ -74,7 +79,10 @@ pub fn push_line(
 
 // Puts an empty line behind the hands that stand before a place, if there are any.
 fn push_empty_line(out: &mut Vec<u8>, place: usize) -> Result<(), Memory>
-    ensures { OnOk result (out.new.items ≡ out.old.items ++ empty_line_behind place) }
+    ensures line { OnOk result (out.new.items ≡ out.old.items ++ empty_line_behind place) }
+    ensures room { OnOk result (vec_capacity out.old ≤ vec_capacity out.new) }
+    ensures few { OnOk result (vec_len out.new ≤ vec_len out.old + 1) }
+    ensures succeeds { vec_len out.old < vec_capacity out.old → IsOk result }
 {
     if place == 0 {
         return Ok(());
