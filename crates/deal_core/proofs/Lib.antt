@@ -6,6 +6,7 @@ pub mod WhyShow
 pub mod StandsAfter
 pub mod StandsDiscard
 pub mod StandsShow
+pub mod Answers
 pub mod StandsMove
 pub mod DiscardTurn
 pub mod IsDone

@@ -1,40 +1,36 @@
 //! Each call on the cards of a hand answers as the rules do, for every past for which the state
 //! stands.
-ghost use Rattle.std.specs.Prelude.{◌≡◌, ◌≤◌, ◌<◌, ◌∷◌, [], ℕ, length, slice_get, true, OnOk, OnErr, IfErr, IsSomeAnd, None, Some};
-ghost use Rattle.card_set.specs.Row.{cards_of, slots_of};
+ghost use Rattle.std.specs.Prelude.{◌≡◌, ◌≤◌, ◌<◌, ◌∷◌, [], ℕ, length, slice_get, true, OnErr, IsSomeAnd, None, Some};
+ghost use Rattle.card_set.specs.Row.{cards_of};
 ghost use Rattle.chip_ledger.specs.LiveRow.{flag_of};
-ghost use Rattle.play_event.specs.Due.{is_settled, turn};
-ghost use Rattle.play_event.specs.Past.{Past, Move, Moved, is_fold, moves_of};
+ghost use Rattle.chip_ledger.specs.SeatsSaid.{seat_said};
+ghost use Rattle.play_event.specs.Past.{Past, Move, Moved, is_fold};
 ghost use Rattle.play_event.specs.Played.{IsPlace};
-ghost use Rattle.play_event.specs.Reasons.{why};
 ghost use Rattle.play_event.specs.Said.{said_of};
-ghost use Rattle.play_event.specs.Scripts.{with_event};
 ghost use Rattle.play_event.specs.SeatSlots.{slots_of_hand, ups_of};
 ghost use Rattle.play_event.specs.Showing.{has_mucked};
 ghost use Rattle.play_event.specs.Table.{places_of, up_cards};
 ghost use Rattle.play_event.specs.Trace.{has_unknown_card, traced_places};
-ghost use Rattle.play_event.specs.declared.reason.Due.TheVariants as dues;
 ghost use Rattle.play_event.specs.declared.reason.Due.{Due as DueNow};
-ghost use Rattle.play_event.specs.declared.setup.Rules.{Rules};
 ghost use Rattle.play_event.specs.declared.setup.Setup.{Setup};
 ghost use Rattle.street_laws.specs.CardEvents.{is_showing};
 ghost use Rattle.street_laws.specs.Done.{is_done};
 ghost use Rattle.street_laws.specs.Dues.{IsDueWithin, is_cards_due};
 ghost use Rattle.card_places.specs.CardEvents.{is_deal, is_discard};
 ghost use Rattle.card_places.specs.Dealt.{IsDealt};
-ghost use Rattle.card_places.specs.Discarded.{IsDiscarded};
 ghost use Rattle.card_places.specs.DueStreet.{due_street};
+ghost use Rattle.card_places.specs.Placed.{placed};
+ghost use Rattle.card_places.specs.Room.{IsOwed};
 ghost use Rattle.play_event.specs.Held.{held_slots};
-ghost use Rattle.card_places.specs.Refusals as refusals;
-ghost use Rattle.card_places.specs.Shown.{IsMucked, IsShown};
+ghost use Rattle.deal_core.specs.Answered.{AsksNothing, IsAnswered, IsSettledAs, TellsSeats};
 ghost use Rattle.deal_core.specs.Board.{board_cards};
-ghost use Rattle.deal_core.specs.Standing.{IsNow, IsSeatOf, StandsFor};
+ghost use Rattle.deal_core.specs.Standing.{IsNow, StandsFor};
 
 use card_places::{
     CardState, board, board_why, discard_on, done, empty, fold, hands, hole_why, lay, muck_why,
     place, set_muck, show_on, shut, slots, street_due, unknown, up,
 };
-use card_set::{CardRow, Slot, SlotRow};
+use card_set::{CardRow, Slot};
 use chip_ledger::{LiveRow, Seat};
 use play_event::{Due, Event, HandRow, Illegal, Kind, Place, UpRow};
 use std::marker::PhantomData;
@@ -69,80 +65,47 @@ impl<V: Variant> Cards<V> {
         requires kind { is_deal (said_of event.now) ≡ true }
         requires due { IsDueWithin V.STREETS due }
         requires live { live.now.seats ≡ self.old.state.seats }
-        ensures legal { (setup : Setup) (rules : Rules) (past : Past)
-            → IsNow self.old.state due live.now setup past
-            → OnOk result (why setup rules past (said_of event.now) ≡ None) }
-        ensures illegal { (setup : Setup) (rules : Rules) (past : Past)
-            → IsNow self.old.state due live.now setup past
-            → IfErr result (λ reason. why setup rules past (said_of event.now) ≡ Some reason) }
-        ensures stands { (setup : Setup) (past : Past)
-            → IsNow self.old.state due live.now setup past
-            → OnOk result (StandsFor self.new.state (with_event setup (said_of event.now) past)) }
+        ensures answered { IsAnswered self.old.state self.new.state due live.now AsksNothing
+            (said_of event.now) result }
         ensures unchanged { OnErr result (self.new ≡ self.old) }
-        ensures seats { self.new.state.seats ≡ self.old.state.seats }
     {
         match event.kind {
-            Kind::Hole { seat, cards } => self.deal_hole(due, live, seat, cards.as_slice()),
+            Kind::Hole { seat, cards } => {
+                let known = cards.as_slice();
+                match hole_why(&self.state, live, due, seat, known) {
+                    Some(reason) => Err(reason),
+                    None => {
+                        self.put(due, Some(seat), known);
+                        Ok(())
+                    }
+                }
+            }
             Kind::Board { cards } => {
                 let known = slots(&cards);
-                self.deal_board(due, known.as_slice())
+                match board_why(&self.state, due, known.as_slice()) {
+                    Some(reason) => Err(reason),
+                    None => {
+                        self.put(due, None, known.as_slice());
+                        Ok(())
+                    }
+                }
             }
             // The condition leaves no other kind.
             _ => Err(Illegal::WrongKind),
         }
     }
 
-    // Deals hole cards to a seat, where it may have them.
-    fn deal_hole(
-        &mut self,
-        due: Due,
-        live: &LiveRow,
-        seat: Seat,
-        cards: &[Slot],
-    ) -> Result<(), Illegal>
-        requires due { IsDueWithin V.STREETS due }
-        requires live { live.now.seats ≡ self.old.state.seats }
-        ensures right { OnOk result
-            (refusals.hole_why self.old.state live.now due seat.number cards.now ≡ None) }
-        ensures wrong { IfErr result (λ reason.
-            refusals.hole_why self.old.state live.now due seat.number cards.now ≡ Some reason) }
+    // Deals cards that are owed on the street that is due.
+    fn put(&mut self, due: Due, owner: Option<Seat>, cards: &[Slot])
+        requires { (on : ℕ) → due_street due ≡ Some on
+            → IsOwed self.old.state.table.code self.old.state.seats self.old.state.draws
+            (placed self.old.state.places) (seat_said owner) on (length cards.now) }
         ensures dealt { (on : ℕ) → due_street due ≡ Some on
-            → OnOk result (IsDealt self.old.state self.new.state (Some seat.number) on cards.now) }
-        ensures unchanged { OnErr result (self.new ≡ self.old) }
+            → IsDealt self.old.state self.new.state (seat_said owner) on cards.now }
         ensures seats { self.new.state.seats ≡ self.old.state.seats }
     {
-        if let Some(reason) = hole_why(&self.state, live, due, seat, cards) {
-            return Err(reason);
-        }
-        match street_due(due) {
-            Some(on) => {
-                lay(&mut self.state, Some(seat), on, cards);
-                Ok(())
-            }
-            None => Ok(()),
-        }
-    }
-
-    // Deals cards to the board, where it may have them.
-    fn deal_board(&mut self, due: Due, cards: &[Slot]) -> Result<(), Illegal>
-        requires { IsDueWithin V.STREETS due }
-        ensures right { OnOk result (refusals.board_why self.old.state due cards.now ≡ None) }
-        ensures wrong { IfErr result (λ reason.
-            refusals.board_why self.old.state due cards.now ≡ Some reason) }
-        ensures dealt { (on : ℕ) → due_street due ≡ Some on
-            → OnOk result (IsDealt self.old.state self.new.state None on cards.now) }
-        ensures unchanged { OnErr result (self.new ≡ self.old) }
-        ensures seats { self.new.state.seats ≡ self.old.state.seats }
-    {
-        if let Some(reason) = board_why(&self.state, due, cards) {
-            return Err(reason);
-        }
-        match street_due(due) {
-            Some(on) => {
-                lay(&mut self.state, None, on, cards);
-                Ok(())
-            }
-            None => Ok(()),
+        if let Some(on) = street_due(due) {
+            lay(&mut self.state, owner, on, cards);
         }
     }
 
@@ -152,49 +115,18 @@ impl<V: Variant> Cards<V> {
         requires kind { is_discard (said_of event.now) ≡ true }
         requires due { IsDueWithin V.STREETS due }
         requires live { live.now.seats ≡ self.old.state.seats }
-        ensures legal { (setup : Setup) (rules : Rules) (past : Past)
-            → IsNow self.old.state due live.now setup past
-            → OnOk result (why setup rules past (said_of event.now) ≡ None) }
-        ensures illegal { (setup : Setup) (rules : Rules) (past : Past)
-            → IsNow self.old.state due live.now setup past
-            → IfErr result (λ reason. why setup rules past (said_of event.now) ≡ Some reason) }
-        ensures stands { (setup : Setup) (past : Past)
-            → IsNow self.old.state due live.now setup past
-            → OnOk result (StandsFor self.new.state (with_event setup (said_of event.now) past)) }
+        ensures answered { IsAnswered self.old.state self.new.state due live.now AsksNothing
+            (said_of event.now) result }
         ensures unchanged { OnErr result (self.new ≡ self.old) }
-        ensures seats { self.new.state.seats ≡ self.old.state.seats }
     {
         match event.kind {
-            Kind::Discard { seat, cards } => self.discard_of(due, live, seat, &cards),
+            Kind::Discard { seat, cards } => match due {
+                Due::Over => Err(Illegal::HandOver),
+                Due::Draw(on) => discard_on(&mut self.state, live, on, seat, &cards),
+                Due::Deal(_) | Due::BringIn | Due::Move | Due::Show => Err(Illegal::WrongKind),
+            },
             // The condition leaves no other kind.
             _ => Err(Illegal::WrongKind),
-        }
-    }
-
-    // Discards cards of a seat, where it may.
-    fn discard_of(
-        &mut self,
-        due: Due,
-        live: &LiveRow,
-        seat: Seat,
-        cards: &SlotRow,
-    ) -> Result<(), Illegal>
-        requires due { IsDueWithin V.STREETS due }
-        requires live { live.now.seats ≡ self.old.state.seats }
-        ensures right { OnOk result (refusals.discard_why self.old.state live.now due seat.number
-            (slots_of cards.now) ≡ None) }
-        ensures wrong { IfErr result (λ reason. refusals.discard_why self.old.state live.now due
-            seat.number (slots_of cards.now) ≡ Some reason) }
-        ensures discarded { (on : ℕ) → due ≡ dues.Draw on
-            → OnOk result (IsDiscarded self.old.state self.new.state on seat.number
-            (slots_of cards.now)) }
-        ensures unchanged { OnErr result (self.new ≡ self.old) }
-        ensures seats { self.new.state.seats ≡ self.old.state.seats }
-    {
-        match due {
-            Due::Over => Err(Illegal::HandOver),
-            Due::Draw(on) => discard_on(&mut self.state, live, on, seat, cards),
-            Due::Deal(_) | Due::BringIn | Due::Move | Due::Show => Err(Illegal::WrongKind),
         }
     }
 
@@ -209,72 +141,24 @@ impl<V: Variant> Cards<V> {
     ) -> Result<(), Illegal>
         requires kind { is_showing (said_of event.now) ≡ true }
         requires live { live.now.seats ≡ self.old.state.seats }
-        ensures legal { (setup : Setup) (rules : Rules) (past : Past)
-            → IsNow self.old.state due live.now setup past
-            → is_settled setup (moves_of past) (turn setup past) ≡ settled
-            → OnOk result (why setup rules past (said_of event.now) ≡ None) }
-        ensures illegal { (setup : Setup) (rules : Rules) (past : Past)
-            → IsNow self.old.state due live.now setup past
-            → is_settled setup (moves_of past) (turn setup past) ≡ settled
-            → IfErr result (λ reason. why setup rules past (said_of event.now) ≡ Some reason) }
-        ensures stands { (setup : Setup) (past : Past)
-            → IsNow self.old.state due live.now setup past
-            → OnOk result (StandsFor self.new.state (with_event setup (said_of event.now) past)) }
+        ensures answered { IsAnswered self.old.state self.new.state due live.now
+            (IsSettledAs settled) (said_of event.now) result }
         ensures unchanged { OnErr result (self.new ≡ self.old) }
-        ensures seats { self.new.state.seats ≡ self.old.state.seats }
     {
         match event.kind {
-            Kind::Show { seat, cards } => self.show_of(due, live, settled, seat, &cards),
-            Kind::Muck { seat } => self.muck_of(due, live, seat),
+            Kind::Show { seat, cards } => match shut(&self.state, live, due, settled, seat) {
+                Some(reason) => Err(reason),
+                None => show_on(&mut self.state, live, seat, &cards),
+            },
+            Kind::Muck { seat } => match muck_why(&self.state, live, due, seat) {
+                Some(reason) => Err(reason),
+                None => {
+                    set_muck(&mut self.state, seat);
+                    Ok(())
+                }
+            },
             // The condition leaves no other kind.
             _ => Err(Illegal::WrongKind),
-        }
-    }
-
-    // Shows cards of a seat, where it may.
-    fn show_of(
-        &mut self,
-        due: Due,
-        live: &LiveRow,
-        settled: bool,
-        seat: Seat,
-        cards: &CardRow,
-    ) -> Result<(), Illegal>
-        requires { live.now.seats ≡ self.old.state.seats }
-        ensures right { OnOk result
-            (refusals.show_why self.old.state live.now due settled seat.number
-            (cards_of cards.now) ≡ None) }
-        ensures wrong { IfErr result
-            (λ reason. refusals.show_why self.old.state live.now due settled
-            seat.number (cards_of cards.now) ≡ Some reason) }
-        ensures shown { OnOk result
-            (IsShown self.old.state self.new.state seat.number (cards_of cards.now)) }
-        ensures unchanged { OnErr result (self.new ≡ self.old) }
-        ensures seats { self.new.state.seats ≡ self.old.state.seats }
-    {
-        match shut(&self.state, live, due, settled, seat) {
-            Some(reason) => Err(reason),
-            None => show_on(&mut self.state, live, seat, cards),
-        }
-    }
-
-    // Mucks the cards of a seat, where it may.
-    fn muck_of(&mut self, due: Due, live: &LiveRow, seat: Seat) -> Result<(), Illegal>
-        requires { live.now.seats ≡ self.old.state.seats }
-        ensures right { OnOk result
-            (refusals.muck_why self.old.state live.now due seat.number ≡ None) }
-        ensures wrong { IfErr result (λ reason.
-            refusals.muck_why self.old.state live.now due seat.number ≡ Some reason) }
-        ensures mucked { OnOk result (IsMucked self.old.state self.new.state seat.number) }
-        ensures unchanged { OnErr result (self.new ≡ self.old) }
-        ensures seats { self.new.state.seats ≡ self.old.state.seats }
-    {
-        match muck_why(&self.state, live, due, seat) {
-            Some(reason) => Err(reason),
-            None => {
-                set_muck(&mut self.state, seat);
-                Ok(())
-            }
         }
     }
 
@@ -302,10 +186,8 @@ impl<V: Variant> Cards<V> {
 
     /// The up-cards of each seat, in the order of dealing. Folded seats have none.
     pub fn up(&self) -> UpRow
-        ensures seats { result.seats ≡ self.now.state.seats }
-        ensures ups { (past : Past) (seat : ℕ) → StandsFor self.now.state past
-            → IsSeatOf self.now.state.seats seat
-            → ups_of result seat ≡ up_cards V.CODE past seat }
+        ensures { TellsSeats result.seats self.now.state
+            (λ past seat. ups_of result seat ≡ up_cards V.CODE past seat) }
     {
         up(&self.state)
     }
@@ -313,10 +195,9 @@ impl<V: Variant> Cards<V> {
     /// The cards that each seat has, in the order of dealing. Discarded cards and those of folded
     /// seats are gone.
     pub fn hands(&self) -> HandRow
-        ensures seats { result.seats ≡ self.now.state.seats }
-        ensures hands { (past : Past) (seat : ℕ) → StandsFor self.now.state past
-            → IsSeatOf self.now.state.seats seat
-            → slots_of_hand result seat ≡ held_slots (Some seat) (places_of V.CODE past) }
+        ensures { TellsSeats result.seats self.now.state
+            (λ past seat. slots_of_hand result seat
+            ≡ held_slots (Some seat) (places_of V.CODE past)) }
     {
         hands(&self.state)
     }
@@ -331,19 +212,17 @@ impl<V: Variant> Cards<V> {
 
     /// Which seats mucked.
     pub fn mucked(&self) -> LiveRow
-        ensures seats { result.seats ≡ self.now.state.seats }
-        ensures mucked { (past : Past) (seat : ℕ) → StandsFor self.now.state past
-            → IsSeatOf self.now.state.seats seat → flag_of result seat ≡ has_mucked past seat }
+        ensures { TellsSeats result.seats self.now.state
+            (λ past seat. flag_of result seat ≡ has_mucked past seat) }
     {
         self.state.mucked
     }
 
     /// Which seats have a card that is not known.
     pub fn unknown(&self) -> LiveRow
-        ensures seats { result.seats ≡ self.now.state.seats }
-        ensures unknown { (setup : Setup) (past : Past) (seat : ℕ) → setup.code ≡ V.CODE
-            → StandsFor self.now.state past → IsSeatOf self.now.state.seats seat
-            → flag_of result seat ≡ has_unknown_card setup past seat }
+        ensures { TellsSeats result.seats self.now.state
+            (λ past seat. (setup : Setup) → setup.code ≡ V.CODE
+            → flag_of result seat ≡ has_unknown_card setup past seat) }
     {
         unknown(&self.state)
     }

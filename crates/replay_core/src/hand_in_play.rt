@@ -1,22 +1,17 @@
 //! The betting and the cards of a hand, and one event more of it.
-ghost use Rattle.std.specs.Prelude.{◌≡◌, [], ℕ, true, false, None, Some, IfErr, OnErr, OnOk};
+ghost use Rattle.std.specs.Prelude.{◌≡◌, [], ℕ, true, false, OnErr};
 ghost use Rattle.betting_numbers.specs.UpSeen.{HoldsOpeningUps};
 ghost use Rattle.chip_ledger.specs.LiveRow.{flag_of};
 ghost use Rattle.chip_ledger.specs.SeatRow.{amount_of};
-ghost use Rattle.deal_core.specs.Standing.{IsNow};
-ghost use Rattle.deal_core.specs.Standing as cards_stand;
+ghost use Rattle.deal_core.specs.Answered.{IsAnswered, IsSettledAs};
 ghost use Rattle.play_event.specs.Chips.{chips_left, chips_put};
-ghost use Rattle.play_event.specs.Due.{is_settled, turn};
+ghost use Rattle.play_event.specs.Due.{turn};
 ghost use Rattle.play_event.specs.Past.{Past, is_fold, moves_of};
 ghost use Rattle.play_event.specs.Played.{act_said};
-ghost use Rattle.play_event.specs.Reasons.{why};
 ghost use Rattle.play_event.specs.Said.{said_of};
-ghost use Rattle.play_event.specs.Scripts.{with_event};
 ghost use Rattle.play_event.specs.Seats.{is_live};
 ghost use Rattle.play_event.specs.ValidSetup.{IsValid};
 ghost use Rattle.play_event.specs.declared.reason.Due.TheVariants as dues;
-ghost use Rattle.play_event.specs.declared.setup.Rules.{Rules as RulesNow};
-ghost use Rattle.play_event.specs.declared.setup.Setup.{Setup as SetupNow};
 ghost use Rattle.street_laws.specs.CardEvents.{is_card_said};
 ghost use Rattle.street_laws.specs.Done.{is_done};
 ghost use Rattle.street_laws.specs.Dues.{IsDueWithin};
@@ -253,20 +248,9 @@ fn lay<V: Variant>(
     requires kind { is_card_said (said_of event.now) ≡ true }
     requires due { IsDueWithin V.STREETS due }
     requires live { live.now.seats ≡ cards.old.state.seats }
-    ensures legal { (setup : SetupNow) (rules : RulesNow) (past : Past)
-        → IsNow cards.old.state due live.now setup past
-        → is_settled setup (moves_of past) (turn setup past) ≡ settled
-        → OnOk result (why setup rules past (said_of event.now) ≡ None) }
-    ensures illegal { (setup : SetupNow) (rules : RulesNow) (past : Past)
-        → IsNow cards.old.state due live.now setup past
-        → is_settled setup (moves_of past) (turn setup past) ≡ settled
-        → IfErr result (λ reason. why setup rules past (said_of event.now) ≡ Some reason) }
-    ensures stands { (setup : SetupNow) (past : Past)
-        → IsNow cards.old.state due live.now setup past
-        → OnOk result (cards_stand.StandsFor cards.new.state
-        (with_event setup (said_of event.now) past)) }
+    ensures answered { IsAnswered cards.old.state cards.new.state due live.now
+        (IsSettledAs settled) (said_of event.now) result }
     ensures unchanged { OnErr result (cards.new ≡ cards.old) }
-    ensures seats { cards.new.state.seats ≡ cards.old.state.seats }
 {
     match event.kind {
         Kind::Hole { seat: _, cards: _ } | Kind::Board { cards: _ } => {

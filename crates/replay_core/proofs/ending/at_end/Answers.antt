@@ -17,7 +17,7 @@ returns g c = λ setup rules script code ends moves.
     let hands = c.hands-hands.result in
     let board = c.board-board.result in
     let same = ap (λ (s : Setup). s.stacks.seats) ends.same_setup in
-    let is = is_end setup rules script b t ends g.V.Variant.CODE live silent unknown shown hands board code c.live-live.ensures.seats c.shown_row-shown.ensures.seats c.live-live.ensures.stands c.mucked-silent.ensures.mucked c.unknown-unknown.ensures.unknown c.shown_row-shown.ensures.flags c.hands-hands.ensures.hands c.board-board.ensures in
+    let is = is_end setup rules script b t ends g.V.Variant.CODE live silent unknown shown hands board code c.live-live.ensures.seats c.shown_row-shown.ensures.seats c.live-live.ensures.stands c.mucked-silent.ensures.each (λ hand past seat code_is stands in_hand. c.unknown-unknown.ensures.each past seat stands in_hand hand code_is) c.shown_row-shown.ensures.flags c.hands-hands.ensures.each c.board-board.ensures in
     record {
       seats = record {
         live = is.live_seats;

@@ -1,45 +1,53 @@
--- By the state and by the rules the reasons are the same, and the state after the discard stands for the past with it.
-use Rattle.std.proofs.Common.{sym, ap, subst, refl, ◌∙◌, arith}
+-- A discard is answered as the rules do, and where it is refused the state is as it was.
+use Rattle.std.proofs.Common.{◌≡◌, ℕ, Some, OnOk, rules, sym, ap, subst, refl, ◌∙◌}
+use Rattle.card_places.specs.declared.card_state.CardState.{CardState}
+use Rattle.card_places.specs.Discarded.{IsDiscarded}
+use Rattle.card_places.specs.Refusals.{discard_why}
 use Rattle.card_set.specs.Row.{slots_of}
-use Rattle.play_event.specs.Due.{turn}
+use Rattle.play_event.specs.declared.reason.Due.{Due}
+use Rattle.play_event.specs.declared.reason.Illegal.TheVariants as reasons
 use Rattle.play_event.specs.Said.{kind_said}
-use Rattle.play_event.specs.Reasons.{why}
-use Rattle.play_event.specs.Scripts.{with_event}
-use Rattle.deal_core.specs.Standing.{StandsFor}
+use Rattle.deal_core.proofs.Answers.{discard_answered}
 use Rattle.deal_core.proofs.Games.{due_five}
-use Rattle.deal_core.proofs.DiscardTurn.{discard_turn}
-use Rattle.deal_core.proofs.StandsDiscard.{discard_stands}
-use Rattle.deal_core.proofs.WhyDiscard.{why_discard}
+use Rattle.deal_core.proofs.Kept.{on_err_too, one_code}
 use Rattle.deal_core.proofs.cards.Cards.discard.Goals as goal
-use Rattle.list_laws.proofs.Results.{if_err, on_ok, on_ok_both}
+use Rattle.list_laws.proofs.Results.{if_err, on_ok}
 
-pub returns-in-Discard-clause-legal : goal.returns-in-Discard-clause-legal
-returns-in-Discard-clause-legal g c =
-    λ setup rules past now.
-    on_ok c.discard_of.result
-    (λ none.
-    ap (λ k. why setup rules past (kind_said k)) c.in-Discard.is
-    ∙ why_discard c.args.self.now.state c.args.due c.args.live.now setup rules past c.in-Discard.seat.number (slots_of c.in-Discard.cards) now (due_five c.args.self.now.state.table.code g.V.Variant.CODE _ c.args.due c.args.self.now.code g.met.V.Variant.values.streets_is c.requires.due)
-    ∙ none) c.discard_of.ensures.right
-
-pub returns-in-Discard-clause-illegal : goal.returns-in-Discard-clause-illegal
-returns-in-Discard-clause-illegal g c =
-    λ setup rules past now.
-    if_err c.discard_of.result
-    (λ reason is.
-    ap (λ k. why setup rules past (kind_said k)) c.in-Discard.is
-    ∙ why_discard c.args.self.now.state c.args.due c.args.live.now setup rules past c.in-Discard.seat.number (slots_of c.in-Discard.cards) now (due_five c.args.self.now.state.table.code g.V.Variant.CODE _ c.args.due c.args.self.now.code g.met.V.Variant.values.streets_is c.requires.due)
-    ∙ is) c.discard_of.ensures.wrong
-
-pub returns-in-Discard-clause-stands : goal.returns-in-Discard-clause-stands
-returns-in-Discard-clause-stands g c =
+pub returns-in-Over-clause-answered : goal.returns-in-Over-clause-answered
+returns-in-Over-clause-answered g c =
     let t = c.args.self.now.state in
-    λ setup past now.
-    let five = due_five c.args.self.now.state.table.code g.V.Variant.CODE _ c.args.due c.args.self.now.code g.met.V.Variant.values.streets_is c.requires.due in
-    on_ok_both c.discard_of.result
-    (λ none. c.discard_of.ensures.discarded (turn setup past).0 (discard_turn t c.args.due c.args.live.now setup past c.in-Discard.seat.number (slots_of c.in-Discard.cards) now five none).draws)
-    (λ none gone_after.
-    subst (λ k. StandsFor c.discard_of.new.self.state (with_event setup (kind_said k) past)) (sym c.in-Discard.is)
-    (discard_stands t c.discard_of.new.self.state setup past (turn setup past).0 c.in-Discard.seat.number (slots_of c.in-Discard.cards) now.stands
-    (omega (arith, t.shown_seats, t.shown.greatest))
-    (discard_turn t c.args.due c.args.live.now setup past c.in-Discard.seat.number (slots_of c.in-Discard.cards) now five none).undrawn refl gone_after)) c.discard_of.ensures.right
+    let cards = slots_of c.in-Discard.cards in
+    discard_answered t t c.args.due c.args.live.now c.in-Discard.seat.number cards c.args.event.now.kind _
+    (due_five t.table.code g.V.Variant.CODE _ c.args.due c.args.self.now.code g.met.V.Variant.values.streets_is c.requires.due)
+    (ap kind_said c.in-Discard.is) tt (ap (λ (due : Due). discard_why t c.args.live.now due c.in-Discard.seat.number cards) c.in-Over.is) (λ on street. tt) refl
+
+pub returns-in-Draw-clause-answered : goal.returns-in-Draw-clause-answered
+returns-in-Draw-clause-answered g c =
+    let t = c.args.self.now.state in
+    let seat = c.in-Discard.seat.number in
+    let cards = slots_of c.in-Discard.cards in
+    let on_draw = ap (λ (due : Due). discard_why t c.args.live.now due seat cards) c.in-Draw.is in
+    let answer = c.discard_on.result in
+    discard_answered t c.discard_on.new.state c.args.due c.args.live.now seat cards c.args.event.now.kind answer
+    (due_five t.table.code g.V.Variant.CODE _ c.args.due c.args.self.now.code g.met.V.Variant.values.streets_is c.requires.due)
+    (ap kind_said c.in-Discard.is)
+    (on_ok answer (λ none. on_draw ∙ none) c.discard_on.ensures.right) (if_err answer (λ reason is. on_draw ∙ is) c.discard_on.ensures.wrong)
+    (λ on street.
+    let same : c.in-Draw.on ≡ on = cc in
+    subst (λ (s : ℕ). OnOk answer (IsDiscarded t c.discard_on.new.state s seat cards)) same c.discard_on.ensures.discarded) c.discard_on.ensures.seats
+
+pub returns-in-Deal-clause-answered : goal.returns-in-Deal-clause-answered
+returns-in-Deal-clause-answered g c =
+    let t = c.args.self.now.state in
+    let cards = slots_of c.in-Discard.cards in
+    let wrong : discard_why t c.args.live.now c.args.due c.in-Discard.seat.number cards ≡ Some reasons.WrongKind = search rules in
+    discard_answered t t c.args.due c.args.live.now c.in-Discard.seat.number cards c.args.event.now.kind _
+    (due_five t.table.code g.V.Variant.CODE _ c.args.due c.args.self.now.code g.met.V.Variant.values.streets_is c.requires.due)
+    (ap kind_said c.in-Discard.is) tt wrong (λ on street. tt) refl
+
+pub returns-in-Draw-clause-unchanged : goal.returns-in-Draw-clause-unchanged
+returns-in-Draw-clause-unchanged g c =
+    on_err_too c.discard_on.result
+    (λ is.
+    subst (λ (t : CardState). (h : t.table.code ≡ g.V.Variant.CODE) → record { state = t; game = c.args.self.now.game; code = h } ≡ c.args.self.now) (sym is)
+    (λ h. ap (λ h. record { state = c.args.self.now.state; game = c.args.self.now.game; code = h }) (one_code _ _ h c.args.self.now.code)) _) c.discard_on.ensures.unchanged

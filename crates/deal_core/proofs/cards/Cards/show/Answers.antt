@@ -1,63 +1,42 @@
--- By the state and by the rules the reasons are the same, and the state after the show stands for the past with it.
-use Rattle.std.proofs.Common.{sym, ap, subst, ◌∙◌}
+-- A show or a muck is answered as the rules do, and where it is refused the state is as it was.
+use Rattle.std.proofs.Common.{◌≡◌, sym, ap, subst, refl, ◌∙◌}
+use Rattle.card_places.specs.declared.card_state.CardState.{CardState}
 use Rattle.card_set.specs.Row.{cards_of}
 use Rattle.play_event.specs.Said.{kind_said}
-use Rattle.play_event.specs.Reasons.{why}
-use Rattle.play_event.specs.Scripts.{with_event}
-use Rattle.deal_core.specs.Standing.{StandsFor}
-use Rattle.deal_core.proofs.StandsShow.{show_stands, muck_stands}
-use Rattle.deal_core.proofs.WhyShow.{why_show, why_muck}
+use Rattle.deal_core.proofs.Answers.{muck_answered, show_answered}
+use Rattle.deal_core.proofs.Kept.{on_err_too, one_code}
 use Rattle.deal_core.proofs.cards.Cards.show.Goals as goal
 use Rattle.list_laws.proofs.Results.{if_err, on_ok}
 
-pub returns-in-Show-clause-legal : goal.returns-in-Show-clause-legal
-returns-in-Show-clause-legal g c =
-    λ setup rules past now settled.
-    on_ok c.show_of.result
-    (λ none.
-    ap (λ k. why setup rules past (kind_said k)) c.in-Show.is
-    ∙ why_show c.args.self.now.state c.args.due c.args.live.now setup rules past c.args.settled c.in-Show.seat.number (cards_of c.in-Show.cards) now settled
-    ∙ none) c.show_of.ensures.right
+pub returns-in-Some-clause-answered : goal.returns-in-Some-clause-answered
+returns-in-Some-clause-answered g c =
+    let t = c.args.self.now.state in
+    show_answered t t c.args.due c.args.live.now c.args.settled c.in-Show.seat.number (cards_of c.in-Show.cards) c.args.event.now.kind _
+    (ap kind_said c.in-Show.is) tt (c.in-Some.ensures.is_shut (cards_of c.in-Show.cards)) tt refl
 
-pub returns-in-Show-clause-illegal : goal.returns-in-Show-clause-illegal
-returns-in-Show-clause-illegal g c =
-    λ setup rules past now settled.
-    if_err c.show_of.result
-    (λ reason is.
-    ap (λ k. why setup rules past (kind_said k)) c.in-Show.is
-    ∙ why_show c.args.self.now.state c.args.due c.args.live.now setup rules past c.args.settled c.in-Show.seat.number (cards_of c.in-Show.cards) now settled
-    ∙ is) c.show_of.ensures.wrong
+pub returns-in-None-clause-answered : goal.returns-in-None-clause-answered
+returns-in-None-clause-answered g c =
+    let cards = cards_of c.in-Show.cards in
+    show_answered c.args.self.now.state c.show_on.new.state c.args.due c.args.live.now c.args.settled c.in-Show.seat.number cards c.args.event.now.kind c.show_on.result
+    (ap kind_said c.in-Show.is)
+    (on_ok c.show_on.result (λ none. c.in-None.ensures.not_shut cards ∙ none) c.show_on.ensures.right)
+    (if_err c.show_on.result (λ reason is. c.in-None.ensures.not_shut cards ∙ is) c.show_on.ensures.wrong)
+    c.show_on.ensures.shown c.show_on.ensures.seats
 
-pub returns-in-Show-clause-stands : goal.returns-in-Show-clause-stands
-returns-in-Show-clause-stands g c =
-    λ setup past now.
-    on_ok c.show_of.result
-    (λ shown.
-    subst (λ k. StandsFor c.show_of.new.self.state (with_event setup (kind_said k) past)) (sym c.in-Show.is)
-    (show_stands c.args.self.now.state c.show_of.new.self.state setup past c.in-Show.seat.number (cards_of c.in-Show.cards) now.stands shown)) c.show_of.ensures.shown
+pub returns-in-None-clause-unchanged : goal.returns-in-None-clause-unchanged
+returns-in-None-clause-unchanged g c =
+    on_err_too c.show_on.result
+    (λ is.
+    subst (λ (t : CardState). (h : t.table.code ≡ g.V.Variant.CODE) → record { state = t; game = c.args.self.now.game; code = h } ≡ c.args.self.now) (sym is)
+    (λ h. ap (λ h. record { state = c.args.self.now.state; game = c.args.self.now.game; code = h }) (one_code _ _ h c.args.self.now.code)) _) c.show_on.ensures.unchanged
 
-pub returns-in-Muck-clause-legal : goal.returns-in-Muck-clause-legal
-returns-in-Muck-clause-legal g c =
-    λ setup rules past now settled.
-    on_ok c.muck_of.result
-    (λ none.
-    ap (λ k. why setup rules past (kind_said k)) c.in-Muck.is
-    ∙ why_muck c.args.self.now.state c.args.due c.args.live.now setup rules past c.in-Muck.seat.number now
-    ∙ none) c.muck_of.ensures.right
+pub returns-in-Some-muck_why-clause-answered : goal.returns-in-Some-muck_why-clause-answered
+returns-in-Some-muck_why-clause-answered g c =
+    let t = c.args.self.now.state in
+    muck_answered t t c.args.due c.args.live.now c.args.settled c.in-Muck.seat.number c.args.event.now.kind _
+    (ap kind_said c.in-Muck.is) tt (sym c.muck_why.ensures.wrong ∙ c.in-Some-muck_why.is) tt refl
 
-pub returns-in-Muck-clause-illegal : goal.returns-in-Muck-clause-illegal
-returns-in-Muck-clause-illegal g c =
-    λ setup rules past now settled.
-    if_err c.muck_of.result
-    (λ reason is.
-    ap (λ k. why setup rules past (kind_said k)) c.in-Muck.is
-    ∙ why_muck c.args.self.now.state c.args.due c.args.live.now setup rules past c.in-Muck.seat.number now
-    ∙ is) c.muck_of.ensures.wrong
-
-pub returns-in-Muck-clause-stands : goal.returns-in-Muck-clause-stands
-returns-in-Muck-clause-stands g c =
-    λ setup past now.
-    on_ok c.muck_of.result
-    (λ mucked.
-    subst (λ k. StandsFor c.muck_of.new.self.state (with_event setup (kind_said k) past)) (sym c.in-Muck.is)
-    (muck_stands c.args.self.now.state c.muck_of.new.self.state setup past c.in-Muck.seat.number now.stands mucked)) c.muck_of.ensures.mucked
+pub returns-in-None-muck_why-clause-answered : goal.returns-in-None-muck_why-clause-answered
+returns-in-None-muck_why-clause-answered g c =
+    muck_answered c.args.self.now.state c.set_muck.new.state c.args.due c.args.live.now c.args.settled c.in-Muck.seat.number c.args.event.now.kind _
+    (ap kind_said c.in-Muck.is) (sym c.muck_why.ensures.wrong ∙ c.in-None-muck_why.is) tt c.set_muck.ensures c.set_muck.ensures.seats

@@ -21,5 +21,5 @@ returns-in-LowUp-clause-ups g c =
     let hand = c.args.self.now in
     λ past both. record {
       held = λ none. ups_of_past g.V.Variant.CODE hand.betting.table hand.cards.state c.up.result past hand.betting.code both
-          (λ seat in_hand. c.up.ensures.ups past seat both.cards in_hand);
+          (λ seat in_hand. c.up.ensures.each past seat both.cards in_hand);
     }

@@ -21,7 +21,7 @@ returns-in-Ok-clause-advanced g c =
     let now : (past : Past) → StandTogether b t past → IsNow t c.due-due.result c.live-live.result b.setup past =
     λ past both. now_at b t c.due-due.result c.live-live.result past both c.due-due.ensures.value (c.live-live.ensures.stands past both.betting) in
     let legal : (past : Past) → StandTogether b t past → reason_after b past event ≡ None =
-    λ past both. c.in-Ok.ensures.legal b.setup b.rules past (now past both) (sym (c.settled-settled.ensures.stands past both.betting)) in
+    λ past both. c.in-Ok.ensures.answered.legal b.rules b.setup past (now past both) (sym (c.settled-settled.ensures.stands past both.betting)) in
     let most : b.street ≤ street_count g.V.Variant.CODE = omega (arith, whole.kept.last, g.met.V.Variant.values.streets_is) in
     let within : b.street ≤ street_count b.setup.code = subst (λ (code : Code). b.street ≤ street_count code) (sym whole.code) most in
     record {
@@ -29,9 +29,9 @@ returns-in-Ok-clause-advanced g c =
       legal = legal;
       stands = λ past both. c.end.ensures.stands (with_event b.setup event past)
           (up_to_after b past event t c.lay.new.cards.state both c.requires.kind (legal past both) whole.kept.first within
-          (c.lay.new.cards.code ∙ sym c.args.self.now.cards.code) c.lay.ensures.seats (c.in-Ok.ensures.stands b.setup past (now past both)));
+          (c.lay.new.cards.code ∙ sym c.args.self.now.cards.code) c.lay.ensures.answered.seats (c.in-Ok.ensures.answered.stands b.setup past (now past both)));
       told = λ past both. none_told b past event c.requires.kind;
-      same = record { hand = c.end.ensures.same.hand; seats = c.end.ensures.same.seats ∙ c.lay.ensures.seats };
+      same = record { hand = c.end.ensures.same.hand; seats = c.end.ensures.same.seats ∙ c.lay.ensures.answered.seats };
     }
 
 pub returns-in-Err-clause-advanced : goal.returns-in-Err-clause-advanced
@@ -41,9 +41,9 @@ returns-in-Err-clause-advanced g c =
     record {
       refused = λ past both.
           let now = now_at b t c.due-due.result c.live-live.result past both c.due-due.ensures.value (c.live-live.ensures.stands past both.betting) in
-          c.in-Err.ensures.illegal b.setup b.rules past now (sym (c.settled-settled.ensures.stands past both.betting));
+          c.in-Err.ensures.answered.illegal b.rules b.setup past now (sym (c.settled-settled.ensures.stands past both.betting));
       legal = λ past both. tt;
       stands = λ past both. tt;
       told = λ past both. tt;
-      same = record { hand = record { setup = refl; rules = refl }; seats = c.lay.ensures.seats };
+      same = record { hand = record { setup = refl; rules = refl }; seats = c.lay.ensures.answered.seats };
     }

@@ -1,0 +1,50 @@
+-- What an event of cards does to the state of the cards: the answer of the rules, and what stands
+-- after it. And what a row tells of the seats.
+use Rattle.std.specs.Prelude.{◌≡◌, ℕ, Bool, Result, None, Some, OnOk, IfErr}
+use Rattle.chip_ledger.specs.declared.rows.LiveRow.{LiveRow}
+use Rattle.play_event.specs.declared.reason.Due.{Due}
+use Rattle.play_event.specs.declared.reason.Illegal.{Illegal}
+use Rattle.play_event.specs.declared.setup.Rules.{Rules}
+use Rattle.play_event.specs.declared.setup.Setup.{Setup}
+use Rattle.play_event.specs.Due.{is_settled, turn}
+use Rattle.play_event.specs.Past.{Past, moves_of}
+use Rattle.play_event.specs.Reasons.{why}
+use Rattle.play_event.specs.Said.{Said}
+use Rattle.play_event.specs.Scripts.{with_event}
+use Rattle.card_places.specs.declared.card_state.CardState.{CardState}
+use Rattle.deal_core.specs.Standing.{IsNow, IsSeatOf, StandsFor}
+
+-- after each past of a hand for which the state stands, with what the calls are told of it
+abbrev pub WhereNow : CardState → Due → LiveRow → (Setup → Past → Type 0) → Type 0
+WhereNow t due live P =
+    (setup : Setup) (past : Past) → IsNow t due live setup past → P setup past
+
+-- every past will do
+abbrev pub AsksNothing : Setup → Past → Type 0
+AsksNothing setup past = Unit {0}
+
+-- the hand is settled or not, as this says
+abbrev pub IsSettledAs : Bool → Setup → Past → Type 0
+IsSettledAs settled setup past = is_settled setup (moves_of past) (turn setup past) ≡ settled
+
+-- An event of cards is answered, where `t` is the state before it and `next` the state behind it.
+-- The reasons are those of the pasts that meet `asks`.
+pub record IsAnswered (t next : CardState) (due : Due) (live : LiveRow)
+    (asks : Setup → Past → Type 0) (event : Said) (answer : Result (Unit {0}) Illegal) : Type 0
+  where
+    -- it is taken where it is legal
+    pub legal : (rules : Rules) → WhereNow t due live (λ setup past. asks setup past
+        → OnOk answer (why setup rules past event ≡ None))
+    -- it is refused for the first reason that holds
+    pub illegal : (rules : Rules) → WhereNow t due live (λ setup past. asks setup past
+        → IfErr answer (λ reason. why setup rules past event ≡ Some reason))
+    -- the state stands for the past with it
+    pub stands : WhereNow t due live (λ setup past.
+        OnOk answer (StandsFor next (with_event setup event past)))
+    pub seats : next.seats ≡ t.seats
+
+-- a row of so many seats has those of the state, and this is so of each of them after each past
+-- for which the state stands
+pub record TellsSeats (count : ℕ) (t : CardState) (P : Past → ℕ → Type 0) : Type 0 where
+  pub seats : count ≡ t.seats
+  pub each : (past : Past) (seat : ℕ) → StandsFor t past → IsSeatOf t.seats seat → P past seat
