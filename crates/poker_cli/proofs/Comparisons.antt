@@ -1,6 +1,6 @@
 -- A comparison has one answer, and is done exactly where the hands of both files are the same; what was converted is the same as its
 -- source, and two files are the same exactly where they are converted into the same output.
-use Rattle.std.proofs.Common.{◌≡◌, ◌⊎◌, ◌↔◌, ℕ, ◌+◌, ◌<◌, ◌≤◌, ◌==◌, Bool, true, false, if◌then◌else◌, suc, List, [], ◌∷◌, length, map, Option, Some, None, refl, sym, subst, ap, ap₂, ◌∙◌, arith}
+use Rattle.std.proofs.Common.{◌≡◌, ◌⊎◌, ◌↔◌, ℕ, ◌+◌, ◌≤◌, ◌==◌, Bool, true, false, if◌then◌else◌, suc, List, [], ◌∷◌, length, Option, Some, None, refl, sym, subst, ap, ap₂, ◌∙◌, arith}
 use Rattle.std.specs.List.{AllByRecursion}
 use Rattle.std.specs.Option.{option_map, option_or}
 use Rattle.std.proofs.lemmas.Bool.{eq-eqb, eqb-true}
@@ -10,7 +10,7 @@ use Rattle.command_words.specs.Words.{Load, Plain, Request, Under, Compare, Plai
 use Rattle.convert_core.specs.Conversion.{ReadAsPlays}
 use Rattle.convert_core.specs.declared.refusal.Refusal.{Refusal}
 use Rattle.convert_core.proofs.Conversions.{all_both, all_turned}
-use Rattle.convert_core.proofs.LawfulNotations.{AreReadSame, IsReadAgain, all_read_same, never_refused, read_again, read_few, read_same, read_sound}
+use Rattle.convert_core.proofs.LawfulNotations.{AreReadSame, IsReadAgain, never_refused, read_again, read_few, read_same, read_sound}
 use Rattle.convert_core.proofs.OneConversion.{all_same}
 use Rattle.convert_core.proofs.OneOutcome.{same_refused}
 use Rattle.convert_core.proofs.Paired.{each_both, each_spelled, paired_below, paired_both, paired_turned}
@@ -18,9 +18,8 @@ use Rattle.first_fault.specs.declared.limits.TheConstants.{MOST_HANDS}
 use Rattle.hand_canon.specs.Sound.{IsSound}
 use Rattle.hand_differences.proofs.SameHands.{same_traces, same_with_notes}
 use Rattle.hand_differences.specs.FirstDifference.{PlainDifference, first_difference, note_difference, play_difference}
-use Rattle.hand_records.specs.SaidNotes.{SaidNotes, notes_of}
+use Rattle.hand_records.specs.SaidNotes.{SaidNotes}
 use Rattle.hand_records.specs.SameHands.{AllPaired, AreSameHand, AreSameHands}
-use Rattle.hand_records.specs.WriteRefusals.{first_refusal}
 use Rattle.hand_records.specs.declared.trace.Play.{Play}
 use Rattle.hand_records.specs.declared.trace.Trace.{Trace}
 use Rattle.hand_records.specs.declared.writing.Keep.{Keep}
@@ -37,7 +36,7 @@ use Rattle.poker_cli.specs.declared.status.Status.{Status}
 use Rattle.poker_cli.specs.declared.status.Status.TheVariants as statuses
 use Rattle.poker_cli.specs.declared.task.Format.{Format}
 use Rattle.poker_cli.proofs.LawfulFormats.{all_spelled, equal_runs, no_fault, one_reading, read_by, written_by}
-use Rattle.poker_cli.proofs.OneAnswer.{AllToldAlike, IsMadeAlike, done_so, ends_so, games_same, made_of, no_game, one_told, read_the_same, refused_or_played, same_answer, say_or_fault}
+use Rattle.poker_cli.proofs.OneAnswer.{AllToldAlike, done_so, ends_so, games_same, made_of, no_game, one_told, read_the_same, refused_or_played, same_answer, say_or_fault}
 
 -- two plays are the same hand, with their notes
 abbrev Same : ℕ → Play → Play → Type 0
@@ -133,7 +132,7 @@ with_legal other notes file plays others _ read (answers.OtherRefused number why
 with_legal other notes file plays others _ read (answers.OtherPlayed too reads) =
     same_compared notes plays plays too others (own_hands 0 plays) (read_same (read_by other) file too others reads read)
 
-compared_legal : (by : Comparison) (file bytes : List ℕ) (plays others : List Play) (answer : Answer) → length bytes ≤ most_input
+pub compared_legal : (by : Comparison) (file bytes : List ℕ) (plays others : List Play) (answer : Answer) → length bytes ≤ most_input
     → ReadAsPlays (SayRecords by.from bytes) plays → ReadAsPlays (SayRecords by.other file) others → IsComparison by file bytes answer
     → answer ≡ compared by.notes plays others
 compared_legal by file bytes plays others _ few read reads (answers.InputTooLong many) = absurd (omega (arith, many, few))
@@ -153,7 +152,7 @@ to_other by file text bytes _ there short (answers.OtherTooLong found is many) =
 to_other by file text bytes answer there short (answers.ToOther found is few _ to) =
     subst (λ (t : List ℕ). IsComparison by t bytes answer) (same_Some found text (sym is ∙ there)) to
 
-by_request : (request : Request) (files : Files) (by : Comparison) (text bytes : List ℕ) (answer : Answer) → AsksToCompare files request by text
+pub by_request : (request : Request) (files : Files) (by : Comparison) (text bytes : List ℕ) (answer : Answer) → AsksToCompare files request by text
     → IsAnswerIn request files bytes answer → IsComparison by text bytes answer
 by_request (Load seed hands) files by text bytes answer asks is = absurd asks
 by_request (Plain from task) files by text bytes answer asks is = absurd asks
@@ -210,11 +209,11 @@ by_done found hands others none same =
     ap (λ (f : Option DifferentHand). (compared_by f hands others).status) none
     ∙ ap (λ (b : Bool). (if b then to_same hands else to_other_count hands others).status) (eq-eqb hands others same)
 
-neither : {A : Type 0} (a b : Option A) → option_or a b ≡ None → (a ≡ None) × (b ≡ None)
+pub neither : {A : Type 0} (a b : Option A) → option_or a b ≡ None → (a ≡ None) × (b ≡ None)
 neither None b none = (refl, none)
 neither (Some x) b none = absurd (cc)
 
-unmade : {A B : Type 0} (f : A → B) (a : Option A) → option_map f a ≡ None → a ≡ None
+pub unmade : {A B : Type 0} (f : A → B) (a : Option A) → option_map f a ≡ None → a ≡ None
 unmade f None none = refl
 unmade f (Some x) none = absurd (cc)
 
@@ -246,7 +245,7 @@ none_of_paired notes P each place (p ∷ ps) (q ∷ qs) sound too all =
     option_or (option_map (λ difference. record { number = place + 1; difference = difference }) found) rest)
     (each place p q sound.0 too.0 all.0) (none_of_paired notes P each (place + 1) ps qs sound.1 too.1 all.1)
 
-compared_as : (notes : Bool) (P : ℕ → Play → Play → Type 0)
+pub compared_as : (notes : Bool) (P : ℕ → Play → Play → Type 0)
     → ((place : ℕ) (play other : Play) → IsSound play → IsSound other → (first_difference notes place play other ≡ None) ↔ P place play other)
     → (plays others : List Play) → AllByRecursion IsSound plays → AllByRecursion IsSound others
     → ((compared notes plays others).status ≡ statuses.Done) ↔ AllPaired P 0 plays others

@@ -37,7 +37,7 @@ use Rattle.poker_cli.proofs.OneAnswer.{in_way, legal_in_way, no_file_missing, no
 use Rattle.list_laws.proofs.Options.{some_more}
 
 -- the status of a fault of bytes is that of bad input or of a limit
-IsUnread : Status → Type 0
+unfoldable pub IsUnread : Status → Type 0
 IsUnread statuses.BadInput = Unit {0}
 IsUnread statuses.Limit = Unit {0}
 IsUnread status = ⊥
@@ -99,7 +99,7 @@ fault_unread (formats.Ohh fault) answer told = mapped_unread to_wrong_ohh (in_oh
 fault_unread (formats.Acpc fault) answer told = subst IsToldUnread told (log_unread fault)
 
 -- no other status is that of a fault
-not_unread : (fault : FormatFault) (answer : Answer) (status : Status) → (IsUnread status → ⊥) → to_fault fault ≡ Some answer → answer.status ≡ status → ⊥
+pub not_unread : (fault : FormatFault) (answer : Answer) (status : Status) → (IsUnread status → ⊥) → to_fault fault ≡ Some answer → answer.status ≡ status → ⊥
 not_unread fault answer status other told same = other (subst IsUnread same (fault_unread fault answer told))
 
 module _ (from to : Format) (keep : Keep) (bytes : List ℕ) where

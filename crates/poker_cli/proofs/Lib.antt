@@ -13,4 +13,5 @@ mod OneReply
 mod OneAnswer
 mod Headline
 mod Comparisons
+mod ComparedRuns
 mod Replying

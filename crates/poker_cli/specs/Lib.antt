@@ -22,4 +22,5 @@ pub mod Lacking
 pub mod Told
 pub mod Run
 pub mod Headline
+pub mod ComparedRuns
 pub mod RunTells

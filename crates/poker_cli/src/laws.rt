@@ -1,6 +1,6 @@
 //! An input has one answer, none is refused whose hands are all legal, equal hands come to equal
 //! outputs, by whatever way, and compare as the same.
-ghost use Rattle.std.specs.Prelude.{◌≡◌, ◌⊎◌, ◌↔◌, ◌≤◌, ℕ, Bool, true, false, List, None, Ok, length};
+ghost use Rattle.std.specs.Prelude.{◌≡◌, ◌⊎◌, ◌↔◌, ◌≤◌, ℕ, Bool, true, List, None, Ok, length};
 ghost use Rattle.std.specs.List.{AllByRecursion};
 ghost use Rattle.acpc_game.specs.declared.game.Game.{Game};
 ghost use Rattle.chip_ledger.specs.declared.numbers.Seat.{Seat};
@@ -9,13 +9,14 @@ ghost use Rattle.command_words.specs.declared.command.Command.{Command};
 ghost use Rattle.command_words.specs.declared.task.Question.{Question};
 ghost use Rattle.command_words.specs.declared.task.Question.TheVariants as questions;
 ghost use Rattle.hand_canon.specs.Sound.{IsSound};
-ghost use Rattle.hand_records.specs.SameHands.{AllPaired, AreSameHands, kept_notes};
+ghost use Rattle.hand_records.specs.SameHands.{AreSameHands, kept_notes};
 ghost use Rattle.hand_records.specs.declared.record.Record.{Record};
 ghost use Rattle.hand_records.specs.declared.trace.Play.{Play};
 ghost use Rattle.hand_records.specs.declared.writing.Keep.{Keep};
 ghost use Rattle.hand_records.specs.declared.writing.Keep.TheVariants as keeps;
 ghost use Rattle.poker_cli.specs.Answer.{Answer, AsksToCompare, Files, IsAnswer, IsComparison, IsReply, IsWay, most_input};
 ghost use Rattle.poker_cli.specs.Compared.{compared};
+ghost use Rattle.poker_cli.specs.ComparedRuns.{AreFoundOther, AreFoundSame, AreOther, AreSame, BothRead, FindsOther};
 ghost use Rattle.poker_cli.specs.Headline.{ConversionEnds, ConvertsInto};
 ghost use Rattle.poker_cli.specs.Inputs.{SayRecords};
 ghost use Rattle.poker_cli.specs.OneAnswer.{AreOneAnswer};
@@ -144,17 +145,44 @@ pub fn law_of_runs_by_way()
 {}
 
 /// The comparison of plays is done exactly where there are as many on either side and hand by hand
-/// the traces are the same and, where notes are looked at, the notes. The function does nothing:
-/// its contract is a law.
+/// the traces are the same and, where notes are looked at, the notes. Else it tells the first hand
+/// that differs, all before it being the same, with its first difference; or how many there are on
+/// either side, where all that both have are the same. The function does nothing: its contract is a
+/// law.
 pub fn law_of_compared_hands()
-    ensures notes { (plays others : List Play)
+    ensures same { (notes : Bool) (plays others : List Play)
         → AllByRecursion IsSound plays → AllByRecursion IsSound others
-        → ((compared true plays others).status ≡ statuses.Done)
-        ↔ AreSameHands (λ notes. notes) plays others }
-    ensures traces { (plays others : List Play)
+        → ((compared notes plays others).status ≡ statuses.Done) ↔ AreSame notes plays others }
+    ensures other { (notes : Bool) (plays others : List Play)
         → AllByRecursion IsSound plays → AllByRecursion IsSound others
-        → ((compared false plays others).status ≡ statuses.Done)
-        ↔ AllPaired (λ place play other. play.trace ≡ other.trace) 0 plays others }
+        → (compared notes plays others).status ≡ statuses.Differs
+        → AreOther notes plays others (compared notes plays others) }
+{}
+
+/// Where two files are compared, a run is done exactly where both read as hands that are all legal
+/// and agree with what is stated of them, and are the same: as many, and hand by hand with one
+/// trace and, where notes are looked at, the same notes. It differs exactly where both read so and
+/// are not the same, and tells the first hand that differs, all before it being the same, with its
+/// first difference; or how many there are on either side, where all that both have are the same.
+/// In place of either a device may fail, or memory be wanting. The function does nothing: its
+/// contract is a law.
+pub fn law_of_comparisons()
+    ensures done { (request : Request) (by : Comparison) (files : Files) (text bytes : List ℕ)
+        → (out diag : Sinks) → AsksToCompare files request by text
+        → Ends request files bytes out diag statuses.Done → AreFoundSame by text bytes out }
+    ensures differs { (request : Request) (by : Comparison) (files : Files) (text bytes : List ℕ)
+        → (out diag : Sinks) → AsksToCompare files request by text
+        → Ends request files bytes out diag statuses.Differs → AreFoundOther by text bytes diag }
+    ensures same { (request : Request) (by : Comparison) (files : Files) (text bytes : List ℕ)
+        → (plays others : List Play) (out diag : Sinks) (status : Status)
+        → AsksToCompare files request by text → BothRead by text bytes plays others
+        → AreSame by.notes plays others
+        → Ends request files bytes out diag status → RefusesNothing status }
+    ensures different { (request : Request) (by : Comparison) (files : Files) (text bytes : List ℕ)
+        → (plays others : List Play) (out diag : Sinks) (status : Status)
+        → AsksToCompare files request by text → BothRead by text bytes plays others
+        → (AreSame by.notes plays others → ⊥)
+        → Ends request files bytes out diag status → FindsOther status }
 {}
 
 /// What was converted is the same as its source. A run that compares an output with the input that
