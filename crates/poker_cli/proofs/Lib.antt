@@ -14,4 +14,5 @@ mod OneAnswer
 mod Headline
 mod Comparisons
 mod ComparedRuns
+mod LegalReplies
 mod Replying

@@ -356,7 +356,7 @@ made_of Say HaveFault IsMade records plays answer alike same apart say are (answ
       made = makes;
     }
 
-legal_asked : (question : Question) (reader : Format) (bytes : List ℕ) (records : List Record) (plays : List Play) (answer : Answer) → length bytes ≤ most_input
+pub legal_asked : (question : Question) (reader : Format) (bytes : List ℕ) (records : List Record) (plays : List Play) (answer : Answer) → length bytes ≤ most_input
     → SayRecords reader bytes records → ArePlaysOf records plays → IsAnswer (tasks.Ask question) reader bytes answer → IsMadeAlike (IsReply question) plays answer
 legal_asked question reader bytes records plays _ few is are (answers.TooLong many) = absurd (omega (arith, many, few))
 legal_asked question reader bytes records plays answer few is are (answers.Read less _ to) =

@@ -41,7 +41,7 @@ as_many (p ∷ ps) [] traced = absurd traced
 as_many (p ∷ ps) (q ∷ qs) traced = ap suc (as_many ps qs traced.1)
 
 -- plays at one place have one trace, and their hands say the same
-at_place : (ps qs : List Play) (place : ℕ) (p q : Play) → AllTraced ps qs → slice_get ps place ≡ Some p → slice_get qs place ≡ Some q
+pub at_place : (ps qs : List Play) (place : ℕ) (p q : Play) → AllTraced ps qs → slice_get ps place ≡ Some p → slice_get qs place ≡ Some q
     → (p.trace ≡ q.trace) × SayTheSame p.hand q.hand
 unfolding AllTraced
 at_place [] qs place p q traced is it = absurd (cc (is))
@@ -60,7 +60,7 @@ not_one (a ∷ ps) [] place q traced none is = traced
 not_one (a ∷ ps) (b ∷ qs) zero q traced none is = cc (none)
 not_one (a ∷ ps) (b ∷ qs) (suc place) q traced none is = not_one ps qs place q traced.1 none is
 
-not_other : (ps qs : List Play) (place : ℕ) (p : Play) → AllTraced ps qs → slice_get ps place ≡ Some p → slice_get qs place ≡ None → ⊥
+pub not_other : (ps qs : List Play) (place : ℕ) (p : Play) → AllTraced ps qs → slice_get ps place ≡ Some p → slice_get qs place ≡ None → ⊥
 unfolding AllTraced
 not_other [] qs place p traced is none = cc (is)
 not_other (a ∷ ps) [] place p traced is none = traced
@@ -82,7 +82,7 @@ fewer_or_not : (p q : Play) (events : ℕ) → SayTheSame p.hand q.hand → leng
 fewer_or_not p q events same fewer few =
     let long = ap (λ (script : List Event). length script) same.script in omega (arith, fewer, few, long)
 
-not_fewer : (p q : Play) (events : ℕ) → SayTheSame p.hand q.hand → events ≤ length p.hand.script → length q.hand.script < events → ⊥
+pub not_fewer : (p q : Play) (events : ℕ) → SayTheSame p.hand q.hand → events ≤ length p.hand.script → length q.hand.script < events → ⊥
 not_fewer p q events same few fewer =
     let long = ap (λ (script : List Event). length script) same.script in omega (arith, fewer, few, long)
 

@@ -23,4 +23,5 @@ pub mod Told
 pub mod Run
 pub mod Headline
 pub mod ComparedRuns
+pub mod LegalInputs
 pub mod RunTells

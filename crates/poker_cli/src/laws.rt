@@ -1,6 +1,6 @@
 //! An input has one answer, none is refused whose hands are all legal, equal hands come to equal
 //! outputs, by whatever way, and compare as the same.
-ghost use Rattle.std.specs.Prelude.{◌≡◌, ◌⊎◌, ◌↔◌, ◌≤◌, ℕ, Bool, true, List, None, Ok, length};
+ghost use Rattle.std.specs.Prelude.{◌≡◌, ◌⊎◌, ◌↔◌, ◌≤◌, ℕ, Bool, true, List, None, Some, Ok, length};
 ghost use Rattle.std.specs.List.{AllByRecursion};
 ghost use Rattle.acpc_game.specs.declared.game.Game.{Game};
 ghost use Rattle.chip_ledger.specs.declared.numbers.Seat.{Seat};
@@ -9,6 +9,7 @@ ghost use Rattle.command_words.specs.declared.command.Command.{Command};
 ghost use Rattle.command_words.specs.declared.task.Question.{Question};
 ghost use Rattle.command_words.specs.declared.task.Question.TheVariants as questions;
 ghost use Rattle.hand_canon.specs.Sound.{IsSound};
+ghost use Rattle.hand_equity.specs.Street.{deals_board, first_unknown};
 ghost use Rattle.hand_records.specs.SameHands.{AreSameHands, kept_notes};
 ghost use Rattle.hand_records.specs.declared.record.Record.{Record};
 ghost use Rattle.hand_records.specs.declared.trace.Play.{Play};
@@ -19,9 +20,10 @@ ghost use Rattle.poker_cli.specs.Compared.{compared};
 ghost use Rattle.poker_cli.specs.ComparedRuns.{AreFoundOther, AreFoundSame, AreOther, AreSame, BothRead, FindsOther};
 ghost use Rattle.poker_cli.specs.Headline.{ConversionEnds, ConvertsInto};
 ghost use Rattle.poker_cli.specs.Inputs.{SayRecords};
+ghost use Rattle.poker_cli.specs.LegalInputs.{AsksOfLegal};
 ghost use Rattle.poker_cli.specs.OneAnswer.{AreOneAnswer};
 ghost use Rattle.poker_cli.specs.Outputs.{AreSameIn, first_refusal_in, kept_in};
-ghost use Rattle.poker_cli.specs.Replies.{AreViews};
+ghost use Rattle.poker_cli.specs.Replies.{AreViews, each_view, hand_numbered, most_view_bytes};
 ghost use Rattle.poker_cli.specs.Run.{Ends, NeedsNoInput, RefusesNothing, Sinks};
 ghost use Rattle.poker_cli.specs.RunTells.{told_by};
 ghost use Rattle.poker_cli.specs.Ways.{way};
@@ -32,7 +34,6 @@ ghost use Rattle.poker_cli.specs.declared.task.Format.{Format};
 ghost use Rattle.poker_cli.specs.declared.task.Task.{Task};
 ghost use Rattle.poker_cli.specs.declared.task.Task.TheVariants as tasks;
 ghost use Rattle.convert_core.specs.Conversion.{ReadAsPlays};
-ghost use Rattle.convert_core.specs.Judged.{ArePlaysOf};
 ghost use Rattle.convert_core.specs.SameAnswers.{AreSameAnswers};
 
 /// The bytes of an input have one answer to a task, as they are read; where hands are written in
@@ -50,54 +51,61 @@ pub fn law_of_one_answer()
 /// stated of them, ends with Done, or a device failed, or the status is Memory: on hands in a
 /// notation without games, and on a log whose game's file gives its game. Where something is asked
 /// of the hands, or what a seat saw of them, it may also end with the status of the reply to that,
-/// as Unspelled where the first hand fits no game, and NoSuch where there is no such hand. Where
-/// hands are converted, each fact that is to be kept has a spelling in the other notation. Where
-/// hands are judged, they need not be legal. Where they are compared, all hands of the other file
-/// are legal and agree, too, and the status may also be that of the comparison: Differs, where they
-/// are not the same. A run that makes hands ends with Done, or the output failed, or the status is
-/// Memory, whatever input and files there are. The function does nothing: its contract is a law.
+/// as Unspelled where the first hand fits no game, and NoSuch where there is no such hand. It may
+/// not where what is asked for is there: a hand with so many events (`options`), a hand that deals
+/// a board on the street and whose live seats have known cards (`equity`), or a seat of the game
+/// whose lines are no more bytes than are written (`seen`). Where hands are converted, each fact
+/// that is to be kept has a spelling in the other notation. Where hands are judged, they need not
+/// be legal. Where they are compared, all hands of the other file are legal and agree, too, and the
+/// status may also be that of the comparison: Differs, where they are not the same. A run that
+/// makes hands ends with Done, or the output failed, or the status is Memory, whatever input and
+/// files there are. The function does nothing: its contract is a law.
 pub fn law_of_legal_inputs()
-    ensures show { (request : Request) (command : Command) (reader : Format)
-        → (files : Files) (bytes : List ℕ) (records : List Record) (plays : List Play)
-        → (out diag : Sinks) (status : Status)
-        → IsWay files request (way (tasks.Ask (questions.Show command)) reader)
-        → length bytes ≤ most_input → SayRecords reader bytes records
-        → ArePlaysOf records plays
+    ensures show { (request : Request) (command : Command) (reader : Format) (files : Files)
+        → (bytes : List ℕ) (plays : List Play) (out diag : Sinks) (status : Status)
+        → AsksOfLegal files request (tasks.Ask (questions.Show command)) reader bytes plays
         → Ends request files bytes out diag status → RefusesNothing status }
-    ensures ask { (request : Request) (question : Question) (reader : Format)
-        → (files : Files) (bytes : List ℕ) (records : List Record) (plays : List Play)
-        → (reply : Answer) (out diag : Sinks) (status : Status)
-        → IsWay files request (way (tasks.Ask question) reader)
-        → length bytes ≤ most_input → SayRecords reader bytes records
-        → ArePlaysOf records plays → IsReply question plays reply
-        → Ends request files bytes out diag status
+    ensures ask { (request : Request) (question : Question) (reader : Format) (files : Files)
+        → (bytes : List ℕ) (plays : List Play) (reply : Answer) (out diag : Sinks)
+        → (status : Status) → AsksOfLegal files request (tasks.Ask question) reader bytes plays
+        → IsReply question plays reply → Ends request files bytes out diag status
         → RefusesNothing status ⊎ (reply.status ≡ status) }
+    ensures options { (request : Request) (hand events : ℕ) (reader : Format) (files : Files)
+        → (bytes : List ℕ) (plays : List Play) (play : Play) (out diag : Sinks) (status : Status)
+        → AsksOfLegal files request (tasks.Ask (questions.Options hand events)) reader bytes plays
+        → hand_numbered plays hand ≡ Some play → events ≤ length play.hand.script
+        → Ends request files bytes out diag status → RefusesNothing status }
+    ensures equity { (request : Request) (hand street : ℕ) (reader : Format) (files : Files)
+        → (bytes : List ℕ) (plays : List Play) (play : Play) (out diag : Sinks) (status : Status)
+        → AsksOfLegal files request (tasks.Ask (questions.Equity hand street)) reader bytes plays
+        → hand_numbered plays hand ≡ Some play → deals_board play.trace street ≡ true
+        → first_unknown play.trace street ≡ None
+        → Ends request files bytes out diag status → RefusesNothing status }
     ensures views { (request : Request) (game : Game) (seat : Seat) (reader : Format)
-        → (files : Files) (bytes : List ℕ) (records : List Record) (plays : List Play)
-        → (reply : Answer) (out diag : Sinks) (status : Status)
-        → IsWay files request (way (tasks.Views game seat) reader)
-        → length bytes ≤ most_input → SayRecords reader bytes records
-        → ArePlaysOf records plays → AreViews game seat plays reply
-        → Ends request files bytes out diag status
+        → (files : Files) (bytes : List ℕ) (plays : List Play) (reply : Answer)
+        → (out diag : Sinks) (status : Status)
+        → AsksOfLegal files request (tasks.Views game seat) reader bytes plays
+        → AreViews game seat plays reply → Ends request files bytes out diag status
         → RefusesNothing status ⊎ (reply.status ≡ status) }
+    ensures seen { (request : Request) (game : Game) (seat : Seat) (reader : Format)
+        → (files : Files) (bytes : List ℕ) (plays : List Play) (out diag : Sinks)
+        → (status : Status) → AsksOfLegal files request (tasks.Views game seat) reader bytes plays
+        → seat.number ≤ game.stacks.seats
+        → length (each_view game seat 0 plays) ≤ most_view_bytes
+        → Ends request files bytes out diag status → RefusesNothing status }
     ensures judge { (request : Request) (reader : Format) (files : Files) (bytes : List ℕ)
         → (records : List Record) (out diag : Sinks) (status : Status)
         → IsWay files request (way tasks.Judge reader)
         → length bytes ≤ most_input → SayRecords reader bytes records
         → Ends request files bytes out diag status → RefusesNothing status }
-    ensures convert { (request : Request) (reader target : Format) (keep : Keep)
-        → (files : Files) (bytes : List ℕ) (records : List Record) (plays : List Play)
-        → (out diag : Sinks) (status : Status)
-        → IsWay files request (way (tasks.Convert target keep) reader)
-        → length bytes ≤ most_input → SayRecords reader bytes records
-        → ArePlaysOf records plays
+    ensures convert { (request : Request) (reader target : Format) (keep : Keep) (files : Files)
+        → (bytes : List ℕ) (plays : List Play) (out diag : Sinks) (status : Status)
+        → AsksOfLegal files request (tasks.Convert target keep) reader bytes plays
         → first_refusal_in target keep plays ≡ None
         → Ends request files bytes out diag status → RefusesNothing status }
     ensures compare { (request : Request) (by : Comparison) (files : Files) (text bytes : List ℕ)
         → (plays others : List Play) (out diag : Sinks) (status : Status)
-        → AsksToCompare files request by text → length bytes ≤ most_input
-        → ReadAsPlays (SayRecords by.from bytes) plays
-        → ReadAsPlays (SayRecords by.other text) others
+        → AsksToCompare files request by text → BothRead by text bytes plays others
         → Ends request files bytes out diag status
         → RefusesNothing status ⊎ ((compared by.notes plays others).status ≡ status) }
     ensures load { (seed hands : ℕ) (files : Files) (bytes : List ℕ)

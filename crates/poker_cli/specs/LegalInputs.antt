@@ -1,0 +1,18 @@
+-- What is asked of hands that are all legal and agree with what is stated of them.
+use Rattle.std.specs.Prelude.{ℕ, ◌≤◌, List, length}
+use Rattle.command_words.specs.Words.{Request}
+use Rattle.convert_core.specs.Conversion.{ReadAsPlays}
+use Rattle.hand_records.specs.declared.trace.Play.{Play}
+use Rattle.poker_cli.specs.Answer.{Files, IsWay, most_input}
+use Rattle.poker_cli.specs.Inputs.{SayRecords}
+use Rattle.poker_cli.specs.Ways.{way}
+use Rattle.poker_cli.specs.declared.task.Format.{Format}
+use Rattle.poker_cli.specs.declared.task.Task.{Task}
+
+-- A request makes this of the hands of an input, which is read so and no longer than it may be: it
+-- reads as hands that are all legal and agree with what is stated of them, and these are the plays.
+pub record AsksOfLegal (files : Files) (request : Request) (task : Task) (reader : Format)
+    (bytes : List ℕ) (plays : List Play) : Type 0 where
+  pub asks : IsWay files request (way task reader)
+  pub within : length bytes ≤ most_input
+  pub read : ReadAsPlays (SayRecords reader bytes) plays
