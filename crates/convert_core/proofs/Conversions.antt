@@ -11,21 +11,21 @@ use Rattle.hand_records.specs.declared.writing.Keep.TheVariants as keeps
 use Rattle.hand_records.specs.declared.writing.Unspelled.{Unspelled}
 use Rattle.hand_records.specs.declared.writing.WriteRefusal.TheVariants as refusals
 use Rattle.convert_core.specs.Conversion.{HasUnspelled, IsConversion, ReadAsPlays, RefusesNothing}
-use Rattle.convert_core.specs.ReadBack.{ReadBack}
 use Rattle.convert_core.specs.declared.convert_fault.ConvertFault.{ConvertFault}
 use Rattle.convert_core.specs.declared.convert_fault.ConvertFault.TheVariants as faults
 use Rattle.convert_core.proofs.OneConversion.{refused_or_played}
-use Rattle.hand_records.specs.SaidNotes.{KeepsNotes, SaidNotes, notes_of}
+use Rattle.hand_records.specs.SaidNotes.{SaidNotes, notes_of}
 use Rattle.convert_core.specs.SameAnswers.{AreSameAnswers}
 use Rattle.hand_records.specs.SameHands.{AllPaired, AreSameHand, kept_notes}
 use Rattle.convert_core.proofs.Paired.{each_both, each_second, each_spelled, none_unspelled, one_refusal, paired_below, paired_both, paired_more, paired_turned}
-use Rattle.convert_core.proofs.LawfulNotations.{AreReadSame, IsReadAgain, ReadNotation, WrittenNotation, all_read_same, never_refused, read_again, read_few, read_same, read_sound}
+use Rattle.convert_core.proofs.KeptByChoice.{again_spelled}
+use Rattle.convert_core.proofs.LawfulNotations.{AreReadBack, AreReadSame, IsReadAgain, ReadNotation, WrittenNotation, all_read_same, never_refused, no_fault, read_again, read_few, read_same, read_sound}
 
 -- the answer of a conversion between two notations
 abbrev pub Converts : ReadNotation → WrittenNotation → Keep → List ℕ → Result (List ℕ) ConvertFault → Type 0
 Converts a n keep bytes answer =
     IsConversion (a.Say bytes) (a.HaveFault bytes) (n.unspelled keep) n.Spell
-    (λ plays output. ReadBack (n.source.Say output) (n.source.HaveFault output) (KeepsNotes n.kept) plays) (λ output. output) answer
+    (λ plays output. AreReadBack n.source (kept_notes keep n.kept) plays output) (λ output. output) answer
 
 -- ---- pairs
 
@@ -121,7 +121,7 @@ module _ (n : ReadNotation) (bytes : List ℕ) (unspelled : Play → Option Unsp
   pub converted_alone : (Spell Back : List Play → List ℕ → Type 0) (plays : List Play) (answer : Result (List ℕ) ConvertFault) → ReadAsPlays (n.Say bytes) plays → first_refusal unspelled plays ≡ None
       → IsConversion (n.Say bytes) (n.HaveFault bytes) unspelled Spell Back (λ output. output) answer → RefusesNothing answer
   converted_alone Spell Back plays (Ok output) read spelled is = tt
-  converted_alone Spell Back plays (Err (faults.Format fault)) read spelled is = n.no_fault bytes read.records fault read.say is
+  converted_alone Spell Back plays (Err (faults.Format fault)) read spelled is = no_fault n bytes read.records fault read.say is
   converted_alone Spell Back plays (Err (faults.Refused number why)) read spelled is = refused_or_played (n.Say bytes) (n.one_reading bytes) number why plays is read
   converted_alone Spell Back plays (Err (faults.Unspelled number fact)) read spelled is = spelled_or_not number fact plays is read spelled
   converted_alone Spell Back plays (Err faults.Memory) read spelled is = tt
@@ -175,11 +175,14 @@ same_again : (n : WrittenNotation) (place : ℕ) (play again : Play) → IsReadA
 same_again n place play again is = record { trace = sym is.trace; notes = sym (ap n.kept is.notes ∙ n.kept_again (notes_of place play)) }
 
 module _ (n : WrittenNotation) (keep once : Keep) (plays : List Play) (output : List ℕ) (few : length plays ≤ MOST_HANDS) (sound : AllByRecursion IsSound plays)
-    (spelled : first_refusal (n.unspelled once) plays ≡ None) (spell : n.Spell plays output) (back : ReadBack (n.source.Say output) (n.source.HaveFault output) (KeepsNotes n.kept) plays) where
+    (spelled : first_refusal (n.unspelled once) plays ≡ None) (spell : n.Spell plays output) (back : AreReadBack n.source (kept_notes once n.kept) plays output) where
+  pairs_again : (again : List Play) → ReadAsPlays (n.source.Say output) again → AllPaired (IsReadAgain n.kept) 0 plays again
+  pairs_again again read = again_spelled n.unspelled n.kept n.all_spelled once plays again few sound spelled (read_again n.source (kept_notes once n.kept) plays again output back read)
+
   none_again : (again : List Play) → ReadAsPlays (n.source.Say output) again → first_refusal (n.unspelled keep) again ≡ None
   none_again again read =
       let P : Play → Type 0 = λ play. IsSound play × (n.unspelled once play ≡ None) in
-      let pairs = read_again n plays again output back read in
+      let pairs = pairs_again again read in
       let facts : AllPaired (λ _ _ other. n.unspelled keep other ≡ None) 0 plays again =
       paired_below MOST_HANDS (IsReadAgain n.kept) (λ _ _ other. n.unspelled keep other ≡ None) P IsSound
       (λ place play other early is it pair. fact_again n keep once place play other early is.0 it is.1 pair) 0 plays again (omega (arith, few))
@@ -191,7 +194,7 @@ module _ (n : WrittenNotation) (keep once : Keep) (plays : List Play) (output : 
   pub answer_again : (answer : Result (List ℕ) ConvertFault) → Converts n.source n keep output answer → AreSameAnswers n.AreSame (Ok output) answer
   answer_again (Ok written) done =
       n.one_spelling plays done.plays output written sound (read_sound n.source output done.plays done.read) spell done.spell
-      (paired_more (IsReadAgain n.kept) (AreSameHand n.kept) (same_again n) 0 plays done.plays (read_again n plays done.plays output back done.read))
+      (paired_more (IsReadAgain n.kept) (AreSameHand n.kept) (same_again n) 0 plays done.plays (pairs_again done.plays done.read))
   answer_again (Err (faults.Format fault)) have = back.no_fault fault have
   answer_again (Err (faults.Refused number why)) refused = never_refused n plays output number why back refused
   answer_again (Err (faults.Unspelled number fact)) has =
@@ -206,21 +209,17 @@ output_again a n once keep bytes output answer done again =
 
 -- ---- by way of another notation
 
--- a play that is read again of one whose notes are all spelled is the same
-whole_again : (n : WrittenNotation) (place : ℕ) (play again : Play) → place < MOST_HANDS → IsWhole n play → IsReadAgain n.kept place play again → AreSameHand (λ notes. notes) place play again
-whole_again n place play again early is pair =
-    record { trace = sym pair.trace; notes = sym (pair.notes ∙ ((n.all_spelled place play early is.0).0 is.1).1) }
+-- a play that is read again with all notes is the same
+whole_again : (place : ℕ) (play again : Play) → IsReadAgain (λ notes. notes) place play again → AreSameHand (λ notes. notes) place play again
+whole_again place play again pair = record { trace = sym pair.trace; notes = sym pair.notes }
 
 module _ (a : ReadNotation) (b c : WrittenNotation) (keep : Keep) (bytes output : List ℕ) (done : Converts a b keeps.All bytes (Ok output)) where
   -- what the output reads as is what the bytes read as
   by_way : (plays again : List Play) → ReadAsPlays (a.Say bytes) plays → ReadAsPlays (b.source.Say output) again → AllPaired (AreSameHand (λ notes. notes)) 0 plays again
   by_way plays again read read_too =
-      let few = read_few a bytes done.plays done.read in
-      let each = each_whole b done.plays (read_sound a bytes done.plays done.read) done.spelled in
       all_both (λ notes. notes) plays done.plays again (read_same a bytes plays done.plays read done.read)
-      (paired_below MOST_HANDS (IsReadAgain b.kept) (AreSameHand (λ notes. notes)) (IsWhole b) IsSound
-      (λ place play other early is it pair. whole_again b place play other early is pair) 0 done.plays again (omega (arith, few.few)) each
-      (read_sound b.source output again read_too) (read_again b done.plays again output done.back read_too))
+      (paired_more (IsReadAgain (λ notes. notes)) (AreSameHand (λ notes. notes)) whole_again 0 done.plays again
+      (read_again b.source (λ notes. notes) done.plays again output done.back read_too))
 
   -- so both have one first fact without a spelling
   one_first : (plays again : List Play) → ReadAsPlays (a.Say bytes) plays → ReadAsPlays (b.source.Say output) again → first_refusal (c.unspelled keep) plays ≡ first_refusal (c.unspelled keep) again
@@ -239,7 +238,7 @@ module _ (a : ReadNotation) (b c : WrittenNotation) (keep : Keep) (bytes output 
   not_or_done plays again number fact read read_too some none = (let same = one_first plays again read read_too in cc)
 
   pub same_answers : (first second : Result (List ℕ) ConvertFault) → Converts a c keep bytes first → Converts b.source c keep output second → AreSameAnswers c.AreSame first second
-  same_answers (Err (faults.Format fault)) second is it = absurd (a.no_fault bytes done.read.records fault done.read.say is)
+  same_answers (Err (faults.Format fault)) second is it = absurd (no_fault a bytes done.read.records fault done.read.say is)
   same_answers (Err (faults.Refused number why)) second is it = absurd (refused_or_played (a.Say bytes) (a.one_reading bytes) number why done.plays is done.read)
   same_answers (Ok written) (Ok again) is it =
       c.one_spelling is.plays it.plays written again (read_sound a bytes is.plays is.read) (read_sound b.source output it.plays it.read) is.spell it.spell

@@ -1,5 +1,5 @@
 -- A notation with the laws that it keeps, as one value, and what is read of its bytes.
-use Rattle.std.proofs.Common.{◌≡◌, ◌+◌, ◌-◌, ℕ, ◌<◌, ◌≤◌, length, List, [], ◌∷◌, Option, None, All, take, option_map, option_and_then, refl, sym, ap, subst, ◌∙◌, ◌↔◌}
+use Rattle.std.proofs.Common.{◌≡◌, ◌⊎◌, ◌+◌, ◌-◌, ℕ, ◌<◌, ◌≤◌, length, List, [], ◌∷◌, Option, None, All, take, option_map, option_and_then, refl, sym, ap, subst, ◌∙◌, ◌↔◌, inl, inr}
 use Rattle.std.specs.List.{AllByRecursion}
 use Rattle.std.proofs.lemmas.List.Elements.{All-cons, All-nil, recursion_from_All}
 use Rattle.first_fault.specs.declared.limits.TheConstants.{MOST_HANDS}
@@ -21,6 +21,7 @@ use Rattle.play_event.specs.declared.setup.Rules.{Rules}
 use Rattle.convert_core.specs.Conversion.{ReadAsPlays, ReadAsRefused}
 use Rattle.convert_core.specs.Judged.{ArePlaysOf}
 use Rattle.convert_core.specs.ReadBack.{ReadBack}
+use Rattle.convert_core.specs.ReadOrFail.{OnlyFail, OnlyRead, ReadOrFail}
 use Rattle.convert_core.specs.Records.{AreFew, AreOfFile, IsUnder}
 use Rattle.convert_core.specs.SameRecords.{AllAlike, ArePlayedAlike, NoteTheSame}
 use Rattle.convert_core.specs.declared.refusal.Refusal.{Refusal}
@@ -37,9 +38,11 @@ use Rattle.hand_records.specs.SameHands.{AllPaired, AreSameHand}
 pub record ReadNotation : Type 1 where
   pub rules : Rules
   pub Say : List ℕ → List Record → Type 0
+  pub ReadAsHands : List ℕ → ℕ → Type 0
   pub HaveFault : List ℕ → FormatFault → Type 0
   pub reads_file : (bytes : List ℕ) (hands : List Record) → Say bytes hands → AreOfFile rules hands
-  pub no_fault : (bytes : List ℕ) (hands : List Record) (fault : FormatFault) → Say bytes hands → HaveFault bytes fault → ⊥
+  pub read_or_fail : (bytes : List ℕ) → ReadOrFail (ReadAsHands bytes) (HaveFault bytes)
+  pub say_as_many : (bytes : List ℕ) (hands : List Record) → Say bytes hands → ReadAsHands bytes (length hands)
   pub one_reading : (bytes : List ℕ) (hands others : List Record) → Say bytes hands → Say bytes others → AllAlike hands others
 
 -- what a notation says of bytes, and how it writes plays, with the laws of both
@@ -60,6 +63,14 @@ pub record WrittenNotation : Type 1 where
   pub same_hands : (keep : Keep) (plays others : List Play) (bytes too : List ℕ) → AreFew plays → AreFew others → AllByRecursion IsSound plays → AllByRecursion IsSound others
       → first_refusal (unspelled keep) plays ≡ None → first_refusal (unspelled keep) others ≡ None → Spell plays bytes → Spell others too
       → AreSame bytes too → AllPaired (AreSameHand kept) 0 plays others
+
+-- bytes that say records have no fault
+pub no_fault : (n : ReadNotation) (bytes : List ℕ) (hands : List Record) (fault : FormatFault) → n.Say bytes hands → n.HaveFault bytes fault → ⊥
+no_fault n bytes hands fault say have = by_case (n.read_or_fail bytes)
+  where
+    by_case : OnlyRead (n.ReadAsHands bytes) (n.HaveFault bytes) ⊎ OnlyFail (n.ReadAsHands bytes) (n.HaveFault bytes) → ⊥
+    by_case (inl is) = is.no_fault fault have
+    by_case (inr is) = is.unread (length hands) (n.say_as_many bytes hands say)
 
 -- ---- plays that are read
 
@@ -169,24 +180,29 @@ again_judged keeps place (play ∷ plays) (hand ∷ hands) again =
 again_are : (keeps : ℕ → ℕ → Notes → Notes → Type 0) (place : ℕ) (plays : List Play) (hands : List Record) → AreAgain keeps place plays hands → ArePlaysOf hands (again_plays plays hands)
 again_are keeps place plays hands again = record { same = again_hands keeps place plays hands again; judged = again_judged keeps place plays hands again }
 
-again_paired : (n : WrittenNotation) (place : ℕ) (plays : List Play) (hands : List Record) → AreAgain (KeepsNotes n.kept) place plays hands → AllPaired (IsReadAgain n.kept) place plays (again_plays plays hands)
+again_paired : (kept : SaidNotes → SaidNotes) (place : ℕ) (plays : List Play) (hands : List Record) → AreAgain (KeepsNotes kept) place plays hands → AllPaired (IsReadAgain kept) place plays (again_plays plays hands)
 unfolding AreAgain AllPaired
-again_paired n place [] [] again = tt
-again_paired n place [] (hand ∷ hands) again = absurd again
-again_paired n place (play ∷ plays) [] again = absurd again
-again_paired n place (play ∷ plays) (hand ∷ hands) again =
-    (record { trace = refl; notes = again.0.notes }, again_paired n (place + 1) plays hands again.1)
+again_paired kept place [] [] again = tt
+again_paired kept place [] (hand ∷ hands) again = absurd again
+again_paired kept place (play ∷ plays) [] again = absurd again
+again_paired kept place (play ∷ plays) (hand ∷ hands) again =
+    (record { trace = refl; notes = again.0.notes }, again_paired kept (place + 1) plays hands again.1)
+
+-- bytes read back as plays, with these of their notes
+abbrev pub AreReadBack : ReadNotation → (SaidNotes → SaidNotes) → List Play → List ℕ → Type 0
+AreReadBack n kept plays bytes = ReadBack (n.Say bytes) (n.ReadAsHands bytes) (n.HaveFault bytes) (KeepsNotes kept) plays
 
 -- what bytes read as that read back as plays
-pub read_again : (n : WrittenNotation) (plays others : List Play) (bytes : List ℕ) → ReadBack (n.source.Say bytes) (n.source.HaveFault bytes) (KeepsNotes n.kept) plays → ReadAsPlays (n.source.Say bytes) others
-    → AllPaired (IsReadAgain n.kept) 0 plays others
-read_again n plays others bytes back read =
+pub read_again : (n : ReadNotation) (kept : SaidNotes → SaidNotes) (plays others : List Play) (bytes : List ℕ) → AreReadBack n kept plays bytes → ReadAsPlays (n.Say bytes) others
+    → AllPaired (IsReadAgain kept) 0 plays others
+read_again n kept plays others bytes back read =
     let again = back.again read.records read.say in
-    subst (AllPaired (IsReadAgain n.kept) 0 plays) (same_plays read.records (again_plays plays read.records) others (again_are (KeepsNotes n.kept) 0 plays read.records again) read.are)
-    (again_paired n 0 plays read.records again)
+    subst (AllPaired (IsReadAgain kept) 0 plays) (same_plays read.records (again_plays plays read.records) others (again_are (KeepsNotes kept) 0 plays read.records again) read.are)
+    (again_paired kept 0 plays read.records again)
 
 -- and they have no refused hand
-pub never_refused : (n : WrittenNotation) (plays : List Play) (bytes : List ℕ) (number : ℕ) (why : Refusal) → ReadBack (n.source.Say bytes) (n.source.HaveFault bytes) (KeepsNotes n.kept) plays → ReadAsRefused (n.source.Say bytes) number why → ⊥
-never_refused n plays bytes number why back refused =
+pub never_refused : (n : WrittenNotation) {keeps : ℕ → ℕ → Notes → Notes → Type 0} (plays : List Play) (bytes : List ℕ) (number : ℕ) (why : Refusal)
+    → ReadBack (n.source.Say bytes) (n.source.ReadAsHands bytes) (n.source.HaveFault bytes) keeps plays → ReadAsRefused (n.source.Say bytes) number why → ⊥
+never_refused n {keeps} plays bytes number why back refused =
     let again = back.again refused.records refused.say in
-    not_both refused.records (again_plays plays refused.records) number why (again_are (KeepsNotes n.kept) 0 plays refused.records again) refused.first
+    not_both refused.records (again_plays plays refused.records) number why (again_are keeps 0 plays refused.records again) refused.first

@@ -8,4 +8,5 @@ pub mod Taken
 pub mod WrittenLines
 pub mod Paired
 pub mod LawfulNotations
+pub mod KeptByChoice
 pub mod Conversions

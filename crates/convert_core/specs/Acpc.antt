@@ -4,7 +4,7 @@ use Rattle.std.specs.List.{AllByRecursion}
 use Rattle.acpc_game.specs.declared.game.Game.{Game}
 use Rattle.acpc_writing.specs.Line.{log_text}
 use Rattle.acpc_writing.specs.Texts.{HasTexts}
-use Rattle.acpc_reading.specs.Logs.{reading}
+use Rattle.acpc_reading.specs.Logs.{HandSaid, reading}
 use Rattle.acpc_reading.specs.RecordView.{IsOfGame, record_said}
 use Rattle.acpc_text.specs.declared.fault.AcpcFault.{AcpcFault}
 use Rattle.acpc_text.specs.declared.fault.AcpcFault.TheVariants as faults
@@ -22,6 +22,12 @@ pub record Say (game : Game) (bytes : List ℕ) (records : List Record) : Type 0
   pub each : AllByRecursion (IsOfGame game) records
   pub few : length records ≤ MOST_HANDS
   pub few_moves : sum_by moves_of records ≤ MOST_FILE_MOVES
+
+-- bytes read as so many hands under a game
+pub record ReadAsHands (game : Game) (bytes : List ℕ) (count : ℕ) : Type 0 where
+  pub hands : List HandSaid
+  pub reads : reading game bytes ≡ Ok hands
+  pub counted : length hands ≡ count
 
 -- bytes have this first fault, which is not want of memory
 pub record Have (game : Game) (bytes : List ℕ) (fault : AcpcFault) : Type 0 where

@@ -1,6 +1,6 @@
 -- The laws that a notation keeps, of the logs of the competition under a game.
 -- This is a proof: no reader needs it.
-use Rattle.std.proofs.Common.{◌≡◌, ℕ, ◌+◌, ◌≤◌, Bool, true, List, [], ◌∷◌, ◌++◌, append_assoc, append-nil, length, reverse, sum_by, Some, None, Ok, refl, sym, ap, subst, ◌∙◌, arith}
+use Rattle.std.proofs.Common.{◌≡◌, ℕ, ◌+◌, ◌≤◌, Bool, true, List, [], ◌∷◌, ◌++◌, append_assoc, append-nil, length, map, reverse, sum_by, Some, None, Ok, refl, sym, ap, subst, ◌∙◌, arith}
 use Rattle.std.specs.List.{AllByRecursion}
 use Rattle.std.proofs.lemmas.List.Sums.{sum_by-cons}
 use Rattle.acpc_format.specs.Again.{hands_again}
@@ -17,7 +17,7 @@ use Rattle.acpc_writing.specs.Line.{line_text, lines_from, log_text}
 use Rattle.acpc_writing.specs.Spelled as facts
 use Rattle.acpc_writing.specs.Texts.{HasTexts}
 use Rattle.acpc_reading.specs.Logs.{reading}
-use Rattle.acpc_reading.specs.RecordView.{IsOfGame, rules_of}
+use Rattle.acpc_reading.specs.RecordView.{IsOfGame, record_said, rules_of}
 use Rattle.canon_script.specs.TraceCore.{TraceCore}
 use Rattle.canon_laws.proofs.MoveCounts.{move_count}
 use Rattle.list_laws.proofs.Reversed.{count_reversed}
@@ -31,11 +31,11 @@ use Rattle.hand_records.specs.declared.record.Record.{Record}
 use Rattle.hand_records.specs.declared.trace.Play.{Play}
 use Rattle.hand_records.specs.declared.writing.Keep.{Keep}
 use Rattle.hand_records.specs.declared.writing.Unspelled.{Unspelled}
-use Rattle.convert_core.specs.Acpc.{HaveFault, Say, Spell}
+use Rattle.convert_core.specs.Acpc.{HaveFault, ReadAsHands, Say, Spell}
+use Rattle.convert_core.specs.AcpcReads.{none_of_read, read_again}
 use Rattle.convert_core.specs.ReadBack.{ReadBack}
 use Rattle.convert_core.specs.Records.{AreFew, AreOfFile, IsUnder}
 use Rattle.convert_core.specs.declared.format_fault.FormatFault.{FormatFault}
-use Rattle.convert_core.specs.declared.format_fault.FormatFault.TheVariants as formats
 use Rattle.hand_canon.specs.Sharp.{IsOther, is_sharp}
 use Rattle.hand_records.specs.Moves.{moves_played}
 use Rattle.hand_records.specs.WriteRefusals.{first_refusal}
@@ -58,10 +58,8 @@ reads_file game bytes hands say =
 -- what is read has no fault
 pub no_fault : (game : Game) (bytes : List ℕ) (hands : List Record) (fault : FormatFault)
     → Say game bytes hands → HaveFault game bytes fault → ⊥
-no_fault game bytes hands (formats.Phh fault) say have = have
-no_fault game bytes hands (formats.Ohh fault) say have = have
-no_fault game bytes hands (formats.Acpc fault) say have =
-    (let said = say.reads in let had = have.reads in cc)
+no_fault game bytes hands fault say have =
+    none_of_read game bytes (map record_said hands) fault say.reads have
 
 -- of a play as many moves are written as were played
 same_count : (play : Play) → IsSound play → moves_written play ≡ moves_played play
@@ -86,18 +84,12 @@ all_counted (play ∷ rest) each =
       all_counted rest each.1,
     )
 
--- lines that read as hands have no fault
-none_had : (game : Game) (lines : List ℕ) (plays : List Play) (fault : FormatFault)
-    → reading game lines ≡ Ok (hands_again game.no_limit 0 plays) → HaveFault game lines fault → ⊥
-none_had game lines plays (formats.Phh fault) read have = have
-none_had game lines plays (formats.Ohh fault) read have = have
-none_had game lines plays (formats.Acpc fault) read have = (let had = have.reads in cc)
-
 -- the lines of plays read back
 lines_back : (game : Game) (keep : Keep) (plays : List Play) → AreFew plays
     → AllByRecursion IsSound plays → AllByRecursion HasTexts plays
     → first_refusal (facts.unspelled game keep) plays ≡ None
     → ReadBack (Say game (log_text game.no_limit plays))
+    (ReadAsHands game (log_text game.no_limit plays))
     (HaveFault game (log_text game.no_limit plays)) (KeepsNotes kept_in_acpc) plays
 lines_back game keep plays few sound texts spelled =
     let none = spelled in
@@ -107,7 +99,11 @@ lines_back game keep plays few sound texts spelled =
     reading game (log_text game.no_limit plays) ≡ Ok (hands_again game.no_limit 0 plays) =
     sound_again game keep plays few.few sound texts none moves in
     record {
-      no_fault = λ fault have. none_had game (log_text game.no_limit plays) plays fault read have;
+      read = read_again game (log_text game.no_limit plays) plays read;
+      no_fault =
+          λ fault have.
+          none_of_read game (log_text game.no_limit plays) (hands_again game.no_limit 0 plays)
+          fault read have;
       again =
           λ hands say.
           read_back game keep plays few.few sound texts none moves hands say.each say.reads;
@@ -154,11 +150,13 @@ one_line_more game before play place old new many spell with_line one =
 pub reads_back : (game : Game) (keep : Keep) (plays : List Play) (bytes : List ℕ) → AreFew plays
     → AllByRecursion IsSound plays → first_refusal (facts.unspelled game keep) plays ≡ None
     → Spell game plays bytes
-    → ReadBack (Say game bytes) (HaveFault game bytes) (KeepsNotes kept_in_acpc) plays
+    → ReadBack (Say game bytes) (ReadAsHands game bytes) (HaveFault game bytes)
+    (KeepsNotes kept_in_acpc) plays
 reads_back game keep plays bytes few sound spelled spell =
     subst
     (λ (written : List ℕ).
-    ReadBack (Say game written) (HaveFault game written) (KeepsNotes kept_in_acpc) plays)
+    ReadBack (Say game written) (ReadAsHands game written) (HaveFault game written)
+    (KeepsNotes kept_in_acpc) plays)
     (sym spell.lines)
     (lines_back game keep plays few sound spell.texts spelled)
 

@@ -1,6 +1,7 @@
 -- The answer of a conversion, as its call tells it.
 use Rattle.std.specs.Prelude.{ℕ, List, Option, Result}
 use Rattle.hand_records.specs.SaidNotes.{KeepsNotes, SaidNotes}
+use Rattle.hand_records.specs.SameHands.{kept_notes}
 use Rattle.hand_records.specs.declared.record.Record.{Record}
 use Rattle.hand_records.specs.declared.trace.Play.{Play}
 use Rattle.hand_records.specs.declared.writing.Keep.{Keep}
@@ -18,10 +19,12 @@ abbrev pub Answers : (Say : List ℕ → List Record → Type 0)
     (unspelled : Keep → Play → Option Unspelled)
     (Spell : List Play → List ℕ → Type 0)
     (SayAgain : List ℕ → List Record → Type 0)
+    (ReadAgain : List ℕ → ℕ → Type 0)
     (FaultAgain : List ℕ → FormatFault → Type 0)
     (kept : SaidNotes → SaidNotes)
     → Keep → (bytes : List ℕ) → (answer : Result (List ℕ) ConvertFault) → Type 0
-Answers Say HaveFault unspelled Spell SayAgain FaultAgain kept keep bytes answer =
+Answers Say HaveFault unspelled Spell SayAgain ReadAgain FaultAgain kept keep bytes answer =
     IsConversion (Say bytes) (HaveFault bytes) (unspelled keep) Spell
-    (λ plays output. ReadBack (SayAgain output) (FaultAgain output) (KeepsNotes kept) plays)
+    (λ plays output. ReadBack (SayAgain output) (ReadAgain output) (FaultAgain output)
+    (KeepsNotes (kept_notes keep kept)) plays)
     (λ output. output) answer

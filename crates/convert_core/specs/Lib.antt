@@ -4,6 +4,8 @@ pub mod Judged
 pub mod Faults
 pub mod Records
 pub mod ReadBack
+pub mod ReadOrFail
+pub mod NoteParts
 pub mod SameRecords
 pub mod SameParts
 pub mod Conversion
@@ -16,9 +18,14 @@ pub mod Phh
 pub mod PhhAlike
 pub mod UnderRules
 pub mod PhhLaws
+pub mod PhhReads
 pub mod Ohh
 pub mod OhhAlike
 pub mod OhhLaws
+pub mod OhhReads
 pub mod Acpc
 pub mod AcpcAlike
 pub mod AcpcLaws
+pub mod AcpcTold
+pub mod AcpcReads
+pub mod KeptParts

@@ -6,7 +6,7 @@ use Rattle.hand_records.specs.declared.record.Record.{Record}
 use Rattle.hand_records.specs.declared.trace.Play.{Play}
 use Rattle.ohh_writing.specs.Lines.{Spells}
 use Rattle.ohh_members.specs.declared.dialect.Dialect.{Dialect}
-use Rattle.ohh_reading.specs.Hand.{plain}
+use Rattle.ohh_reading.specs.Hand.{PlainHand, plain}
 use Rattle.ohh_reading.specs.Reading.{Wrong, reading, wrong_of}
 use Rattle.ohh_reading.specs.declared.fault.OhhFault.{OhhFault}
 use Rattle.convert_core.specs.declared.format_fault.FormatFault.{FormatFault}
@@ -21,6 +21,12 @@ pub record Say (dialect : Dialect) (bytes : List ℕ) (records : List Record) : 
   pub each : AllByRecursion IsHistory records
   pub few : length records ≤ MOST_HANDS
   pub few_moves : sum_by moves_of records ≤ MOST_FILE_MOVES
+
+-- bytes read as so many hands in a dialect
+pub record ReadAsHands (dialect : Dialect) (bytes : List ℕ) (count : ℕ) : Type 0 where
+  pub hands : List PlainHand
+  pub reads : reading dialect bytes ≡ Ok hands
+  pub counted : length hands ≡ count
 
 -- bytes have this first fault
 pub record Have (dialect : Dialect) (bytes : List ℕ) (fault : OhhFault) : Type 0 where

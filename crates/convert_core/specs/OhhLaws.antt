@@ -1,6 +1,6 @@
 -- The laws that a notation keeps, of Open Hand History in a dialect.
 -- This is a proof: no reader needs it.
-use Rattle.std.proofs.Common.{◌≡◌, ℕ, true, List, [], Some, None, Ok, refl}
+use Rattle.std.proofs.Common.{◌≡◌, ℕ, true, List, [], map, Some, None, Ok, refl}
 use Rattle.std.specs.List.{AllByRecursion}
 use Rattle.hand_canon.specs.Sound.{IsSound}
 use Rattle.hand_records.specs.declared.record.Record.{Record}
@@ -20,12 +20,13 @@ use Rattle.ohh_format.proofs.Sharpness.{sharpness}
 use Rattle.ohh_format.proofs.SoundPlays.{sound_again}
 use Rattle.ohh_writing.specs.Spelled as facts
 use Rattle.ohh_members.specs.declared.dialect.Dialect.{Dialect}
+use Rattle.ohh_reading.specs.Hand.{plain}
 use Rattle.ohh_reading.specs.Reading.{reading}
 use Rattle.convert_core.specs.ReadBack.{ReadBack}
 use Rattle.convert_core.specs.Records.{AreFew, AreOfFile}
-use Rattle.convert_core.specs.Ohh.{HaveFault, Say, Spell}
+use Rattle.convert_core.specs.Ohh.{HaveFault, ReadAsHands, Say, Spell}
+use Rattle.convert_core.specs.OhhReads.{none_of_read, read_again}
 use Rattle.convert_core.specs.declared.format_fault.FormatFault.{FormatFault}
-use Rattle.convert_core.specs.declared.format_fault.FormatFault.TheVariants as formats
 use Rattle.hand_canon.specs.Sharp.{IsOther, is_sharp}
 use Rattle.hand_records.specs.WriteRefusals.{first_refusal}
 use Rattle.convert_core.specs.UnderRules.{each_under}
@@ -39,10 +40,8 @@ reads_file dialect bytes hands say =
 -- what is read has no fault
 pub no_fault : (dialect : Dialect) (bytes : List ℕ) (hands : List Record) (fault : FormatFault)
     → Say dialect bytes hands → HaveFault dialect bytes fault → ⊥
-no_fault dialect bytes hands (formats.Phh fault) say have = have
-no_fault dialect bytes hands (formats.Ohh fault) say have =
-    (let said = say.reads in let had = have.reads in cc)
-no_fault dialect bytes hands (formats.Acpc fault) say have = have
+no_fault dialect bytes hands fault say have =
+    none_of_read dialect bytes (map plain hands) fault say.reads have
 
 -- no plays are no bytes
 pub no_lines : (dialect : Dialect) → Spell dialect [] []
@@ -52,24 +51,22 @@ no_lines dialect = record { lines = refl; trees = tt }
 pub reads_back : (dialect : Dialect) (keep : Keep) (plays : List Play) (bytes : List ℕ)
     → AreFew plays → AllByRecursion IsSound plays
     → first_refusal (facts.unspelled keep) plays ≡ None → Spell dialect plays bytes
-    → ReadBack (Say dialect bytes) (HaveFault dialect bytes) (KeepsNotes kept_in_ohh) plays
+    → ReadBack (Say dialect bytes) (ReadAsHands dialect bytes) (HaveFault dialect bytes)
+    (KeepsNotes kept_in_ohh) plays
 reads_back dialect keep plays bytes few sound spelled spell =
     let unrefused = spelled in
     let read : reading dialect bytes ≡ Ok (hands_again dialect 0 plays) =
     sound_again dialect keep plays bytes few.few sound unrefused few.few_moves spell in
     record {
-      no_fault = λ fault have. none fault read have;
+      read = read_again dialect bytes plays read;
+      no_fault =
+          λ fault have.
+          none_of_read dialect bytes (hands_again dialect 0 plays) fault read have;
       again =
           λ hands say.
           read_back dialect keep plays bytes few.few sound unrefused few.few_moves spell hands
           say.reads;
     }
-  where
-    none : (fault : FormatFault) → reading dialect bytes ≡ Ok (hands_again dialect 0 plays)
-        → HaveFault dialect bytes fault → ⊥
-    none (formats.Phh fault) read have = have
-    none (formats.Ohh fault) read have = (let had = have.reads in cc)
-    none (formats.Acpc fault) read have = have
 
 -- a fact that is sharp in every notation is sharp here
 sharp_too : (fact : Unspelled) → is_sharp fact ≡ true → sharp_trees.is_sharp fact ≡ true

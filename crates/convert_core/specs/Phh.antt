@@ -4,7 +4,7 @@ use Rattle.std.specs.List.{AllByRecursion}
 use Rattle.first_fault.specs.declared.limits.TheConstants.{MOST_FILE_MOVES, MOST_HANDS}
 use Rattle.hand_records.specs.declared.record.Record.{Record}
 use Rattle.hand_records.specs.declared.trace.Play.{Play}
-use Rattle.phh_reading.specs.Hand.{plain}
+use Rattle.phh_reading.specs.Hand.{PlainHand, plain}
 use Rattle.phh_reading.specs.Reading.{Wrong, reading, wrong_of}
 use Rattle.phh_reading.specs.declared.fault.PhhFault.{PhhFault}
 use Rattle.phh_writing.specs.Document as written
@@ -20,6 +20,12 @@ pub record Say (bytes : List ℕ) (records : List Record) : Type 0 where
   pub each : AllByRecursion IsHistory records
   pub few : length records ≤ MOST_HANDS
   pub few_moves : sum_by moves_of records ≤ MOST_FILE_MOVES
+
+-- bytes read as so many hands
+pub record ReadAsHands (bytes : List ℕ) (count : ℕ) : Type 0 where
+  pub hands : List PlainHand
+  pub reads : reading bytes ≡ Ok hands
+  pub counted : length hands ≡ count
 
 -- bytes have this first fault
 pub record Have (bytes : List ℕ) (fault : PhhFault) : Type 0 where

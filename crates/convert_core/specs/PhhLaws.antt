@@ -1,6 +1,6 @@
 -- The laws that a notation keeps, of the Poker Hand History format.
 -- This is a proof: no reader needs it.
-use Rattle.std.proofs.Common.{◌≡◌, ℕ, true, List, Some, None, Ok}
+use Rattle.std.proofs.Common.{◌≡◌, ℕ, true, List, map, Some, None, Ok}
 use Rattle.std.specs.List.{AllByRecursion}
 use Rattle.hand_canon.specs.Sound.{IsSound}
 use Rattle.hand_records.specs.declared.record.Record.{Record}
@@ -16,13 +16,14 @@ use Rattle.hand_records.specs.SameHands.{AreSameHands}
 use Rattle.phh_format.proofs.ReadBack.{read_back}
 use Rattle.phh_format.proofs.Sharpness.{unspelled_unsaid}
 use Rattle.phh_format.proofs.SoundPlays.{sound_again}
+use Rattle.phh_reading.specs.Hand.{plain}
 use Rattle.phh_reading.specs.Reading.{reading}
 use Rattle.phh_writing.specs.Spelled as facts
-use Rattle.convert_core.specs.Phh.{HaveFault, Say, Spell}
+use Rattle.convert_core.specs.Phh.{HaveFault, ReadAsHands, Say, Spell}
+use Rattle.convert_core.specs.PhhReads.{none_of_read, read_again}
 use Rattle.convert_core.specs.ReadBack.{ReadBack}
 use Rattle.convert_core.specs.Records.{AreFew, AreOfFile}
 use Rattle.convert_core.specs.declared.format_fault.FormatFault.{FormatFault}
-use Rattle.convert_core.specs.declared.format_fault.FormatFault.TheVariants as formats
 use Rattle.hand_canon.specs.Sharp.{IsOther, is_sharp}
 use Rattle.hand_records.specs.WriteRefusals.{first_refusal}
 use Rattle.convert_core.specs.UnderRules.{each_under}
@@ -36,31 +37,23 @@ reads_file bytes hands say =
 -- what is read has no fault
 pub no_fault : (bytes : List ℕ) (hands : List Record) (fault : FormatFault) → Say bytes hands
     → HaveFault bytes fault → ⊥
-no_fault bytes hands (formats.Phh fault) say have =
-    (let said = say.reads in let had = have.reads in cc)
-no_fault bytes hands (formats.Ohh fault) say have = have
-no_fault bytes hands (formats.Acpc fault) say have = have
+no_fault bytes hands fault say have = none_of_read bytes (map plain hands) fault say.reads have
 
 -- what is written reads back
 pub reads_back : (plays : List Play) (bytes : List ℕ) → AreFew plays → AllByRecursion IsSound plays
     → first_refusal facts.unspelled plays ≡ None → Spell plays bytes
-    → ReadBack (Say bytes) (HaveFault bytes) (KeepsNotes kept_in_phh) plays
+    → ReadBack (Say bytes) (ReadAsHands bytes) (HaveFault bytes) (KeepsNotes kept_in_phh) plays
 reads_back plays bytes few sound spelled spell =
     let read : reading bytes ≡ Ok (hands_again 0 plays) =
     sound_again plays bytes few.few sound few.few_moves spell.document in
     record {
-      no_fault = λ fault have. none fault read have;
+      read = read_again bytes plays read;
+      no_fault = λ fault have. none_of_read bytes (hands_again 0 plays) fault read have;
       again =
           λ hands say.
           read_back plays bytes few.few sound few.few_moves spelled spell.document hands
           say.reads;
     }
-  where
-    none : (fault : FormatFault) → reading bytes ≡ Ok (hands_again 0 plays) → HaveFault bytes fault
-        → ⊥
-    none (formats.Phh fault) read have = (let had = have.reads in cc)
-    none (formats.Ohh fault) read have = have
-    none (formats.Acpc fault) read have = have
 
 -- what is not spelled no bytes say
 pub sharp : (play : Play) (fact : Unspelled) → facts.unspelled play ≡ Some fact

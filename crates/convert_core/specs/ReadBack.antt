@@ -1,14 +1,17 @@
 -- What it means that bytes read back as plays.
-use Rattle.std.specs.Prelude.{ℕ, List}
+use Rattle.std.specs.Prelude.{ℕ, List, length}
 use Rattle.hand_canon.specs.ReadAgain.{AreAgain}
 use Rattle.hand_records.specs.declared.notes.Notes.{Notes}
 use Rattle.hand_records.specs.declared.record.Record.{Record}
 use Rattle.hand_records.specs.declared.trace.Play.{Play}
 use Rattle.convert_core.specs.declared.format_fault.FormatFault.{FormatFault}
 
--- Bytes read back as plays in a notation, which tells what the bytes say and which fault they have:
--- they have no fault, and the hands that they say are those of the plays again.
-pub record ReadBack (Say : List Record → Type 0) (HaveFault : FormatFault → Type 0)
-    (keeps : ℕ → ℕ → Notes → Notes → Type 0) (plays : List Play) : Type 0 where
+-- Bytes read back as plays in a notation, which tells what the bytes say, as how many hands they
+-- read and which fault they have: they read as as many hands as there are plays, they have no
+-- fault, and the hands that they say are those of the plays again.
+pub record ReadBack (Say : List Record → Type 0) (ReadAsHands : ℕ → Type 0)
+    (HaveFault : FormatFault → Type 0) (keeps : ℕ → ℕ → Notes → Notes → Type 0) (plays : List Play)
+    : Type 0 where
+  pub read : ReadAsHands (length plays)
   pub no_fault : (fault : FormatFault) → HaveFault fault → ⊥
   pub again : (hands : List Record) → Say hands → AreAgain keeps 0 plays hands

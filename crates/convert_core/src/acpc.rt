@@ -11,8 +11,10 @@ ghost use Rattle.hand_canon.specs.Sound.{IsSound};
 ghost use Rattle.hand_records.specs.declared.trace.Play.{Play as AnyPlay};
 ghost use Rattle.hand_records.specs.declared.writing.WriteRefusal.TheVariants as refusals;
 ghost use Rattle.convert_core.specs.Faults.{is_want_of_memory};
+ghost use Rattle.convert_core.specs.KeptParts as parts;
 ghost use Rattle.convert_core.specs.AcpcAlike as alike;
 ghost use Rattle.convert_core.specs.AcpcLaws as laws;
+ghost use Rattle.convert_core.specs.AcpcReads as reads;
 ghost use Rattle.convert_core.specs.Acpc as in_acpc;
 ghost use Rattle.hand_records.specs.WriteRefusals.{first_refusal};
 
@@ -81,6 +83,8 @@ impl Notation for Acpc {
 
     ghost Say = { λ log bytes records. in_acpc.Say log.game bytes records };
 
+    ghost ReadAsHands = { λ log bytes count. in_acpc.ReadAsHands log.game bytes count };
+
     ghost HaveFault = { λ log bytes fault. in_acpc.HaveFault log.game bytes fault };
 
     ghost unspelled = { λ log keep play. facts.unspelled log.game keep play };
@@ -95,8 +99,9 @@ impl Notation for Acpc {
 
     ghost reads_file = { λ log bytes hands say. laws.reads_file log.game bytes hands say };
 
-    ghost no_fault = { λ log bytes hands fault say have.
-        laws.no_fault log.game bytes hands fault say have };
+    ghost read_or_fail = { λ log bytes. reads.read_or_fail log.game bytes };
+
+    ghost say_as_many = { λ log bytes hands say. reads.say_as_many log.game bytes hands say };
 
     ghost one_reading = { λ log bytes hands others say too.
         alike.one_reading log.game bytes hands others say too };
@@ -108,6 +113,10 @@ impl Notation for Acpc {
 
     ghost reads_back = { λ log keep plays bytes few sound spelled spell.
         laws.reads_back log.game keep plays bytes few sound spelled spell };
+
+    ghost kept_part = { λ _ notes. parts.part_in_acpc notes };
+
+    ghost kept_most = { λ _ part notes of_it same. parts.most_in_acpc part notes of_it same };
 
     ghost kept_again = { λ _ notes. forms.kept_again notes };
 

@@ -4,6 +4,7 @@ ghost use Rattle.std.specs.Prelude.{IfErr, IfOk};
 ghost use Rattle.std.specs.List.{AllByRecursion};
 ghost use Rattle.hand_canon.specs.Sound.{IsSound};
 ghost use Rattle.hand_records.specs.SaidNotes.{KeepsNotes};
+ghost use Rattle.hand_records.specs.SameHands.{kept_notes};
 ghost use Rattle.convert_core.specs.Conversion.{IsConversion, IsPlaysRefusal, IsReadFault, ReadAsPlays};
 ghost use Rattle.convert_core.specs.ReadBack.{ReadBack};
 ghost use Rattle.convert_core.specs.Records.{AreFew, AreOfFile};
@@ -17,7 +18,12 @@ use hand_records::{Keep, Play, Records, WriteRefusal};
 use std::alloc::Global;
 
 /// The bytes of the plays in another notation, if each fact to be kept has a spelling there. They
-/// read back as hands with the same traces and the kept notes.
+/// read back as as many hands, with the same traces and the kept notes: all notes, or those that
+/// the notation spells.
+///
+/// Equal outputs are those of equal hands (`law_of_equal_outputs`), an output is converted to
+/// itself (`law_of_converting_again`), and a conversion with all notes may go by another notation
+/// (`law_of_converting_by_way`).
 ///
 /// # Errors
 ///
@@ -33,8 +39,8 @@ pub fn convert<N: Notation, M: Notation>(
 ) -> Result<Vec<u8>, ConvertFault>
     ensures { IsConversion (N.Say from.now bytes.now) (N.HaveFault from.now bytes.now)
         (M.unspelled to.now keep) (M.Spell to.now)
-        (λ plays output. ReadBack (M.Say to.now output) (M.HaveFault to.now output)
-        (KeepsNotes (M.kept to.now)) plays)
+        (λ plays output. ReadBack (M.Say to.now output) (M.ReadAsHands to.now output)
+        (M.HaveFault to.now output) (KeepsNotes (kept_notes keep (M.kept to.now))) plays)
         (λ output. output.items) result }
 {
     if to.has_lines() {

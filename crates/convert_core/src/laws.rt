@@ -1,8 +1,9 @@
-//! Records come to one list of plays, or to one refusal; bytes come to one conversion; what is not
-//! spelled is not said; and equal hands come to equal outputs, by whatever way.
-ghost use Rattle.std.specs.Prelude.{◌≡◌, ◌↔◌, ℕ, true, List, None, Ok, Some, Result, map};
+//! Records come to one list of plays, or to one refusal; bytes come to one conversion; no note is
+//! forgotten; what is not spelled is not said; and equal hands come to equal outputs, by whatever
+//! way.
+ghost use Rattle.std.specs.Prelude.{◌≡◌, ◌<◌, ◌↔◌, ℕ, true, List, None, Ok, Some, Result, map};
 ghost use Rattle.std.specs.List.{AllByRecursion};
-ghost use Rattle.hand_records.specs.SaidNotes.{KeepsNotes};
+ghost use Rattle.hand_records.specs.SaidNotes.{KeepsNotes, notes_of};
 ghost use Rattle.hand_records.specs.SameHands.{AreSameHands, kept_notes};
 ghost use Rattle.hand_records.specs.declared.record.Record.{Record};
 ghost use Rattle.hand_records.specs.declared.trace.Play.{Play};
@@ -11,9 +12,13 @@ ghost use Rattle.hand_records.specs.declared.writing.Unspelled.{Unspelled};
 ghost use Rattle.convert_core.specs.Answers.{Answers};
 ghost use Rattle.convert_core.specs.Conversion.{HasUnspelled, IsConversion, ReadAsPlays, ReadAsRefused, RefusesNothing};
 ghost use Rattle.convert_core.specs.Judged.{ArePlaysOf, IsFirstRefused};
+ghost use Rattle.convert_core.specs.NoteParts.{ArePartOf};
 ghost use Rattle.convert_core.specs.ReadBack.{ReadBack};
+ghost use Rattle.convert_core.specs.ReadOrFail.{ReadOrFail};
 ghost use Rattle.convert_core.specs.SameAnswers.{AreSameAnswers};
 ghost use Rattle.hand_canon.specs.Sharp.{IsOther, is_sharp};
+ghost use Rattle.hand_canon.specs.Sound.{IsSound};
+ghost use Rattle.first_fault.specs.declared.limits.TheConstants.{MOST_HANDS};
 ghost use Rattle.convert_core.specs.Verdicts.{AreVerdictsOn, IsFirstNotLegal, Legal, Verdict};
 ghost use Rattle.convert_core.specs.declared.convert_fault.ConvertFault.{ConvertFault};
 ghost use Rattle.convert_core.specs.declared.refusal.Refusal.{Refusal};
@@ -48,12 +53,14 @@ pub fn law_of_verdicts()
         → IsFirstRefused records number why ↔ IsFirstNotLegal verdicts number why }
 {}
 
-/// What bytes come to is one thing. Bytes with a fault say no records. Where they read as hands,
-/// one of these is the first that is refused, for one thing, or all of them have their plays; and
-/// where they have their plays, one of these is the first with a fact to be kept that the target
-/// does not spell, and that fact is one, or all are spelled. The function does nothing: its
-/// contract is a law.
+/// What bytes come to is one thing. They read as one number of hands, or they have one fault, and
+/// not both. Where they read as hands, one of these is the first that is refused, for one thing, or
+/// all of them have their plays; and where they have their plays, one of these is the first with a
+/// fact to be kept that the target does not spell, and that fact is one, or all are spelled. The
+/// function does nothing: its contract is a law.
 pub fn law_of_one_conversion<N: Notation, M: Notation>(from: &N, to: &M, keep: Keep)
+    ensures read_or_fail { (bytes : List ℕ)
+        → ReadOrFail (N.ReadAsHands from.now bytes) (N.HaveFault from.now bytes) }
     ensures unread { (bytes : List ℕ) (records : List Record) (fault : FormatFault)
         → N.Say from.now bytes records → N.HaveFault from.now bytes fault → ⊥ }
     ensures refused { (bytes : List ℕ) (number other : ℕ) (why reason : Refusal)
@@ -82,9 +89,25 @@ pub fn law_of_legal_conversions<N: Notation, M: Notation>(from: &N, to: &M, keep
         → first_refusal (M.unspelled to.now keep) plays ≡ None
         → IsConversion (N.Say from.now bytes) (N.HaveFault from.now bytes)
         (M.unspelled to.now keep) (M.Spell to.now)
-        (λ read output. ReadBack (M.Say to.now output) (M.HaveFault to.now output)
-        (KeepsNotes (M.kept to.now)) read) (λ output. output) answer
+        (λ read output. ReadBack (M.Say to.now output) (M.ReadAsHands to.now output)
+        (M.HaveFault to.now output) (KeepsNotes (kept_notes keep (M.kept to.now))) read)
+        (λ output. output) answer
         → RefusesNothing answer }
+{}
+
+/// No note is forgotten, and none is made up. Of a play of which nothing is without a spelling all
+/// notes are kept; and of any play a part of its notes is kept, within which is whatever part of
+/// them the notation spells whole. The function does nothing: its contract is a law.
+pub fn law_of_kept_notes<N: Notation>(notation: &N)
+    ensures all { (place : ℕ) (play : Play) → place < MOST_HANDS → IsSound play
+        → N.unspelled notation.now keeps.All play ≡ None
+        → N.kept notation.now (notes_of place play) ≡ notes_of place play }
+    ensures part { (place : ℕ) (play : Play)
+        → ArePartOf (N.kept notation.now (notes_of place play)) (notes_of place play) }
+    ensures most { (place : ℕ) (play part : Play) → place < MOST_HANDS → IsSound part
+        → ArePartOf (notes_of place part) (notes_of place play)
+        → N.unspelled notation.now keeps.All part ≡ None
+        → ArePartOf (notes_of place part) (N.kept notation.now (notes_of place play)) }
 {}
 
 /// What a notation does not spell no bytes say. Where a play has a fact without a spelling that is
@@ -110,9 +133,11 @@ pub fn law_of_equal_outputs<A: Notation, B: Notation, N: Notation>(
     ensures { (bytes too output written : List ℕ) (plays others : List Play)
         → ReadAsPlays (A.Say from.now bytes) plays → ReadAsPlays (B.Say other.now too) others
         → Answers (A.Say from.now) (A.HaveFault from.now) (N.unspelled to.now) (N.Spell to.now)
-        (N.Say to.now) (N.HaveFault to.now) (N.kept to.now) keep bytes (Ok output)
+        (N.Say to.now) (N.ReadAsHands to.now) (N.HaveFault to.now) (N.kept to.now)
+        keep bytes (Ok output)
         → Answers (B.Say other.now) (B.HaveFault other.now) (N.unspelled to.now) (N.Spell to.now)
-        (N.Say to.now) (N.HaveFault to.now) (N.kept to.now) keep too (Ok written)
+        (N.Say to.now) (N.ReadAsHands to.now) (N.HaveFault to.now) (N.kept to.now)
+        keep too (Ok written)
         → AreSameHands (kept_notes keep (N.kept to.now)) plays others
         ↔ N.AreSame to.now output written }
 {}
@@ -122,9 +147,11 @@ pub fn law_of_equal_outputs<A: Notation, B: Notation, N: Notation>(
 pub fn law_of_converting_again<A: Notation, N: Notation>(from: &A, to: &N, keep: Keep, again: Keep)
     ensures { (bytes output : List ℕ) (answer : Result (List ℕ) ConvertFault)
         → Answers (A.Say from.now) (A.HaveFault from.now) (N.unspelled to.now) (N.Spell to.now)
-        (N.Say to.now) (N.HaveFault to.now) (N.kept to.now) keep bytes (Ok output)
+        (N.Say to.now) (N.ReadAsHands to.now) (N.HaveFault to.now) (N.kept to.now)
+        keep bytes (Ok output)
         → Answers (N.Say to.now) (N.HaveFault to.now) (N.unspelled to.now) (N.Spell to.now)
-        (N.Say to.now) (N.HaveFault to.now) (N.kept to.now) again output answer
+        (N.Say to.now) (N.ReadAsHands to.now) (N.HaveFault to.now) (N.kept to.now)
+        again output answer
         → AreSameAnswers (N.AreSame to.now) (Ok output) answer }
 {}
 
@@ -140,10 +167,13 @@ pub fn law_of_converting_by_way<A: Notation, B: Notation, C: Notation>(
 )
     ensures { (bytes output : List ℕ) (first second : Result (List ℕ) ConvertFault)
         → Answers (A.Say from.now) (A.HaveFault from.now) (B.unspelled by.now) (B.Spell by.now)
-        (B.Say by.now) (B.HaveFault by.now) (B.kept by.now) keeps.All bytes (Ok output)
+        (B.Say by.now) (B.ReadAsHands by.now) (B.HaveFault by.now) (B.kept by.now)
+        keeps.All bytes (Ok output)
         → Answers (A.Say from.now) (A.HaveFault from.now) (C.unspelled to.now) (C.Spell to.now)
-        (C.Say to.now) (C.HaveFault to.now) (C.kept to.now) keep bytes first
+        (C.Say to.now) (C.ReadAsHands to.now) (C.HaveFault to.now) (C.kept to.now)
+        keep bytes first
         → Answers (B.Say by.now) (B.HaveFault by.now) (C.unspelled to.now) (C.Spell to.now)
-        (C.Say to.now) (C.HaveFault to.now) (C.kept to.now) keep output second
+        (C.Say to.now) (C.ReadAsHands to.now) (C.HaveFault to.now) (C.kept to.now)
+        keep output second
         → AreSameAnswers (C.AreSame to.now) first second }
 {}

@@ -24,7 +24,7 @@ pub use converting::{convert, plays, read_records};
 pub use format_fault::FormatFault;
 pub use kept_plays::plays_of;
 pub use laws::{
-    law_of_converting_again, law_of_converting_by_way, law_of_equal_outputs,
+    law_of_converting_again, law_of_converting_by_way, law_of_equal_outputs, law_of_kept_notes,
     law_of_legal_conversions, law_of_one_conversion, law_of_one_outcome, law_of_sharpness,
     law_of_verdicts,
 };

@@ -14,7 +14,9 @@ ghost use Rattle.hand_records.specs.declared.writing.Unspelled.{Unspelled as Fac
 ghost use Rattle.hand_records.specs.declared.writing.WriteRefusal.TheVariants as refusals;
 ghost use Rattle.play_event.specs.declared.setup.Rules.{Rules as AnyRules};
 ghost use Rattle.convert_core.specs.Faults.{is_want_of_memory};
+ghost use Rattle.convert_core.specs.NoteParts.{ArePartOf};
 ghost use Rattle.convert_core.specs.ReadBack.{ReadBack};
+ghost use Rattle.convert_core.specs.ReadOrFail.{ReadOrFail};
 ghost use Rattle.convert_core.specs.Records.{AreFew, AreOfFile};
 ghost use Rattle.convert_core.specs.SameRecords.{AllAlike};
 ghost use Rattle.hand_canon.specs.Sharp.{IsOther, is_sharp};
@@ -33,6 +35,9 @@ pub trait Notation {
 
     /// Bytes say these records.
     ghost Say: { Self → List ℕ → List Record → Type 0 };
+
+    /// Bytes read as so many hands.
+    ghost ReadAsHands: { Self → List ℕ → ℕ → Type 0 };
 
     /// Bytes do not read, and this is their first fault.
     ghost HaveFault: { Self → List ℕ → AnyFault → Type 0 };
@@ -108,9 +113,14 @@ pub trait Notation {
     ghost reads_file: { (notation : Self) (bytes : List ℕ) (hands : List Record)
         → Say notation bytes hands → AreOfFile (rules_of notation) hands };
 
-    /// Bytes that say records have no fault.
-    ghost no_fault: { (notation : Self) (bytes : List ℕ) (hands : List Record) (fault : AnyFault)
-        → Say notation bytes hands → HaveFault notation bytes fault → ⊥ };
+    /// Of all bytes exactly one holds: they read as one number of hands, or they have one fault,
+    /// which is no want of memory.
+    ghost read_or_fail: { (notation : Self) (bytes : List ℕ)
+        → ReadOrFail (ReadAsHands notation bytes) (HaveFault notation bytes) };
+
+    /// The records that bytes say are as many as the hands that they read as.
+    ghost say_as_many: { (notation : Self) (bytes : List ℕ) (hands : List Record)
+        → Say notation bytes hands → ReadAsHands notation bytes (length hands) };
 
     /// Bytes say one list of records, as far as records can be told apart.
     ghost one_reading: { (notation : Self) (bytes : List ℕ) (hands others : List Record)
@@ -127,14 +137,24 @@ pub trait Notation {
     /// Where files are lines, that of no plays is empty.
     ghost no_lines: { (notation : Self) → is_lined notation ≡ true → Spell notation [] [] };
 
-    /// The spelling of sound plays, each of which has one, reads back as these plays: legal under
-    /// the rules of the notation, with the whole traces, stated facts that agree, and the kept
-    /// notes.
+    /// The spelling of sound plays, each of which has one, reads back as these plays: as as many
+    /// hands, which are legal under the rules of the notation, with the whole traces, stated facts
+    /// that agree, and the notes that it spells.
     ghost reads_back: { (notation : Self) (keep : AnyKeep) (plays : List AnyPlay) (bytes : List ℕ)
         → AreFew plays → AllByRecursion IsSound plays
         → first_refusal (unspelled notation keep) plays ≡ None → Spell notation plays bytes
-        → ReadBack (Say notation bytes) (HaveFault notation bytes)
+        → ReadBack (Say notation bytes) (ReadAsHands notation bytes) (HaveFault notation bytes)
         (KeepsNotes (kept notation)) plays };
+
+    /// It makes up no note.
+    ghost kept_part: { (notation : Self) (notes : SaidNotes)
+        → ArePartOf (kept notation notes) notes };
+
+    /// It forgets no note that it spells: notes of which it spells each are kept as a part of
+    /// whatever notes they are.
+    ghost kept_most: { (notation : Self) (part notes : SaidNotes)
+        → ArePartOf part notes → kept notation part ≡ part
+        → ArePartOf part (kept notation notes) };
 
     /// It spells the notes that it spells.
     ghost kept_again: { (notation : Self) (notes : SaidNotes)
@@ -151,7 +171,8 @@ pub trait Notation {
     ghost trace_fact: { (notation : Self) (play other : AnyPlay) → play.trace ≡ other.trace
         → unspelled notation keeps.Spelled play ≡ unspelled notation keeps.Spelled other };
 
-    /// It spells all notes of a play where those that it spells are all that are said.
+    /// It spells all notes of a play exactly where those that it spells are all that are said: so
+    /// no note is forgotten of a play of which nothing is without a spelling.
     ghost all_spelled: { (notation : Self) (place : ℕ) (play : AnyPlay)
         → place < MOST_HANDS → IsSound play
         → (unspelled notation keeps.All play ≡ None)

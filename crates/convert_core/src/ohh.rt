@@ -11,8 +11,10 @@ ghost use Rattle.ohh_format.specs.KeptNotes.{kept_in_ohh};
 ghost use Rattle.ohh_writing.specs.Spelled as facts;
 ghost use Rattle.play_event.specs.HistoryRules.{history_rules as rules_of_histories};
 ghost use Rattle.convert_core.specs.Faults.{is_want_of_memory};
+ghost use Rattle.convert_core.specs.KeptParts as parts;
 ghost use Rattle.convert_core.specs.OhhAlike as alike;
 ghost use Rattle.convert_core.specs.OhhLaws as laws;
+ghost use Rattle.convert_core.specs.OhhReads as reads;
 ghost use Rattle.convert_core.specs.Ohh as in_ohh;
 ghost use Rattle.hand_records.specs.WriteRefusals.{first_refusal};
 
@@ -82,6 +84,8 @@ impl Notation for Ohh {
 
     ghost Say = { λ tree bytes records. in_ohh.Say tree.dialect bytes records };
 
+    ghost ReadAsHands = { λ tree bytes count. in_ohh.ReadAsHands tree.dialect bytes count };
+
     ghost HaveFault = { λ tree bytes fault. in_ohh.HaveFault tree.dialect bytes fault };
 
     ghost unspelled = { λ _ keep play. facts.unspelled keep play };
@@ -96,8 +100,9 @@ impl Notation for Ohh {
 
     ghost reads_file = { λ tree bytes hands say. laws.reads_file tree.dialect bytes hands say };
 
-    ghost no_fault = { λ tree bytes hands fault say have.
-        laws.no_fault tree.dialect bytes hands fault say have };
+    ghost read_or_fail = { λ tree bytes. reads.read_or_fail tree.dialect bytes };
+
+    ghost say_as_many = { λ tree bytes hands say. reads.say_as_many tree.dialect bytes hands say };
 
     ghost one_reading = { λ tree bytes hands others say too.
         alike.one_reading tree.dialect bytes hands others say too };
@@ -109,6 +114,10 @@ impl Notation for Ohh {
 
     ghost reads_back = { λ tree keep plays bytes few sound spelled spell.
         laws.reads_back tree.dialect keep plays bytes few sound spelled spell };
+
+    ghost kept_part = { λ _ notes. parts.part_in_ohh notes };
+
+    ghost kept_most = { λ _ part notes of_it same. parts.most_in_ohh part notes of_it same };
 
     ghost kept_again = { λ _ notes. forms.kept_again notes };
 

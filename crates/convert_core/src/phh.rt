@@ -10,9 +10,11 @@ ghost use Rattle.phh_format.specs.SameTables.{AreSameTable};
 ghost use Rattle.phh_writing.specs.Spelled as facts;
 ghost use Rattle.play_event.specs.HistoryRules.{history_rules as rules_of_histories};
 ghost use Rattle.convert_core.specs.Faults.{is_want_of_memory};
+ghost use Rattle.convert_core.specs.KeptParts as parts;
 ghost use Rattle.convert_core.specs.Phh as in_phh;
 ghost use Rattle.convert_core.specs.PhhAlike as alike;
 ghost use Rattle.convert_core.specs.PhhLaws as laws;
+ghost use Rattle.convert_core.specs.PhhReads as reads;
 ghost use Rattle.hand_records.specs.WriteRefusals.{first_refusal};
 
 use crate::format_fault::FormatFault;
@@ -54,6 +56,8 @@ impl Notation for Phh {
 
     ghost Say = { λ _ bytes records. in_phh.Say bytes records };
 
+    ghost ReadAsHands = { λ _ bytes count. in_phh.ReadAsHands bytes count };
+
     ghost HaveFault = { λ _ bytes fault. in_phh.HaveFault bytes fault };
 
     ghost unspelled = { λ _ _ play. facts.unspelled play };
@@ -68,7 +72,9 @@ impl Notation for Phh {
 
     ghost reads_file = { λ _ bytes hands say. laws.reads_file bytes hands say };
 
-    ghost no_fault = { λ _ bytes hands fault say have. laws.no_fault bytes hands fault say have };
+    ghost read_or_fail = { λ _ bytes. reads.read_or_fail bytes };
+
+    ghost say_as_many = { λ _ bytes hands say. reads.say_as_many bytes hands say };
 
     ghost one_reading = { λ _ bytes hands others say too.
         alike.one_reading bytes hands others say too };
@@ -80,6 +86,10 @@ impl Notation for Phh {
 
     ghost reads_back = { λ _ _ plays bytes few sound spelled spell.
         laws.reads_back plays bytes few sound spelled spell };
+
+    ghost kept_part = { λ _ notes. parts.part_in_phh notes };
+
+    ghost kept_most = { λ _ part notes of_it same. parts.most_in_phh part notes of_it same };
 
     ghost kept_again = { λ _ notes. forms.kept_again notes };
 

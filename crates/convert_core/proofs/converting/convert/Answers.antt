@@ -1,7 +1,12 @@
 -- What the records come to is what the bytes come to.
+use Rattle.std.proofs.Common.{rules, ◌≡◌, List, None, subst}
 use Rattle.std.proofs.lemmas.List.Elements.{recursion_from_All}
 use Rattle.hand_canon.specs.Sound.{IsSound}
 use Rattle.hand_records.specs.SaidNotes.{KeepsNotes}
+use Rattle.hand_records.specs.SameHands.{kept_notes}
+use Rattle.hand_records.specs.WriteRefusals.{first_refusal}
+use Rattle.hand_records.specs.declared.trace.Play.{Play}
+use Rattle.convert_core.proofs.KeptByChoice.{kept_back}
 use Rattle.convert_core.proofs.WrittenLines.{few_plays, of_file}
 use Rattle.convert_core.specs.ReadBack.{ReadBack}
 use Rattle.convert_core.proofs.converting.convert.Goals as goal
@@ -10,8 +15,33 @@ pub returns-in-Ok : goal.returns-in-Ok
 returns-in-Ok g c =
     let file = g.met.N.Notation.reads_file c.args.from.now c.args.bytes.now c.in-Ok.records c.in-Ok.ensures.said in
     of_file (g.N.Notation.Say c.args.from.now c.args.bytes.now) (g.N.Notation.HaveFault c.args.from.now c.args.bytes.now) (g.M.Notation.unspelled c.args.to.now c.args.keep) (g.M.Notation.Spell c.args.to.now)
-    (λ plays output. ReadBack (g.M.Notation.Say c.args.to.now output) (g.M.Notation.HaveFault c.args.to.now output) (KeepsNotes (g.M.Notation.kept c.args.to.now)) plays)
+    (λ plays output. ReadBack (g.M.Notation.Say c.args.to.now output) (g.M.Notation.ReadAsHands c.args.to.now output) (g.M.Notation.HaveFault c.args.to.now output)
+    (KeepsNotes (kept_notes c.args.keep (g.M.Notation.kept c.args.to.now))) plays)
     (λ output. output.items) c.in-Ok.records c.write_records.result c.in-Ok.ensures.said
     (λ plays output are sound spelled spell.
-    g.met.M.Notation.reads_back c.args.to.now c.args.keep plays output (few_plays c.in-Ok.records plays are file.few file.few_moves) (recursion_from_All IsSound plays sound) spelled spell)
+    let few = few_plays c.in-Ok.records plays are file.few file.few_moves in
+    let each = recursion_from_All IsSound plays sound in
+    kept_back (g.M.Notation.unspelled c.args.to.now) (g.M.Notation.kept c.args.to.now) (g.met.M.Notation.all_spelled c.args.to.now)
+    (g.M.Notation.Say c.args.to.now output) (g.M.Notation.ReadAsHands c.args.to.now output) (g.M.Notation.HaveFault c.args.to.now output) c.args.keep plays few.few each spelled
+    (g.met.M.Notation.reads_back c.args.to.now c.args.keep plays output few each spelled spell))
     c.write_records.ensures
+
+pub returns-in-Ok-write : goal.returns-in-Ok-write
+returns-in-Ok-write g c =
+    let plays = c.in_ok-plays.plays.items in
+    let output = c.in-Ok-write.output.items in
+    let same : c.deref.result.now ≡ plays = search rules in
+    let spelled = subst (λ (ps : List Play). first_refusal (g.M.Notation.unspelled c.args.to.now c.args.keep) ps ≡ None) same c.in-Ok-write.ensures.spelled in
+    let spell = subst (λ (ps : List Play). g.M.Notation.Spell c.args.to.now ps output) same c.in-Ok-write.ensures.spell in
+    let few = c.in_ok-plays.ensures.few in
+    let sound = c.in_ok-plays.ensures.sound in
+    record {
+      plays = plays;
+      read = c.in_ok-plays.ensures.plays;
+      spelled = spelled;
+      spell = spell;
+      back =
+          kept_back (g.M.Notation.unspelled c.args.to.now) (g.M.Notation.kept c.args.to.now) (g.met.M.Notation.all_spelled c.args.to.now)
+          (g.M.Notation.Say c.args.to.now output) (g.M.Notation.ReadAsHands c.args.to.now output) (g.M.Notation.HaveFault c.args.to.now output) c.args.keep plays few.few sound spelled
+          (g.met.M.Notation.reads_back c.args.to.now c.args.keep plays output few sound spelled spell);
+    }

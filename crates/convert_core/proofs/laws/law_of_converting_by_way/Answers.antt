@@ -7,17 +7,21 @@ returns g c = λ bytes output first second done straight by_way.
     let from : ReadNotation = record {
       rules = g.A.Notation.rules_of c.args.from.now;
       Say = g.A.Notation.Say c.args.from.now;
+      ReadAsHands = g.A.Notation.ReadAsHands c.args.from.now;
       HaveFault = g.A.Notation.HaveFault c.args.from.now;
       reads_file = g.met.A.Notation.reads_file c.args.from.now;
-      no_fault = g.met.A.Notation.no_fault c.args.from.now;
+      read_or_fail = g.met.A.Notation.read_or_fail c.args.from.now;
+      say_as_many = g.met.A.Notation.say_as_many c.args.from.now;
       one_reading = g.met.A.Notation.one_reading c.args.from.now;
     } in
     let middle : ReadNotation = record {
       rules = g.B.Notation.rules_of c.args.by.now;
       Say = g.B.Notation.Say c.args.by.now;
+      ReadAsHands = g.B.Notation.ReadAsHands c.args.by.now;
       HaveFault = g.B.Notation.HaveFault c.args.by.now;
       reads_file = g.met.B.Notation.reads_file c.args.by.now;
-      no_fault = g.met.B.Notation.no_fault c.args.by.now;
+      read_or_fail = g.met.B.Notation.read_or_fail c.args.by.now;
+      say_as_many = g.met.B.Notation.say_as_many c.args.by.now;
       one_reading = g.met.B.Notation.one_reading c.args.by.now;
     } in
     let half : WrittenNotation = record {
@@ -36,9 +40,11 @@ returns g c = λ bytes output first second done straight by_way.
     let target : ReadNotation = record {
       rules = g.C.Notation.rules_of c.args.to.now;
       Say = g.C.Notation.Say c.args.to.now;
+      ReadAsHands = g.C.Notation.ReadAsHands c.args.to.now;
       HaveFault = g.C.Notation.HaveFault c.args.to.now;
       reads_file = g.met.C.Notation.reads_file c.args.to.now;
-      no_fault = g.met.C.Notation.no_fault c.args.to.now;
+      read_or_fail = g.met.C.Notation.read_or_fail c.args.to.now;
+      say_as_many = g.met.C.Notation.say_as_many c.args.to.now;
       one_reading = g.met.C.Notation.one_reading c.args.to.now;
     } in
     let to : WrittenNotation = record {

@@ -1,0 +1,71 @@
+-- Where nothing is without a spelling, what is kept by the choice of notes is what the notation spells.
+use Rattle.std.proofs.Common.{◌≡◌, ◌+◌, ℕ, ◌<◌, ◌≤◌, ◌↔◌, length, List, [], ◌∷◌, Option, None, refl, sym, ◌∙◌, arith}
+use Rattle.std.specs.List.{AllByRecursion}
+use Rattle.first_fault.specs.declared.limits.TheConstants.{MOST_HANDS}
+use Rattle.hand_canon.specs.ReadAgain.{AreAgain}
+use Rattle.hand_canon.specs.Sound.{IsSound}
+use Rattle.hand_records.specs.SaidNotes.{KeepsNotes, SaidNotes, notes_of}
+use Rattle.hand_records.specs.SameHands.{AllPaired, kept_notes}
+use Rattle.hand_records.specs.WriteRefusals.{first_refusal}
+use Rattle.hand_records.specs.declared.record.Record.{Record}
+use Rattle.hand_records.specs.declared.trace.Play.{Play}
+use Rattle.hand_records.specs.declared.writing.Keep.{Keep}
+use Rattle.hand_records.specs.declared.writing.Keep.TheVariants as keeps
+use Rattle.hand_records.specs.declared.writing.Unspelled.{Unspelled}
+use Rattle.convert_core.specs.ReadBack.{ReadBack}
+use Rattle.convert_core.specs.declared.format_fault.FormatFault.{FormatFault}
+use Rattle.convert_core.proofs.LawfulNotations.{IsReadAgain}
+use Rattle.convert_core.proofs.Paired.{each_spelled}
+
+-- all notes of a play are spelled exactly where those that are kept are all that are said
+abbrev pub AreAllSpelled : (Keep → Play → Option Unspelled) → (SaidNotes → SaidNotes) → Type 0
+AreAllSpelled unspelled kept =
+    (place : ℕ) (play : Play) → place < MOST_HANDS → IsSound play
+    → (unspelled keeps.All play ≡ None) ↔ ((unspelled keeps.Spelled play ≡ None) × (kept (notes_of place play) ≡ notes_of place play))
+
+module _ (unspelled : Keep → Play → Option Unspelled) (kept : SaidNotes → SaidNotes) (all_spelled : AreAllSpelled unspelled kept) where
+  one_kept : (keep : Keep) (place : ℕ) (play : Play) → place < MOST_HANDS → IsSound play → unspelled keep play ≡ None → kept_notes keep kept (notes_of place play) ≡ kept (notes_of place play)
+  one_kept keeps.All place play early sound none = sym ((all_spelled place play early sound).0 none).1
+  one_kept keeps.Spelled place play early sound none = refl
+
+  hands_kept : (keep : Keep) (place : ℕ) (plays : List Play) (hands : List Record) → place + length plays ≤ MOST_HANDS → AllByRecursion IsSound plays → AllByRecursion (λ play. unspelled keep play ≡ None) plays
+      → AreAgain (KeepsNotes kept) place plays hands → AreAgain (KeepsNotes (kept_notes keep kept)) place plays hands
+  unfolding AreAgain
+  hands_kept keep place [] [] few sound none again = tt
+  hands_kept keep place [] (hand ∷ hands) few sound none again = again
+  hands_kept keep place (play ∷ plays) [] few sound none again = again
+  hands_kept keep place (play ∷ plays) (hand ∷ hands) few sound none again = (
+    record {
+      judged = again.0.judged;
+      same_setup = again.0.same_setup;
+      notes = again.0.notes ∙ sym (one_kept keep place play (omega (arith, few)) sound.0 none.0);
+    },
+    hands_kept keep (place + 1) plays hands (omega (arith, few)) sound.1 none.1 again.1,
+  )
+
+  -- what reads back with the notes that the notation spells reads back with those that are to be kept
+  pub kept_back : (Say : List Record → Type 0) (ReadAsHands : ℕ → Type 0) (HaveFault : FormatFault → Type 0) (keep : Keep) (plays : List Play) → length plays ≤ MOST_HANDS → AllByRecursion IsSound plays
+      → first_refusal (unspelled keep) plays ≡ None
+      → ReadBack Say ReadAsHands HaveFault (KeepsNotes kept) plays → ReadBack Say ReadAsHands HaveFault (KeepsNotes (kept_notes keep kept)) plays
+  kept_back Say ReadAsHands HaveFault keep plays few sound none back =
+      record {
+        read = back.read;
+        no_fault = back.no_fault;
+        again = λ hands say. hands_kept keep 0 plays hands (omega (arith, few)) sound (each_spelled (unspelled keep) 1 plays none) (back.again hands say);
+      }
+
+  pairs_spelled : (keep : Keep) (place : ℕ) (plays others : List Play) → place + length plays ≤ MOST_HANDS → AllByRecursion IsSound plays → AllByRecursion (λ play. unspelled keep play ≡ None) plays
+      → AllPaired (IsReadAgain (kept_notes keep kept)) place plays others → AllPaired (IsReadAgain kept) place plays others
+  unfolding AllPaired
+  pairs_spelled keep place [] [] few sound none all = tt
+  pairs_spelled keep place [] (other ∷ others) few sound none all = all
+  pairs_spelled keep place (play ∷ plays) [] few sound none all = all
+  pairs_spelled keep place (play ∷ plays) (other ∷ others) few sound none all = (
+    record { trace = all.0.trace; notes = all.0.notes ∙ one_kept keep place play (omega (arith, few)) sound.0 none.0 },
+    pairs_spelled keep (place + 1) plays others (omega (arith, few)) sound.1 none.1 all.1,
+  )
+
+  -- and what is read again with those that are to be kept is read again with those that it spells
+  pub again_spelled : (keep : Keep) (plays others : List Play) → length plays ≤ MOST_HANDS → AllByRecursion IsSound plays → first_refusal (unspelled keep) plays ≡ None
+      → AllPaired (IsReadAgain (kept_notes keep kept)) 0 plays others → AllPaired (IsReadAgain kept) 0 plays others
+  again_spelled keep plays others few sound none all = pairs_spelled keep 0 plays others (omega (arith, few)) sound (each_spelled (unspelled keep) 1 plays none) all

@@ -1,0 +1,79 @@
+-- The first fault of a log is never want of memory: it names a line.
+-- This is a proof: no reader needs it.
+use Rattle.std.proofs.Common.{◌≡◌, ◌≢◌, ◌+◌, ℕ, Bool, true, false, cond, nat_le, List, [], ◌∷◌, length, Result, Ok, Err, IfErr, subst}
+use Rattle.acpc_game.specs.declared.game.Game.{Game}
+use Rattle.acpc_reading.specs.Logs.{HandSaid, Hands, hands_after, hands_after_line, is_passed_over, line_said, reading, with_hand}
+use Rattle.acpc_text.specs.Faults.{fault_of, in_line, wrong}
+use Rattle.acpc_text.specs.Parts.{lines_of}
+use Rattle.acpc_text.specs.declared.fault.AcpcFault.{AcpcFault}
+use Rattle.acpc_text.specs.declared.fault.AcpcFault.TheVariants as faults
+use Rattle.acpc_text.specs.declared.fault.LineFault.{LineFault}
+use Rattle.acpc_text.specs.declared.fault.LineFaultKind.{LineFaultKind}
+use Rattle.acpc_text.specs.declared.fault.LineFaultKind.TheVariants as whats
+use Rattle.first_fault.specs.Numbers.{kept_number}
+use Rattle.first_fault.specs.Reading.{◌>>=◌}
+use Rattle.first_fault.specs.declared.limits.Quantity.TheVariants as quantities
+use Rattle.first_fault.specs.declared.limits.TheConstants.{MOST_HANDS}
+
+-- a fault, if there is one, is no want of memory
+abbrev IsTold : {A : Type 0} → Result A AcpcFault → Type 0
+IsTold result = IfErr result (λ fault. fault ≢ faults.Memory)
+
+at_line : (what : LineFaultKind) (line byte : ℕ) → fault_of what line byte ≢ faults.Memory
+at_line whats.LineShape line byte same = cc (same)
+at_line whats.BadBetting line byte same = cc (same)
+at_line whats.BadCards line byte same = cc (same)
+at_line whats.BadValue line byte same = cc (same)
+at_line whats.SeatCount line byte same = cc (same)
+at_line whats.GameShape line byte same = cc (same)
+at_line whats.UnsupportedGame line byte same = cc (same)
+at_line whats.AmountLimit line byte same = cc (same)
+at_line (whats.TooMany quantity) line byte same = cc (same)
+
+line_told : {A : Type 0} (line : ℕ) (found : Result A LineFault) → IsTold (in_line line found)
+line_told line (Ok said) = tt
+line_told line (Err fault) = at_line fault.what (kept_number line) (kept_number fault.byte)
+
+then_told : {A B : Type 0} (first : Result A AcpcFault) (next : A → Result B AcpcFault)
+    → IsTold first → ((a : A) → IsTold (next a)) → IsTold (first >>= next)
+then_told (Ok a) next told each = each a
+then_told (Err fault) next told each = told
+
+if_told : {A : Type 0} (test : Bool) (this other : Result A AcpcFault) → IsTold this → IsTold other
+    → IsTold (cond test this other)
+if_told true this other told others = told
+if_told false this other told others = others
+
+one_line : (game : Game) (hands : Hands) (line : ℕ) (text : List ℕ)
+    → IsTold (hands_after_line game hands line text)
+unfolding hands_after_line
+one_line game hands line text =
+    let past = nat_le MOST_HANDS (length hands.0) in
+    let found = line_said game (length hands.0) hands.1 text in
+    let more : Result Hands AcpcFault = with_hand hands.0 (in_line line found) in
+    let many : Result Hands AcpcFault =
+    in_line {A = Hands} line (wrong (whats.TooMany quantities.Hands) 1) in
+    if_told (is_passed_over text) (Ok hands) (cond past many more) tt
+    (if_told past many more
+    (line_told {A = Hands} line (wrong (whats.TooMany quantities.Hands) 1))
+    (then_told (in_line line found) _ (line_told line found) (λ hand. tt)))
+
+all_lines : (game : Game) (hands : Hands) (line : ℕ) (texts : List (List ℕ))
+    → IsTold (hands_after game hands line texts)
+unfolding hands_after
+all_lines game hands line [] = tt
+all_lines game hands line (text ∷ texts) =
+    then_told (hands_after_line game hands line text)
+    (λ more. hands_after game more (line + 1) texts)
+    (one_line game hands line text) (λ more. all_lines game more (line + 1) texts)
+
+-- a log that has a fault has another one than want of memory
+pub reading_told : (game : Game) (bytes : List ℕ) (fault : AcpcFault)
+    → reading game bytes ≡ Err fault → fault ≢ faults.Memory
+unfolding reading
+reading_told game bytes fault read =
+    let lines = hands_after game ([], 0) 1 (lines_of bytes) in
+    let all : IsTold (reading game bytes) =
+    then_told lines (λ hands. Ok hands.0) (all_lines game ([], 0) 1 (lines_of bytes))
+    (λ hands. tt) in
+    subst (λ (found : Result (List HandSaid) AcpcFault). IsTold found) read all
