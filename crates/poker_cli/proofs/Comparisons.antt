@@ -10,7 +10,8 @@ use Rattle.command_words.specs.Words.{Load, Plain, Request, Under, Compare, Plai
 use Rattle.convert_core.specs.Conversion.{ReadAsPlays}
 use Rattle.convert_core.specs.declared.refusal.Refusal.{Refusal}
 use Rattle.convert_core.proofs.Conversions.{all_both, all_turned}
-use Rattle.convert_core.proofs.LawfulNotations.{AreReadSame, IsReadAgain, never_refused, read_again, read_few, read_same, read_sound}
+use Rattle.convert_core.proofs.KeptByChoice.{again_spelled}
+use Rattle.convert_core.proofs.LawfulNotations.{AreReadSame, IsReadAgain, all_read_same, never_refused, read_again, read_few, read_same, read_sound}
 use Rattle.convert_core.proofs.OneConversion.{all_same}
 use Rattle.convert_core.proofs.OneOutcome.{same_refused}
 use Rattle.convert_core.proofs.Paired.{each_both, each_spelled, paired_below, paired_both, paired_turned}
@@ -18,8 +19,9 @@ use Rattle.first_fault.specs.declared.limits.TheConstants.{MOST_HANDS}
 use Rattle.hand_canon.specs.Sound.{IsSound}
 use Rattle.hand_differences.proofs.SameHands.{same_traces, same_with_notes}
 use Rattle.hand_differences.specs.FirstDifference.{PlainDifference, first_difference, note_difference, play_difference}
-use Rattle.hand_records.specs.SaidNotes.{SaidNotes}
-use Rattle.hand_records.specs.SameHands.{AllPaired, AreSameHand, AreSameHands}
+use Rattle.hand_records.specs.SaidNotes.{SaidNotes, notes_of}
+use Rattle.hand_records.specs.SameHands.{AllPaired, AreSameHand, AreSameHands, kept_notes}
+use Rattle.hand_records.specs.WriteRefusals.{first_refusal}
 use Rattle.hand_records.specs.declared.trace.Play.{Play}
 use Rattle.hand_records.specs.declared.trace.Trace.{Trace}
 use Rattle.hand_records.specs.declared.writing.Keep.{Keep}
@@ -277,18 +279,19 @@ module _ (from to : Format) (keep : Keep) (bytes output : List ℕ) (into : Conv
   again_traces : (plays others : List Play) → ReadAsPlays (SayRecords from bytes) plays → ReadAsPlays (SayRecords to output) others
       → AllPaired (λ place play other. play.trace ≡ other.trace) 0 plays others
   again_traces plays others read reads =
-      paired_both Same (IsReadAgain (kept_in to)) (λ place play other. play.trace ≡ other.trace)
+      paired_both Same (IsReadAgain (kept_notes keep (kept_in to))) (λ place play other. play.trace ≡ other.trace)
       (λ place play middle other same again. same.trace ∙ sym again.trace)
       0 plays into.plays others (read_same (read_by from) bytes plays into.plays read into.can.legal)
-      (read_again (written_by to) into.plays others output into.back reads)
+      (read_again (read_by to) (kept_notes keep (kept_in to)) into.plays others output into.back reads)
 
   again_with_notes : (plays others : List Play) → ReadAsPlays (SayRecords from bytes) plays → ReadAsPlays (SayRecords to output) others
       → first_refusal_in to keeps.All into.plays ≡ None → AllPaired Same 0 plays others
   again_with_notes plays others read reads none =
-      let again = read_again (written_by to) into.plays others output into.back reads in
+      let by_choice = read_again (read_by to) (kept_notes keep (kept_in to)) into.plays others output into.back reads in
       let whole = each_both IsSound (λ play. unspelled_in to keeps.All play ≡ None) (λ play. IsSound play × (unspelled_in to keeps.All play ≡ None))
       (λ play is spelled. (is, spelled)) into.plays into_sound (each_spelled (unspelled_in to keeps.All) 1 into.plays none) in
       let few = (read_few (read_by from) bytes into.plays into.can.legal).few in
+      let again = again_spelled (unspelled_in to) (kept_in to) (all_spelled to) keep into.plays others few into_sound into.can.spelled by_choice in
       let here : AllPaired Same 0 into.plays others =
       paired_below MOST_HANDS (IsReadAgain (kept_in to)) Same (λ play. IsSound play × (unspelled_in to keeps.All play ≡ None)) IsSound
       (λ place play other early is it same. record { trace = sym same.trace; notes = sym ((all_spelled to place play early is.0).0 is.1).1 ∙ sym same.notes })

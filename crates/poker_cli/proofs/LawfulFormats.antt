@@ -1,5 +1,5 @@
 -- Each format of the program with the laws of its notation as one value, and what follows of runs.
-use Rattle.std.proofs.Common.{◌≡◌, ◌↔◌, ◌<◌, ℕ, List, None, Ok, inl, inr}
+use Rattle.std.proofs.Common.{◌≡◌, ◌↔◌, ◌<◌, ℕ, List, length, None, Ok, inl, inr}
 use Rattle.std.specs.List.{AllByRecursion}
 use Rattle.acpc_reading.specs.RecordView.{rules_of}
 use Rattle.convert_core.proofs.LawfulNotations.{ReadNotation, WrittenNotation}
@@ -16,12 +16,16 @@ use Rattle.poker_cli.specs.RunTells.{told_by}
 use Rattle.convert_core.specs.Conversion.{ReadAsPlays}
 use Rattle.convert_core.specs.PhhAlike as alike_in_phh
 use Rattle.convert_core.specs.PhhLaws as laws_in_phh
+use Rattle.convert_core.specs.PhhReads as reads_in_phh
 use Rattle.convert_core.specs.AcpcAlike as alike_in_acpc
 use Rattle.convert_core.specs.AcpcLaws as laws_in_acpc
+use Rattle.convert_core.specs.AcpcReads as reads_in_acpc
 use Rattle.convert_core.specs.Records.{AreFew, AreOfFile}
 use Rattle.convert_core.specs.SameRecords.{AllAlike}
 use Rattle.convert_core.specs.OhhAlike as alike_in_ohh
 use Rattle.convert_core.specs.OhhLaws as laws_in_ohh
+use Rattle.convert_core.specs.OhhReads as reads_in_ohh
+use Rattle.convert_core.specs.ReadOrFail.{ReadOrFail}
 use Rattle.convert_core.specs.declared.format_fault.FormatFault.{FormatFault}
 use Rattle.first_fault.specs.declared.limits.TheConstants.{MOST_HANDS}
 use Rattle.hand_canon.specs.Sound.{IsSound}
@@ -33,7 +37,7 @@ use Rattle.hand_records.specs.declared.writing.Keep.TheVariants as keeps
 use Rattle.play_event.specs.HistoryRules.{history_rules}
 use Rattle.play_event.specs.declared.setup.Rules.{Rules}
 use Rattle.poker_cli.specs.Headline.{ConversionEnds, ConvertsInto}
-use Rattle.poker_cli.specs.Inputs.{HaveFault, SayRecords}
+use Rattle.poker_cli.specs.Inputs.{HaveFault, ReadAsHands, SayRecords}
 use Rattle.poker_cli.specs.Outputs.{AreSameIn, SpellPlays, kept_in, unspelled_in}
 use Rattle.poker_cli.specs.Run.{Sinks}
 use Rattle.poker_cli.specs.declared.status.Status.{Status}
@@ -63,14 +67,26 @@ one_reading formats.Phh bytes hands others say too = alike_in_phh.one_reading by
 one_reading (formats.Ohh dialect) bytes hands others say too = alike_in_ohh.one_reading dialect bytes hands others say too
 one_reading (formats.Acpc game) bytes hands others say too = alike_in_acpc.one_reading game bytes hands others say too
 
+pub read_or_fail : (format : Format) (bytes : List ℕ) → ReadOrFail (ReadAsHands format bytes) (HaveFault format bytes)
+read_or_fail formats.Phh bytes = reads_in_phh.read_or_fail bytes
+read_or_fail (formats.Ohh dialect) bytes = reads_in_ohh.read_or_fail dialect bytes
+read_or_fail (formats.Acpc game) bytes = reads_in_acpc.read_or_fail game bytes
+
+pub say_as_many : (format : Format) (bytes : List ℕ) (hands : List Record) → SayRecords format bytes hands → ReadAsHands format bytes (length hands)
+say_as_many formats.Phh bytes hands say = reads_in_phh.say_as_many bytes hands say
+say_as_many (formats.Ohh dialect) bytes hands say = reads_in_ohh.say_as_many dialect bytes hands say
+say_as_many (formats.Acpc game) bytes hands say = reads_in_acpc.say_as_many game bytes hands say
+
 abbrev pub read_by : Format → ReadNotation
 read_by format =
     record {
       rules = rules_in format;
       Say = SayRecords format;
+      ReadAsHands = ReadAsHands format;
       HaveFault = HaveFault format;
       reads_file = reads_file format;
-      no_fault = no_fault format;
+      read_or_fail = read_or_fail format;
+      say_as_many = say_as_many format;
       one_reading = one_reading format;
     }
 

@@ -127,7 +127,7 @@ pub data IsWritten (unspelled : Play → Option Unspelled)
 -- plays are written in a notation, with so many of their notes
 abbrev pub IsConversion : Format → Keep → List Play → Answer → Type 0
 IsConversion to keep plays answer =
-    IsWritten (unspelled_in to keep) (SpellPlays to) (ReadsBack to) plays answer
+    IsWritten (unspelled_in to keep) (SpellPlays to) (ReadsBack to keep) plays answer
 
 -- the answer to a question about hands that are all legal and agree
 abbrev pub IsReply : Question → List Play → Answer → Type 0

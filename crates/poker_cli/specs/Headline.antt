@@ -1,7 +1,8 @@
 -- For every input within the limits that reads as hands, `convert` answers 0 exactly when the
 -- replay of every hand is legal, every stated fact agrees and every fact to be kept has a spelling
--- in the target notation. The bytes that it writes read back there as the same hands. Otherwise
--- nothing is written, and the first refused hand is named, with its first illegal action.
+-- in the target notation. The bytes that it writes read back there as the same hands, with all
+-- their notes or with those that the notation spells. Otherwise nothing is written, and the first
+-- refused hand is named, with its first illegal action.
 use Rattle.std.specs.Prelude.{◌≡◌, ◌⊎◌, ℕ, ◌<◌, ◌≤◌, List, length, codes, None, Some}
 use Rattle.std.specs.Io.KnownBytes.{Appends}
 use Rattle.command_words.specs.Words.{Request}
@@ -41,12 +42,12 @@ pub record CanConvert (from to : Format) (keep : Keep) (bytes : List ℕ) (plays
     pub spelled : first_refusal_in to keep plays ≡ None
 
 -- the hands of an input can be converted, and this output spells them in the target notation, and
--- reads back there as the same hands
+-- reads back there as the same hands, with the notes that are to be kept
 pub record ConvertsInto (from to : Format) (keep : Keep) (bytes output : List ℕ) : Type 0 where
   pub plays : List Play
   pub can : CanConvert from to keep bytes plays
   pub spell : SpellPlays to plays output
-  pub back : ReadsBack to plays output
+  pub back : ReadsBack to keep plays output
 
 -- a sink is told this line
 abbrev pub IsTold : Sinks → List ℕ → Type 0

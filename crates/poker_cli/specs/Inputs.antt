@@ -1,4 +1,5 @@
--- What bytes say as they are read, and their first fault: the words of each notation.
+-- What bytes say as they are read, as how many hands they read, and their first fault: the words of
+-- each notation.
 use Rattle.std.specs.Prelude.{ℕ, List}
 use Rattle.convert_core.specs.Phh as in_phh
 use Rattle.convert_core.specs.Acpc as in_acpc
@@ -13,6 +14,12 @@ abbrev pub SayRecords : Format → List ℕ → List Record → Type 0
 SayRecords readers.Phh bytes records = in_phh.Say bytes records
 SayRecords (readers.Ohh dialect) bytes records = in_ohh.Say dialect bytes records
 SayRecords (readers.Acpc game) bytes records = in_acpc.Say game bytes records
+
+-- bytes read as so many hands
+abbrev pub ReadAsHands : Format → List ℕ → ℕ → Type 0
+ReadAsHands readers.Phh bytes count = in_phh.ReadAsHands bytes count
+ReadAsHands (readers.Ohh dialect) bytes count = in_ohh.ReadAsHands dialect bytes count
+ReadAsHands (readers.Acpc game) bytes count = in_acpc.ReadAsHands game bytes count
 
 -- bytes do not read as hands, and this is their first fault
 abbrev pub HaveFault : Format → List ℕ → FormatFault → Type 0

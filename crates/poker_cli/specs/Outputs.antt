@@ -9,6 +9,7 @@ use Rattle.convert_core.specs.Acpc as in_acpc
 use Rattle.convert_core.specs.ReadBack.{ReadBack}
 use Rattle.convert_core.specs.Ohh as in_ohh
 use Rattle.hand_records.specs.SaidNotes.{KeepsNotes, SaidNotes}
+use Rattle.hand_records.specs.SameHands.{kept_notes}
 use Rattle.hand_records.specs.declared.trace.Play.{Play}
 use Rattle.hand_records.specs.declared.writing.Keep.{Keep}
 use Rattle.hand_records.specs.declared.writing.Unspelled.{Unspelled}
@@ -18,7 +19,7 @@ use Rattle.ohh_writing.specs.Spelled as facts_in_ohh
 use Rattle.phh_format.specs.KeptNotes.{kept_in_phh}
 use Rattle.phh_format.specs.SameTables.{AreSameTable}
 use Rattle.phh_writing.specs.Spelled as history_facts
-use Rattle.poker_cli.specs.Inputs.{HaveFault, SayRecords}
+use Rattle.poker_cli.specs.Inputs.{HaveFault, ReadAsHands, SayRecords}
 use Rattle.poker_cli.specs.declared.task.Format.{Format}
 use Rattle.poker_cli.specs.declared.task.Format.TheVariants as readers
 use Rattle.hand_records.specs.WriteRefusals.{first_refusal}
@@ -51,8 +52,10 @@ AreSameIn readers.Phh bytes too = AreSameTable bytes too
 AreSameIn (readers.Ohh dialect) bytes too = bytes ≡ too
 AreSameIn (readers.Acpc game) bytes too = bytes ≡ too
 
--- bytes read back as plays in a notation: as many hands, each legal and with the whole trace of its
--- play, stated facts that agree, and the kept notes
-abbrev pub ReadsBack : Format → List Play → List ℕ → Type 0
-ReadsBack to plays bytes =
-    ReadBack (SayRecords to bytes) (HaveFault to bytes) (KeepsNotes (kept_in to)) plays
+-- bytes read back as plays in a notation: they read, as as many hands, each legal and with the
+-- whole trace of its play, stated facts that agree, and the kept notes: all notes, or those that
+-- the notation spells
+abbrev pub ReadsBack : Format → Keep → List Play → List ℕ → Type 0
+ReadsBack to keep plays bytes =
+    ReadBack (SayRecords to bytes) (ReadAsHands to bytes) (HaveFault to bytes)
+    (KeepsNotes (kept_notes keep (kept_in to))) plays

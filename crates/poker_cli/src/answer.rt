@@ -4,6 +4,7 @@ ghost use Rattle.command_words.specs.declared.command.Command.TheVariants as com
 ghost use Rattle.command_words.specs.declared.task.Question.TheVariants as questions;
 ghost use Rattle.convert_core.specs.ReadBack.{ReadBack};
 ghost use Rattle.hand_records.specs.SaidNotes.{KeepsNotes};
+ghost use Rattle.hand_records.specs.SameHands.{kept_notes};
 ghost use Rattle.first_fault.specs.declared.limits.TheConstants.{MOST_HANDS};
 ghost use Rattle.hand_canon.specs.Sound.{IsSound};
 ghost use Rattle.hand_records.specs.SoundRecord.{IsSoundRecord};
@@ -192,8 +193,8 @@ fn answer_with_conversion<N: Notation, M: Notation>(
     ensures answer { IfOk result (λ answer. IsAnswerTo (N.Say from.now bytes.now)
         (N.HaveFault from.now bytes.now)
         (IsWritten (M.unspelled to.now keep) (M.Spell to.now) (λ plays output.
-        ReadBack (M.Say to.now output) (M.HaveFault to.now output)
-        (KeepsNotes (M.kept to.now)) plays))
+        ReadBack (M.Say to.now output) (M.ReadAsHands to.now output) (M.HaveFault to.now output)
+        (KeepsNotes (kept_notes keep (M.kept to.now))) plays))
         (answer_told answer)) }
     ensures own { IfOk result (λ answer. IsOfInput answer.status) }
 {
