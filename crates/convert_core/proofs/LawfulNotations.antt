@@ -99,7 +99,7 @@ note_said : (place count : ℕ) (a b : Notes) → NoteTheSame count a b → said
 note_said place count a b same =
     notes_same (said_notes place count a) (said_notes place count b) (record {
       names = map_agree (name_said a.names) (name_said b.names) 1 count (λ seat _ _. same.names (seat - 1));
-      seats = numbers_alike count a.seats b.seats same.all_seats;
+      seats = numbers_alike count a.seats b.seats same.seats;
       seat_count = same.seat_count;
       hand = ap (kept_label place) same.hand;
       table = same.table;

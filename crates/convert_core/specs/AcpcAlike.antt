@@ -17,7 +17,7 @@ use Rattle.acpc_reading.specs.RecordView.{IsOfGame, StatesValues, record_said}
 use Rattle.acpc_reading.specs.Views.{nets_in}
 use Rattle.convert_core.specs.Acpc.{Say}
 use Rattle.convert_core.specs.SameParts.{names_same, one_script}
-use Rattle.convert_core.specs.SameRecords.{AllAlike, AreAlike, number_at}
+use Rattle.convert_core.specs.SameRecords.{AllAlike, AreAlike}
 use Rattle.hand_records.specs.StatedFacts.{stated_from}
 
 -- what these numbers keep as the nets of so many seats
@@ -132,9 +132,7 @@ module _ (game : Game) (a b : Record) (is : IsOfGame game a) (it : IsOfGame game
           names =
               names_same a.setup.stacks.seats a.notes.names b.notes.names names
               is.sound.notes.no_more_names no_names;
-          all_names = names;
-          seats = λ index. ap (number_at index) (is.notes.seats ∙ sym it.notes.seats);
-          all_seats =
+          seats =
               ap (option_map (take a.setup.stacks.seats)) (is.notes.seats ∙ sym it.notes.seats);
           seat_count = is.notes.seat_count ∙ sym it.notes.seat_count;
           hand = ap (λ (hand : HandSaid). hand.hand) same;

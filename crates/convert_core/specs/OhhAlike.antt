@@ -13,7 +13,7 @@ use Rattle.ohh_reading.specs.Hand.{PlainHand, plain}
 use Rattle.phh_fields.specs.NoteFields.{plain_notes}
 use Rattle.phh_reading.specs.Hand as in_phh
 use Rattle.phh_reading.proofs.SamePlay.{same_setup, same_stated}
-use Rattle.convert_core.specs.SameParts.{names_same, numbers_same, one_script}
+use Rattle.convert_core.specs.SameParts.{names_same, one_script}
 use Rattle.convert_core.specs.SameRecords.{AllAlike, AreAlike}
 use Rattle.convert_core.specs.Ohh.{Say}
 use Rattle.chip_ledger.specs.SeatRow.{amounts_in}
@@ -140,11 +140,7 @@ module _ (a b : Record) (is : IsHistory a) (it : IsHistory b) (same : plain a �
           names =
               names_same a.setup.stacks.seats a.notes.names b.notes.names names
               is.sound.notes.no_more_names allowed.no_more_names;
-          all_names = names;
-          seats =
-              numbers_same a.setup.stacks.seats a.notes.seats b.notes.seats numbers
-              is.sound.notes.seats allowed.seats;
-          all_seats = numbers;
+          seats = numbers;
           seat_count = ap (λ (hand : PlainHand). hand.notes.seat_count) same;
           hand = ap (λ (hand : PlainHand). hand.notes.hand) same;
           table = ap (λ (hand : PlainHand). hand.notes.table) same;

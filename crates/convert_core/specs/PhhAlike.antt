@@ -8,7 +8,7 @@ use Rattle.phh_reading.specs.Hand.{PlainHand, plain}
 use Rattle.phh_reading.proofs.SamePlay.{same_rules, same_script, same_setup, same_stated}
 use Rattle.play_event.specs.declared.setup.Setup.{Setup}
 use Rattle.convert_core.specs.Phh.{Say}
-use Rattle.convert_core.specs.SameParts.{names_same, numbers_same}
+use Rattle.convert_core.specs.SameParts.{names_same}
 use Rattle.convert_core.specs.SameRecords.{AllAlike, AreAlike}
 use Rattle.hand_records.specs.Histories.{IsHistory}
 
@@ -55,11 +55,7 @@ module _ (a b : Record) (is : IsHistory a) (it : IsHistory b) (same : plain a �
               names =
                   names_same a.setup.stacks.seats a.notes.names b.notes.names names
                   is.sound.notes.no_more_names allowed.no_more_names;
-              all_names = names;
-              seats =
-                  numbers_same a.setup.stacks.seats a.notes.seats b.notes.seats numbers
-                  is.sound.notes.seats allowed.seats;
-              all_seats = numbers;
+              seats = numbers;
               seat_count = ap (λ (hand : PlainHand). hand.notes.seating.seat_count) same;
               hand = ap (λ (hand : PlainHand). hand.notes.labels.hand) same;
               table = ap (λ (hand : PlainHand). hand.notes.labels.table) same;

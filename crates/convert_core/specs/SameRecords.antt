@@ -1,5 +1,5 @@
 -- Records that say the same: bytes do not tell them apart.
-use Rattle.std.specs.Prelude.{◌≡◌, ℕ, List, [], ◌∷◌, take, Option, None, option_map, slice_index, slice_index_or}
+use Rattle.std.specs.Prelude.{◌≡◌, ℕ, List, [], ◌∷◌, take, None, option_map, slice_index_or}
 use Rattle.hand_records.specs.declared.notes.Notes.{Notes}
 use Rattle.hand_records.specs.declared.record.Record.{Record}
 use Rattle.hand_records.specs.declared.trace.Play.{Play}
@@ -11,17 +11,10 @@ pub record SayTheSame (a b : Record) : Type 0 where
   pub script : a.script ≡ b.script
   pub stated : a.stated ≡ b.stated
 
--- the number at an index of numbers that may not be said
-abbrev pub number_at : ℕ → Option (List ℕ) → Option ℕ
-number_at index numbers = option_map (λ said. slice_index said index) numbers
-
--- two notes of a hand with so many seats are the same, name by name and number by number; those of
--- the seats are as many
+-- two notes of a hand with so many seats are the same, name by name and note by note
 pub record NoteTheSame (count : ℕ) (a b : Notes) : Type 0 where
   pub names : (index : ℕ) → slice_index_or a.names index None ≡ slice_index_or b.names index None
-  pub all_names : take count a.names ≡ take count b.names
-  pub seats : (index : ℕ) → number_at index a.seats ≡ number_at index b.seats
-  pub all_seats : option_map (take count) a.seats ≡ option_map (take count) b.seats
+  pub seats : option_map (take count) a.seats ≡ option_map (take count) b.seats
   pub seat_count : a.seat_count ≡ b.seat_count
   pub hand : a.hand ≡ b.hand
   pub table : a.table ≡ b.table
