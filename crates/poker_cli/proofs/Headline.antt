@@ -104,7 +104,7 @@ not_unread fault answer status other told same = other (subst IsUnread same (fau
 
 module _ (from to : Format) (keep : Keep) (bytes : List ℕ) where
   -- an answer that is done
-  done_into : (answer : Answer) → IsAnswer (tasks.Convert to keep) from bytes answer → answer.status ≡ statuses.Done → ConvertsInto from to keep bytes answer.output
+  pub done_into : (answer : Answer) → IsAnswer (tasks.Convert to keep) from bytes answer → answer.status ≡ statuses.Done → ConvertsInto from to keep bytes answer.output
   unfolding IsUnread
   done_into _ (answers.TooLong many) same = absurd (cc (same))
   done_into answer (answers.Read few _ (answers.Unread fault have _ told)) same = absurd (not_unread fault answer statuses.Done (λ un. un) told same)

@@ -149,7 +149,7 @@ written_by format =
 -- ---- runs
 
 -- what is converted into an output
-converted : (from to : Format) (keep : Keep) (bytes output : List ℕ) → ConvertsInto from to keep bytes output → Converts (read_by from) (written_by to) keep bytes (Ok output)
+pub converted : (from to : Format) (keep : Keep) (bytes output : List ℕ) → ConvertsInto from to keep bytes output → Converts (read_by from) (written_by to) keep bytes (Ok output)
 converted from to keep bytes output into = record { plays = into.plays; read = into.can.legal; spelled = into.can.spelled; spell = into.spell; back = into.back }
 
 -- what a run tells is an answer of its conversion

@@ -15,4 +15,5 @@ mod Headline
 mod Comparisons
 mod ComparedRuns
 mod LegalReplies
+mod EqualAnswers
 mod Replying

@@ -134,7 +134,7 @@ same_game (p ∷ ps) [] traced = absurd traced
 same_game (p ∷ ps) (q ∷ qs) traced = ap (λ (trace : Trace). to_first_game (record q { trace = trace } ∷ [])) traced.0.0
 
 -- the same answer is one
-one_itself : (task : Task) (answer other : Answer) → answer ≡ other → AreOneAnswer task answer other
+pub one_itself : (task : Task) (answer other : Answer) → answer ≡ other → AreOneAnswer task answer other
 one_itself (tasks.Ask question) answer other same = same
 one_itself tasks.Judge answer other same = same
 one_itself (tasks.Views game seat) answer other same = same
@@ -148,7 +148,7 @@ one_itself (tasks.Convert readers.Phh keep) answer other same =
     }
 
 -- the same output is one
-one_output : (to : Format) (keep : Keep) (bytes others : List ℕ) → AreSameIn to bytes others → AreOneAnswer (tasks.Convert to keep) (done bytes) (done others)
+pub one_output : (to : Format) (keep : Keep) (bytes others : List ℕ) → AreSameIn to bytes others → AreOneAnswer (tasks.Convert to keep) (done bytes) (done others)
 one_output readers.Phh keep bytes others same = record { status = refl; line = refl; document = same.first ∙ sym same.second }
 one_output (readers.Ohh dialect) keep bytes others same = ap done same
 one_output (readers.Acpc game) keep bytes others same = ap done same

@@ -113,6 +113,37 @@ pub fn law_of_legal_inputs()
         → Ends (Load seed hands) files bytes out diag status → NeedsNoInput status }
 {}
 
+/// What is answered to a conversion has one form, without regard to devices and memory. Two inputs
+/// that are converted into one notation, with one choice of notes, have the same output exactly
+/// where their hands have the same traces and the same kept notes, hand by hand (`equal`). An
+/// output that is no longer than an input may be is converted to its own notation as itself,
+/// whichever notes are kept then (`again`). And where bytes are converted with all notes, their
+/// output, if it is no longer than that, and the bytes themselves have one answer to a conversion
+/// into a third notation (`by_way`): the same output, or the same hand and its same fact without a
+/// spelling. The function does nothing: its contract is a law.
+pub fn law_of_equal_answers()
+    ensures equal { (from other to : Format) (keep : Keep) (bytes too : List ℕ)
+        → (plays others : List Play) (answer written : Answer)
+        → ReadAsPlays (SayRecords from bytes) plays → ReadAsPlays (SayRecords other too) others
+        → IsAnswer (tasks.Convert to keep) from bytes answer → answer.status ≡ statuses.Done
+        → IsAnswer (tasks.Convert to keep) other too written → written.status ≡ statuses.Done
+        → AreSameHands (kept_notes keep (kept_in to)) plays others
+        ↔ AreSameIn to answer.output written.output }
+    ensures again { (from to : Format) (keep again : Keep) (bytes : List ℕ) (answer other : Answer)
+        → IsAnswer (tasks.Convert to keep) from bytes answer → answer.status ≡ statuses.Done
+        → length answer.output ≤ most_input
+        → IsAnswer (tasks.Convert to again) to answer.output other
+        → (other.status ≡ statuses.Done) × AreSameIn to answer.output other.output }
+    ensures by_way { (from by to : Format) (keep : Keep) (bytes : List ℕ)
+        → (halfway straight by_way : Answer)
+        → IsAnswer (tasks.Convert by keeps.All) from bytes halfway
+        → halfway.status ≡ statuses.Done
+        → length halfway.output ≤ most_input
+        → IsAnswer (tasks.Convert to keep) from bytes straight
+        → IsAnswer (tasks.Convert to keep) by halfway.output by_way
+        → AreOneAnswer (tasks.Convert to keep) straight by_way }
+{}
+
 /// Two inputs, in any notations, that are converted into one notation with one choice of notes:
 /// their outputs are the same exactly where their hands have the same traces and the same kept
 /// notes, hand by hand. The function does nothing: its contract is a law.
