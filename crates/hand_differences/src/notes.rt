@@ -1,8 +1,9 @@
 //! The notes of two hands are compared, in the order in which notes are named.
 ghost use Rattle.std.specs.Prelude.{◌≡◌, ◌≤◌, IfSome, bytes_eq, decimal, find, map, not, option_map};
 ghost use Rattle.chip_ledger.specs.Seat.{seats_of};
-ghost use Rattle.hand_records.specs.AllowedNotes.{AreAllowed, AreSeatNumbers};
+ghost use Rattle.hand_records.specs.AllowedNotes.{AreSeatNumbers};
 ghost use Rattle.hand_records.specs.SaidNotes.{kept_label, name_said, numbers_said, said_notes};
+ghost use Rattle.hand_differences.specs.BothAllowed.{AreBothAllowed};
 ghost use Rattle.hand_differences.specs.FirstDifference.{difference_said, is_same_note as is_same_note_said, note_difference as note_difference_said};
 ghost use Rattle.hand_differences.specs.SameParts.{are_same_entries, is_same_clock as is_same_clock_said, is_same_number, is_same_option, is_same_text as is_same_text_said};
 
@@ -17,9 +18,7 @@ pub(crate) fn note_difference(
     notes: &Notes,
     others: &Notes,
 ) -> Option<Difference>
-    requires few { count ≤ 10 }
-    requires notes { AreAllowed count notes.now }
-    requires others { AreAllowed count others.now }
+    requires { AreBothAllowed count notes.now others.now }
     ensures { option_map difference_said result ≡ note_difference_said
         (said_notes place count notes.now) (said_notes place count others.now) }
 {
@@ -51,9 +50,7 @@ fn first_other(
     others: &Notes,
     names: &[NoteName],
 ) -> Option<NoteName>
-    requires few { count ≤ 10 }
-    requires notes { AreAllowed count notes.now }
-    requires others { AreAllowed count others.now }
+    requires { AreBothAllowed count notes.now others.now }
     ensures { result ≡ find (λ name. not (is_same_note_said
         (said_notes place count notes.now) (said_notes place count others.now) name)) names.now }
 {
@@ -71,9 +68,7 @@ fn first_other(
 
 // A note is the same.
 fn is_same_note(place: usize, count: u8, notes: &Notes, others: &Notes, name: NoteName) -> bool
-    requires few { count ≤ 10 }
-    requires notes { AreAllowed count notes.now }
-    requires others { AreAllowed count others.now }
+    requires { AreBothAllowed count notes.now others.now }
     ensures { result ≡ is_same_note_said
         (said_notes place count notes.now) (said_notes place count others.now) name }
 {

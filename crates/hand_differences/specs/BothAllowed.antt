@@ -1,0 +1,10 @@
+-- Notes that two hands may have.
+use Rattle.std.specs.Prelude.{◌≤◌, ℕ}
+use Rattle.hand_records.specs.AllowedNotes.{AreAllowed}
+use Rattle.hand_records.specs.declared.notes.Notes.{Notes}
+
+-- The notes of two hands with so many seats are allowed there.
+pub record AreBothAllowed (count : ℕ) (first second : Notes) : Type 0 where
+  pub few : count ≤ 10
+  pub notes : AreAllowed count first
+  pub others : AreAllowed count second
