@@ -1,11 +1,11 @@
 //! The rows of all names so far, each found by its name, and the steps so far.
-ghost use Rattle.std.specs.Prelude.{◌≡◌, ◌≤◌, ◌<◌, ◌-◌, ◌+◌, ◌++◌, ℕ, List, false, [], bytes_eq, map, Some, IfOk, OnOk};
+ghost use Rattle.std.specs.Prelude.{◌≡◌, ◌-◌, ◌+◌, ℕ, List, false, [], bytes_eq, map, Some, IfOk, OnOk};
 ghost use Rattle.std.specs.List.{list_any, position_from};
 ghost use Rattle.chip_ledger.specs.Seat.{seats_of};
-ghost use Rattle.first_fault.specs.declared.limits.TheConstants.{MOST_HANDS};
 ghost use Rattle.hand_records.specs.AllowedNotes.{name_written};
 ghost use Rattle.name_index.specs.Indexed.{AreIndexed};
 ghost use Rattle.hand_session.specs.Hands.{hand_of, seated_in};
+ghost use Rattle.hand_session.specs.Ledgers.{HasGrown, TakesHand};
 ghost use Rattle.hand_session.specs.Sessions.{is_named, names_among};
 ghost use Rattle.hand_session.specs.Visits.{IsOfHand, IsOfHands, row_at, row_names, rows_after_seat, rows_with, steps_of_names, steps_of_seat, visit_steps, with_names, with_row};
 
@@ -42,19 +42,14 @@ pub fn new_ledger(alloc: Global) -> Ledger
 
 /// Adds what each name did in a hand with this number, by the first seat of each name.
 pub fn add_hand(alloc: Global, ledger: &mut Ledger, number: u32, play: &Play) -> Result<(), Memory>
-    requires names { AreIndexed ledger.old.names (row_names ledger.old.rows.items) }
-    requires first { 1 ≤ number }
-    requires few { number ≤ MOST_HANDS }
+    requires hand { TakesHand ledger.old number }
     requires within { (name : List ℕ)
         → IsOfHands (number - 1) (row_at ledger.old.rows.items name) }
-    ensures names { OnOk result (AreIndexed ledger.new.names
-        (row_names ledger.new.rows.items)) }
-    ensures rows { OnOk result (ledger.new.rows.items
-        ≡ with_names (hand_of play.now) ledger.old.rows.items
-        (names_among (hand_of play.now).seats)) }
-    ensures steps { OnOk result (ledger.new.steps.items ≡ ledger.old.steps.items
-        ++ steps_of_names number (hand_of play.now) ledger.old.rows.items
-        (names_among (hand_of play.now).seats)) }
+    ensures { OnOk result (HasGrown ledger.old ledger.new
+        (with_names (hand_of play.now) ledger.old.rows.items
+        (names_among (hand_of play.now).seats))
+        (steps_of_names number (hand_of play.now) ledger.old.rows.items
+        (names_among (hand_of play.now).seats))) }
 {
     for index in 0..play.trace.setup.stacks.seats {
         add_seat(alloc, ledger, number, play, Seat { number: index + 1 })?;
@@ -70,23 +65,18 @@ fn add_seat(
     play: &Play,
     seat: Seat,
 ) -> Result<(), Memory>
-    requires names { AreIndexed ledger.old.names (row_names ledger.old.rows.items) }
-    requires first { 1 ≤ number }
-    requires few { number ≤ MOST_HANDS }
+    requires hand { TakesHand ledger.old number }
     requires within { list_any (is_named (seated_in play.now seat.number).name)
         (map (seated_in play.now) (seats_of (seat.number - 1))) ≡ false
         → IsOfHands (number - 1)
         (row_at ledger.old.rows.items (seated_in play.now seat.number).name) }
-    ensures names { OnOk result (AreIndexed ledger.new.names
-        (row_names ledger.new.rows.items)) }
-    ensures rows { OnOk result (ledger.new.rows.items
-        ≡ rows_after_seat (hand_of play.now)
+    ensures { OnOk result (HasGrown ledger.old ledger.new
+        (rows_after_seat (hand_of play.now)
         (map (seated_in play.now) (seats_of (seat.number - 1)))
-        ledger.old.rows.items (seated_in play.now seat.number).name) }
-    ensures steps { OnOk result (ledger.new.steps.items ≡ ledger.old.steps.items
-        ++ steps_of_seat number (hand_of play.now)
+        ledger.old.rows.items (seated_in play.now seat.number).name)
+        (steps_of_seat number (hand_of play.now)
         (map (seated_in play.now) (seats_of (seat.number - 1)))
-        ledger.old.rows.items (seated_in play.now seat.number).name) }
+        ledger.old.rows.items (seated_in play.now seat.number).name)) }
 {
     let name = name_of(&play.hand.notes, seat);
     if is_name_before(play, name, seat) {
@@ -116,17 +106,12 @@ fn add_visit_of(
     name: &str,
     visit: Visit,
 ) -> Result<(), Memory>
-    requires names { AreIndexed ledger.old.names (row_names ledger.old.rows.items) }
-    requires first { 1 ≤ number }
-    requires few { number ≤ MOST_HANDS }
+    requires hand { TakesHand ledger.old number }
     requires within { IsOfHands (number - 1) (row_at ledger.old.rows.items name.now) }
     requires visit { IsOfHand visit }
-    ensures names { OnOk result (AreIndexed ledger.new.names
-        (row_names ledger.new.rows.items)) }
-    ensures rows { OnOk result (ledger.new.rows.items
-        ≡ with_row ledger.old.rows.items name.now visit) }
-    ensures steps { OnOk result (ledger.new.steps.items ≡ ledger.old.steps.items
-        ++ visit_steps number (row_at ledger.old.rows.items name.now) visit) }
+    ensures { OnOk result (HasGrown ledger.old ledger.new
+        (with_row ledger.old.rows.items name.now visit)
+        (visit_steps number (row_at ledger.old.rows.items name.now) visit)) }
 {
     let place = row_place(alloc, ledger, name)?;
     push_steps(alloc, &mut ledger.steps, number, &ledger.rows[place], visit)?;

@@ -30,6 +30,9 @@ add_seat-requires-clause-within c none =
     ∙ at_others (hand_of play) c.args.ledger.now.rows.items (names_among before) name (any_names name before ∙ missing) in
     subst (IsOfHands (c.args.number - 1)) (sym same) (c.requires.within name)
 
+pub add_seat-requires-clause-hand : goal.add_seat-requires-clause-hand
+add_seat-requires-clause-hand c = record { names = c.loop-index.invariant.names; first = c.requires.hand.first; few = c.requires.hand.few }
+
 pub loop-index-preserved : goal.loop-index-preserved
 loop-index-preserved c =
     let play = c.args.play.now in
@@ -56,4 +59,19 @@ loop-index-preserved c =
           ∙ append_assoc c.args.ledger.now.steps.items (steps_of_names number hand rows (names_among before)) (steps_of_seat number hand before so_far seat.name)
           ∙ ap (λ (steps : List Step). c.args.ledger.now.steps.items ++ steps) (steps_more number hand rows before seat)
           ∙ ap (λ (seats : List Seated). c.args.ledger.now.steps.items ++ steps_of_names number hand rows (names_among seats)) (sym (seats_more play index));
+    }
+
+pub returns : goal.returns
+returns c =
+    let play = c.args.play.now in
+    let rows = c.args.ledger.now.rows.items in
+    let all : c.loop-index.index ≡ play.trace.setup.stacks.seats = omega (arith, c.loop-index-test.false) in
+    record {
+      names = c.loop-index.invariant.names;
+      rows =
+          c.loop-index.invariant.rows
+          ∙ ap (λ (n : ℕ). with_names (hand_of play) rows (names_among (map (seated_in play) (seats_of n)))) all;
+      steps =
+          c.loop-index.invariant.steps
+          ∙ ap (λ (n : ℕ). c.args.ledger.now.steps.items ++ steps_of_names c.args.number (hand_of play) rows (names_among (map (seated_in play) (seats_of n)))) all;
     }

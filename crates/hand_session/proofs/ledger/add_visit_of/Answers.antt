@@ -25,7 +25,7 @@ index_mut-requires c =
 pub add_visit-requires-clause-row : goal.add_visit-requires-clause-row
 add_visit-requires-clause-row c =
     let at = row_is c.args.ledger.now.rows.items c.row_place.new.ledger.rows.items c.args.name.now c.args.visit c.in_ok-place.place c.in_ok-place.ensures.rows c.in_ok-place.ensures.place in
-    (c.args.number - 1, omega (arith, c.requires.first, c.requires.few), subst (IsOfHands (c.args.number - 1)) (sym (c.index_mut.ensures.value ∙ at.got c.index_mut.result.now)) c.requires.within)
+    (c.args.number - 1, omega (arith, c.requires.hand.first, c.requires.hand.few), subst (IsOfHands (c.args.number - 1)) (sym (c.index_mut.ensures.value ∙ at.got c.index_mut.result.now)) c.requires.within)
 
 -- what the ledger holds after the visit
 module _ (c : goal.After-ledger-1) where
@@ -43,20 +43,18 @@ module _ (c : goal.After-ledger-1) where
       ap (slice_set c.row_place.new.ledger.rows.items c.in_ok-place.place) (c.add_visit.ensures ∙ ap (λ (row : SessionRow). with_visit row c.args.visit) (c.index_mut.ensures.value ∙ at.got c.index_mut.result.now))
       ∙ at.put
 
-pub returns-clause-names : goal.returns-clause-names
-returns-clause-names c =
-    subst (AreIndexed c.row_place.new.ledger.names)
-    (ap row_names c.in_ok-place.ensures.rows
-    ∙ names_with (old c) (name c)
-    ∙ sym (names_after (old c) (name c) c.args.visit)
-    ∙ ap row_names (sym (put c)))
-    c.in_ok-place.ensures.names
-
-pub returns-clause-rows : goal.returns-clause-rows
-returns-clause-rows c = put c
-
-pub returns-clause-steps : goal.returns-clause-steps
-returns-clause-steps c =
-    c.in_ok-push_steps.ensures
-    ∙ ap (λ (row : SessionRow). c.row_place.new.ledger.steps.items ++ visit_steps c.args.number row c.args.visit) (c.index.ensures ∙ (at c).got c.index.result.now)
-    ∙ ap (λ (steps : List Step). steps ++ visit_steps c.args.number (row_at (old c) (name c)) c.args.visit) (ap (λ v. v.items) c.in_ok-place.ensures.steps)
+pub returns : goal.returns
+returns c = record {
+  names =
+      subst (AreIndexed c.row_place.new.ledger.names)
+      (ap row_names c.in_ok-place.ensures.rows
+      ∙ names_with (old c) (name c)
+      ∙ sym (names_after (old c) (name c) c.args.visit)
+      ∙ ap row_names (sym (put c)))
+      c.in_ok-place.ensures.names;
+  rows = put c;
+  steps =
+      c.in_ok-push_steps.ensures
+      ∙ ap (λ (row : SessionRow). c.row_place.new.ledger.steps.items ++ visit_steps c.args.number row c.args.visit) (c.index.ensures ∙ (at c).got c.index.result.now)
+      ∙ ap (λ (steps : List Step). steps ++ visit_steps c.args.number (row_at (old c) (name c)) c.args.visit) (ap (λ v. v.items) c.in_ok-place.ensures.steps);
+}

@@ -16,11 +16,12 @@ use Rattle.hand_session.proofs.sessions.OpenSession.add_play.Goals as goal
 pub overflow_add-number : goal.overflow_add-number
 overflow_add-number c = omega (arith, c.requires.begun.1.hands, c.requires.begun.2)
 
-pub add_hand-requires-clause-few : goal.add_hand-requires-clause-few
-add_hand-requires-clause-few c = omega (arith, c.requires.begun.1.hands, c.requires.begun.2)
-
-pub add_hand-requires-clause-names : goal.add_hand-requires-clause-names
-add_hand-requires-clause-names c = c.requires.begun.1.indexed
+pub add_hand-requires-clause-hand : goal.add_hand-requires-clause-hand
+add_hand-requires-clause-hand c = record {
+  names = c.requires.begun.1.indexed;
+  first = omega arith;
+  few = omega (arith, c.requires.begun.1.hands, c.requires.begun.2);
+}
 
 pub add_hand-requires-clause-within : goal.add_hand-requires-clause-within
 add_hand-requires-clause-within c name =

@@ -1,0 +1,20 @@
+-- What a ledger of rows and steps needs for one more hand, and what it has after.
+use Rattle.std.specs.Prelude.{◌≡◌, ◌≤◌, ◌++◌, ℕ, List}
+use Rattle.first_fault.specs.declared.limits.TheConstants.{MOST_HANDS}
+use Rattle.name_index.specs.Indexed.{AreIndexed}
+use Rattle.hand_session.specs.declared.ledger.Ledger.{Ledger}
+use Rattle.hand_session.specs.declared.lists.SessionRow.{SessionRow}
+use Rattle.hand_session.specs.declared.lists.Step.{Step}
+use Rattle.hand_session.specs.Visits.{row_names}
+
+-- The names of a ledger are indexed, and the hand that comes has a number.
+pub record TakesHand (ledger : Ledger) (number : ℕ) : Type 0 where
+  pub names : AreIndexed ledger.names (row_names ledger.rows.items)
+  pub first : 1 ≤ number
+  pub few : number ≤ MOST_HANDS
+
+-- A ledger has these rows, whose names are indexed, and these steps more than before.
+pub record HasGrown (old new : Ledger) (all : List SessionRow) (more : List Step) : Type 0 where
+  pub names : AreIndexed new.names (row_names new.rows.items)
+  pub rows : new.rows.items ≡ all
+  pub steps : new.steps.items ≡ old.steps.items ++ more
