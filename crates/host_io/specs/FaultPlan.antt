@@ -18,3 +18,7 @@ pub record CountsCall (old new : FaultPlan) (failed : Bool) : Type 0 where
   pub listed : new.fail_at.items ≡ old.fail_at.items
   pub numbered : new.calls ≡ counted_up old.calls
   pub faults : new.faults ≡ count_after failed old.faults
+
+-- one call was made
+abbrev pub CountsOneCall : FaultPlan → FaultPlan → Type 0
+CountsOneCall old new = new.calls ≡ counted_up old.calls

@@ -29,6 +29,8 @@ impl<R: Files> Shelf for FileShelf<R> {
 
     ghost faults = { λ shelf. fault_count shelf };
 
+    ghost Asked = { λ _ _ _. Unit {0} };
+
     fn fetch(&mut self, alloc: Global, name: &str, max: usize) -> Result<Fetched, ShelfFault>
         ensures later { fault_count self.old ≤ fault_count self.new }
         ensures failed { IsErrOf result ShelfFault.Failed →

@@ -2,7 +2,7 @@
 ghost use Rattle.std.specs.Prelude.{◌≡◌, ◌≤◌, ◌↔◌, Some, IfOk, IsErrOf};
 ghost use Rattle.std.specs.Option.{option_copied};
 ghost use Rattle.host_io.specs.Faults.{Rose};
-ghost use Rattle.host_io.specs.FaultPlan.{IsFresh, FailsNext, CountsCall};
+ghost use Rattle.host_io.specs.FaultPlan.{IsFresh, FailsNext, CountsCall, CountsOneCall};
 ghost use Rattle.host_io.specs.Shelf.{IsAnswer, has_failed};
 ghost use Rattle.host_io.specs.MemShelf.{file_named};
 
@@ -40,9 +40,12 @@ impl Shelf for MemShelf {
 
     ghost faults = { λ shelf. (shelf_plan shelf).faults };
 
+    ghost Asked = { λ old new name. CountsOneCall (shelf_plan old) (shelf_plan new) };
+
     fn fetch(&mut self, alloc: Global, name: &str, max: usize) -> Result<Fetched, ShelfFault>
         ensures answer { IfOk result (IsAnswer (shelf_files self.old name.now) max) }
         ensures unchanged { shelf_files self.new ≡ shelf_files self.old }
+        ensures asked { CountsOneCall (shelf_plan self.old) (shelf_plan self.new) }
         ensures later { (shelf_plan self.old).faults ≤ (shelf_plan self.new).faults }
         ensures failed { IsErrOf result ShelfFault.Failed →
             Rose (shelf_plan self.old).faults (shelf_plan self.new).faults }

@@ -54,11 +54,16 @@ pub trait Shelf {
     /// How often the shelf has failed. The count never falls.
     ghost faults: { Self → ℕ };
 
+    /// The second is the first after it was asked for this name once. A caller knows no more of it,
+    /// so what it says by it is what it asked for.
+    ghost Asked: { Self → Self → List ℕ → Type 0 };
+
     /// The bytes under a name, if there are at most `max`. No call changes what lies on the shelf.
     fn fetch(&mut self, alloc: Global, name: &str, max: usize) -> Result<Fetched, ShelfFault>
         ensures answer { IfOk result (λ fetched.
             IfSome (files self.old) (λ files. IsAnswer (files name.now) max fetched)) }
         ensures unchanged { files self.new ≡ files self.old }
+        ensures asked { Asked self.old self.new name.now }
         ensures later { faults self.old ≤ faults self.new }
         ensures failed { IsErrOf result ShelfFault.Failed →
             Rose (faults self.old) (faults self.new) };
