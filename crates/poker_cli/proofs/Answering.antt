@@ -1,5 +1,7 @@
 -- The answer to what a source has left, where it tells that, and how a run ends with it.
-use Rattle.std.proofs.Common.{◌≡◌, ◌⊎◌, ℕ, ◌<◌, true, List, length, Option, Some, None, IfOk, IfSome, Result, Ok, Err, refl, subst, sym, inl, inr}
+use Rattle.std.proofs.Common.{◌≡◌, ◌⊎◌, ℕ, ◌<◌, suc, true, List, [], length, Option, Some, None, IfOk, IfSome, Result, Ok, Err, refl, subst, sym, inl, inr, arith}
+use Rattle.std.proofs.Math.ListN.{replicate}
+use Rattle.std.proofs.lemmas.List.{length-replicate}
 use Rattle.acpc_game.specs.declared.game.Game.{Game}
 use Rattle.acpc_text.specs.declared.fault.AcpcFault.{AcpcFault}
 use Rattle.acpc_text.specs.declared.fault.AcpcFault.TheVariants as in_acpc
@@ -28,7 +30,7 @@ use Rattle.poker_cli.specs.declared.answer.Answer as made
 use Rattle.poker_cli.specs.declared.no_answer.NoAnswer.{NoAnswer}
 use Rattle.poker_cli.specs.declared.games.Lack.{Lack}
 use Rattle.poker_cli.specs.declared.games.Lack.TheVariants as lacks
-use Rattle.poker_cli.specs.Run.{Ends, IsOfInput, IsOwn, MayEnd, ReadsNothing, Sinks, TellsLine, Writes, WhereTold, line_of}
+use Rattle.poker_cli.specs.Run.{Ends, IsOfInput, IsOwn, LacksFile, MayEnd, OfBytes, ReadsHands, ReadsNothing, Sinks, TellsLine, Writes, WhereTold, line_of}
 use Rattle.poker_cli.specs.declared.status.Status.{Status}
 use Rattle.poker_cli.specs.declared.status.Status.TheVariants as statuses
 use Rattle.poker_cli.specs.declared.task.Format.{Format}
@@ -36,15 +38,21 @@ use Rattle.poker_cli.specs.Ways.{way_under}
 
 -- the bytes that were read are those that the source had left
 pub answer_within : (task : Task) (reader : Format) (left : Option (List ℕ)) (bytes : List ℕ) (answer : Answer)
-    → IfSome left (λ l. bytes ≡ l) → IsAnswer task reader bytes answer → IfSome left (λ l. IsAnswer task reader l answer)
+    → IfSome left (λ l. bytes ≡ l) → IsAnswer task reader bytes answer → OfBytes left (λ l. IsAnswer task reader l answer)
 answer_within task reader (Some left) bytes answer all is = subst (λ (l : List ℕ). IsAnswer task reader l answer) all is
-answer_within task reader None bytes answer all is = tt
+answer_within task reader None bytes answer all is = (bytes, is)
+
+-- what a source gave that tells more bytes than are read, or none
+pub beyond : (n : ℕ) (left : Option (List ℕ)) (P : List ℕ → Type 0) → IfSome left (λ l. n < length l)
+    → ((bytes : List ℕ) → n < length bytes → P bytes) → OfBytes left P
+beyond n (Some left) P many each = each left many
+beyond n None P many each = let long = replicate (suc n) 0 in (long, each long (omega (arith, length-replicate (suc n) 0)))
 
 -- more bytes than are read
 pub answer_beyond : (task : Task) (reader : Format) (left : Option (List ℕ)) (answer : Answer)
-    → IfSome left (λ l. most_input < length l) → answer ≡ to_excess → IfSome left (λ l. IsAnswer task reader l answer)
-answer_beyond task reader (Some left) answer many is = subst (λ (a : Answer). IsAnswer task reader left a) (sym is) (answers.TooLong many)
-answer_beyond task reader None answer many is = tt
+    → IfSome left (λ l. most_input < length l) → answer ≡ to_excess → OfBytes left (λ l. IsAnswer task reader l answer)
+answer_beyond task reader left answer many is =
+    beyond most_input left _ many (λ bytes more. subst (λ (a : Answer). IsAnswer task reader bytes a) (sym is) (answers.TooLong more))
 
 -- want of memory is not told as a fault
 history_memory : (fault : PhhFault) (answer : Answer) → to_fault (formats.Phh fault) ≡ Some answer → is_want_in_phh fault ≡ true → ⊥
@@ -176,31 +184,45 @@ ends_with request files bytes out diag answer statuses.FileMissing is own ends w
 ends_with request files bytes out diag answer statuses.BadGame is own ends written line =
     record { answer = answer; to_input = is; ends = ends; written = written; line = line }
 
+-- what follows of bytes, where they are told or not
+pub bytes_told : (left : Option (List ℕ)) (P Q : List ℕ → Type 0) → ((bytes : List ℕ) → P bytes → Q bytes) → OfBytes left P → OfBytes left Q
+bytes_told (Some bytes) P Q more is = more bytes is
+bytes_told None P Q more is = (is.0, more is.0 is.1)
+
+-- of all bytes
+pub of_all : (left : Option (List ℕ)) (P : List ℕ → Type 0) → ((bytes : List ℕ) → P bytes) → OfBytes left P
+of_all (Some bytes) P each = each bytes
+of_all None P each = ([], each [])
+
 -- what follows of files and bytes, where they are told
 pub where_told : (request : Request) (left : Option (List ℕ)) (told : Option Files) (P Q : Files → List ℕ → Type 0)
     → ((files : Files) (bytes : List ℕ) → P files bytes → Q files bytes) → WhereTold request left told P → WhereTold request left told Q
 where_told (Load seed hands) left told P Q more is = more _ _ is
-where_told (Plain from task) (Some bytes) told P Q more is = more _ bytes is
-where_told (Plain from task) None told P Q more is = tt
-where_told (Under name logs) (Some bytes) (Some files) P Q more is = more files bytes is
-where_told (Under name logs) (Some bytes) None P Q more is = tt
-where_told (Under name logs) None told P Q more is = tt
-where_told (Compare sides file notes) (Some bytes) (Some files) P Q more is = more files bytes is
-where_told (Compare sides file notes) (Some bytes) None P Q more is = tt
-where_told (Compare sides file notes) None told P Q more is = tt
+where_told (Plain from task) left told P Q more is = bytes_told left _ _ (more _) is
+where_told (Under name logs) left (Some files) P Q more is = bytes_told left _ _ (more files) is
+where_told (Under name logs) left None P Q more is = tt
+where_told (Compare sides file notes) left (Some files) P Q more is = bytes_told left _ _ (more files) is
+where_told (Compare sides file notes) left None P Q more is = tt
 
 -- of all files and bytes
-always_told : (request : Request) (left : Option (List ℕ)) (told : Option Files) (P : Files → List ℕ → Type 0)
+pub always_told : (request : Request) (left : Option (List ℕ)) (told : Option Files) (P : Files → List ℕ → Type 0)
     → ((files : Files) (bytes : List ℕ) → P files bytes) → WhereTold request left told P
 always_told (Load seed hands) left told P each = each _ _
-always_told (Plain from task) (Some bytes) told P each = each _ bytes
-always_told (Plain from task) None told P each = tt
-always_told (Under name logs) (Some bytes) (Some files) P each = each files bytes
-always_told (Under name logs) (Some bytes) None P each = tt
-always_told (Under name logs) None told P each = tt
-always_told (Compare sides file notes) (Some bytes) (Some files) P each = each files bytes
-always_told (Compare sides file notes) (Some bytes) None P each = tt
-always_told (Compare sides file notes) None told P each = tt
+always_told (Plain from task) left told P each = of_all left _ (each _)
+always_told (Under name logs) left (Some files) P each = of_all left _ (each files)
+always_told (Under name logs) left None P each = tt
+always_told (Compare sides file notes) left (Some files) P each = of_all left _ (each files)
+always_told (Compare sides file notes) left None P each = tt
+
+-- the input is read where no file lacks
+pub read_told : (request : Request) (left : Option (List ℕ)) (told : Option Files) → ReadsHands request → (LacksFile request told → ⊥)
+    → WhereTold request left told (λ files bytes. ReadsHands request × (LacksFile request (Some files) → ⊥))
+read_told (Load seed hands) left told reads there = absurd reads
+read_told (Plain from task) left told reads there = of_all left _ (λ bytes. (reads, λ lacks. lacks))
+read_told (Under name logs) left (Some files) reads there = of_all left _ (λ bytes. (reads, there))
+read_told (Under name logs) left None reads there = tt
+read_told (Compare sides file notes) left (Some files) reads there = of_all left _ (λ bytes. (reads, there))
+read_told (Compare sides file notes) left None reads there = tt
 
 -- where the source tells what it has left, and the shelf its files
 pub ends_where_told : (request : Request) (left : Option (List ℕ)) (told : Option Files) (out diag : Sinks) (answer : Answer) (status : Status)
@@ -284,11 +306,11 @@ read_of_input statuses.BadGame of nothing = of
 -- where logs are under a game, the answer is by the game that its file gives
 pub game_reply : (told : Option Files) (left : Option (List ℕ)) (name : List ℕ) (logs : Logs) (game : Game) (result : Result made.Answer NoAnswer)
     → IfSome told (λ files. GivesGame (files name) game)
-    → IfOk result (λ answer. IfSome left (λ bytes. IsAnswerBy (way_under game logs) bytes (answer_told answer)))
-    → IfOk result (λ answer. IfSome left (λ bytes. IfSome told (λ files. IsAnswerUnder (files name) logs bytes (answer_told answer))))
-game_reply (Some files) (Some bytes) name logs game (Ok answer) gives is = answers.OfInput game gives (answer_told answer) is
-game_reply None (Some bytes) name logs game (Ok answer) gives is = tt
-game_reply told None name logs game (Ok answer) gives is = tt
+    → IfOk result (λ answer. OfBytes left (λ bytes. IsAnswerBy (way_under game logs) bytes (answer_told answer)))
+    → IfOk result (λ answer. IfSome told (λ files. OfBytes left (λ bytes. IsAnswerUnder (files name) logs bytes (answer_told answer))))
+game_reply (Some files) left name logs game (Ok answer) gives is =
+    bytes_told left _ (λ bytes. IsAnswerUnder (files name) logs bytes (answer_told answer)) (λ bytes to. answers.OfInput game gives (answer_told answer) to) is
+game_reply None left name logs game (Ok answer) gives is = tt
 game_reply told left name logs game (Err why) gives is = tt
 
 -- or tells what the file lacks
@@ -299,15 +321,15 @@ no_game file (lacks.Bad fault) answer is told =
 
 pub lack_reply : (told : Option Files) (left : Option (List ℕ)) (name : List ℕ) (logs : Logs) (lack : Lack) (answer : Answer)
     → IfSome told (λ files. Lacks (files name) lack) → IsLackTold lack answer
-    → IfSome left (λ bytes. IfSome told (λ files. IsAnswerUnder (files name) logs bytes answer))
-lack_reply (Some files) (Some bytes) name logs lack answer is tells = answers.NoGame answer (no_game (files name) lack answer is tells)
-lack_reply None (Some bytes) name logs lack answer is tells = tt
-lack_reply told None name logs lack answer is tells = tt
+    → IfSome told (λ files. OfBytes left (λ bytes. IsAnswerUnder (files name) logs bytes answer))
+lack_reply (Some files) left name logs lack answer is tells =
+    of_all left (λ bytes. IsAnswerUnder (files name) logs bytes answer) (λ bytes. answers.NoGame answer (no_game (files name) lack answer is tells))
+lack_reply None left name logs lack answer is tells = tt
 
 -- what is known of the files is so whatever bytes there are
-pub of_files : (left : Option (List ℕ)) (told : Option Files) (P : Files → Type 0) → IfSome told P → IfSome left (λ bytes. IfSome told P)
-of_files (Some bytes) told P is = is
-of_files None told P is = tt
+pub of_files : (left : Option (List ℕ)) (told : Option Files) (P : Files → Type 0) → IfSome told P → IfSome told (λ files. OfBytes left (λ bytes. P files))
+of_files left (Some files) P is = of_all left (λ bytes. P files) (λ bytes. is)
+of_files left None P is = tt
 
 -- want of memory says nothing of files and bytes, and leaves the input
 pub ends_unread : (said : Option Request) (left : Option (List ℕ)) (told : Option Files)

@@ -1,6 +1,8 @@
 -- A request to compare is answered by what the shelf and the source have.
 use Rattle.std.proofs.Common.{◌≡◌, ◌⊎◌, ℕ, ◌<◌, ◌≤◌, Bool, List, length, Option, Some, None, IfOk, IfSome, Result, Ok, Err, refl, sym, subst, inl, inr}
-use Rattle.command_words.specs.Words.{Sides, Compare, PlainSides, SidesUnder}
+use Rattle.command_words.specs.Words.{Sides, Compare, PlainSides, SidesUnder, Under}
+use Rattle.command_words.specs.declared.request.Logs.{Logs}
+use Rattle.acpc_game.specs.declared.game.Game.{Game}
 use Rattle.convert_core.specs.Conversion.{IsPlaysRefusal}
 use Rattle.convert_core.specs.declared.convert_fault.ConvertFault.{ConvertFault}
 use Rattle.convert_core.specs.declared.convert_fault.ConvertFault.TheVariants as convert_faults
@@ -9,7 +11,7 @@ use Rattle.poker_cli.specs.Answer.{Answer, Files, GivesGame, IsComparedIn, IsCom
 use Rattle.poker_cli.specs.Answer as answers
 use Rattle.poker_cli.specs.Inputs.{HaveFault, SayRecords}
 use Rattle.poker_cli.specs.Lacking.{HasNoFile, HasNoGameFor, IsLackTold}
-use Rattle.poker_cli.specs.Run.{IsFileMissing, IsNotThere, LacksFile}
+use Rattle.poker_cli.specs.Run.{IsFileMissing, IsNotThere, LacksFile, OfBytes}
 use Rattle.poker_cli.specs.Told.{answer_told}
 use Rattle.poker_cli.specs.declared.answer.Answer as made
 use Rattle.poker_cli.specs.declared.comparing.NoFile.TheVariants as no_files
@@ -18,7 +20,7 @@ use Rattle.poker_cli.specs.declared.games.Lack.{Lack}
 use Rattle.poker_cli.specs.declared.games.NoGame.TheVariants as reasons
 use Rattle.poker_cli.specs.declared.no_answer.NoAnswer.{NoAnswer}
 use Rattle.poker_cli.specs.declared.task.Format.{Format}
-use Rattle.poker_cli.proofs.Answering.{no_game}
+use Rattle.poker_cli.proofs.Answering.{beyond, bytes_told, no_game, of_all}
 use Rattle.poker_cli.proofs.OneAnswer.{lacks_none}
 
 -- what is wrong inside the other file
@@ -33,28 +35,35 @@ other_told other notes file plays answer convert_faults.Memory is told = absurd 
 
 -- more bytes than are read
 pub compared_beyond : (by : Comparison) (file : List ℕ) (left : Option (List ℕ)) (answer : Answer)
-    → IfSome left (λ l. most_input < length l) → answer ≡ to_excess → IfSome left (λ l. IsComparison by file l answer)
-compared_beyond by file (Some left) answer many is = subst (λ (a : Answer). IsComparison by file left a) (sym is) (answers.InputTooLong many)
-compared_beyond by file None answer many is = tt
+    → IfSome left (λ l. most_input < length l) → answer ≡ to_excess → OfBytes left (λ l. IsComparison by file l answer)
+compared_beyond by file left answer many is =
+    beyond most_input left _ many (λ bytes more. subst (λ (a : Answer). IsComparison by file bytes a) (sym is) (answers.InputTooLong more))
+
+-- the bytes that were read are those that the source had left
+pub compared_within : (by : Comparison) (file : List ℕ) (left : Option (List ℕ)) (bytes : List ℕ) (answer : Answer)
+    → IfSome left (λ l. bytes ≡ l) → IsComparison by file bytes answer → OfBytes left (λ l. IsComparison by file l answer)
+compared_within by file (Some left) bytes answer all is = subst (λ (l : List ℕ). IsComparison by file l answer) all is
+compared_within by file None bytes answer all is = (bytes, is)
 
 -- the file of a name has these bytes
 pub beside_reply : (told : Option Files) (left : Option (List ℕ)) (name : List ℕ) (by : Comparison) (file : List ℕ) (result : Result made.Answer NoAnswer)
     → IfSome told (λ files. (files name ≡ Some file) × (length file ≤ most_input))
-    → IfOk result (λ answer. IfSome left (λ bytes. IsComparison by file bytes (answer_told answer)))
-    → IfOk result (λ answer. IfSome left (λ bytes. IfSome told (λ files. IsComparedTo by (files name) bytes (answer_told answer))))
-beside_reply (Some files) (Some bytes) name by file (Ok answer) there is = answers.ToOther file there.0 there.1 (answer_told answer) is
-beside_reply None (Some bytes) name by file (Ok answer) there is = tt
-beside_reply told None name by file (Ok answer) there is = tt
+    → IfOk result (λ answer. OfBytes left (λ bytes. IsComparison by file bytes (answer_told answer)))
+    → IfOk result (λ answer. IfSome told (λ files. OfBytes left (λ bytes. IsComparedTo by (files name) bytes (answer_told answer))))
+beside_reply (Some files) left name by file (Ok answer) there is =
+    bytes_told left _ (λ bytes. IsComparedTo by (files name) bytes (answer_told answer))
+    (λ bytes to. answers.ToOther file there.0 there.1 (answer_told answer) to) is
+beside_reply None left name by file (Ok answer) there is = tt
 beside_reply told left name by file (Err why) there is = tt
 
 -- or more than are read
 pub long_reply : (told : Option Files) (left : Option (List ℕ)) (name : List ℕ) (by : Comparison) (answer : Answer)
     → IfSome told (λ files. HasNoFile (files name) no_files.TooLong) → answer ≡ to_file_excess
-    → IfSome left (λ bytes. IfSome told (λ files. IsComparedTo by (files name) bytes answer))
-long_reply (Some files) (Some bytes) name by answer long is =
-    subst (λ (a : Answer). IsComparedTo by (files name) bytes a) (sym is) (answers.OtherTooLong long.0 long.1.0 long.1.1)
-long_reply None (Some bytes) name by answer long is = tt
-long_reply told None name by answer long is = tt
+    → IfSome told (λ files. OfBytes left (λ bytes. IsComparedTo by (files name) bytes answer))
+long_reply (Some files) left name by answer long is =
+    of_all left (λ bytes. IsComparedTo by (files name) bytes answer)
+    (λ bytes. subst (λ (a : Answer). IsComparedTo by (files name) bytes a) (sym is) (answers.OtherTooLong long.0 long.1.0 long.1.1))
+long_reply None left name by answer long is = tt
 
 -- two files are compared so
 by_sides : (files : Files) (sides : Sides) (name : List ℕ) (notes : Bool) (by : Comparison) (bytes : List ℕ) (answer : Answer)
@@ -66,11 +75,12 @@ by_sides files (SidesUnder game from other) name notes by bytes answer so is =
 
 pub compared_reply : (told : Option Files) (left : Option (List ℕ)) (sides : Sides) (name : List ℕ) (notes : Bool) (by : Comparison)
     → (result : Result made.Answer NoAnswer) → IfSome told (λ files. IsComparisonOf files sides notes by)
-    → IfOk result (λ answer. IfSome left (λ bytes. IfSome told (λ files. IsComparedTo by (files name) bytes (answer_told answer))))
-    → IfOk result (λ answer. IfSome left (λ bytes. IfSome told (λ files. IsComparedIn files sides name notes bytes (answer_told answer))))
-compared_reply (Some files) (Some bytes) sides name notes by (Ok answer) so is = by_sides files sides name notes by bytes (answer_told answer) so is
-compared_reply None (Some bytes) sides name notes by (Ok answer) so is = tt
-compared_reply told None sides name notes by (Ok answer) so is = tt
+    → IfOk result (λ answer. IfSome told (λ files. OfBytes left (λ bytes. IsComparedTo by (files name) bytes (answer_told answer))))
+    → IfOk result (λ answer. IfSome told (λ files. OfBytes left (λ bytes. IsComparedIn files sides name notes bytes (answer_told answer))))
+compared_reply (Some files) left sides name notes by (Ok answer) so is =
+    bytes_told left _ (λ bytes. IsComparedIn files sides name notes bytes (answer_told answer))
+    (λ bytes to. by_sides files sides name notes by bytes (answer_told answer) so to) is
+compared_reply None left sides name notes by (Ok answer) so is = tt
 compared_reply told left sides name notes by (Err why) so is = tt
 
 -- the file is not there
@@ -94,25 +104,31 @@ lack_in files (SidesUnder game from other) name notes bytes lack answer none tol
 
 pub compared_lack : (told : Option Files) (left : Option (List ℕ)) (sides : Sides) (name : List ℕ) (notes : Bool) (lack : Lack) (answer : Answer)
     → IfSome told (λ files. HasNoGameFor files sides (reasons.Lacking lack)) → IsLackTold lack answer
-    → IfSome left (λ bytes. IfSome told (λ files. IsComparedIn files sides name notes bytes answer))
-compared_lack (Some files) (Some bytes) sides name notes lack answer none tells = lack_in files sides name notes bytes lack answer none tells
-compared_lack None (Some bytes) sides name notes lack answer none tells = tt
-compared_lack told None sides name notes lack answer none tells = tt
+    → IfSome told (λ files. OfBytes left (λ bytes. IsComparedIn files sides name notes bytes answer))
+compared_lack (Some files) left sides name notes lack answer none tells =
+    of_all left (λ bytes. IsComparedIn files sides name notes bytes answer) (λ bytes. lack_in files sides name notes bytes lack answer none tells)
+compared_lack None left sides name notes lack answer none tells = tt
 
--- an input that is kept where the other file lacks is kept where any file lacks, since the game is given
-kept_in : {X : Type 0} (files : Files) (sides : Sides) (name : List ℕ) (notes : Bool) (by : Comparison) (input read : X)
-    → IsComparisonOf files sides notes by → (IsNotThere (files name) → read ≡ input)
-    → LacksFile (Compare sides name notes) (Some files) → read ≡ input
-kept_in files (PlainSides from other) name notes by input read so kept lacks = kept lacks
-kept_in files (SidesUnder game from other) name notes by input read so kept (inl none) = absurd (lacks_none (files game) so.game so.gives none)
-kept_in files (SidesUnder game from other) name notes by input read so kept (inr lacks) = kept lacks
+-- what is so where the other file lacks is so where any file lacks, since the game is given
+lacks_in : (Q : Type 0) (files : Files) (sides : Sides) (name : List ℕ) (notes : Bool) (by : Comparison)
+    → IsComparisonOf files sides notes by → (IsNotThere (files name) → Q)
+    → LacksFile (Compare sides name notes) (Some files) → Q
+lacks_in Q files (PlainSides from other) name notes by so then lacks = then lacks
+lacks_in Q files (SidesUnder game from other) name notes by so then (inl none) = absurd (lacks_none (files game) so.game so.gives none)
+lacks_in Q files (SidesUnder game from other) name notes by so then (inr lacks) = then lacks
 
 never_lacks : (sides : Sides) (name : List ℕ) (notes : Bool) → LacksFile (Compare sides name notes) None → ⊥
 never_lacks (PlainSides from other) name notes lacks = lacks
 never_lacks (SidesUnder game from other) name notes lacks = lacks
 
-pub kept_input : {X : Type 0} (told : Option Files) (sides : Sides) (name : List ℕ) (notes : Bool) (by : Comparison) (input read : X)
-    → IfSome told (λ files. IsComparisonOf files sides notes by) → IfSome told (λ files. IsNotThere (files name) → read ≡ input)
-    → LacksFile (Compare sides name notes) told → read ≡ input
-kept_input (Some files) sides name notes by input read so kept lacks = kept_in files sides name notes by input read so kept lacks
-kept_input None sides name notes by input read so kept lacks = absurd (never_lacks sides name notes lacks)
+pub where_lacking : (Q : Type 0) (told : Option Files) (sides : Sides) (name : List ℕ) (notes : Bool) (by : Comparison)
+    → IfSome told (λ files. IsComparisonOf files sides notes by) → IfSome told (λ files. IsNotThere (files name) → Q)
+    → LacksFile (Compare sides name notes) told → Q
+where_lacking Q (Some files) sides name notes by so then lacks = lacks_in Q files sides name notes by so then lacks
+where_lacking Q None sides name notes by so then lacks = absurd (never_lacks sides name notes lacks)
+
+-- a game that its file gives does not lack
+pub game_there : (told : Option Files) (name : List ℕ) (logs : Logs) (game : Game) → IfSome told (λ files. GivesGame (files name) game)
+    → LacksFile (Under name logs) told → ⊥
+game_there (Some files) name logs game gives lacks = lacks_none (files name) game gives lacks
+game_there None name logs game gives lacks = lacks

@@ -65,16 +65,19 @@ change_of held faults old new =
 abbrev pub no_files : Files
 no_files name = None
 
--- What holds of the files and the bytes of a request, where the shelf and the source tell them.
--- Where hands are made, nothing is asked of either, and where no log is read or written, and
--- nothing compared, nothing of the shelf.
+-- What holds of the bytes that a source has left, where it tells them, and else of some bytes.
+abbrev pub OfBytes : Option (List ℕ) → (List ℕ → Type 0) → Type 0
+OfBytes (Some bytes) P = P bytes
+OfBytes None P = (bytes : List ℕ) × P bytes
+
+-- What holds of the files and the bytes of a request: of the files where the shelf tells them, and
+-- of the bytes also where the source does not. Where hands are made, nothing is asked of either,
+-- and where no log is read or written, and nothing compared, nothing of the shelf.
 abbrev pub WhereTold : Request → Option (List ℕ) → Option Files → (Files → List ℕ → Type 0) → Type 0
 WhereTold (Load seed hands) left told P = P no_files []
-WhereTold (Plain from task) left told P = IfSome left (λ bytes. P no_files bytes)
-WhereTold (Under name logs) left told P =
-    IfSome left (λ bytes. IfSome told (λ files. P files bytes))
-WhereTold (Compare sides file notes) left told P =
-    IfSome left (λ bytes. IfSome told (λ files. P files bytes))
+WhereTold (Plain from task) left told P = OfBytes left (P no_files)
+WhereTold (Under name logs) left told P = IfSome told (λ files. OfBytes left (P files))
+WhereTold (Compare sides file notes) left told P = IfSome told (λ files. OfBytes left (P files))
 
 -- hands are made
 abbrev pub MakesHands : Request → Type 0
@@ -141,10 +144,12 @@ pub record Answers (request : Request) (files : Files) (bytes : List ℕ) (out d
   pub line : TellsLine diag.before diag.now diag.held diag.holds (line_of answer status)
 
 -- How a run of a request on these files and bytes may end: with the answer to them, or before it,
--- where a file is not there, a file or the input could not be read, or memory ran out.
+-- where a file is not there, a file or the input could not be read, or memory ran out. The input is
+-- read only where no file lacks.
 abbrev pub Ends : Request → Files → List ℕ → Sinks → Sinks → Status → Type 0
 Ends request files bytes out diag statuses.Usage = ⊥
-Ends request files bytes out diag statuses.ReadFault = ReadsHands request
+Ends request files bytes out diag statuses.ReadFault =
+    ReadsHands request × (LacksFile request (Some files) → ⊥)
 Ends request files bytes out diag statuses.Memory = Unit {0}
 Ends request files bytes out diag statuses.ShelfFault = AsksForFile request
 Ends request files bytes out diag statuses.GameMissing = IsGameMissing request files

@@ -7,7 +7,7 @@ ghost use Rattle.host_io.specs.Faults.{Rose};
 ghost use Rattle.poker_cli.specs.Answer as definition;
 ghost use Rattle.poker_cli.specs.Answer.{IsComparedIn, IsComparedTo, IsComparison, IsComparisonOf, most_input};
 ghost use Rattle.poker_cli.specs.Lacking.{ComesFirst, HasNoFile, HasNoGameFor};
-ghost use Rattle.poker_cli.specs.Run.{IsFileMissing, IsGameMissing, IsNotThere, IsOfInput, IsOwn, LacksFile, ReadsNothing};
+ghost use Rattle.poker_cli.specs.Run.{IsFileMissing, IsGameMissing, IsNotThere, IsOfInput, IsOwn, LacksFile, OfBytes, ReadsNothing};
 ghost use Rattle.poker_cli.specs.Told.{answer_told};
 
 use crate::answer::{self, Answer, MOST_INPUT, refusal};
@@ -42,12 +42,14 @@ pub fn reply_to_comparison<S: Source, H: Shelf>(
     input: &mut S,
     shelf: &mut H,
 ) -> Result<Answer, NoAnswer>
-    ensures answer { IfOk result (λ answer. IfSome (S.left input.old) (λ bytes.
-        IfSome (H.files shelf.old) (λ files.
+    ensures answer { IfOk result (λ answer. IfSome (H.files shelf.old) (λ files.
+        OfBytes (S.left input.old) (λ bytes.
         IsComparedIn files (sides_in sides.entry) name.now notes bytes (answer_told answer)))) }
     ensures own { IfOk result (λ answer. IsOwn answer.status) }
     ensures read_fault { IsErrOf result NoAnswer.ReadFault
         → Rose (S.faults input.old) (S.faults input.new) }
+    ensures there { IsErrOf result NoAnswer.ReadFault
+        → LacksFile (Compare (sides_in sides.entry) name.now notes) (H.files shelf.old) → ⊥ }
     ensures shelf_fault { IsErrOf result NoAnswer.ShelfFault
         → Rose (H.faults shelf.old) (H.faults shelf.new) }
     ensures unread { IfOk result (λ answer. ReadsNothing answer.status → input.new ≡ input.old) }
@@ -105,12 +107,14 @@ fn reply_beside<S: Source, H: Shelf>(
     input: &mut S,
     shelf: &mut H,
 ) -> Result<Answer, NoAnswer>
-    ensures answer { IfOk result (λ answer. IfSome (S.left input.old) (λ bytes.
-        IfSome (H.files shelf.old) (λ files.
+    ensures answer { IfOk result (λ answer. IfSome (H.files shelf.old) (λ files.
+        OfBytes (S.left input.old) (λ bytes.
         IsComparedTo by.now (files name.now) bytes (answer_told answer)))) }
     ensures own { IfOk result (λ answer. IsOwn answer.status) }
     ensures read_fault { IsErrOf result NoAnswer.ReadFault
         → Rose (S.faults input.old) (S.faults input.new) }
+    ensures there { IsErrOf result NoAnswer.ReadFault → IfSome (H.files shelf.old) (λ files.
+        IsNotThere (files name.now) → ⊥) }
     ensures shelf_fault { IsErrOf result NoAnswer.ShelfFault
         → Rose (H.faults shelf.old) (H.faults shelf.new) }
     ensures unread { IfOk result (λ answer. ReadsNothing answer.status → input.new ≡ input.old) }
@@ -167,7 +171,7 @@ fn reply_to_both<S: Source>(
     file: &[u8],
     input: &mut S,
 ) -> Result<Answer, NoAnswer>
-    ensures answer { IfOk result (λ answer. IfSome (S.left input.old) (λ bytes.
+    ensures answer { IfOk result (λ answer. OfBytes (S.left input.old) (λ bytes.
         IsComparison by.now file.now bytes (answer_told answer))) }
     ensures of_input { IfOk result (λ answer. IsOfInput answer.status) }
     ensures read_fault { IsErrOf result NoAnswer.ReadFault

@@ -7,7 +7,7 @@ ghost use Rattle.host_io.specs.Faults.{Rose};
 ghost use Rattle.poker_cli.specs.Answer.{IsAnswerBy, IsAnswerIn, IsAnswerUnder};
 ghost use Rattle.poker_cli.specs.Headline.{AsksToConvert, Headline};
 ghost use Rattle.poker_cli.specs.Lacking.{ComesFirst};
-ghost use Rattle.poker_cli.specs.Run.{AskForNoFile, AsksForFile, Ends, GivesNone, IsFileMissing, IsGameMissing, IsOfInput, IsOwn, LacksFile, Leaves, MakesHands, MayEnd, ReadsHands, ReadsNothing, Tells, TellsLine, WhereTold, Writes, WritesNothing, change_of, line_of};
+ghost use Rattle.poker_cli.specs.Run.{AskForNoFile, AsksForFile, Ends, GivesNone, IsFileMissing, IsGameMissing, IsOfInput, IsOwn, LacksFile, Leaves, MakesHands, MayEnd, OfBytes, ReadsHands, ReadsNothing, Tells, TellsLine, WhereTold, Writes, WritesNothing, change_of, line_of};
 ghost use Rattle.poker_cli.specs.Told.{answer_told};
 ghost use Rattle.poker_cli.specs.declared.task.Format.{Format};
 
@@ -42,7 +42,8 @@ pub fn run<S: Source, H: Shelf, K: Sink, D: Sink>(
     ensures usage { (result ≡ Status.Usage) ↔ (request_said (map string_bytes words.now) ≡ None) }
 
     // The words ask for something: the run ends with the answer to the file that the shelf has and
-    // to the input, or with a fault whose count rose in this call.
+    // to the input, or with a fault whose count rose in this call. What the file decides is so over
+    // every source: one that does not tell its bytes is as good as one that tells some.
     ensures ends { IfSome (request_said (map string_bytes words.now)) (λ request.
         WhereTold request (S.left input.old) (H.files shelf.old) (λ files bytes.
         Ends request files bytes
@@ -154,6 +155,8 @@ fn reply<S: Source, H: Shelf>(
     ensures read_fault { IsErrOf result NoAnswer.ReadFault
         → Rose (S.faults input.old) (S.faults input.new) }
     ensures reads { IsErrOf result NoAnswer.ReadFault → ReadsHands (request_in request.entry) }
+    ensures there { IsErrOf result NoAnswer.ReadFault
+        → LacksFile (request_in request.entry) (H.files shelf.old) → ⊥ }
     ensures shelf_fault { IsErrOf result NoAnswer.ShelfFault
         → Rose (H.faults shelf.old) (H.faults shelf.new) }
     ensures asked { IsErrOf result NoAnswer.ShelfFault → AsksForFile (request_in request.entry) }
@@ -191,12 +194,14 @@ fn reply_under<S: Source, H: Shelf>(
     input: &mut S,
     shelf: &mut H,
 ) -> Result<Answer, NoAnswer>
-    ensures answer { IfOk result (λ answer. IfSome (S.left input.old) (λ bytes.
-        IfSome (H.files shelf.old) (λ files.
+    ensures answer { IfOk result (λ answer. IfSome (H.files shelf.old) (λ files.
+        OfBytes (S.left input.old) (λ bytes.
         IsAnswerUnder (files name.now) logs bytes (answer_told answer)))) }
     ensures own { IfOk result (λ answer. IsOwn answer.status) }
     ensures read_fault { IsErrOf result NoAnswer.ReadFault
         → Rose (S.faults input.old) (S.faults input.new) }
+    ensures there { IsErrOf result NoAnswer.ReadFault
+        → LacksFile (Under name.now logs) (H.files shelf.old) → ⊥ }
     ensures shelf_fault { IsErrOf result NoAnswer.ShelfFault
         → Rose (H.faults shelf.old) (H.faults shelf.new) }
     ensures unread { IfOk result (λ answer. ReadsNothing answer.status → input.new ≡ input.old) }
@@ -221,7 +226,7 @@ fn reply_under<S: Source, H: Shelf>(
 
 // The answer in a way to all that the source has left.
 fn reply_with<S: Source>(alloc: Global, way: Way, input: &mut S) -> Result<Answer, NoAnswer>
-    ensures answer { IfOk result (λ answer. IfSome (S.left input.old) (λ bytes.
+    ensures answer { IfOk result (λ answer. OfBytes (S.left input.old) (λ bytes.
         IsAnswerBy way bytes (answer_told answer))) }
     ensures of_input { IfOk result (λ answer. IsOfInput answer.status) }
     ensures read_fault { IsErrOf result NoAnswer.ReadFault

@@ -2,6 +2,7 @@
 use Rattle.std.proofs.Common.{IfOk, IfSome, List, ℕ, subst, sym}
 use Rattle.poker_cli.specs.Answer.{Files, IsComparison}
 use Rattle.poker_cli.specs.Lacking.{HasNoFile}
+use Rattle.poker_cli.specs.Run.{OfBytes}
 use Rattle.poker_cli.specs.Told.{answer_told}
 use Rattle.poker_cli.specs.declared.comparing.NoFile.{NoFile}
 use Rattle.poker_cli.proofs.Replying.{beside_reply, long_reply}
@@ -11,7 +12,7 @@ pub returns-in-Ok-clause-answer : goal.returns-in-Ok-clause-answer
 returns-in-Ok-clause-answer g c =
     let left = g.S.Source.left c.args.input.now in
     beside_reply (g.H.Shelf.files c.args.shelf.now) left c.args.name.now c.args.by.now c.in-Ok.file.items c.reply_to_both.result c.in-Ok.ensures.file
-    (subst (λ (file : List ℕ). IfOk c.reply_to_both.result (λ answer. IfSome left (λ bytes. IsComparison c.args.by.now file bytes (answer_told answer))))
+    (subst (λ (file : List ℕ). IfOk c.reply_to_both.result (λ answer. OfBytes left (λ bytes. IsComparison c.args.by.now file bytes (answer_told answer))))
     c.deref.ensures.value c.reply_to_both.ensures.answer)
 
 pub returns-in-Ok-answer_to_long_file-clause-answer : goal.returns-in-Ok-answer_to_long_file-clause-answer

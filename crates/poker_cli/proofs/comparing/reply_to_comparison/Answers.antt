@@ -3,11 +3,11 @@ use Rattle.std.proofs.Common.{◌≡◌, IfOk, IfSome, Option, None, subst, sym}
 use Rattle.command_words.specs.Requests.{sides_in}
 use Rattle.poker_cli.specs.Answer.{Files, IsComparedTo}
 use Rattle.poker_cli.specs.Lacking.{HasNoGameFor, IsLackTold}
-use Rattle.poker_cli.specs.Run.{IsNotThere}
+use Rattle.poker_cli.specs.Run.{IsNotThere, OfBytes}
 use Rattle.poker_cli.specs.Told.{answer_told}
 use Rattle.poker_cli.specs.declared.games.Lack.{Lack}
 use Rattle.poker_cli.specs.declared.games.NoGame.{NoGame}
-use Rattle.poker_cli.proofs.Replying.{compared_lack, compared_reply, kept_input, missing_reply}
+use Rattle.poker_cli.proofs.Replying.{compared_lack, compared_reply, missing_reply, where_lacking}
 use Rattle.poker_cli.proofs.comparing.reply_to_comparison.Goals as goal
 
 pub returns-in-Ok-clause-answer : goal.returns-in-Ok-clause-answer
@@ -15,7 +15,7 @@ returns-in-Ok-clause-answer g c =
     let told = g.H.Shelf.files c.args.shelf.now in
     let left = g.S.Source.left c.args.input.now in
     compared_reply told left (sides_in c.args.sides) c.args.name.now c.args.notes c.in-Ok.by c.reply_beside.result c.in-Ok.ensures.comparison
-    (subst (λ (shelf : Option Files). IfOk c.reply_beside.result (λ answer. IfSome left (λ bytes. IfSome shelf (λ files. IsComparedTo c.in-Ok.by (files c.args.name.now) bytes (answer_told answer)))))
+    (subst (λ (shelf : Option Files). IfOk c.reply_beside.result (λ answer. IfSome shelf (λ files. OfBytes left (λ bytes. IsComparedTo c.in-Ok.by (files c.args.name.now) bytes (answer_told answer)))))
     c.in-Ok.ensures.unchanged c.reply_beside.ensures.answer)
 
 pub returns-in-Ok-clause-file_missing : goal.returns-in-Ok-clause-file_missing
@@ -27,9 +27,16 @@ returns-in-Ok-clause-file_missing g c missing =
 pub returns-in-Ok-clause-without_file : goal.returns-in-Ok-clause-without_file
 returns-in-Ok-clause-without_file g c =
     let told = g.H.Shelf.files c.args.shelf.now in
-    kept_input told (sides_in c.args.sides) c.args.name.now c.args.notes c.in-Ok.by c.args.input.now c.reply_beside.new.input c.in-Ok.ensures.comparison
+    where_lacking (c.reply_beside.new.input ≡ c.args.input.now) told (sides_in c.args.sides) c.args.name.now c.args.notes c.in-Ok.by c.in-Ok.ensures.comparison
     (subst (λ (shelf : Option Files). IfSome shelf (λ files. IsNotThere (files c.args.name.now) → c.reply_beside.new.input ≡ c.args.input.now)) c.in-Ok.ensures.unchanged
     c.reply_beside.ensures.without_file)
+
+pub returns-in-Ok-clause-there : goal.returns-in-Ok-clause-there
+returns-in-Ok-clause-there g c fault =
+    let told = g.H.Shelf.files c.args.shelf.now in
+    where_lacking ⊥ told (sides_in c.args.sides) c.args.name.now c.args.notes c.in-Ok.by c.in-Ok.ensures.comparison
+    (subst (λ (shelf : Option Files). IfSome shelf (λ files. IsNotThere (files c.args.name.now) → ⊥)) c.in-Ok.ensures.unchanged
+    (c.reply_beside.ensures.there fault))
 
 pub returns-in-Ok-answer_to_lack-clause-answer : goal.returns-in-Ok-answer_to_lack-clause-answer
 returns-in-Ok-answer_to_lack-clause-answer g c =

@@ -3,11 +3,13 @@ use Rattle.std.proofs.Common.{subst, IfOk, IfSome}
 use Rattle.poker_cli.specs.Answer.{Files, IsAnswerBy}
 use Rattle.poker_cli.specs.declared.task.Way.{Way}
 use Rattle.poker_cli.specs.Lacking.{HasNoGame, IsLackTold}
+use Rattle.poker_cli.specs.Run.{OfBytes}
 use Rattle.poker_cli.specs.Told.{answer_told}
 use Rattle.poker_cli.specs.declared.games.Lack.{Lack}
 use Rattle.poker_cli.specs.declared.games.NoGame.{NoGame}
 use Rattle.poker_cli.proofs.Answering.{game_reply, lack_reply}
 use Rattle.poker_cli.proofs.OneAnswer.{not_lacking}
+use Rattle.poker_cli.proofs.Replying.{game_there}
 use Rattle.poker_cli.proofs.entry.reply_under.Goals as goal
 
 pub returns-in-Ok-clause-answer : goal.returns-in-Ok-clause-answer
@@ -15,7 +17,7 @@ returns-in-Ok-clause-answer g c =
     let left = g.S.Source.left c.args.input.now in
     game_reply (g.H.Shelf.files c.args.shelf.now) left c.args.name.now c.args.logs c.in-Ok.game
     c.reply_with.result c.in-Ok.ensures.game
-    (subst (λ (by : Way). IfOk c.reply_with.result (λ answer. IfSome left (λ bytes. IsAnswerBy by bytes (answer_told answer)))) c.way_under.ensures c.reply_with.ensures.answer)
+    (subst (λ (by : Way). IfOk c.reply_with.result (λ answer. OfBytes left (λ bytes. IsAnswerBy by bytes (answer_told answer)))) c.way_under.ensures c.reply_with.ensures.answer)
 
 pub returns-in-Ok-answer_to_lack-clause-answer : goal.returns-in-Ok-answer_to_lack-clause-answer
 returns-in-Ok-answer_to_lack-clause-answer g c =
@@ -28,3 +30,7 @@ returns-in-Ok-answer_to_lack-clause-answer g c =
 pub returns-in-Ok-clause-without_game : goal.returns-in-Ok-clause-without_game
 returns-in-Ok-clause-without_game g c =
     not_lacking (g.H.Shelf.files c.args.shelf.now) c.args.name.now c.in-Ok.game c.args.input.now c.reply_with.new.input c.in-Ok.ensures.game
+
+pub returns-in-Ok-clause-there : goal.returns-in-Ok-clause-there
+returns-in-Ok-clause-there g c fault =
+    game_there (g.H.Shelf.files c.args.shelf.now) c.args.name.now c.args.logs c.in-Ok.game c.in-Ok.ensures.game
