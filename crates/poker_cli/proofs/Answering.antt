@@ -30,7 +30,7 @@ use Rattle.poker_cli.specs.declared.answer.Answer as made
 use Rattle.poker_cli.specs.declared.no_answer.NoAnswer.{NoAnswer}
 use Rattle.poker_cli.specs.declared.games.Lack.{Lack}
 use Rattle.poker_cli.specs.declared.games.Lack.TheVariants as lacks
-use Rattle.poker_cli.specs.Run.{Ends, IsOfInput, IsOwn, LacksFile, MayEnd, OfBytes, ReadsHands, ReadsNothing, Sinks, TellsLine, Writes, WhereTold, line_of}
+use Rattle.poker_cli.specs.Run.{AsksForFile, Ends, EndsLeaving, IsFileMissing, IsGameMissing, IsOfInput, IsOwn, LacksFile, MayEnd, OfBytes, ReadsHands, ReadsNothing, Sinks, TellsLine, Writes, WhereTold, line_of}
 use Rattle.poker_cli.specs.declared.status.Status.{Status}
 use Rattle.poker_cli.specs.declared.status.Status.TheVariants as statuses
 use Rattle.poker_cli.specs.declared.task.Format.{Format}
@@ -224,15 +224,62 @@ read_told (Under name logs) left None reads there = tt
 read_told (Compare sides file notes) left (Some files) reads there = of_all left _ (λ bytes. (reads, there))
 read_told (Compare sides file notes) left None reads there = tt
 
+-- and where the answer is done and has no output, its sink is the same
+leaves_with : (request : Request) (files : Files) (bytes : List ℕ) (out diag : Sinks) (answer : Answer) (status : Status) (Same : Type 0)
+    → IsAnswerIn request files bytes answer → IsOwn answer.status → MayEnd answer status
+    → Writes out.held out.holds answer status
+    → TellsLine diag.before diag.now diag.held diag.holds (line_of answer status)
+    → (status ≡ statuses.Done → answer.output ≡ [] → Same)
+    → EndsLeaving request files bytes out diag status Same
+leaves_with request files bytes out diag answer statuses.Done Same is own ends written line same =
+    record {
+      ends = record { answer = answer; to_input = is; ends = ends; written = written; line = line };
+      unwritten = same refl;
+    }
+leaves_with request files bytes out diag answer status Same is own ends written line same =
+    record { ends = ends_with request files bytes out diag answer status is own ends written line; unwritten = tt }
+
 -- where the source tells what it has left, and the shelf its files
-pub ends_where_told : (request : Request) (left : Option (List ℕ)) (told : Option Files) (out diag : Sinks) (answer : Answer) (status : Status)
+pub ends_where_told : (request : Request) (left : Option (List ℕ)) (told : Option Files) (out diag : Sinks) (answer : Answer) (status : Status) (Same : Type 0)
     → WhereTold request left told (λ files bytes. IsAnswerIn request files bytes answer)
     → IsOwn answer.status → MayEnd answer status → Writes out.held out.holds answer status
     → TellsLine diag.before diag.now diag.held diag.holds (line_of answer status)
-    → WhereTold request left told (λ files bytes. Ends request files bytes out diag status)
-ends_where_told request left told out diag answer status is own ends written line =
-    where_told request left told (λ files bytes. IsAnswerIn request files bytes answer) (λ files bytes. Ends request files bytes out diag status)
-    (λ files bytes it. ends_with request files bytes out diag answer status it own ends written line) is
+    → (status ≡ statuses.Done → answer.output ≡ [] → Same)
+    → WhereTold request left told (λ files bytes. EndsLeaving request files bytes out diag status Same)
+ends_where_told request left told out diag answer status Same is own ends written line same =
+    where_told request left told (λ files bytes. IsAnswerIn request files bytes answer) (λ files bytes. EndsLeaving request files bytes out diag status Same)
+    (λ files bytes it. leaves_with request files bytes out diag answer status Same it own ends written line same) is
+
+-- a run ends before there is an answer
+module _ (request : Request) (left : Option (List ℕ)) (told : Option Files) (out diag : Sinks) (Same : Type 0) where
+  pub ends_unread_input : ReadsHands request → (LacksFile request told → ⊥)
+      → WhereTold request left told (λ files bytes. EndsLeaving request files bytes out diag statuses.ReadFault Same)
+  ends_unread_input reads there =
+      where_told request left told _ (λ files bytes. EndsLeaving request files bytes out diag statuses.ReadFault Same)
+      (λ files bytes is. record { ends = is; unwritten = tt }) (read_told request left told reads there)
+
+  pub ends_game_missing : WhereTold request left told (λ files bytes. IsGameMissing request files)
+      → WhereTold request left told (λ files bytes. EndsLeaving request files bytes out diag statuses.GameMissing Same)
+  ends_game_missing missing =
+      where_told request left told (λ files bytes. IsGameMissing request files) (λ files bytes. EndsLeaving request files bytes out diag statuses.GameMissing Same)
+      (λ files bytes is. record { ends = is; unwritten = tt }) missing
+
+  pub ends_file_missing : WhereTold request left told (λ files bytes. IsFileMissing request files)
+      → WhereTold request left told (λ files bytes. EndsLeaving request files bytes out diag statuses.FileMissing Same)
+  ends_file_missing missing =
+      where_told request left told (λ files bytes. IsFileMissing request files) (λ files bytes. EndsLeaving request files bytes out diag statuses.FileMissing Same)
+      (λ files bytes is. record { ends = is; unwritten = tt }) missing
+
+  pub ends_shelf_fault : AsksForFile request
+      → WhereTold request left told (λ files bytes. EndsLeaving request files bytes out diag statuses.ShelfFault Same)
+  ends_shelf_fault asks =
+      always_told request left told (λ files bytes. EndsLeaving request files bytes out diag statuses.ShelfFault Same)
+      (λ files bytes. record { ends = asks; unwritten = tt })
+
+  pub ends_memory : WhereTold request left told (λ files bytes. EndsLeaving request files bytes out diag statuses.Memory Same)
+  ends_memory =
+      always_told request left told (λ files bytes. EndsLeaving request files bytes out diag statuses.Memory Same)
+      (λ files bytes. record { ends = tt; unwritten = tt })
 
 -- What is known of a status of an answer where nothing is written.
 pub record IsTold (answer : Answer) (status : Status) (held : Option (List ℕ)) : Type 0 where
@@ -332,10 +379,10 @@ of_files left (Some files) P is = of_all left (λ bytes. P files) (λ bytes. is)
 of_files left None P is = tt
 
 -- want of memory says nothing of files and bytes, and leaves the input
-pub ends_unread : (said : Option Request) (left : Option (List ℕ)) (told : Option Files)
-    → IfSome said (λ request. WhereTold request left told (λ files bytes. Unit {0}))
-ends_unread None left told = tt
-ends_unread (Some request) left told = always_told request left told (λ files bytes. Unit {0}) (λ files bytes. tt)
+pub ends_unread : (said : Option Request) (left : Option (List ℕ)) (told : Option Files) (out diag : Sinks) (Same : Type 0)
+    → IfSome said (λ request. WhereTold request left told (λ files bytes. EndsLeaving request files bytes out diag statuses.Memory Same))
+ends_unread None left told out diag Same = tt
+ends_unread (Some request) left told out diag Same = ends_memory request left told out diag Same
 
 pub kept_unread : {X : Type 0} (said : Option Request) (asks : Request → Type 0) (input : X) → IfSome said (λ request. asks request → input ≡ input)
 kept_unread None asks input = tt

@@ -23,7 +23,7 @@ use Rattle.poker_cli.specs.Answer as answers
 use Rattle.poker_cli.specs.PhhFaults.{phh_status}
 use Rattle.poker_cli.specs.Headline.{AsksToConvert, CanConvert, ConversionEnds, ConvertsInto, Headline, IsOfHands, IsOfLogs, NamesFault, IsTooLong, NamesRefused, NamesUnspelled, TellsAlone}
 use Rattle.poker_cli.specs.Inputs.{SayRecords}
-use Rattle.poker_cli.specs.Run.{AsksForFile, Ends, RefusesNothing, Sinks, TellsLine, WhereTold, WritesNothing, fixed_line}
+use Rattle.poker_cli.specs.Run.{AsksForFile, Ends, EndsLeaving, RefusesNothing, Sinks, TellsLine, WhereTold, WritesNothing, fixed_line}
 use Rattle.poker_cli.specs.OhhFaults.{ohh_status}
 use Rattle.poker_cli.specs.Ways.{way}
 use Rattle.poker_cli.specs.declared.status.Status.{Status}
@@ -223,7 +223,7 @@ module _ (request : Request) (files : Files) (from to : Format) (keep : Keep) (b
       let by = way (tasks.Convert to keep) from in
       record {
         output = ends.answer.output;
-        converts = done_into from to keep bytes ends.answer (in_way request files bytes by ends.answer found ends.to_input) ends.ends;
+        converts = done_into from to keep bytes ends.answer (in_way request files bytes by ends.answer found ends.to_input) ends.ends.0;
         written = ends.written;
         failed = left.failed refl;
         told = left.fixed;
@@ -287,25 +287,25 @@ module _ (request : Request) (files : Files) (from to : Format) (keep : Keep) (b
       let so = conversion_ends status found ends left in
       record { ends = so; reads = conversion_reads status so; exactly = conversion_exactly status found ends }
 
--- where the source tells its bytes, and the shelf its files
-abbrev pub EndsTold : Option Request → Option (List ℕ) → Option Files → (out diag : Sinks) → Status → Type 0
-EndsTold said left told out diag status =
-    IfSome said (λ request. WhereTold request left told (λ files bytes. Ends request files bytes out diag status))
+-- where the shelf tells its files
+abbrev pub EndsTold : Option Request → Option (List ℕ) → Option Files → (out diag : Sinks) → Status → Type 0 → Type 0
+EndsTold said left told out diag status Same =
+    IfSome said (λ request. WhereTold request left told (λ files bytes. EndsLeaving request files bytes out diag status Same))
 
 abbrev pub HeadlineTold : Option Request → Option (List ℕ) → Option Files → (out diag : Sinks) → Status → Type 0
 HeadlineTold said left told out diag status =
     IfSome said (λ request. WhereTold request left told (λ files bytes.
     (from to : Format) (keep : Keep) → AsksToConvert files request from to keep → Headline from to keep bytes out diag status))
 
-pub headline_told : (said : Option Request) (left : Option (List ℕ)) (told : Option Files) (out diag : Sinks) (status : Status)
-    → EndsTold said left told out diag status → IsLeft out diag status → HeadlineTold said left told out diag status
-headline_told said left told out diag status ends is_left =
+pub headline_told : (said : Option Request) (left : Option (List ℕ)) (told : Option Files) (out diag : Sinks) (status : Status) (Same : Type 0)
+    → EndsTold said left told out diag status Same → IsLeft out diag status → HeadlineTold said left told out diag status
+headline_told said left told out diag status Same ends is_left =
     some_more said _ _
     (λ request. where_told request left told _ _
-    (λ files bytes so. λ from to keep. headline request files from to keep bytes out diag status so is_left)) ends
+    (λ files bytes so. λ from to keep. headline request files from to keep bytes out diag status so.ends is_left)) ends
 
 -- of the request that the words are read as
-pub headline_read : (request : Request) (said : Option Request) (left : Option (List ℕ)) (told : Option Files) (out diag : Sinks) (status : Status)
-    → Some request ≡ said → EndsTold (Some request) left told out diag status → IsLeft out diag status → HeadlineTold said left told out diag status
-headline_read request said left told out diag status read ends is_left =
-    subst (λ (s : Option Request). HeadlineTold s left told out diag status) read (headline_told (Some request) left told out diag status ends is_left)
+pub headline_read : (request : Request) (said : Option Request) (left : Option (List ℕ)) (told : Option Files) (out diag : Sinks) (status : Status) (Same : Type 0)
+    → Some request ≡ said → EndsTold (Some request) left told out diag status Same → IsLeft out diag status → HeadlineTold said left told out diag status
+headline_read request said left told out diag status Same read ends is_left =
+    subst (λ (s : Option Request). HeadlineTold s left told out diag status) read (headline_told (Some request) left told out diag status Same ends is_left)

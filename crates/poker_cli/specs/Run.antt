@@ -1,5 +1,5 @@
 -- What a run of the program tells and leaves.
-use Rattle.std.specs.Prelude.{◌≡◌, ◌⊎◌, ℕ, ◌<◌, List, [], length, codes, Option, Some, None, IfSome, unwrap_or}
+use Rattle.std.specs.Prelude.{◌≡◌, ◌≢◌, ◌⊎◌, ℕ, ◌<◌, List, [], length, codes, Option, Some, None, IfSome, unwrap_or}
 use Rattle.std.specs.Io.KnownBytes.{Appends}
 use Rattle.acpc_game.specs.declared.game.Game.{Game}
 use Rattle.command_words.specs.Words.{Load, Plain, Request, Under, Compare, PlainSides, SidesUnder}
@@ -18,7 +18,7 @@ usage_line =
 -- A run may end with this status where this is the answer to its input: with the answer's own, or
 -- with that of a fault of writing, where there is something to write.
 abbrev pub MayEnd : Answer → Status → Type 0
-MayEnd answer statuses.WriteFault = answer.status ≡ statuses.Done
+MayEnd answer statuses.WriteFault = (answer.status ≡ statuses.Done) × (answer.output ≢ [])
 MayEnd answer status = answer.status ≡ status
 
 -- The line of a status that depends on no input: none after Done, and those of faults, of words
@@ -155,6 +155,18 @@ Ends request files bytes out diag statuses.ShelfFault = AsksForFile request
 Ends request files bytes out diag statuses.GameMissing = IsGameMissing request files
 Ends request files bytes out diag statuses.FileMissing = IsFileMissing request files
 Ends request files bytes out diag status = Answers request files bytes out diag status
+
+-- the answer of a run is done and has no output: then this holds
+abbrev pub WhereNoOutput : (request : Request) (files : Files) (bytes : List ℕ) (out diag : Sinks)
+    (status : Status) → Ends request files bytes out diag status → Type 0 → Type 0
+WhereNoOutput request files bytes out diag statuses.Done ends This = ends.answer.output ≡ [] → This
+WhereNoOutput request files bytes out diag status ends This = Unit {0}
+
+-- A run ends so, and where its answer is done and has no output, its sink is the same as before.
+pub record EndsLeaving (request : Request) (files : Files) (bytes : List ℕ) (out diag : Sinks)
+    (status : Status) (Same : Type 0) : Type 0 where
+  pub ends : Ends request files bytes out diag status
+  pub unwritten : WhereNoOutput request files bytes out diag status ends Same
 
 -- a status after which nothing was written
 abbrev pub WritesNothing : Status → Type 0

@@ -1,5 +1,5 @@
 //! The top call: from the words and the input to the status, the output and the line.
-ghost use Rattle.std.specs.Prelude.{◌≡◌, ◌↔◌, map, None, Some, IfErr, IfOk, IfSome, IsErrOf, string_bytes};
+ghost use Rattle.std.specs.Prelude.{◌≡◌, ◌↔◌, [], map, None, Some, IfErr, IfOk, IfSome, IsErrOf, string_bytes};
 ghost use Rattle.command_words.specs.Requests.{request_in};
 ghost use Rattle.command_words.specs.Words.{Under, request_said};
 ghost use Rattle.hand_records.specs.declared.writing.Keep.{Keep};
@@ -7,7 +7,7 @@ ghost use Rattle.host_io.specs.Faults.{Rose};
 ghost use Rattle.poker_cli.specs.Answer.{IsAnswerBy, IsAnswerIn, IsAnswerUnder};
 ghost use Rattle.poker_cli.specs.Headline.{AsksToConvert, Headline};
 ghost use Rattle.poker_cli.specs.Lacking.{ComesFirst};
-ghost use Rattle.poker_cli.specs.Run.{AskForNoFile, AsksForFile, Ends, GivesNone, IsFileMissing, IsGameMissing, IsOfInput, IsOwn, LacksFile, Leaves, MakesHands, MayEnd, OfBytes, ReadsHands, ReadsNothing, Tells, TellsLine, WhereTold, Writes, WritesNothing, change_of, line_of};
+ghost use Rattle.poker_cli.specs.Run.{AskForNoFile, AsksForFile, EndsLeaving, GivesNone, IsFileMissing, IsGameMissing, IsOfInput, IsOwn, LacksFile, Leaves, MakesHands, MayEnd, OfBytes, ReadsHands, ReadsNothing, Tells, TellsLine, WhereTold, Writes, WritesNothing, change_of, line_of};
 ghost use Rattle.poker_cli.specs.Told.{answer_told};
 ghost use Rattle.poker_cli.specs.declared.task.Format.{Format};
 
@@ -43,12 +43,13 @@ pub fn run<S: Source, H: Shelf, K: Sink, D: Sink>(
 
     // The words ask for something: the run ends with the answer to the file that the shelf has and
     // to the input, or with a fault whose count rose in this call. What the file decides is so over
-    // every source: one that does not tell its bytes is as good as one that tells some.
+    // every source: one that does not tell its bytes is as good as one that tells some. Where there
+    // is nothing to write, the output is as it was.
     ensures ends { IfSome (request_said (map string_bytes words.now)) (λ request.
         WhereTold request (S.left input.old) (H.files shelf.old) (λ files bytes.
-        Ends request files bytes
+        EndsLeaving request files bytes
         (change_of K.held K.faults out.old out.new)
-        (change_of D.held D.faults diag.old diag.new) result)) }
+        (change_of D.held D.faults diag.old diag.new) result (out.new ≡ out.old))) }
 
     // The words ask for a conversion: hands are read by `from`, and written by `to` with `keep`.
     ensures headline { IfSome (request_said (map string_bytes words.now)) (λ request.
@@ -101,9 +102,9 @@ fn run_request<S: Source, H: Shelf, K: Sink, D: Sink>(
     ensures answered { result ≡ Status.Usage → ⊥ }
     ensures ends { WhereTold (request_in request.entry) (S.left input.old) (H.files shelf.old)
         (λ files bytes.
-        Ends (request_in request.entry) files bytes
+        EndsLeaving (request_in request.entry) files bytes
         (change_of K.held K.faults out.old out.new)
-        (change_of D.held D.faults diag.old diag.new) result) }
+        (change_of D.held D.faults diag.old diag.new) result (out.new ≡ out.old)) }
     ensures tells { Tells result (S.faults input.old, S.faults input.new)
         (H.faults shelf.old, H.faults shelf.new)
         (change_of K.held K.faults out.old out.new)
@@ -255,6 +256,8 @@ fn deliver<K: Sink, D: Sink>(answer: &Answer, out: &mut K, diag: &mut D) -> Stat
     ensures write_fault { result ≡ Status.WriteFault → Rose (K.faults out.old) (K.faults out.new) }
     ensures written { Writes (K.held out.old) (K.held out.new) (answer_told answer.now) result }
     ensures nothing_written { WritesNothing result → out.new ≡ out.old }
+    ensures no_output { result ≡ Status.Done → (answer_told answer.now).output ≡ []
+        → out.new ≡ out.old }
     ensures line { TellsLine
         (D.faults diag.old) (D.faults diag.new) (D.held diag.old) (D.held diag.new)
         (line_of (answer_told answer.now) result) }

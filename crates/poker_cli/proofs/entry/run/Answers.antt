@@ -11,7 +11,7 @@ use Rattle.poker_cli.proofs.entry.run.Goals as goal
 
 pub returns-in-Err-clause-ends : goal.returns-in-Err-clause-ends
 returns-in-Err-clause-ends g c =
-    ends_unread (request_said (map string_bytes c.args.words.now)) (g.S.Source.left c.args.input.now) (g.H.Shelf.files c.args.shelf.now)
+    ends_unread (request_said (map string_bytes c.args.words.now)) (g.S.Source.left c.args.input.now) (g.H.Shelf.files c.args.shelf.now) _ _ _
 
 pub returns-in-Err-clause-without_file : goal.returns-in-Err-clause-without_file
 returns-in-Err-clause-without_file g c =
@@ -26,7 +26,7 @@ returns-in-Err-clause-headline g c =
     let said = request_said (map string_bytes c.args.words.now) in
     let left = g.S.Source.left c.args.input.now in
     let told = g.H.Shelf.files c.args.shelf.now in
-    headline_told said left told _ _ statuses.Memory (ends_unread said left told)
+    headline_told said left told _ _ statuses.Memory (Unit {0}) (ends_unread said left told _ _ _)
     (record { unwritten = λ nothing. refl; failed = λ is. cc; quiet = λ is. cc; fixed = c.tell-in-Err.ensures })
 
 -- The headline follows from how the request ends that the words are read as.
@@ -34,7 +34,7 @@ pub returns-in-Ok-Some-clause-headline : goal.returns-in-Ok-Some-clause-headline
 returns-in-Ok-Some-clause-headline g c =
     let ends = c.run_request.ensures in
     headline_read (request_in c.in-Ok-Some.request) (request_said (map string_bytes c.args.words.now)) (g.S.Source.left c.args.input.now)
-    (g.H.Shelf.files c.args.shelf.now) _ _ c.run_request.result
+    (g.H.Shelf.files c.args.shelf.now) _ _ c.run_request.result _
     (sym (ap (option_map request_in) c.in-Ok-Some.field-0-is) ∙ c.in-Ok-Some.ensures.read) ends.ends
     (record {
       unwritten = λ nothing. ap g.K.Sink.held (ends.leaves.nothing_written nothing);
