@@ -3,12 +3,13 @@
 ghost use Rattle.std.specs.Prelude.{◌≡◌, ◌↔◌, map, None, Some, IfSome, string_bytes};
 ghost use Rattle.command_words.specs.Words.{request_said};
 ghost use Rattle.hand_records.specs.declared.writing.Keep.{Keep};
+ghost use Rattle.host_io.specs.FaultPlan.{CountsOneCall};
 ghost use Rattle.host_io.specs.Faults.{Rose};
 ghost use Rattle.host_io.specs.MemShelf.{shelf_files, shelf_plan};
 ghost use Rattle.host_io.specs.MemSink.{bytes_held, sink_plan};
 ghost use Rattle.host_io.specs.MemSource.{bytes_left, source_plan};
 ghost use Rattle.poker_cli.specs.Headline.{AsksToConvert, Headline};
-ghost use Rattle.poker_cli.specs.Run.{AskForNoFile, LacksFile, MakesHands, ReadsNothing, TellsLine, WhereTold, WritesNothing, change_of, fixed_line};
+ghost use Rattle.poker_cli.specs.Run.{AsksInTurn, LacksFile, MakesHands, ReadsNothing, TellsLine, WhereTold, WritesNothing, change_of, fixed_line};
 ghost use Rattle.poker_cli.specs.declared.task.Format.{Format};
 
 use host_io::{MemShelf, MemSink, MemSource};
@@ -49,8 +50,10 @@ pub fn run_on(
     ensures unread { ReadsNothing result → input.new ≡ input.old }
     ensures nothing_written { WritesNothing result → out.new ≡ out.old }
     ensures quiet { result ≡ Status.Done → diag.new ≡ diag.old }
-    ensures shelf { AskForNoFile (request_said (map string_bytes words.now))
-        → shelf.new ≡ shelf.old }
+    ensures asks { AsksInTurn
+        (λ (asked : MemShelf) seen name. CountsOneCall (shelf_plan asked) (shelf_plan seen))
+        (Some (shelf_files shelf.old)) (request_said (map string_bytes words.now))
+        result shelf.old shelf.new }
     ensures without_file { IfSome (request_said (map string_bytes words.now)) (λ request.
         LacksFile request (Some (shelf_files shelf.old)) → input.new ≡ input.old) }
     ensures without_input { IfSome (request_said (map string_bytes words.now)) (λ request.

@@ -3,6 +3,7 @@ use Rattle.std.proofs.Common.{◌≡◌, ◌⊎◌, ℕ, ◌<◌, ◌≤◌, Boo
 use Rattle.command_words.specs.Words.{Sides, Compare, PlainSides, SidesUnder, Under}
 use Rattle.command_words.specs.declared.request.Logs.{Logs}
 use Rattle.acpc_game.specs.declared.game.Game.{Game}
+use Rattle.command_words.specs.declared.notation.NotationName.{NotationName}
 use Rattle.convert_core.specs.Conversion.{IsPlaysRefusal}
 use Rattle.convert_core.specs.declared.convert_fault.ConvertFault.{ConvertFault}
 use Rattle.convert_core.specs.declared.convert_fault.ConvertFault.TheVariants as convert_faults
@@ -10,8 +11,8 @@ use Rattle.hand_records.specs.declared.trace.Play.{Play}
 use Rattle.poker_cli.specs.Answer.{Answer, Files, GivesGame, IsComparedIn, IsComparedTo, IsComparedWith, IsComparison, IsComparisonOf, IsToldOf, comparison_under, in_file, most_input, plain_comparison, to_excess, to_file_excess}
 use Rattle.poker_cli.specs.Answer as answers
 use Rattle.poker_cli.specs.Inputs.{HaveFault, SayRecords}
-use Rattle.poker_cli.specs.Lacking.{HasNoFile, HasNoGameFor, IsLackTold}
-use Rattle.poker_cli.specs.Run.{IsFileMissing, IsNotThere, LacksFile, OfBytes}
+use Rattle.poker_cli.specs.Lacking.{AreOfLogs, AsksForGame, HasNoFile, HasNoGameFor, IsLackTold}
+use Rattle.poker_cli.specs.Run.{Asks, GivesSome, IsFileMissing, IsNotThere, LacksFile, OfBytes}
 use Rattle.poker_cli.specs.Told.{answer_told}
 use Rattle.poker_cli.specs.declared.answer.Answer as made
 use Rattle.poker_cli.specs.declared.comparing.NoFile.TheVariants as no_files
@@ -132,3 +133,22 @@ pub game_there : (told : Option Files) (name : List ℕ) (logs : Logs) (game : G
     → LacksFile (Under name logs) told → ⊥
 game_there (Some files) name logs game gives lacks = lacks_none (files name) game gives lacks
 game_there None name logs game gives lacks = lacks
+
+-- a shelf is asked for the file of a game and then for the other file
+gives_some : (told : Option Files) (game : List ℕ) (from other : NotationName) (notes : Bool) (by : Comparison)
+    → IfSome told (λ files. IsComparisonOf files (SidesUnder game from other) notes by) → GivesSome told game
+gives_some (Some files) game from other notes by so = (so.game, so.gives)
+gives_some None game from other notes by so = tt
+
+module _ {H : Type 0} (Asked : H → H → List ℕ → Type 0) (told : Option Files) (name : List ℕ) (notes : Bool) (shelf between : H) where
+  pub both_asked : (sides : Sides) (by : Comparison) (seen : H) → IfSome told (λ files. IsComparisonOf files sides notes by)
+      → AsksForGame Asked sides shelf between → Asked between seen name → Asks Asked told (Compare sides name notes) shelf seen
+  both_asked (PlainSides from other) by seen so none asked = subst (λ (s : H). Asked s seen name) none asked
+  both_asked (SidesUnder game from other) by seen so first asked =
+      (between, (first, inr (gives_some told game from other notes by so, asked)))
+
+  -- or for that of the game alone
+  pub game_asked : (sides : Sides) → AreOfLogs sides → AsksForGame Asked sides shelf between
+      → Asks Asked told (Compare sides name notes) shelf between
+  game_asked (PlainSides from other) logs first = absurd logs
+  game_asked (SidesUnder game from other) logs first = (between, (first, inl refl))

@@ -33,6 +33,17 @@ abbrev pub HasNoGameFor : Files → Sides → NoGame → Type 0
 HasNoGameFor files (PlainSides from other) reason = ⊥
 HasNoGameFor files (SidesUnder game from other) reason = HasNoGame (files game) reason
 
+-- logs are compared, on either side
+abbrev pub AreOfLogs : Sides → Type 0
+AreOfLogs (PlainSides from other) = ⊥
+AreOfLogs (SidesUnder game from other) = Unit {0}
+
+-- a shelf is asked for the file of the game of logs, where `Asked` tells that a name was asked for
+abbrev pub AsksForGame : {H : Type 0} → (Asked : H → H → List ℕ → Type 0) → Sides → (shelf seen : H)
+    → Type 0
+AsksForGame Asked (PlainSides from other) shelf seen = seen ≡ shelf
+AsksForGame Asked (SidesUnder game from other) shelf seen = Asked shelf seen game
+
 -- a file is not compared with for this reason; where it could not be read or memory ran out nothing
 -- is known of it
 abbrev pub HasNoFile : Option (List ℕ) → NoFile → Type 0

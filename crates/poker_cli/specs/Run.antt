@@ -95,11 +95,30 @@ AsksForFile (Under name logs) = Unit {0}
 AsksForFile (Compare sides file notes) = Unit {0}
 AsksForFile request = ⊥
 
--- words ask for no file of the shelf
-abbrev pub AskForNoFile : Option Request → Type 0
-AskForNoFile (Some (Under name logs)) = ⊥
-AskForNoFile (Some (Compare sides file notes)) = ⊥
-AskForNoFile said = Unit {0}
+-- the file of a game gives one, if a shelf tells its files
+abbrev pub GivesSome : Option Files → (name : List ℕ) → Type 0
+GivesSome told name = IfSome told (λ files. (found : Game) × GivesGame (files name) found)
+
+-- What is asked of a shelf: the names that a request gives, each once and in their order, where
+-- `Asked` tells that one name was asked for. They are that of the file of a game, and that of the
+-- file of a comparison, which is asked for only where the game is given.
+abbrev pub Asks : {H : Type 0} → (Asked : H → H → List ℕ → Type 0) → Option Files → Request
+    → (shelf seen : H) → Type 0
+Asks Asked told (Load seed hands) shelf seen = seen ≡ shelf
+Asks Asked told (Plain from task) shelf seen = seen ≡ shelf
+Asks Asked told (Under game logs) shelf seen = Asked shelf seen game
+Asks Asked told (Compare (PlainSides from other) file notes) shelf seen = Asked shelf seen file
+Asks {H} Asked told (Compare (SidesUnder game from other) file notes) shelf seen =
+    (between : H) × (Asked shelf between game
+    × ((seen ≡ between) ⊎ (GivesSome told game × Asked between seen file)))
+
+-- what is asked of a shelf by a run that ends with this status: what the words ask for, or nothing,
+-- where they ask for nothing or memory ran out before
+abbrev pub AsksInTurn : {H : Type 0} → (Asked : H → H → List ℕ → Type 0) → Option Files
+    → Option Request → Status → (shelf seen : H) → Type 0
+AsksInTurn Asked told None status shelf seen = seen ≡ shelf
+AsksInTurn Asked told (Some request) status shelf seen =
+    Asks Asked told request shelf seen ⊎ ((status ≡ statuses.Memory) × (seen ≡ shelf))
 
 -- the file of the game that is asked for is not there
 abbrev pub IsGameMissing : Request → Files → Type 0

@@ -6,8 +6,8 @@ ghost use Rattle.command_words.specs.Words.{Compare};
 ghost use Rattle.host_io.specs.Faults.{Rose};
 ghost use Rattle.poker_cli.specs.Answer as definition;
 ghost use Rattle.poker_cli.specs.Answer.{IsComparedIn, IsComparedTo, IsComparison, IsComparisonOf, most_input};
-ghost use Rattle.poker_cli.specs.Lacking.{ComesFirst, HasNoFile, HasNoGameFor};
-ghost use Rattle.poker_cli.specs.Run.{IsFileMissing, IsGameMissing, IsNotThere, IsOfInput, IsOwn, LacksFile, OfBytes, ReadsNothing};
+ghost use Rattle.poker_cli.specs.Lacking.{AreOfLogs, AsksForGame, ComesFirst, HasNoFile, HasNoGameFor};
+ghost use Rattle.poker_cli.specs.Run.{Asks, IsFileMissing, IsGameMissing, IsNotThere, IsOfInput, IsOwn, LacksFile, OfBytes, ReadsNothing};
 ghost use Rattle.poker_cli.specs.Told.{answer_told};
 
 use crate::answer::{self, Answer, MOST_INPUT, refusal};
@@ -32,8 +32,8 @@ pub enum NoFile {
 }
 
 /// The answer where the hands that the source has left are compared with those of the file of this
-/// name. The shelf is asked for the file of a game first, where logs are read, and then for that
-/// file, once each.
+/// name. The shelf is asked for the file of a game first, where logs are read, and behind a game
+/// that it gives for that file.
 pub fn reply_to_comparison<S: Source, H: Shelf>(
     alloc: Global,
     sides: Sides<'_>,
@@ -52,6 +52,8 @@ pub fn reply_to_comparison<S: Source, H: Shelf>(
         → LacksFile (Compare (sides_in sides.entry) name.now notes) (H.files shelf.old) → ⊥ }
     ensures shelf_fault { IsErrOf result NoAnswer.ShelfFault
         → Rose (H.faults shelf.old) (H.faults shelf.new) }
+    ensures asks { Asks H.Asked (H.files shelf.old)
+        (Compare (sides_in sides.entry) name.now notes) shelf.old shelf.new }
     ensures unread { IfOk result (λ answer. ReadsNothing answer.status → input.new ≡ input.old) }
     ensures missing { IsErrOf result NoAnswer.GameMissing → IfSome (H.files shelf.old) (λ files.
         IsGameMissing (Compare (sides_in sides.entry) name.now notes) files) }
@@ -87,6 +89,8 @@ fn comparison_of<H: Shelf>(
         HasNoGameFor files (sides_in sides.entry) reason)) }
     ensures failed { IsErrOf result NoGame.ShelfFault
         → Rose (H.faults shelf.old) (H.faults shelf.new) }
+    ensures asked { AsksForGame H.Asked (sides_in sides.entry) shelf.old shelf.new }
+    ensures of_logs { IfErr result (λ _. AreOfLogs (sides_in sides.entry)) }
     ensures unchanged { H.files shelf.new ≡ H.files shelf.old }
     ensures later { H.faults shelf.old ≤ H.faults shelf.new }
 {
@@ -117,6 +121,7 @@ fn reply_beside<S: Source, H: Shelf>(
         IsNotThere (files name.now) → ⊥) }
     ensures shelf_fault { IsErrOf result NoAnswer.ShelfFault
         → Rose (H.faults shelf.old) (H.faults shelf.new) }
+    ensures asked { H.Asked shelf.old shelf.new name.now }
     ensures unread { IfOk result (λ answer. ReadsNothing answer.status → input.new ≡ input.old) }
     ensures of_file { IfErr result (λ why. why ≡ NoAnswer.GameMissing → ⊥) }
     ensures missing { IsErrOf result NoAnswer.FileMissing →
@@ -145,6 +150,7 @@ fn fetch_file<H: Shelf>(alloc: Global, shelf: &mut H, name: &str) -> Result<Vec<
         HasNoFile (files name.now) reason)) }
     ensures failed { IsErrOf result NoFile.ShelfFault
         → Rose (H.faults shelf.old) (H.faults shelf.new) }
+    ensures asked { H.Asked shelf.old shelf.new name.now }
 {
     match shelf.fetch(alloc, name, MOST_INPUT) {
         Ok(Fetched::Bytes(file)) => Ok(file),

@@ -7,7 +7,7 @@ ghost use Rattle.host_io.specs.Faults.{Rose};
 ghost use Rattle.poker_cli.specs.Answer.{IsAnswerBy, IsAnswerIn, IsAnswerUnder};
 ghost use Rattle.poker_cli.specs.Headline.{AsksToConvert, Headline};
 ghost use Rattle.poker_cli.specs.Lacking.{ComesFirst};
-ghost use Rattle.poker_cli.specs.Run.{AskForNoFile, AsksForFile, EndsLeaving, GivesNone, IsFileMissing, IsGameMissing, IsOfInput, IsOwn, LacksFile, Leaves, MakesHands, MayEnd, OfBytes, ReadsHands, ReadsNothing, Tells, TellsLine, WhereTold, Writes, WritesNothing, change_of, line_of};
+ghost use Rattle.poker_cli.specs.Run.{Asks, AsksForFile, AsksInTurn, EndsLeaving, GivesNone, IsFileMissing, IsGameMissing, IsOfInput, IsOwn, LacksFile, Leaves, MakesHands, MayEnd, OfBytes, ReadsHands, ReadsNothing, Tells, TellsLine, WhereTold, Writes, WritesNothing, change_of, line_of};
 ghost use Rattle.poker_cli.specs.Told.{answer_told};
 ghost use Rattle.poker_cli.specs.declared.task.Format.{Format};
 
@@ -68,10 +68,9 @@ pub fn run<S: Source, H: Shelf, K: Sink, D: Sink>(
     ensures leaves { Leaves result
         input.old input.new out.old out.new diag.old diag.new }
 
-    // The shelf is called for a game or for the other file of a comparison, and the input is read
-    // behind it.
-    ensures shelf { AskForNoFile (request_said (map string_bytes words.now))
-        → shelf.new ≡ shelf.old }
+    // Of the shelf no name is asked but those that the words give, and the input is read behind it.
+    ensures asks { AsksInTurn H.Asked (H.files shelf.old) (request_said (map string_bytes words.now))
+        result shelf.old shelf.new }
     ensures without_file { IfSome (request_said (map string_bytes words.now)) (λ request.
         LacksFile request (H.files shelf.old) → input.new ≡ input.old) }
     ensures without_input { IfSome (request_said (map string_bytes words.now)) (λ request.
@@ -111,7 +110,8 @@ fn run_request<S: Source, H: Shelf, K: Sink, D: Sink>(
         (change_of D.held D.faults diag.old diag.new) }
     ensures leaves { Leaves result
         input.old input.new out.old out.new diag.old diag.new }
-    ensures shelf { AskForNoFile (Some (request_in request.entry)) → shelf.new ≡ shelf.old }
+    ensures asks { Asks H.Asked (H.files shelf.old) (request_in request.entry)
+        shelf.old shelf.new }
     ensures without_file { LacksFile (request_in request.entry) (H.files shelf.old)
         → input.new ≡ input.old }
     ensures without_input { MakesHands (request_in request.entry) → input.new ≡ input.old }
@@ -161,7 +161,8 @@ fn reply<S: Source, H: Shelf>(
     ensures shelf_fault { IsErrOf result NoAnswer.ShelfFault
         → Rose (H.faults shelf.old) (H.faults shelf.new) }
     ensures asked { IsErrOf result NoAnswer.ShelfFault → AsksForFile (request_in request.entry) }
-    ensures shelf { AskForNoFile (Some (request_in request.entry)) → shelf.new ≡ shelf.old }
+    ensures asks { Asks H.Asked (H.files shelf.old) (request_in request.entry)
+        shelf.old shelf.new }
     ensures unread { IfOk result (λ answer. ReadsNothing answer.status → input.new ≡ input.old) }
     ensures missing { IsErrOf result NoAnswer.GameMissing →
         WhereTold (request_in request.entry) (S.left input.old) (H.files shelf.old) (λ files bytes.
@@ -205,6 +206,7 @@ fn reply_under<S: Source, H: Shelf>(
         → LacksFile (Under name.now logs) (H.files shelf.old) → ⊥ }
     ensures shelf_fault { IsErrOf result NoAnswer.ShelfFault
         → Rose (H.faults shelf.old) (H.faults shelf.new) }
+    ensures asked { H.Asked shelf.old shelf.new name.now }
     ensures unread { IfOk result (λ answer. ReadsNothing answer.status → input.new ≡ input.old) }
     ensures missing { IsErrOf result NoAnswer.GameMissing →
         IfSome (H.files shelf.old) (λ files. files name.now ≡ None) }

@@ -41,6 +41,7 @@ pub fn fetch_game<H: Shelf>(alloc: Global, shelf: &mut H, name: &str) -> Result<
         IfSome (H.files shelf.old) (λ files. HasNoGame (files name.now) reason)) }
     ensures failed { IsErrOf result NoGame.ShelfFault
         → Rose (H.faults shelf.old) (H.faults shelf.new) }
+    ensures asked { H.Asked shelf.old shelf.new name.now }
     ensures unchanged { H.files shelf.new ≡ H.files shelf.old }
     ensures later { H.faults shelf.old ≤ H.faults shelf.new }
 {

@@ -7,7 +7,7 @@ use Rattle.poker_cli.specs.Run.{IsNotThere, OfBytes}
 use Rattle.poker_cli.specs.Told.{answer_told}
 use Rattle.poker_cli.specs.declared.games.Lack.{Lack}
 use Rattle.poker_cli.specs.declared.games.NoGame.{NoGame}
-use Rattle.poker_cli.proofs.Replying.{compared_lack, compared_reply, missing_reply, where_lacking}
+use Rattle.poker_cli.proofs.Replying.{both_asked, compared_lack, compared_reply, game_asked, missing_reply, where_lacking}
 use Rattle.poker_cli.proofs.comparing.reply_to_comparison.Goals as goal
 
 pub returns-in-Ok-clause-answer : goal.returns-in-Ok-clause-answer
@@ -45,3 +45,8 @@ returns-in-Ok-answer_to_lack-clause-answer g c =
     (answer_told c.in-Ok-answer_to_lack.answer)
     (subst (λ (reason : NoGame). IfSome told (λ (files : Files). HasNoGameFor files (sides_in c.args.sides) reason)) c.in-Err-Lacking.field-0-is c.in-Err-Lacking.ensures.none)
     (subst (λ (lack : Lack). IsLackTold lack (answer_told c.in-Ok-answer_to_lack.answer)) c.in-Err-Lacking.lack-is c.in-Ok-answer_to_lack.ensures.answer)
+
+pub returns-in-Ok-clause-asks : goal.returns-in-Ok-clause-asks
+returns-in-Ok-clause-asks g c =
+    both_asked g.H.Shelf.Asked (g.H.Shelf.files c.args.shelf.now) c.args.name.now c.args.notes c.args.shelf.now c.comparison_of.new.shelf (sides_in c.args.sides)
+    c.in-Ok.by c.reply_beside.new.shelf c.in-Ok.ensures.comparison c.in-Ok.ensures.asked c.reply_beside.ensures.asked
