@@ -9,6 +9,8 @@ mod Numbered
 mod FirstDifferent
 mod SeenViews
 mod PrintedTexts
+mod GameLengths
+mod GameReplies
 mod OneReply
 mod OneAnswer
 mod Headline

@@ -178,7 +178,7 @@ one_conversion to keep ps qs _ _ alike (answers.Spelled none bytes spell back) (
 one_reply : (question : Question) (ps qs : List Play) (answer other : Answer) → All IsJudged ps → AllTraced ps qs → AllAlike (hands_of ps) (hands_of qs)
     → IsReply question ps answer → IsReply question qs other → answer ≡ other
 one_reply (questions.Show command) ps qs answer other judged traced alike is it = is ∙ ap done (same_text command ps qs judged traced alike) ∙ sym it
-one_reply questions.GameFile ps qs answer other judged traced alike is it = is ∙ same_game ps qs traced ∙ sym it
+one_reply questions.GameFile ps qs answer other judged traced alike is it = is.told ∙ same_game ps qs traced ∙ sym it.told
 one_reply (questions.Options hand events) ps qs answer other judged traced alike is it = one_options hand events ps qs answer other traced is it
 one_reply (questions.Equity hand street) ps qs answer other judged traced alike is it = one_equity hand street ps qs answer other traced is it
 

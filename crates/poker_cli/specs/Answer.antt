@@ -1,6 +1,6 @@
 -- What the program answers to the bytes of its input, and of the file of a game.
 pub use Rattle.poker_cli.specs.AnswerParts.{Answer, done, refusal}
-use Rattle.std.specs.Prelude.{◌≡◌, ℕ, ◌<◌, ◌≤◌, Bool, List, [], ◌∷◌, ◌++◌, length, codes, Option, Some, None, option_map, Result, Ok, Err}
+use Rattle.std.specs.Prelude.{◌≡◌, ℕ, ◌<◌, ◌≤◌, Bool, List, [], ◌∷◌, ◌++◌, length, codes, Option, Some, None, option_map, Result, Ok, Err, IfOk}
 use Rattle.acpc_game.specs.GameFile.{GameSaid, game_said}
 use Rattle.acpc_game.specs.GameText.{game_text}
 use Rattle.acpc_game.specs.GameView.{game_in}
@@ -110,6 +110,26 @@ abbrev pub to_first_game : List Play → Answer
 to_first_game [] = done []
 to_first_game (play ∷ plays) = to_game (game_of play.trace.setup)
 
+-- The file of a game says this game.
+pub record GivesGame (file : Option (List ℕ)) (game : Game) : Type 0 where
+  pub text : List ℕ
+  pub there : file ≡ Some text
+  pub short : length text ≤ most_input
+  pub says : game_said text ≡ Ok (game_in game)
+
+-- where the first hand has a game file, the output of an answer is a file that gives its game
+abbrev pub GivesFirstGame : List Play → Answer → Type 0
+GivesFirstGame [] answer = Unit {0}
+GivesFirstGame (play ∷ plays) answer =
+    IfOk (game_of play.trace.setup) (λ said.
+    (game : Game) × ((game_in game ≡ said) × GivesGame (Some answer.output) game))
+
+-- The answer where the game file of the first hand is asked for: its one spelling, which can be
+-- taken for the file of a game.
+pub record IsGameReply (plays : List Play) (answer : Answer) : Type 0 where
+  pub told : answer ≡ to_first_game plays
+  pub taken : GivesFirstGame plays answer
+
 -- The answer where plays are to be written in a notation, which tells their first fact that has no
 -- spelling, which bytes spell them, and what it means that bytes read back as them.
 pub data IsWritten (unspelled : Play → Option Unspelled)
@@ -132,7 +152,7 @@ IsConversion to keep plays answer =
 -- the answer to a question about hands that are all legal and agree
 abbrev pub IsReply : Question → List Play → Answer → Type 0
 IsReply (questions.Show command) plays answer = answer ≡ done (text_of command plays)
-IsReply questions.GameFile plays answer = answer ≡ to_first_game plays
+IsReply questions.GameFile plays answer = IsGameReply plays answer
 IsReply (questions.Options hand events) plays answer = AreOptionsAt hand events plays answer
 IsReply (questions.Equity hand street) plays answer = IsEquityAt hand street plays answer
 
@@ -210,13 +230,6 @@ pub data GivesNoGame (file : Option (List ℕ)) : Answer → Type 0 where
   -- it says no game that is played
   BadGame : (text : List ℕ) → file ≡ Some text → length text ≤ most_input
       → (fault : AcpcFault) → game_said text ≡ Err fault → GivesNoGame file (to_bad_game fault)
-
--- The file of a game says this game.
-pub record GivesGame (file : Option (List ℕ)) (game : Game) : Type 0 where
-  pub text : List ℕ
-  pub there : file ≡ Some text
-  pub short : length text ≤ most_input
-  pub says : game_said text ≡ Ok (game_in game)
 
 -- The files of a shelf by their names.
 abbrev pub Files : Type 0

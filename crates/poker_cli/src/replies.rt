@@ -1,7 +1,7 @@
 //! What is asked of one hand of an input is answered from the plays of all hands.
 ghost use Rattle.std.specs.Prelude.{◌≡◌, ◌<◌, All, None, Some, length, IfOk, string_bytes};
 ghost use Rattle.hand_canon.specs.Sound.{IsSound};
-ghost use Rattle.poker_cli.specs.Answer as definition;
+ghost use Rattle.poker_cli.specs.Answer.{IsGameReply};
 ghost use Rattle.poker_cli.specs.Asked.{IsAsked};
 ghost use Rattle.poker_cli.specs.Replies as replies;
 ghost use Rattle.poker_cli.specs.Replies.{AreOptionsAt, IsEquityAt};
@@ -45,8 +45,7 @@ pub fn answer_to_plays(alloc: Global, asked: PlayQuestion, plays: &[Play]) -> Re
 // The answer with the game file of the first of plays.
 fn answer_with_first_game(alloc: Global, plays: &[Play]) -> Result<Answer, Memory>
     requires sound { All IsSound plays.now }
-    ensures answer { IfOk result (λ answer.
-        answer_told answer ≡ definition.to_first_game plays.now) }
+    ensures answer { IfOk result (λ answer. IsGameReply plays.now (answer_told answer)) }
     ensures own { IfOk result (λ answer. IsOfInput answer.status) }
 {
     let [play, ..] = plays else {
