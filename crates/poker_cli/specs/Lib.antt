@@ -25,3 +25,4 @@ pub mod Headline
 pub mod ComparedRuns
 pub mod LegalInputs
 pub mod RunTells
+pub mod Process

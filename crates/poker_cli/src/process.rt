@@ -1,15 +1,19 @@
 //! A process is run on the words after its own name, over its streams and the files of the system,
-//! and ends with the number of a status.
-ghost use Rattle.std.specs.Prelude.{◌≡◌, ◌≢◌, [], IfErr, IfOk};
+//! and ends with the number of the status that the run answers.
+ghost use Rattle.std.specs.Prelude.{◌≡◌, ◌≢◌, ◌⊎◌, [], drop, IfErr, IfOk};
 ghost use Rattle.std.specs.Process.{exit_status};
 ghost use Rattle.std.specs.IoError.{error_kind};
+ghost use Rattle.std.specs.Vec.Iter.{into_iter_items};
 ghost use Rattle.std.specs.declared.io.ErrorKind.TheVariants.{OutOfMemory};
-ghost use Rattle.poker_cli.specs.Status.{IsStatusNumber};
+ghost use Rattle.poker_cli.specs.Process.{LacksWords, RunKeeps, words_given};
+ghost use Rattle.poker_cli.specs.Run.{change_of};
+ghost use Rattle.poker_cli.specs.Status.{IsStatusNumber, status_number};
+ghost use Rattle.poker_cli.specs.declared.status.Status.{Status as AnyStatus};
 
 use crate::entry::{run, tell};
 use crate::status::Status;
 use card_set::Memory;
-use host_io::{FileShelf, Shelf, StdSink, StdSource};
+use host_io::{FileShelf, Shelf, Sink, Source, StdSink, StdSource};
 use std::alloc::Global;
 use std::env::{self, Args};
 use std::io::{self, Read, Write};
@@ -26,52 +30,101 @@ pub fn run_process<R: Read + Drop, W: Write + Drop, D: Write + Drop>(
 ) -> ExitCode
     ensures { IsStatusNumber (exit_status result) }
 {
-    let mut shelf = FileShelf::new(rt);
-    ExitCode::from(status_of_process(rt, input, &mut shelf, out, diag).number())
-}
-
-fn status_of_process<R: Read + Drop, H: Shelf, W: Write + Drop, D: Write + Drop>(
-    rt: &(impl Env + AllocGlobal),
-    input: R,
-    shelf: &mut H,
-    out: W,
-    diag: D,
-) -> Status {
-    let alloc = rt.alloc();
-    let mut diag = StdSink::new(diag);
-    let words = match words_after_name(rt) {
-        Ok(words) => words,
-        Err(Memory) => {
-            tell(&mut diag, b"out of memory\n");
-            return Status::Memory;
-        }
-    };
     let mut input = StdSource::new(input);
+    let mut shelf = FileShelf::new(rt);
     let mut out = StdSink::new(out);
-    run(alloc, &words, &mut input, shelf, &mut out, &mut diag)
+    let mut diag = StdSink::new(diag);
+    end_with(
+        rt.alloc(),
+        env::args(rt),
+        &mut input,
+        &mut shelf,
+        &mut out,
+        &mut diag,
+    )
 }
 
-// The words after the program's own name.
-fn words_after_name(rt: &(impl Env + AllocGlobal)) -> Result<Vec<String>, Memory> {
-    words_behind_first(rt.alloc(), env::args(rt))
+/// Runs the program over these devices on the words behind the first of all, which is the name of
+/// the process, and returns the number of the status that the run answers.
+pub fn end_with<S: Source, H: Shelf, K: Sink, D: Sink>(
+    alloc: Global,
+    all: io::Result<Args>,
+    input: &mut S,
+    shelf: &mut H,
+    out: &mut K,
+    diag: &mut D,
+) -> ExitCode
+    // The status is that of a run on these words, of which all holds that is promised of `run`.
+    ensures run { (status : AnyStatus) × ((exit_status result ≡ status_number status)
+        × (LacksWords (change_of D.held D.faults diag.old diag.new) status
+        input.old input.new shelf.old shelf.new out.old out.new
+        ⊎ RunKeeps (words_given all) (S.left input.old) (H.files shelf.old) H.Asked
+        (S.faults input.old, S.faults input.new) (H.faults shelf.old, H.faults shelf.new)
+        (change_of K.held K.faults out.old out.new)
+        (change_of D.held D.faults diag.old diag.new) status
+        input.old input.new shelf.old shelf.new out.old out.new diag.old diag.new)) }
+    // Words that are no text are no command.
+    ensures no_text { IfErr all (λ error. error_kind error ≢ OutOfMemory
+        → exit_status result ≡ 2) }
+{
+    let status = answer_to_words(alloc, all, input, shelf, out, diag);
+    ExitCode::from(status.number())
+}
+
+// The status of a run on the words behind the first of all.
+fn answer_to_words<S: Source, H: Shelf, K: Sink, D: Sink>(
+    alloc: Global,
+    all: io::Result<Args>,
+    input: &mut S,
+    shelf: &mut H,
+    out: &mut K,
+    diag: &mut D,
+) -> Status
+    ensures run { LacksWords (change_of D.held D.faults diag.old diag.new) result
+        input.old input.new shelf.old shelf.new out.old out.new
+        ⊎ RunKeeps (words_given all) (S.left input.old) (H.files shelf.old) H.Asked
+        (S.faults input.old, S.faults input.new) (H.faults shelf.old, H.faults shelf.new)
+        (change_of K.held K.faults out.old out.new)
+        (change_of D.held D.faults diag.old diag.new) result
+        input.old input.new shelf.old shelf.new out.old out.new diag.old diag.new }
+    ensures no_text { IfErr all (λ error. error_kind error ≢ OutOfMemory
+        → result ≡ Status.Usage) }
+{
+    match words_behind_first(alloc, all) {
+        Ok(words) => run(alloc, &words, input, shelf, out, diag),
+        Err(Memory) => {
+            tell(diag, b"out of memory\n");
+            Status::Memory
+        }
+    }
 }
 
 // The words behind the first one. Words that are no text are no command, as no words are.
 fn words_behind_first(alloc: Global, all: io::Result<Args>) -> Result<Vec<String>, Memory>
     ensures no_text { IfErr all (λ error. error_kind error ≢ OutOfMemory → IfErr result (λ _. ⊥)) }
     ensures no_words { IfErr all (λ error. IfOk result (λ words. words.items ≡ [])) }
+    ensures words { IfOk all (λ args. IfOk result (λ words.
+        words.items ≡ drop 1 (into_iter_items args))) }
 {
-    let mut words = Vec::new(alloc);
     match all {
-        Ok(all) => {
-            for word in all.skip(1) {
-                words.push(word)?;
-            }
-            Ok(words)
+        Ok(mut all) => {
+            let _name = all.next();
+            words_left(alloc, all)
         }
         Err(error) => match error.kind() {
             io::ErrorKind::OutOfMemory => Err(Memory),
-            _ => Ok(words),
+            _ => Ok(Vec::new(alloc)),
         },
     }
+}
+
+// All words that are left.
+fn words_left(alloc: Global, mut all: Args) -> Result<Vec<String>, Memory>
+    ensures { IfOk result (λ words. words.items ≡ into_iter_items all) }
+{
+    let mut words = Vec::new(alloc);
+    while let Some(word) = all.next() {
+        words.push(word)?;
+    }
+    Ok(words)
 }
