@@ -30,6 +30,8 @@ const USAGE: &[u8] =
 /// Runs the program on its words, without its own name. It reads the file of a game from the shelf
 /// where the words name one, and behind it the file that hands are compared with, then the input to
 /// its end, writes the output where all is done, and tells one line beside it where it is not.
+/// What is written of hands has one form: `law_of_equal_runs`, `law_of_runs_again` and
+/// `law_of_runs_by_way`.
 pub fn run<S: Source, H: Shelf, K: Sink, D: Sink>(
     alloc: Global,
     words: &[String],
@@ -38,7 +40,7 @@ pub fn run<S: Source, H: Shelf, K: Sink, D: Sink>(
     out: &mut K,
     diag: &mut D,
 ) -> Status
-    // The words ask for nothing: no memory is taken then.
+    // The words ask for nothing: want of memory is not answered then.
     ensures usage { (result ≡ Status.Usage) ↔ (request_said (map string_bytes words.now) ≡ None) }
 
     // The words ask for something: the run ends with the answer to the file that the shelf has and
