@@ -2,7 +2,8 @@
 use Rattle.std.specs.Prelude.{◌≡◌, ◌≤◌, ℕ, true, Option, None, IfSome}
 use Rattle.chip_ledger.specs.declared.numbers.Seat.{Seat}
 use Rattle.betting_numbers.specs.declared.running.RunningNumbers.{RunningNumbers}
-use Rattle.betting_numbers.specs.Turn.{KeepsSeat, KeepsTurn, StartsFresh}
+use Rattle.betting_numbers.specs.Turn.{IsNextUp, KeepsSeat, KeepsTurn, StartsFresh}
+use Rattle.play_event.specs.declared.code.Code.{Code}
 use Rattle.street_laws.specs.Dues.{is_before_moves, is_of_street}
 
 -- the numbers of a hand of a game with so many streets
@@ -24,6 +25,14 @@ pub record IsOnStreet (streets : ℕ) (b : RunningNumbers) : Type 0 where
   pub first : 1 ≤ b.street
   pub last : b.street ≤ streets
   pub fresh : StartsFresh b
+
+-- the turn may be passed on: the numbers are of the game and on one of its streets, and this seat,
+-- if it is known, is next up
+pub record IsReadyToPass (game : Code) (streets : ℕ) (b : RunningNumbers) (next : Option Seat)
+    : Type 0 where
+  pub code : b.setup.code ≡ game
+  pub on : IsOnStreet streets b
+  pub behind : IfSome next (IsNextUp b)
 
 -- the hand is the same: what stood before its first card
 pub record IsSameHand (old new : RunningNumbers) : Type 0 where

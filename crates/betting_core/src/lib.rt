@@ -2,6 +2,8 @@
 #![tactic(auto)]
 
 mod betting;
+mod dealt;
+mod step;
 
 pub use betting::Betting;
 pub use betting_numbers::Targets;

@@ -1,7 +1,8 @@
 -- The numbers after the move stand for the past with it.
-use Rattle.std.proofs.Common.{◌≤◌, subst, sym, arith}
+use Rattle.std.proofs.Common.{◌≤◌, ◌∙◌, ap, rules, subst, sym, arith}
 use Rattle.list_laws.proofs.Options.{some_more}
 use Rattle.play_event.specs.declared.code.Code.{Code}
+use Rattle.play_event.specs.declared.setup.Setup.{Setup}
 use Rattle.play_event.specs.Games.{street_count}
 use Rattle.play_event.specs.Played.{act_said}
 use Rattle.betting_numbers.specs.Turn.{IsFirstBehind, IsNextUp}
@@ -17,12 +18,16 @@ returns-clause-stands g c =
     let within : b.street ≤ street_count b.setup.code = subst (λ (code : Code). b.street ≤ street_count code) (sym whole.code) most in
     λ past stands bets. stands_after b c.make.new.self c.settle.new.table past c.args.seat.number c.args.target c.unit-unit.result (act_said c.args.act) stands bets (record { first = c.args.seat.first; last = c.requires.in_hand }) c.make.ensures c.unit-unit.ensures whole.kept.first within c.requires.fits c.settle.ensures.settled
 
-pub settle-requires-clause-behind : goal.settle-requires-clause-behind
-settle-requires-clause-behind g c =
+pub settle-requires : goal.settle-requires
+settle-requires g c =
     let whole = c.args.self.now in
     let b = whole.table in
     let next = c.make.new.self in
     let seat = c.args.seat in
-    some_more c.args.behind (IsFirstBehind b seat.number) (IsNextUp next)
-    (λ behind is. next_up b next seat.number (act_said c.args.act) c.args.target c.unit-unit.result c.make.ensures (record { first = seat.first; last = c.requires.in_hand }) whole.kept.fresh behind is)
-    c.requires.behind
+    record {
+      code = ap (λ (s : Setup). s.code) c.make.ensures.setup ∙ whole.code;
+      on = search rules;
+      behind = some_more c.args.behind (IsFirstBehind b seat.number) (IsNextUp next)
+          (λ behind is. next_up b next seat.number (act_said c.args.act) c.args.target c.unit-unit.result c.make.ensures (record { first = seat.first; last = c.requires.in_hand }) whole.kept.fresh behind is)
+          c.requires.behind;
+    }

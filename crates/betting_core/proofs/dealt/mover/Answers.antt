@@ -1,7 +1,7 @@
 -- A move is due where the seat that is next up has one to make.
 use Rattle.std.proofs.Common.{true, false, sym, ◌∙◌}
 use Rattle.betting_core.proofs.KeptTurn.{next_due}
-use Rattle.betting_core.proofs.betting.mover.Goals as goal
+use Rattle.betting_core.proofs.dealt.mover.Goals as goal
 
 pub returns-in-Some-clause-due : goal.returns-in-Some-clause-due
 returns-in-Some-clause-due c =

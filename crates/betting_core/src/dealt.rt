@@ -1,0 +1,128 @@
+//! A deal, a draw or a show is ended, and the turn passes on.
+ghost use Rattle.std.specs.Prelude.{◌≡◌, ◌≤◌, true, false, IfSome, is_some};
+ghost use Rattle.play_event.specs.declared.reason.Due.TheVariants as dues;
+ghost use Rattle.play_event.specs.Past.{Past};
+ghost use Rattle.play_event.specs.Openers.{TheSeat, blinds_opener, in_turn};
+ghost use Rattle.play_event.specs.Streets.{is_stud};
+ghost use Rattle.betting_numbers.specs.Seen.{is_move_due_seen, mover_seen};
+ghost use Rattle.betting_core.specs.Kept.{AreKept, IsOfTable, IsReadyToPass, IsSameHand};
+ghost use Rattle.betting_numbers.specs.Standing.{StandsFor};
+ghost use Rattle.betting_numbers.specs.UpTo.{StandsUpTo};
+ghost use Rattle.street_laws.specs.Done.{is_done};
+ghost use Rattle.street_laws.specs.Dues.{is_deal_or_draw, is_cards_due};
+ghost use Rattle.betting_numbers.specs.Turn.{IsDealtTo, IsNextUp, IsPassedTo, IsSettledTo};
+ghost use Rattle.street_laws.specs.Walk.{street_cards};
+ghost use Rattle.chip_ledger.specs.SeatsSaid.{seat_said};
+
+use crate::betting::Betting;
+use betting_numbers::RunningNumbers;
+use chip_ledger::Seat;
+use play_event::Due;
+use variant_table::{Opener, Variant};
+
+impl<V: Variant> Betting<V> {
+    /// Ends the deal, the draw or the show that is due: the betting of the street begins, or what
+    /// comes behind it where nobody has to move, as the next street's deal. Where that is complete
+    /// in the past too it is ended by the next call; a showdown that is ended is over.
+    pub fn dealt(&mut self)
+        requires { is_cards_due self.old.table.due ≡ true }
+        ensures stands { (past : Past) → StandsUpTo self.old.table past
+            → is_done self.old.table.setup past self.new.table.due ≡ false
+            → StandsFor self.new.table past }
+        ensures up_to { (past : Past) → StandsUpTo self.old.table past
+            → is_done self.old.table.setup past self.new.table.due ≡ true
+            → StandsUpTo self.new.table past }
+        ensures showdown { (past : Past) → StandsUpTo self.old.table past
+            → is_done self.old.table.setup past self.new.table.due ≡ true
+            → self.new.table.due ≡ dues.Show }
+        ensures over { self.old.table.due ≡ dues.Show → self.new.table.due ≡ dues.Over }
+        ensures same { IsSameHand self.old.table self.new.table }
+    {
+        match self.table.due {
+            Due::Show => self.table.set_due(Due::Over),
+            _ => self.bet(),
+        }
+    }
+
+    // The deal or the draw of the street is ended.
+    fn bet(&mut self)
+        requires { is_deal_or_draw self.old.table.due ≡ true }
+        ensures { IsDealtTo self.old.table self.new.table }
+    {
+        if self.table.is_bring_in_due(stud::<V>()) {
+            self.table.set_turn(Due::BringIn, None);
+        } else {
+            pass::<V>(&mut self.table, None);
+        }
+    }
+}
+
+// The game is a game of stud.
+fn stud<V: Variant>() -> bool
+    ensures { result ≡ is_stud V.CODE }
+{
+    match V::OPEN {
+        Opener::Blinds => false,
+        Opener::LowUp | Opener::HighUp => true,
+    }
+}
+
+// What is due after a move that led to these numbers, where this seat, if it is known, is next up.
+pub(crate) fn settle<V: Variant>(table: &mut RunningNumbers, behind: Option<Seat>)
+    requires { IsReadyToPass V.CODE V.STREETS table.old behind }
+    ensures settled { IsSettledTo table.old table.new }
+    ensures kept { AreKept V.STREETS table.new }
+{
+    if table.live_count() <= 1 {
+        table.set_due(Due::Over);
+    } else {
+        pass::<V>(table, behind);
+    }
+}
+
+// What is due where no bring-in is: the turn is passed on, or the next street begins.
+fn pass<V: Variant>(table: &mut RunningNumbers, behind: Option<Seat>)
+    requires { IsReadyToPass V.CODE V.STREETS table.old behind }
+    ensures passed { IsPassedTo table.old table.new }
+    ensures kept { AreKept V.STREETS table.new }
+{
+    let street = table.street;
+    let next = mover(table, behind);
+    if next.is_some() {
+        table.set_turn(Due::Move, next);
+    } else if street < V::STREETS {
+        table.next_street(cards::<V>(street + 1));
+    } else {
+        table.set_due(Due::Show);
+    }
+}
+
+// Whose turn it is, where the blinds say who opens: nobody's where no move is due. Where it is
+// known who is next up, no other seat is asked.
+fn mover(table: &RunningNumbers, behind: Option<Seat>) -> Option<Seat>
+    requires behind { IfSome behind (IsNextUp table.now) }
+    ensures turn { in_turn (seat_said result)
+        ≡ mover_seen table.now
+        (TheSeat (blinds_opener table.now.setup table.now.street)) }
+    ensures due { is_some result ≡ is_move_due_seen table.now }
+    ensures in_hand { IsOfTable table.now result }
+{
+    match behind {
+        None => table.mover(table.blinds_opener()),
+        Some(seat) if table.to_move(seat) => behind,
+        Some(_) => None,
+    }
+}
+
+// The cards with which a street begins.
+fn cards<V: Variant>(street: u8) -> Due
+    requires first { 1 ≤ street }
+    requires last { street ≤ V.STREETS }
+    ensures { result ≡ street_cards V.CODE street }
+{
+    if V::street(street).draws {
+        Due::Draw(street)
+    } else {
+        Due::Deal(street)
+    }
+}
