@@ -13,7 +13,6 @@ use variant_table::Variant;
 /// What is due now, and which moves of the seat in turn are legal. No seat is told where it is not
 /// known whose turn it is.
 pub fn options_now<V: Variant>(hand: &HandInPlay<V>) -> Options
-    requires seats { hand.now.betting.table.setup.stacks.seats ≡ hand.now.cards.state.seats }
     ensures legal { WhereTogether hand.now.betting.table hand.now.cards.state
         (λ past. AreOptions hand.now.betting.table.setup hand.now.betting.table.rules past result) }
     ensures undecided { WhereTogether hand.now.betting.table hand.now.cards.state

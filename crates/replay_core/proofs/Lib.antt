@@ -1,5 +1,6 @@
 -- What joins betting and cards, the events of a script, and the rows of its end.
 pub mod Joined
+pub mod Kept
 pub mod Moves
 pub mod SoFar
 pub mod Counted

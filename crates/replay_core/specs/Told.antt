@@ -1,5 +1,5 @@
 -- What one event more adds to the moves of the trace.
-use Rattle.std.specs.Prelude.{◌≡◌, List, [], ◌∷◌, ◌++◌, Option, Some, None}
+use Rattle.std.specs.Prelude.{◌≡◌, ℕ, List, [], ◌∷◌, ◌++◌, Option, Some, None}
 use Rattle.betting_numbers.specs.declared.running.RunningNumbers.{RunningNumbers}
 use Rattle.betting_numbers.specs.LegalMoves.{past_with}
 use Rattle.card_places.specs.declared.card_state.CardState.{CardState}
@@ -9,10 +9,18 @@ use Rattle.play_event.specs.Past.{Past, moves_of}
 use Rattle.play_event.specs.Played.{move_said}
 use Rattle.play_event.specs.Said.{Said}
 use Rattle.play_event.specs.Trace.{TracedMove, traced_moves}
+use Rattle.street_laws.specs.Seats.{IsSeat}
 
 -- after each past for which both stand
 abbrev pub WhereTogether : RunningNumbers → CardState → (Past → Type 0) → Type 0
 WhereTogether b t P = (past : Past) → StandTogether b t past → P past
+
+-- a row of so many seats has those of the hand, and this is so of each of them after each past
+-- for which both stand
+pub record TellsOfHand (count : ℕ) (b : RunningNumbers) (t : CardState) (P : Past → ℕ → Type 0)
+    : Type 0 where
+  pub seats : count ≡ b.setup.stacks.seats
+  pub each : WhereTogether b t (λ past. (seat : ℕ) → IsSeat b.setup seat → P past seat)
 
 -- a move that is told, if one is
 abbrev pub moves_told : Option rows.Move → List TracedMove

@@ -38,7 +38,6 @@ pub fn at_end<V: Variant>(
     hand: &HandInPlay<V>,
     moves: Moves,
 ) -> Result<HandAtEnd, Memory>
-    requires { hand.now.betting.table.setup.stacks.seats ≡ hand.now.cards.state.seats }
     ensures { (setup : Setup) (rules : Rules) (script : List Said) → setup.code ≡ V.CODE
         → StandAtEnd setup rules script hand.now.betting.table hand.now.cards.state
         → AreMovesOf setup (past_at_end setup script) moves

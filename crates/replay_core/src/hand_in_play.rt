@@ -1,5 +1,5 @@
 //! The betting and the cards of a hand, and one event more of it.
-ghost use Rattle.std.specs.Prelude.{◌≡◌, [], ℕ, true, false, OnErr};
+ghost use Rattle.std.specs.Prelude.{◌≡◌, [], true, false, OnErr};
 ghost use Rattle.betting_numbers.specs.UpSeen.{HoldsOpeningUps};
 ghost use Rattle.chip_ledger.specs.LiveRow.{flag_of};
 ghost use Rattle.chip_ledger.specs.SeatRow.{amount_of};
@@ -15,10 +15,9 @@ ghost use Rattle.play_event.specs.declared.reason.Due.TheVariants as dues;
 ghost use Rattle.street_laws.specs.CardEvents.{is_card_said};
 ghost use Rattle.street_laws.specs.Done.{is_done};
 ghost use Rattle.street_laws.specs.Dues.{IsDueWithin};
-ghost use Rattle.street_laws.specs.Seats.{IsSeat};
 ghost use Rattle.replay_core.specs.Together.{StandTogether, StandUpToDue};
 ghost use Rattle.replay_core.specs.Advances.{Advances, IsHandOf};
-ghost use Rattle.replay_core.specs.Told.{WhereTogether};
+ghost use Rattle.replay_core.specs.Told.{TellsOfHand, WhereTogether};
 
 use betting_core::Betting;
 use chip_ledger::{LiveRow, SeatRow};
@@ -34,6 +33,8 @@ use variant_table::Variant;
 pub struct HandInPlay<V: Variant> {
     pub betting: Betting<V>,
     pub cards: Cards<V>,
+    /// The cards are those of the seats that bet.
+    pub ghost seats: { betting.table.setup.stacks.seats ≡ cards.state.seats },
 }
 
 impl<V: Variant> HandInPlay<V> {
@@ -54,10 +55,8 @@ impl<V: Variant> HandInPlay<V> {
 
     /// The chips that each seat has put in this hand, antes included.
     pub fn puts(&self) -> SeatRow
-        ensures seats { result.seats ≡ self.now.betting.table.setup.stacks.seats }
-        ensures puts { WhereTogether self.now.betting.table self.now.cards.state
-            (λ past. (seat : ℕ) → IsSeat self.now.betting.table.setup seat
-            → amount_of result seat
+        ensures { TellsOfHand result.seats self.now.betting.table self.now.cards.state
+            (λ past seat. amount_of result seat
             ≡ chips_put self.now.betting.table.setup (moves_of past) seat) }
     {
         self.betting.puts()
@@ -65,10 +64,8 @@ impl<V: Variant> HandInPlay<V> {
 
     /// The chips that each seat has left.
     pub fn stacks(&self) -> SeatRow
-        ensures seats { result.seats ≡ self.now.betting.table.setup.stacks.seats }
-        ensures left { WhereTogether self.now.betting.table self.now.cards.state
-            (λ past. (seat : ℕ) → IsSeat self.now.betting.table.setup seat
-            → amount_of result seat
+        ensures { TellsOfHand result.seats self.now.betting.table self.now.cards.state
+            (λ past seat. amount_of result seat
             ≡ chips_left self.now.betting.table.setup (moves_of past) seat) }
     {
         self.betting.stacks()
@@ -78,7 +75,6 @@ impl<V: Variant> HandInPlay<V> {
     /// a call, a raise or a bring-in is told as the trace keeps it, and of other events nothing is
     /// told.
     pub fn advance(&mut self, event: &Event) -> Result<Option<Move>, Illegal>
-        requires seats { self.old.betting.table.setup.stacks.seats ≡ self.old.cards.state.seats }
         ensures advanced { Advances
             self.old.betting.table self.new.betting.table
             self.old.cards.state self.new.cards.state (said_of event.now) result }
@@ -105,8 +101,7 @@ impl<V: Variant> HandInPlay<V> {
 
     // A move, and for a fold what it does to the cards.
     fn bet(&mut self, event: &Event) -> Result<Option<Move>, Illegal>
-        requires seats { self.old.betting.table.setup.stacks.seats ≡ self.old.cards.state.seats }
-        requires kind { is_card_said (said_of event.now) ≡ false }
+        requires { is_card_said (said_of event.now) ≡ false }
         ensures advanced { Advances
             self.old.betting.table self.new.betting.table
             self.old.cards.state self.new.cards.state (said_of event.now) result }
@@ -142,8 +137,7 @@ impl<V: Variant> HandInPlay<V> {
 
     // An event of cards, and the end of what it completes.
     fn take_cards(&mut self, event: &Event) -> Result<Option<Move>, Illegal>
-        requires seats { self.old.betting.table.setup.stacks.seats ≡ self.old.cards.state.seats }
-        requires kind { is_card_said (said_of event.now) ≡ true }
+        requires { is_card_said (said_of event.now) ≡ true }
         ensures advanced { Advances
             self.old.betting.table self.new.betting.table
             self.old.cards.state self.new.cards.state (said_of event.now) result }
@@ -163,7 +157,6 @@ impl<V: Variant> HandInPlay<V> {
 
     // Ends what is due, and the showdown behind it, where they are complete.
     fn end(&mut self)
-        requires seats { self.old.betting.table.setup.stacks.seats ≡ self.old.cards.state.seats }
         ensures stands { (past : Past)
             → StandUpToDue self.old.betting.table self.old.cards.state past
             → StandTogether self.new.betting.table self.new.cards.state past }
@@ -178,7 +171,6 @@ impl<V: Variant> HandInPlay<V> {
 
     // Ends the deal, the draw or the show that is due, if it is complete.
     fn end_one(&mut self) -> bool
-        requires seats { self.old.betting.table.setup.stacks.seats ≡ self.old.cards.state.seats }
         ensures up_to { (past : Past)
             → StandUpToDue self.old.betting.table self.old.cards.state past
             → StandUpToDue self.new.betting.table self.new.cards.state past }
@@ -218,10 +210,8 @@ impl<V: Variant> HandInPlay<V> {
 
     /// Which seats are live: those that have not folded.
     pub fn live(&self) -> LiveRow
-        ensures seats { result.seats ≡ self.now.betting.table.setup.stacks.seats }
-        ensures lives { WhereTogether self.now.betting.table self.now.cards.state
-            (λ past. (seat : ℕ) → IsSeat self.now.betting.table.setup seat
-            → flag_of result seat ≡ is_live (moves_of past) seat) }
+        ensures { TellsOfHand result.seats self.now.betting.table self.now.cards.state
+            (λ past seat. flag_of result seat ≡ is_live (moves_of past) seat) }
     {
         self.betting.live()
     }

@@ -1,6 +1,7 @@
 //! The events of a script, one after the other.
 ghost use Rattle.std.specs.Prelude.{◌≡◌, ◌<◌, ◌^◌, ◌++◌, [], length, map, reverse, None, IfErr, IfOk, OnOk};
 ghost use Rattle.betting_numbers.specs.LegalMoves.{past_with, reason_after};
+ghost use Rattle.betting_core.specs.Kept.{IsSameHand};
 ghost use Rattle.replay_core.specs.Together.{StandTogether};
 ghost use Rattle.replay_core.specs.Told.{WhereTogether, moves_told};
 ghost use Rattle.canon_script.specs.PlayedScript.{IsPlayed, IsWithinLimits};
@@ -58,7 +59,6 @@ fn play_events<V: Variant>(
     moves: &mut Moves,
     script: &Script,
 ) -> Result<u32, ReplayFault>
-    requires seats { hand.old.betting.table.setup.stacks.seats ≡ hand.old.cards.state.seats }
     requires start { StandTogether hand.old.betting.table hand.old.cards.state [] }
     requires none { moves.old ≡ [] }
     requires few { length script.now < 2 ^ 32 }
@@ -71,7 +71,6 @@ fn play_events<V: Variant>(
         (past_at_end hand.old.betting.table.setup (said_by script.now))) }
     ensures moves { OnOk result (AreMovesOf hand.old.betting.table.setup
         (past_at_end hand.old.betting.table.setup (said_by script.now)) moves.new) }
-    ensures seats { hand.new.cards.state.seats ≡ hand.old.cards.state.seats }
     ensures setup { hand.new.betting.table.setup ≡ hand.old.betting.table.setup }
 {
     let mut cursor = script.cursor();
@@ -93,7 +92,6 @@ fn play_event<V: Variant>(
     event: &Event,
     number: u32,
 ) -> Result<(), ReplayFault>
-    requires seats { hand.old.betting.table.setup.stacks.seats ≡ hand.old.cards.state.seats }
     ensures fault { WhereTogether hand.old.betting.table hand.old.cards.state
         (λ past. IfErr result (IsRefusedEvent hand.old.betting.table event.now number past)) }
     ensures legal { WhereTogether hand.old.betting.table hand.old.cards.state
@@ -106,9 +104,7 @@ fn play_event<V: Variant>(
         (λ past. AreMovesOf hand.old.betting.table.setup past moves.old
         → OnOk result (AreMovesOf hand.old.betting.table.setup
         (past_with hand.old.betting.table past (said_of event.now)) moves.new)) }
-    ensures seats { hand.new.cards.state.seats ≡ hand.old.cards.state.seats }
-    ensures setup { hand.new.betting.table.setup ≡ hand.old.betting.table.setup }
-    ensures rules { hand.new.betting.table.rules ≡ hand.old.betting.table.rules }
+    ensures same { IsSameHand hand.old.betting.table hand.new.betting.table }
 {
     match hand.advance(event) {
         Ok(told) => match tell(moves, told) {

@@ -41,7 +41,6 @@ loop-preserved g c =
       stands = subst (λ (events : List Said). StandTogether new.betting.table new.cards.state (past_of first.setup events)) (sym next.longer) stands;
       setup = c.in-Ok.ensures.advanced.same.hand.setup ∙ inv.setup;
       rules = c.in-Ok.ensures.advanced.same.hand.rules ∙ inv.rules;
-      seats = c.in-Ok.ensures.advanced.same.seats ∙ inv.seats;
     }
 
 pub returns-clause-stands : goal.returns-clause-stands

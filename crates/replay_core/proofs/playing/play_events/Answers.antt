@@ -43,9 +43,8 @@ loop-event-preserved g c =
       left = next.left;
       within = omega (arith, next.within);
       played = one_more first.setup first.rules script count c.in-Some.event c.next.new.self b new.betting.table c.loop-event.hand.cards.state new.cards.state c.loop-event.moves c.play_event.new.moves next inv.played legal stands moves;
-      setup = c.in-Ok.ensures.setup ∙ inv.setup;
-      rules = c.in-Ok.ensures.rules ∙ inv.rules;
-      seats = c.in-Ok.ensures.seats ∙ inv.seats;
+      setup = c.in-Ok.ensures.same.setup ∙ inv.setup;
+      rules = c.in-Ok.ensures.same.rules ∙ inv.rules;
     }
 
 pub returns-clause-legal : goal.returns-clause-legal

@@ -13,7 +13,6 @@ invariant-loop-event g l =
       played : IsPlayedTo first.setup first.rules l.script l.count b l.hand.cards.state l.moves;
       setup : b.setup ≡ first.setup;
       rules : b.rules ≡ first.rules;
-      seats : l.hand.cards.state.seats ≡ l.initial.hand.cards.state.seats;
     }
 
 abbrev pub decreases-loop-event : goal.decreases-loop-event

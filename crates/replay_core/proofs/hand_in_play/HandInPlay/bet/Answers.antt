@@ -1,7 +1,8 @@
 -- The move is that of both machines.
-use Rattle.std.proofs.Common.{sym, ap, refl, ◌∙◌}
+use Rattle.std.proofs.Common.{◌≡◌, sym, ap, refl, ◌∙◌}
 use Rattle.play_event.specs.declared.setup.Setup.{Setup}
 use Rattle.play_event.specs.Said.{said_of}
+use Rattle.replay_core.proofs.Kept.{one_number, same_whole}
 use Rattle.replay_core.proofs.Moves.{folded_stands, moved_stands, move_told}
 use Rattle.replay_core.proofs.hand_in_play.HandInPlay.bet.Goals as goal
 
@@ -30,10 +31,10 @@ returns-then-folds-clause-advanced g c =
             code_is = ap (λ (s : Setup). s.code) hand.setup ∙ both.code_is ∙ c.args.self.now.cards.code ∙ sym c.folded.new.self.code;
             seats = ap (λ (s : Setup). s.stacks.seats) hand.setup ∙ both.seats ∙ sym c.folded.ensures.seats;
             betting = c.in-Ok.ensures.stands past both.betting ups;
-            cards = folded_stands t c.folded.new.self.state b.setup past event c.in-Ok.moved c.requires.kind (c.in-Ok.ensures.moved past both.betting ups)
+            cards = folded_stands t c.folded.new.self.state b.setup past event c.in-Ok.moved c.requires (c.in-Ok.ensures.moved past both.betting ups)
                 (λ move. c.folded.ensures.stands past move both.cards) (sym c.folds.ensures ∙ c.if-folds.true);
           };
-      told = λ past both. move_told b past event c.in-Ok.moved c.requires.kind (c.in-Ok.ensures.moved past both.betting (c.opening_up_cards-up.ensures.ups past both));
+      told = λ past both. move_told b past event c.in-Ok.moved c.requires (c.in-Ok.ensures.moved past both.betting (c.opening_up_cards-up.ensures.ups past both));
       same = record { hand = hand; seats = c.folded.ensures.seats };
     }
 
@@ -52,9 +53,15 @@ returns-else-folds-clause-advanced g c =
             code_is = ap (λ (s : Setup). s.code) hand.setup ∙ both.code_is;
             seats = ap (λ (s : Setup). s.stacks.seats) hand.setup ∙ both.seats;
             betting = c.in-Ok.ensures.stands past both.betting ups;
-            cards = moved_stands t b.setup past event c.in-Ok.moved c.requires.kind (c.in-Ok.ensures.moved past both.betting ups) both.cards
+            cards = moved_stands t b.setup past event c.in-Ok.moved c.requires (c.in-Ok.ensures.moved past both.betting ups) both.cards
                 (sym c.folds.ensures ∙ c.if-folds.false);
           };
-      told = λ past both. move_told b past event c.in-Ok.moved c.requires.kind (c.in-Ok.ensures.moved past both.betting (c.opening_up_cards-up.ensures.ups past both));
+      told = λ past both. move_told b past event c.in-Ok.moved c.requires (c.in-Ok.ensures.moved past both.betting (c.opening_up_cards-up.ensures.ups past both));
       same = record { hand = hand; seats = refl };
     }
+
+pub returns-in-Err-clause-unchanged : goal.returns-in-Err-clause-unchanged
+returns-in-Err-clause-unchanged g c =
+    let cards = c.args.self.now.cards in
+    same_whole (λ betting. betting.table.setup.stacks.seats ≡ cards.state.seats) (λ betting seats. record { betting = betting; cards = cards; seats = seats })
+    (λ betting. one_number _ _) c.step.new.self c.args.self.now.betting _ c.args.self.now.seats c.in-Err.ensures.unchanged

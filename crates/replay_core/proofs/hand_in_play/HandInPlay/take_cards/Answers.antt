@@ -9,6 +9,7 @@ use Rattle.play_event.specs.Games.{street_count}
 use Rattle.play_event.specs.Said.{said_of}
 use Rattle.play_event.specs.Scripts.{with_event}
 use Rattle.replay_core.proofs.Joined.{now_at, up_to_after}
+use Rattle.replay_core.proofs.Kept.{one_number, same_whole}
 use Rattle.replay_core.proofs.Moves.{none_told}
 use Rattle.replay_core.proofs.hand_in_play.HandInPlay.take_cards.Goals as goal
 
@@ -28,9 +29,9 @@ returns-in-Ok-clause-advanced g c =
       refused = λ past both. tt;
       legal = legal;
       stands = λ past both. c.end.ensures.stands (with_event b.setup event past)
-          (up_to_after b past event t c.lay.new.cards.state both c.requires.kind (legal past both) whole.kept.first within
+          (up_to_after b past event t c.lay.new.cards.state both c.requires (legal past both) whole.kept.first within
           (c.lay.new.cards.code ∙ sym c.args.self.now.cards.code) c.lay.ensures.answered.seats (c.in-Ok.ensures.answered.stands b.setup past (now past both)));
-      told = λ past both. none_told b past event c.requires.kind;
+      told = λ past both. none_told b past event c.requires;
       same = record { hand = c.end.ensures.same.hand; seats = c.end.ensures.same.seats ∙ c.lay.ensures.answered.seats };
     }
 
@@ -47,3 +48,9 @@ returns-in-Err-clause-advanced g c =
       told = λ past both. tt;
       same = record { hand = record { setup = refl; rules = refl }; seats = c.lay.ensures.answered.seats };
     }
+
+pub returns-in-Err-clause-unchanged : goal.returns-in-Err-clause-unchanged
+returns-in-Err-clause-unchanged g c =
+    let betting = c.args.self.now.betting in
+    same_whole (λ cards. betting.table.setup.stacks.seats ≡ cards.state.seats) (λ cards seats. record { betting = betting; cards = cards; seats = seats })
+    (λ cards. one_number _ _) c.lay.new.cards c.args.self.now.cards _ c.args.self.now.seats c.in-Err.ensures.unchanged
