@@ -8,3 +8,17 @@ pub mod MadeLaws
 pub mod RecordLaws
 pub mod LoadLaws
 pub mod CountLaws
+pub mod FewMoves
+pub mod PriceRisen
+pub mod RaisesAbove
+pub mod MovesTake
+pub mod StockCounts
+pub mod KnownCards
+pub mod FreshCards
+pub mod CardsOut
+pub mod ShownPots
+pub mod GoingHands
+pub mod ComesNext
+pub mod ProgressLaws
+pub mod MadeProgress
+pub mod Underway

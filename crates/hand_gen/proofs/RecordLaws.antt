@@ -1,7 +1,5 @@
--- A script that is counted is within the limits; and what states and notes nothing is sound.
-use Rattle.std.proofs.Common.{◌≡◌, ℕ, ◌-◌, ◌≤◌, List, ◌++◌, length, map, find, count_by, slice_index_or, None, ap, ◌∙◌, arith}
-use Rattle.std.proofs.lemmas.List.{length-map}
-use Rattle.canon_script.specs.PlayedScript.{IsWithinLimits, is_move}
+-- What states and notes nothing is sound.
+use Rattle.std.proofs.Common.{◌≡◌, ℕ, ◌-◌, ◌≤◌, List, ◌++◌, find, slice_index_or, None, ap, ◌∙◌}
 use Rattle.card_set.specs.declared.card.Card.{Card}
 use Rattle.chip_ledger.specs.declared.rows.TheConstants.{MOST_AMOUNT}
 use Rattle.chip_ledger.specs.Fillers.{index-replicate}
@@ -13,25 +11,10 @@ use Rattle.hand_records.specs.declared.trace.Play.{Play}
 use Rattle.hand_records.specs.declared.trace.Trace.{Trace}
 use Rattle.hand_canon.specs.Agreement.{finish_compared, first_difference, is_different, row_compared, total_compared, value_compared, win_compared}
 use Rattle.hand_canon.specs.Sound.{IsSound}
-use Rattle.list_laws.proofs.Counting.{count_both}
-use Rattle.list_laws.proofs.Reversed.{count_reversed}
-use Rattle.play_event.specs.declared.event.Event.{Event}
-use Rattle.play_event.specs.Said.{said_of}
-use Rattle.hand_gen.specs.Made.{AreNoNotes, IsNothingStated, backward}
+use Rattle.hand_gen.specs.Made.{AreNoNotes, IsNothingStated}
 use Rattle.hand_gen.specs.Sound.{IsSoundHand}
 use Rattle.hand_gen.specs.Stock.{Stock}
 use Rattle.list_laws.proofs.Options.{for_none, if_none}
-
--- a script with so many events, so many of them moves, is within the limits
-pub within_limits : (script : List Event) (moves events : ℕ) → count_by is_move (backward script) ≡ moves → length script ≡ events → moves ≤ 4096 → events - moves ≤ 256 → IsWithinLimits (map said_of script)
-within_limits script moves events counted long few others =
-    let same = count_reversed is_move (map said_of script) in
-    let both = count_both is_move (map said_of script) in
-    let length_is = length-map script said_of in
-    record {
-      moves = omega (arith, same, counted, few);
-      others = omega (arith, same, counted, both, length_is, long, others);
-    }
 
 -- where nothing is stated, it fits
 pub nothing_fits : (seats : ℕ) (stated : Stated) → IsNothingStated stated → IsStatedFor seats stated

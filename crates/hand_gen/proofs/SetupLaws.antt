@@ -10,6 +10,7 @@ use Rattle.play_event.specs.Games.{game_of}
 use Rattle.play_event.specs.Streets.{is_stud, limit_of}
 use Rattle.play_event.specs.ValidSetup.{IsSizeWhere, IsValid, is_fixed}
 use Rattle.hand_gen.specs.Draws.{number_after}
+use Rattle.hand_gen.specs.Progress.{IsSmall}
 use Rattle.hand_gen.specs.Setups.{IsMadeSetup, blind_in, blind_of, seats_drawn, stack_drawn}
 use Rattle.list_laws.proofs.Tests.{if_most}
 
@@ -129,6 +130,16 @@ made_valid place number setup made =
     none_at stud seat =
         let few : amount_of setup.blinds seat ≤ 0 = any_seat setup.blinds 0 (λ seat first last. omega (arith, made.blinds seat first (omega (arith, last, made.same_blinds)), no_blind (is_stud setup.code) setup.stacks.seats seat stud)) seat in
         omega (arith, few)
+
+-- and has few seats and chips
+pub made_small : (place number : ℕ) (setup : Setup) → IsMadeSetup place number setup → IsSmall setup
+made_small place number setup made =
+    record {
+      valid = made_valid place number setup made;
+      few_seats = omega (arith, made.seats, few_drawn number);
+      few_chips = any_seat setup.stacks 500 (λ seat first last. omega (arith, made.stacks seat first last, few_chips number seat));
+      no_rakes = made.rakes;
+    }
 
 -- the number behind one draw and then more
 pub behind_one : (count number : ℕ) → number_after (1 + count) number ≡ number_after count (number_after 1 number)

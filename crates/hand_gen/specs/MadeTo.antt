@@ -1,17 +1,16 @@
 -- A hand that is being made: its script so far, and betting and cards behind it.
-use Rattle.std.specs.Prelude.{◌≡◌, ◌+◌, List, ◌∷◌, length, map, Option, Some, None}
+use Rattle.std.specs.Prelude.{◌≡◌, ◌+◌, Bool, true, false, List, length, map, None}
 use Rattle.std.specs.List.{range_with_len}
 use Rattle.betting_numbers.specs.declared.running.RunningNumbers.{RunningNumbers}
 use Rattle.card_places.specs.declared.card_state.CardState.{CardState}
 use Rattle.play_event.specs.declared.event.Event.{Event}
-use Rattle.play_event.specs.declared.event.Kind.{Kind}
 use Rattle.play_event.specs.declared.setup.Setup.{Setup}
 use Rattle.play_event.specs.HistoryRules.{history_rules}
-use Rattle.play_event.specs.Said.{kind_said}
 use Rattle.play_event.specs.Scripts.{past_of}
 use Rattle.replay_core.specs.Together.{StandTogether}
 use Rattle.hand_gen.specs.Made.{HaveCome, backward, next_event, stock_behind}
-use Rattle.hand_gen.specs.Stock.{Stock}
+use Rattle.hand_gen.specs.Progress.{IsSmall}
+use Rattle.hand_gen.specs.Stock.{Stock, full_deck}
 
 -- so far a hand is made: each event of its script has come, and betting, cards and stock stand
 -- behind the last one
@@ -30,17 +29,18 @@ pub record IsWhole (setup : Setup) (start : Stock) (script : List Event) (stock 
     pub ended : next_event setup history_rules start (backward script) ≡ None
     pub left : stock ≡ stock_behind setup history_rules start (backward script)
 
--- one event more, where one comes
-pub record IsLonger (setup : Setup) (start : Stock) (before : List Event) (b : RunningNumbers)
-    (t : CardState) (script : List Event) (stock : Stock) (kind : Kind) : Type 0 where
-  pub made : IsMadeTo setup start b t script stock
-  pub said : backward script ≡ kind_said kind ∷ backward before
-  pub longer : length script ≡ length before + 1
-
 -- what one step makes of a script: one event more, or nothing where it is whole
 abbrev pub IsStep : Setup → Stock → List Event → RunningNumbers → CardState → List Event → Stock
-    → Option Kind → Type 0
-IsStep setup start before b t script stock (Some kind) =
-    IsLonger setup start before b t script stock kind
-IsStep setup start before b t script stock None =
+    → Bool → Type 0
+IsStep setup start before b t script stock true =
+    IsMadeTo setup start b t script stock × (length script ≡ length before + 1)
+IsStep setup start before b t script stock false =
     (script ≡ before) × IsWhole setup start script stock
+
+-- a hand of few seats and chips is made so far from a whole deck
+pub record IsUnderway (b : RunningNumbers) (t : CardState) (script : List Event) (stock : Stock)
+    : Type 0 where
+  pub small : IsSmall b.setup
+  pub start : Stock
+  pub deck : start.deck ≡ full_deck b.setup.code
+  pub made : IsMadeTo b.setup start b t script stock

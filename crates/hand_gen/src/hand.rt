@@ -1,20 +1,19 @@
 //! The script of a made hand, event by event.
-ghost use Rattle.std.specs.Prelude.{◌≡◌, ◌≤◌, ◌<◌, ◌+◌, ◌^◌, cond, length, map, IfOk};
-ghost use Rattle.canon_script.specs.PlayedScript as played;
+ghost use Rattle.std.specs.Prelude.{◌≡◌, ◌<◌, ◌^◌, length, map, IfOk};
 ghost use Rattle.canon_script.specs.PlayedScript.{IsWithinLimits};
+ghost use Rattle.hand_canon.specs.LegalHand.{IsLegalHand};
 ghost use Rattle.play_event.specs.declared.setup.Setup.{Setup as SetupNow};
 ghost use Rattle.play_event.specs.HistoryRules as histories;
-ghost use Rattle.play_event.specs.Said.{kind_said, said_of};
-ghost use Rattle.play_event.specs.ValidSetup.{IsValid};
+ghost use Rattle.play_event.specs.Said.{said_of};
 ghost use Rattle.hand_gen.specs.Made.{IsMadeScript, backward, stock_behind};
-ghost use Rattle.hand_gen.specs.MadeTo.{IsMadeTo, IsStep};
+ghost use Rattle.hand_gen.specs.MadeTo.{IsMadeTo, IsStep, IsUnderway};
+ghost use Rattle.hand_gen.specs.Progress.{IsSmall};
 ghost use Rattle.hand_gen.specs.Stock as stocks;
 
 use crate::coming::next;
 use crate::stock::Stock;
-use canon_script::{MOST_MOVES, MOST_OTHER_EVENTS};
 use card_set::Memory;
-use play_event::{Event, Kind, Reopen, Rules, Script, Setup};
+use play_event::{Event, Reopen, Rules, Script, Setup};
 use replay_core::HandInPlay;
 use std::alloc::Global;
 use variant_table::Variant;
@@ -25,32 +24,25 @@ pub fn script_of<V: Variant>(
     setup: &Setup,
     stock: &mut Stock,
 ) -> Result<Script, Memory>
-    requires valid { IsValid setup.now }
+    requires small { IsSmall setup.now }
     requires code { setup.now.code ≡ V.CODE }
+    requires deck { stock.old.deck ≡ stocks.full_deck setup.now.code }
     ensures made { IfOk result (IsMadeScript setup.now stock.old) }
     ensures left { IfOk result (λ script. stock.new
         ≡ stock_behind setup.now histories.history_rules stock.old (backward script)) }
     ensures within { IfOk result (λ script. IsWithinLimits (map said_of script)) }
+    ensures legal { IfOk result (λ script.
+        IsLegalHand setup.now histories.history_rules (map said_of script)) }
 {
     let mut hand = HandInPlay::<V>::start(setup, &history_rules());
     let mut script = Script::new(alloc);
-    let mut moves: usize = 0;
-    for events in 0..MOST_MOVES + MOST_OTHER_EVENTS {
-        let came = match play_next(&mut hand, &mut script, stock) {
-            Ok(came) => came,
+    loop {
+        match play_next(&mut hand, &mut script, stock) {
+            Ok(true) => {}
+            Ok(false) => return Ok(script),
             Err(memory) => return Err(memory),
-        };
-        match came {
-            Some(kind) => moves = moves_with(moves, kind),
-            None => {
-                if moves <= MOST_MOVES && events - moves <= MOST_OTHER_EVENTS {
-                    return Ok(script);
-                }
-                return Err(Memory);
-            }
         }
     }
-    Err(Memory)
 }
 
 /// What hand histories rule beyond the game.
@@ -64,14 +56,15 @@ pub fn history_rules() -> Rules
     }
 }
 
-// Puts the event that comes next behind the others, and gives it. Where nothing comes, it gives
-// none.
+// Puts the event that comes next behind the others, if one comes.
 fn play_next<V: Variant>(
     hand: &mut HandInPlay<V>,
     script: &mut Script,
     stock: &mut Stock,
-) -> Result<Option<Kind>, Memory>
+) -> Result<bool, Memory>
     requires seats { hand.old.betting.table.setup.stacks.seats ≡ hand.old.cards.state.seats }
+    requires underway { IsUnderway
+        hand.old.betting.table hand.old.cards.state script.old stock.old }
     requires few { length script.old < 2 ^ 31 }
     ensures step { (setup : SetupNow) (start : stocks.Stock)
         → IsMadeTo setup start hand.old.betting.table hand.old.cards.state script.old stock.old
@@ -82,7 +75,7 @@ fn play_next<V: Variant>(
 {
     let kind = match next(hand, stock) {
         Some(kind) => kind,
-        None => return Ok(None),
+        None => return Ok(false),
     };
     let event = Event {
         at: script.len() as u32 + 1,
@@ -90,35 +83,10 @@ fn play_next<V: Variant>(
     };
     match hand.advance(&event) {
         Ok(_) => {}
-        Err(_) => return Err(Memory),
+        Err(_) => unreachable!(),
     }
     match script.push(event) {
-        Ok(()) => Ok(Some(kind)),
+        Ok(()) => Ok(true),
         Err(_) => Err(Memory),
-    }
-}
-
-// The number of moves with one event more.
-fn moves_with(moves: usize, kind: Kind) -> usize
-    requires { moves < 2 ^ 32 }
-    ensures count { result ≡ moves + cond (played.is_move (kind_said kind)) 1 0 }
-    ensures more { result ≤ moves + 1 }
-{
-    match kind {
-        Kind::Fold { actor: _ }
-        | Kind::Call {
-            actor: _,
-            stated: _,
-        }
-        | Kind::Raise {
-            actor: _,
-            amount: _,
-        }
-        | Kind::BringIn { actor: _ } => moves + 1,
-        Kind::Hole { seat: _, cards: _ }
-        | Kind::Board { cards: _ }
-        | Kind::Discard { seat: _, cards: _ }
-        | Kind::Show { seat: _, cards: _ }
-        | Kind::Muck { seat: _ } => moves,
     }
 }

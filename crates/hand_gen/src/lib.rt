@@ -6,6 +6,7 @@ mod counting;
 mod dealing;
 mod draws;
 mod hand;
+mod laws;
 mod loading;
 mod making;
 mod moving;
@@ -14,6 +15,7 @@ mod setups;
 mod stock;
 mod summary;
 
+pub use laws::law_of_progress;
 pub use loading::{load, summary_text};
 pub use making::{Made, make, make_play};
 pub use summary::Summary;

@@ -4,9 +4,11 @@ ghost use Rattle.canon_script.specs.PlayedScript.{IsWithinLimits};
 ghost use Rattle.first_fault.specs.declared.limits.TheConstants.{MOST_HANDS};
 ghost use Rattle.play_event.specs.HistoryRules.{history_rules as rules_of_histories};
 ghost use Rattle.play_event.specs.Said.{said_of};
-ghost use Rattle.play_event.specs.ValidSetup.{IsValid};
+ghost use Rattle.hand_canon.specs.LegalHand.{IsLegalHand};
 ghost use Rattle.hand_gen.specs.Made.{AreMade, AreNoNotes, IsMade, IsMadeScript, IsNothingStated, backward, number_behind, stock_behind};
+ghost use Rattle.hand_gen.specs.Progress.{IsSmall};
 ghost use Rattle.hand_gen.specs.Setups as setups;
+ghost use Rattle.hand_gen.specs.Stock.{full_deck};
 ghost use Rattle.hand_canon.specs.Sound.{IsSound};
 ghost use Rattle.hand_gen.specs.Sound.{IsSoundHand};
 
@@ -16,7 +18,7 @@ use crate::stock::Stock;
 use card_set::Memory;
 use hand_records::{Notes, Play, Record, Records, Stated};
 use play_event::{Code, Script, Setup};
-use replay_core::replay;
+use replay_core::{ReplayFault, replay};
 use std::alloc::Global;
 use variant_table::{F2L3D, F7S, F7S8, FB, FO8, FR, FT, N2L1D, NS, NT, PO};
 
@@ -78,7 +80,10 @@ pub fn make_play(alloc: Global, place: u32, number: u64) -> Result<Made, Memory>
     let rules = history_rules();
     let trace = match replay(alloc, &setup, &rules, &script) {
         Ok(trace) => trace,
-        Err(_) => return Err(Memory),
+        Err(fault) => match fault {
+            ReplayFault::Memory => return Err(Memory),
+            _ => unreachable!(),
+        },
     };
     let hand = Record {
         setup,
@@ -95,11 +100,14 @@ pub fn make_play(alloc: Global, place: u32, number: u64) -> Result<Made, Memory>
 
 // The script of a made hand of the game that its setup names.
 fn script_by_code(alloc: Global, setup: &Setup, stock: &mut Stock) -> Result<Script, Memory>
-    requires valid { IsValid setup.now }
+    requires small { IsSmall setup.now }
+    requires deck { stock.old.deck ≡ full_deck setup.now.code }
     ensures made { IfOk result (IsMadeScript setup.now stock.old) }
     ensures left { IfOk result (λ script. stock.new
         ≡ stock_behind setup.now rules_of_histories stock.old (backward script)) }
     ensures within { IfOk result (λ script. IsWithinLimits (map said_of script)) }
+    ensures legal { IfOk result (λ script.
+        IsLegalHand setup.now rules_of_histories (map said_of script)) }
 {
     match setup.code {
         Code::FT => script_of::<FT>(alloc, setup, stock),

@@ -2,10 +2,12 @@
 use Rattle.std.proofs.Common.{◌≡◌, ◌+◌, List, [], ◌∷◌, ◌++◌, length, refl, sym, ap, subst, ◌∙◌, arith, length-append}
 use Rattle.play_event.specs.declared.event.Event.{Event}
 use Rattle.play_event.specs.Past.{Past}
+use Rattle.play_event.specs.Said.{kind_said}
 use Rattle.play_event.specs.Scripts.{past_of}
 use Rattle.hand_gen.specs.Made.{backward}
 use Rattle.hand_gen.specs.MadeTo.{IsMadeTo}
-use Rattle.hand_gen.proofs.MadeLaws.{backward_more, nothing_more, one_event_more}
+use Rattle.hand_gen.proofs.MadeLaws.{nothing_more, one_event_more}
+use Rattle.hand_gen.proofs.Underway.{not_refused}
 use Rattle.hand_gen.proofs.hand.play_next.Goals as goal
 
 pub returns-in-None-clause-step : goal.returns-in-None-clause-step
@@ -22,9 +24,14 @@ returns-in-Ok-push-clause-step g c = λ setup start made.
     let hand = c.advance.new.self in
     let pushed : c.push.new.self ≡ script ++ event ∷ [] = c.in-Ok-push.ensures.pushed in
     let more = one_event_more setup start c.args.hand.now.betting.table hand.betting.table c.args.hand.now.cards.state hand.cards.state script event c.args.stock.now c.next.new.stock made
-    (c.in-Some.ensures.event past made.stands) (c.in-Some.ensures.left past made.stands) (c.in-Ok.ensures.advanced.stands past made.stands) c.in-Ok.ensures.advanced.same.hand.setup c.in-Ok.ensures.advanced.same.hand.rules (ap (λ n. n + 1) c.len.ensures) in
-    record {
-      made = subst (λ (s : List Event). IsMadeTo setup start hand.betting.table hand.cards.state s c.next.new.stock) (sym pushed) more;
-      said = ap backward pushed ∙ backward_more script event;
-      longer = ap length pushed ∙ omega (arith, length-append script (event ∷ []));
-    }
+    (c.in-Some.ensures.event past made.stands) (c.in-Some.ensures.left past made.stands) (c.in-Ok.ensures.advanced.stands past made.stands) c.in-Ok.ensures.advanced.same.hand.setup c.in-Ok.ensures.advanced.same.hand.rules (ap (λ n. n + 1) c.len.ensures) in (
+      subst (λ (s : List Event). IsMadeTo setup start hand.betting.table hand.cards.state s c.next.new.stock) (sym pushed) more,
+      ap length pushed ∙ omega (arith, length-append script (event ∷ [])),
+    )
+
+pub unreachable-requires : goal.unreachable-requires
+unreachable-requires g c =
+    let made = c.requires.underway.made in
+    let past : Past = past_of c.args.hand.now.betting.table.setup (backward c.args.script.now) in
+    not_refused c.args.hand.now.betting.table c.args.hand.now.cards.state c.args.script.now c.args.stock.now (kind_said c.in-Some.kind) c.in-Err.field-0 c.requires.underway
+    (c.in-Some.ensures.event past made.stands) (c.in-Err.ensures.advanced.refused past made.stands)

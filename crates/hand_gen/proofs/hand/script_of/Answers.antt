@@ -1,44 +1,64 @@
--- The script is whole and within the limits, and one event more is counted.
-use Rattle.std.proofs.Common.{◌+◌, List, map, count_by, Option, sym, ap, subst, ◌∙◌, arith}
-use Rattle.canon_script.specs.PlayedScript.{IsWithinLimits, is_move}
-use Rattle.list_laws.proofs.Counting.{count_by-cons}
+-- Each step makes one event more, which comes nearer to the limits, or the script is whole, and so it is legal.
+use Rattle.std.proofs.Common.{◌≡◌, Bool, List, None, map, sym, ap, subst, ◌∙◌, arith}
+use Rattle.canon_script.specs.PlayedScript.{IsWithinLimits}
+use Rattle.hand_canon.specs.LegalHand.{IsLegalHand}
+use Rattle.play_event.specs.HistoryRules.{history_rules}
 use Rattle.play_event.specs.declared.event.Event.{Event}
-use Rattle.play_event.specs.declared.event.Kind.{Kind}
 use Rattle.play_event.specs.declared.setup.Setup.{Setup}
-use Rattle.play_event.specs.Said.{kind_said, said_of}
-use Rattle.hand_gen.specs.Made.{backward}
+use Rattle.play_event.specs.Said.{said_of}
+use Rattle.hand_gen.specs.Made.{backward, next_event}
 use Rattle.hand_gen.specs.MadeTo.{IsStep}
-use Rattle.hand_gen.proofs.RecordLaws.{within_limits}
+use Rattle.hand_gen.proofs.Underway.{few_so_far, first_made, made_legal, made_within, underway}
 use Rattle.hand_gen.proofs.hand.script_of.Goals as goal
 
-pub returns-then-events-moves-le-MOST_OTHER_EVENTS-clause-within : goal.returns-then-events-moves-le-MOST_OTHER_EVENTS-clause-within
-returns-then-events-moves-le-MOST_OTHER_EVENTS-clause-within g c =
-    let inv = c.loop-events.invariant in
-    let before : List Event = c.loop-events.script in
-    let new = c.play_next.new in
-    let step = subst (λ (came : Option Kind). IsStep c.args.setup.now c.args.stock.now before new.hand.betting.table new.hand.cards.state new.script new.stock came) c.in-None.is
-    (c.in-Ok.ensures.step c.args.setup.now c.args.stock.now inv.made) in
-    subst (λ (s : List Event). IsWithinLimits (map said_of s)) (sym step.0)
-    (within_limits before c.loop-events.moves c.loop-events.events inv.moves_are inv.length_is c.if-moves-le-MOST_MOVES.true c.if-events-moves-le-MOST_OTHER_EVENTS.true)
-
-pub loop-events-preserved : goal.loop-events-preserved
-loop-events-preserved g c =
-    let inv = c.loop-events.invariant in
-    let before : List Event = c.loop-events.script in
-    let new = c.play_next.new in
-    let kind : Kind = c.in-Some.kind in
-    let step = subst (λ (came : Option Kind). IsStep c.args.setup.now c.args.stock.now before new.hand.betting.table new.hand.cards.state new.script new.stock came) c.in-Some.is
-    (c.in-Ok.ensures.step c.args.setup.now c.args.stock.now inv.made) in
+pub loop-script-init : goal.loop-script-init
+loop-script-init g c =
+    let hand = c.start-hand.result in
     record {
-      made = step.made;
-      seats = ap (λ (s : Setup). s.stacks.seats) c.in-Ok.ensures.setup ∙ inv.seats ∙ sym c.in-Ok.ensures.seats;
-      length_is = step.longer ∙ ap (λ n. n + 1) inv.length_is;
-      moves_are = omega (
-        arith,
-        ap (count_by is_move) step.said,
-        count_by-cons is_move (kind_said kind) (backward before),
-        inv.moves_are,
-        c.moves_with-moves.ensures.count,
-      );
-      few = omega (arith, c.moves_with-moves.ensures.more, inv.few);
+      made = first_made c.args.setup.now c.args.stock.now hand.betting.table hand.cards.state c.new-script.result c.new-script.ensures c.start-hand.ensures.stands c.start-hand.ensures.setup (c.start-hand.ensures.rules ∙ c.history_rules.ensures);
+      seats = ap (λ (s : Setup). s.stacks.seats) c.start-hand.ensures.setup ∙ sym c.start-hand.ensures.seats;
     }
+
+pub play_next-requires-clause-underway : goal.play_next-requires-clause-underway
+play_next-requires-clause-underway g c =
+    underway c.args.setup.now c.args.stock.now c.loop-script.hand.betting.table c.loop-script.hand.cards.state c.loop-script.script c.loop-script.stock c.requires.small c.requires.deck c.loop-script.invariant.made
+
+pub play_next-requires-clause-few : goal.play_next-requires-clause-few
+play_next-requires-clause-few g c =
+    let going = underway c.args.setup.now c.args.stock.now c.loop-script.hand.betting.table c.loop-script.hand.cards.state c.loop-script.script c.loop-script.stock c.requires.small c.requires.deck c.loop-script.invariant.made in
+    omega (arith, few_so_far c.loop-script.hand.betting.table c.loop-script.hand.cards.state c.loop-script.script c.loop-script.stock going)
+
+pub loop-script-smaller : goal.loop-script-smaller
+loop-script-smaller g c =
+    let new = c.play_next.new in
+    let step = subst (λ (came : Bool). IsStep c.args.setup.now c.args.stock.now c.loop-script.script new.hand.betting.table new.hand.cards.state new.script new.stock came) c.in-Ok-true.field-0-test
+    (c.in-Ok-true.ensures.step c.args.setup.now c.args.stock.now c.loop-script.invariant.made) in
+    let going = underway c.args.setup.now c.args.stock.now c.loop-script.hand.betting.table c.loop-script.hand.cards.state c.loop-script.script c.loop-script.stock c.requires.small c.requires.deck c.loop-script.invariant.made in
+    omega (arith, step.1, few_so_far c.loop-script.hand.betting.table c.loop-script.hand.cards.state c.loop-script.script c.loop-script.stock going)
+
+pub loop-script-preserved : goal.loop-script-preserved
+loop-script-preserved g c =
+    let new = c.play_next.new in
+    let step = subst (λ (came : Bool). IsStep c.args.setup.now c.args.stock.now c.loop-script.script new.hand.betting.table new.hand.cards.state new.script new.stock came) c.in-Ok-true.field-0-test
+    (c.in-Ok-true.ensures.step c.args.setup.now c.args.stock.now c.loop-script.invariant.made) in
+    record {
+      made = step.0;
+      seats = ap (λ (s : Setup). s.stacks.seats) c.in-Ok-true.ensures.setup ∙ c.loop-script.invariant.seats ∙ sym c.in-Ok-true.ensures.seats;
+    }
+
+pub returns-in-Ok-false-clause-within : goal.returns-in-Ok-false-clause-within
+returns-in-Ok-false-clause-within g c =
+    let new = c.play_next.new in
+    let step = subst (λ (came : Bool). IsStep c.args.setup.now c.args.stock.now c.loop-script.script new.hand.betting.table new.hand.cards.state new.script new.stock came) c.in-Ok-false.field-0-test
+    (c.in-Ok-false.ensures.step c.args.setup.now c.args.stock.now c.loop-script.invariant.made) in
+    subst (λ (s : List Event). IsWithinLimits (map said_of s)) (sym step.0)
+    (made_within c.args.setup.now c.args.stock.now c.loop-script.script c.requires.small c.requires.deck c.loop-script.invariant.made.come)
+
+pub returns-in-Ok-false-clause-legal : goal.returns-in-Ok-false-clause-legal
+returns-in-Ok-false-clause-legal g c =
+    let new = c.play_next.new in
+    let step = subst (λ (came : Bool). IsStep c.args.setup.now c.args.stock.now c.loop-script.script new.hand.betting.table new.hand.cards.state new.script new.stock came) c.in-Ok-false.field-0-test
+    (c.in-Ok-false.ensures.step c.args.setup.now c.args.stock.now c.loop-script.invariant.made) in
+    let ended = subst (λ (s : List Event). next_event c.args.setup.now history_rules c.args.stock.now (backward s) ≡ None) step.0 step.1.ended in
+    subst (λ (s : List Event). IsLegalHand c.args.setup.now history_rules (map said_of s)) (sym step.0)
+    (made_legal c.args.setup.now c.args.stock.now c.loop-script.script c.requires.small c.requires.deck c.loop-script.invariant.made.come ended)

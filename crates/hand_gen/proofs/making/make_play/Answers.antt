@@ -1,14 +1,28 @@
 -- The hand is made, and it is sound and legal.
-use Rattle.std.proofs.Common.{◌≡◌, subst, ◌∙◌}
+use Rattle.std.proofs.Common.{◌≡◌, map, sym, subst, ◌∙◌}
+use Rattle.hand_canon.specs.LegalHand.{IsLegalHand}
+use Rattle.play_event.specs.declared.setup.Rules.{Rules}
+use Rattle.play_event.specs.Said.{said_of}
+use Rattle.replay_core.proofs.OneFault.{no_fault}
 use Rattle.hand_gen.specs.Made.{IsMadeScript, stock_of}
 use Rattle.hand_gen.specs.Stock.{Stock, full_deck}
 use Rattle.hand_gen.specs.Setups.{number_behind_setup}
 use Rattle.hand_gen.proofs.RecordLaws.{none_allowed, same_stock}
-use Rattle.hand_gen.proofs.SetupLaws.{made_valid}
+use Rattle.hand_gen.proofs.SetupLaws.{made_small, made_valid}
 use Rattle.hand_gen.proofs.making.make_play.Goals as goal
 
 pub script_by_code-requires : goal.script_by_code-requires
-script_by_code-requires c = record { valid = made_valid c.args.place c.args.number c.setup_at-setup.result c.setup_at-setup.ensures }
+script_by_code-requires c = record {
+  small = made_small c.args.place c.args.number c.setup_at-setup.result c.setup_at-setup.ensures;
+  deck = c.in-Ok.ensures.deck;
+}
+
+pub unreachable-requires : goal.unreachable-requires
+unreachable-requires c =
+    let setup = c.setup_at-setup.result in
+    let script = c.in-Ok-script_by_code.script in
+    let legal = subst (λ (r : Rules). IsLegalHand setup r (map said_of script)) (sym c.history_rules-rules.ensures) c.in-Ok-script_by_code.ensures.legal in
+    no_fault setup c.history_rules-rules.result script c.in-Err-replay.fault c.in_default.not-Memory legal c.in-Err-replay.ensures.fault
 
 pub replay-requires-clause-valid : goal.replay-requires-clause-valid
 replay-requires-clause-valid c = made_valid c.args.place c.args.number c.setup_at-setup.result c.setup_at-setup.ensures
