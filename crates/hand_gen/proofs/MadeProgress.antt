@@ -1,7 +1,7 @@
--- A script whose events have come makes progress.
-use Rattle.std.proofs.Common.{◌≡◌, ℕ, ◌≤◌, true, ◌&&◌, not, nat_le, nat_lt, Option, Some, None, IfSome, List, [], ◌∷◌, length, reverse, count_by, refl, sym, ap, subst, ◌∙◌, arith}
+-- A script whose events have come makes progress, and there is one behind which nothing comes.
+use Rattle.std.proofs.Common.{◌+◌, ◌≡◌, ℕ, ◌≤◌, true, ◌&&◌, not, nat_le, nat_lt, Option, Some, None, IfSome, List, [], ◌∷◌, length, reverse, count_by, refl, sym, ap, subst, ◌∙◌, arith, zero, suc}
 use Rattle.std.proofs.lemmas.Bool.{and_parts, le-ltb}
-use Rattle.std.proofs.lemmas.List.{length-map}
+use Rattle.std.proofs.lemmas.List.{length-map, reverse-reverse}
 use Rattle.canon_laws.proofs.MoveCounts.{move_count}
 use Rattle.canon_script.specs.PlayedScript.{is_move}
 use Rattle.canon_script.specs.TraceCore.{core_of}
@@ -36,7 +36,7 @@ use Rattle.play_event.specs.Table.{places_of}
 use Rattle.play_event.specs.Trace.{has_unknown_card, is_shown}
 use Rattle.play_event.proofs.ScriptLaws.{at_end}
 use Rattle.hand_gen.specs.Made.{HaveCome, next_event, stock_behind, stock_of}
-use Rattle.hand_gen.specs.Progress.{IsSmall, MakesProgress}
+use Rattle.hand_gen.specs.Progress.{HasEnd, IsSmall, MakesProgress}
 use Rattle.hand_gen.specs.Setups.{IsMadeSetup}
 use Rattle.hand_gen.specs.Stock.{Stock, full_deck}
 use Rattle.hand_gen.proofs.CardsOut.{deck_enough, few_drawn}
@@ -157,3 +157,24 @@ module _ (setup : Setup) (small : IsSmall setup) (start : Stock) (whole_deck : s
 -- and so does what is made of a made setup
 pub hands_progress : (place number : ℕ) (setup : Setup) (script : List Said) → IsMadeSetup place number setup → HaveCome setup history_rules (stock_of number setup) (reverse script) → MakesProgress setup (stock_of number setup) script
 hands_progress place number setup script made come = progress setup (made_small place number setup made) (stock_of number setup) refl script come
+
+-- a hand ends: from events that have come there are some behind which nothing comes
+module _ (setup : Setup) (small : IsSmall setup) (start : Stock) (whole_deck : start.deck ≡ full_deck setup.code) where
+  ends_from : (left : ℕ) (events : List Said) → HaveCome setup history_rules start events → 4352 ≤ left + length events → HasEnd setup start
+  ends_from zero events come far =
+      let few = few_events setup events (stock_behind setup history_rules start events).deck small (made_going setup small start whole_deck events come) in
+      absurd (omega (arith, far, few.moves, few.others, count_both is_move events))
+  ends_from (suc left) events come far = by_next (next_event setup history_rules start events) refl (λ event is. ends_from left (event ∷ events) (is, come) (omega (arith, far)))
+    where
+      by_next : (next : Option Said) → next_event setup history_rules start events ≡ next → ((event : Said) → next_event setup history_rules start events ≡ Some event → HasEnd setup start) → HasEnd setup start
+      by_next None is later =
+          let same : reverse (reverse events) ≡ events = reverse-reverse events in
+          record {
+            script = reverse events;
+            come = subst (HaveCome setup history_rules start) (sym same) come;
+            ended = ap (next_event setup history_rules start) same ∙ is;
+          }
+      by_next (Some event) is later = later event is
+
+pub hands_end : (place number : ℕ) (setup : Setup) → IsMadeSetup place number setup → HasEnd setup (stock_of number setup)
+hands_end place number setup made = ends_from setup (made_small place number setup made) (stock_of number setup) refl 4352 [] tt (omega arith)

@@ -1,5 +1,5 @@
--- A made hand makes progress: whatever comes next is legal, and where nothing comes the hand is
--- legal and whole.
+-- A made hand makes progress: whatever comes next is legal, the hand ends, and where nothing comes
+-- it is legal and whole.
 use Rattle.std.specs.Prelude.{◌≡◌, ℕ, ◌+◌, ◌≤◌, ◌<◌, List, length, reverse, None, IfSome}
 use Rattle.canon_script.specs.PlayedScript.{IsWithinLimits}
 use Rattle.canon_script.specs.declared.limits.TheConstants.{MOST_MOVES, MOST_OTHER_EVENTS}
@@ -15,7 +15,7 @@ use Rattle.play_event.specs.Scripts.{past_of}
 use Rattle.play_event.specs.Streets.{deck_of}
 use Rattle.play_event.specs.Table.{places_of}
 use Rattle.play_event.specs.ValidSetup.{IsValid}
-use Rattle.hand_gen.specs.Made.{next_event, stock_behind}
+use Rattle.hand_gen.specs.Made.{HaveCome, next_event, stock_behind}
 use Rattle.hand_gen.specs.Stock.{Stock}
 
 -- a valid setup of few seats with few chips each, without rakes
@@ -40,3 +40,10 @@ pub record MakesProgress (setup : Setup) (start : Stock) (script : List Said) : 
       (λ event. why setup history_rules (past_of setup (reverse script)) event ≡ None)
   pub whole : next_event setup history_rules start (reverse script) ≡ None
       → IsLegalHand setup history_rules script
+
+-- a hand comes to its end from a stock: there is a script whose events have come, and behind which
+-- nothing comes
+pub record HasEnd (setup : Setup) (start : Stock) : Type 0 where
+  pub script : List Said
+  pub come : HaveCome setup history_rules start (reverse script)
+  pub ended : next_event setup history_rules start (reverse script) ≡ None
