@@ -18,4 +18,5 @@ mod Comparisons
 mod ComparedRuns
 mod LegalReplies
 mod EqualAnswers
+mod ReadHands
 mod Replying

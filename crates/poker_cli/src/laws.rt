@@ -1,6 +1,6 @@
 //! An input has one answer, none is refused whose hands are all legal, equal hands come to equal
 //! outputs, by whatever way, and compare as the same.
-ghost use Rattle.std.specs.Prelude.{◌≡◌, ◌⊎◌, ◌↔◌, ◌≤◌, ℕ, Bool, true, List, None, Some, Ok, length};
+ghost use Rattle.std.specs.Prelude.{◌≡◌, ◌⊎◌, ◌↔◌, ◌≤◌, ℕ, Bool, true, List, None, Some, IfSome, Ok, length};
 ghost use Rattle.std.specs.List.{AllByRecursion};
 ghost use Rattle.acpc_game.specs.declared.game.Game.{Game};
 ghost use Rattle.chip_ledger.specs.declared.numbers.Seat.{Seat};
@@ -15,6 +15,7 @@ ghost use Rattle.hand_records.specs.declared.record.Record.{Record};
 ghost use Rattle.hand_records.specs.declared.trace.Play.{Play};
 ghost use Rattle.hand_records.specs.declared.writing.Keep.{Keep};
 ghost use Rattle.hand_records.specs.declared.writing.Keep.TheVariants as keeps;
+ghost use Rattle.hand_records.specs.declared.writing.Unspelled.TheVariants as facts;
 ghost use Rattle.poker_cli.specs.Answer.{Answer, AsksToCompare, Files, IsAnswer, IsComparison, IsReply, IsWay, most_input};
 ghost use Rattle.poker_cli.specs.Compared.{compared};
 ghost use Rattle.poker_cli.specs.ComparedRuns.{AreFoundOther, AreFoundSame, AreOther, AreSame, BothRead, FindsOther};
@@ -22,7 +23,7 @@ ghost use Rattle.poker_cli.specs.Headline.{ConversionEnds, ConvertsInto};
 ghost use Rattle.poker_cli.specs.Inputs.{SayRecords};
 ghost use Rattle.poker_cli.specs.LegalInputs.{AsksOfLegal};
 ghost use Rattle.poker_cli.specs.OneAnswer.{AreOneAnswer};
-ghost use Rattle.poker_cli.specs.Outputs.{AreSameIn, first_refusal_in, kept_in};
+ghost use Rattle.poker_cli.specs.Outputs.{AreSameIn, first_refusal_in, kept_in, unspelled_in};
 ghost use Rattle.poker_cli.specs.Replies.{AreViews, each_view, hand_numbered, most_view_bytes};
 ghost use Rattle.poker_cli.specs.Run.{Ends, NeedsNoInput, RefusesNothing, Sinks};
 ghost use Rattle.poker_cli.specs.RunTells.{told_by};
@@ -31,6 +32,7 @@ ghost use Rattle.poker_cli.specs.declared.comparison.Comparison.{Comparison};
 ghost use Rattle.poker_cli.specs.declared.status.Status.{Status};
 ghost use Rattle.poker_cli.specs.declared.status.Status.TheVariants as statuses;
 ghost use Rattle.poker_cli.specs.declared.task.Format.{Format};
+ghost use Rattle.poker_cli.specs.declared.task.Format.TheVariants as readers;
 ghost use Rattle.poker_cli.specs.declared.task.Task.{Task};
 ghost use Rattle.poker_cli.specs.declared.task.Task.TheVariants as tasks;
 ghost use Rattle.convert_core.specs.Conversion.{ReadAsPlays};
@@ -111,6 +113,23 @@ pub fn law_of_legal_inputs()
     ensures load { (seed hands : ℕ) (files : Files) (bytes : List ℕ)
         → (out diag : Sinks) (status : Status)
         → Ends (Load seed hands) files bytes out diag status → NeedsNoInput status }
+{}
+
+/// Of hands that are read in a notation, and are all legal and agree with what is stated of them,
+/// nothing is unspelled there but an odd chip, and notes that need not be kept (`spelled`). And
+/// hands that are read under one game have one setup (`setup`), so that a seat of the game knows it
+/// of each of them. The function does nothing: its contract is a law.
+pub fn law_of_read_hands()
+    ensures spelled { (reader : Format) (bytes : List ℕ) (plays : List Play)
+        → ReadAsPlays (SayRecords reader bytes) plays
+        → AllByRecursion (λ play. IfSome (unspelled_in reader keeps.Spelled play)
+        (λ fact. fact ≡ facts.OddChip)) plays }
+    ensures setup { (game : Game) (bytes too : List ℕ) (plays others : List Play)
+        → (hand another : ℕ) (play other : Play)
+        → ReadAsPlays (SayRecords (readers.Acpc game) bytes) plays
+        → ReadAsPlays (SayRecords (readers.Acpc game) too) others
+        → hand_numbered plays hand ≡ Some play → hand_numbered others another ≡ Some other
+        → play.trace.setup ≡ other.trace.setup }
 {}
 
 /// What is answered to a conversion has one form, without regard to devices and memory. Two inputs
