@@ -1,9 +1,11 @@
 /* Runs the program on damaged inputs, or with each of its requests refused, and looks at how it ends.
  *
- *   hostile each KIND ERRNO WORDS.. < INPUT         refuses each request of a kind in turn (scripts/refusing.c has the
- * kinds) hostile damaged SEED COUNT HANDS < COMMANDS     damages inputs; HANDS has a line NOTATION, a file and its game
- * for each hostile once WORDS.. < INPUT                    prints status, bytes of output, seconds and kilobytes of one
- * run
+ *   hostile each KIND ERRNO WORDS.. < INPUT
+ *       refuses each request of a kind in turn; scripts/refusing.c has the kinds
+ *   hostile damaged SEED COUNT HANDS < COMMANDS
+ *       damages inputs; HANDS has a line NOTATION, a file and its game for each
+ *   hostile once WORDS.. < INPUT
+ *       prints status, bytes of output, seconds and kilobytes of one run
  *
  * HOSTILE_PROGRAM is the program, HOSTILE_LIBRARY the library that refuses, HOSTILE_FOLDER a folder for what it writes.
  */
@@ -140,19 +142,46 @@ static int is_same(struct bytes a, struct bytes b) {
 }
 
 /* The front of the line of each status; no line is "", no status NULL. */
-static const char *const fronts[] = {
-    "",        "refused: ",       "usage: ",        "bad input: ", "unspelled: ",   "read fault\n", "write fault\n",
-    "limit: ", "out of memory\n", "game missing\n", "bad game: ",  "shelf fault\n", NULL,           "no such "};
+static const char *const fronts[] = {"",
+                                     "refused: ",
+                                     "usage: ",
+                                     "bad input: ",
+                                     "unspelled: ",
+                                     "read fault\n",
+                                     "write fault\n",
+                                     "limit: ",
+                                     "out of memory\n",
+                                     "game missing\n",
+                                     "bad game: ",
+                                     "shelf fault\n",
+                                     NULL,
+                                     "no such ",
+                                     "differs: ",
+                                     "file missing\n"};
+enum { STATUSES = sizeof fronts / sizeof *fronts, WRONG = STATUSES, COUNTS };
 
-/* What is wrong with how a run ended, whatever it was run on. */
-static const char *wrong(const struct ending *ending) {
+static int begins(struct bytes text, const char *front) {
+    return text.size >= strlen(front) && memcmp(text.at, front, strlen(front)) == 0;
+}
+
+/* Whether a line tells of the other file of a comparison, which it may under the statuses of what is read. */
+static int is_of_other(const char *command, const struct ending *ending) {
+    return strcmp(command, "compare") == 0 && begins(ending->line, "file: ") &&
+           (ending->status == 1 || ending->status == 3 || ending->status == 7);
+}
+
+/* What is wrong with how a run of a command ended, whatever it was run on. */
+static const char *wrong(const char *command, const struct ending *ending) {
     if (ending->signal != 0) return "a signal";
-    if (ending->status < 0 || ending->status > 13 || fronts[ending->status] == NULL)
+    if (ending->status < 0 || ending->status >= STATUSES || fronts[ending->status] == NULL)
         return "a status that there is not";
-    const char *front = fronts[ending->status];
     if (ending->out.size > 0 && ending->status != 0 && ending->status != 6) return "output under this status";
-    if (ending->line.size < strlen(front) || memcmp(ending->line.at, front, strlen(front)) != 0)
-        return "another line than that of the status";
+    struct bytes told = ending->line;
+    if (is_of_other(command, ending)) {
+        told.at += strlen("file: ");
+        told.size -= strlen("file: ");
+    }
+    if (!begins(told, fronts[ending->status])) return "another line than that of the status";
     const unsigned char *end = ending->line.size == 0 ? NULL : memchr(ending->line.at, '\n', ending->line.size);
     if (ending->status == 0 ? ending->line.size != 0 : end != ending->line.at + ending->line.size - 1)
         return "not one line";
@@ -179,14 +208,15 @@ static int refuse_each(const char *kind, const char *error, char **words) {
                                              : 11;
     if (strcmp(kind, "open") == 0 && atoi(error) == EINTR) wanted = whole.status; /* the library opens again */
     if (strcmp(kind, "open") == 0 && (atoi(error) == ENOENT || atoi(error) == ENOTDIR)) wanted = 9;
-    int bad = wrong(&whole) != NULL;
-    if (bad) complain(words, wrong(&whole), &whole);
+    const char *command = words[1] == NULL ? "" : words[1];
+    int bad = wrong(command, &whole) != NULL;
+    if (bad) complain(words, wrong(command, &whole), &whole);
     int spared = 0;
     for (long number = 0;; number++) {
         char refused[60];
         snprintf(refused, sizeof refused, "%s %ld %s", kind, number, error);
         struct ending ending = run(words, refused);
-        const char *what = wrong(&ending);
+        const char *what = wrong(command, &ending);
         int is_last = !ending.is_refused;
         if (is_last) {
             if (ending.status != whole.status || !is_same(ending.out, whole.out) || !is_same(ending.line, whole.line))
@@ -198,7 +228,7 @@ static int refuse_each(const char *kind, const char *error, char **words) {
                        : NULL;
         } else if (strcmp(kind, "memory") == 0 && ending.status == whole.status && is_same(ending.out, whole.out)) {
             spared++; /* room that is made ahead, and without which the answer is the same */
-        } else if (wanted == 9 && ending.status == 15 && strcmp(words[1], "compare") == 0) {
+        } else if (wanted == 9 && ending.status == 15 && strcmp(command, "compare") == 0) {
             what = NULL; /* the other file, which is opened behind that of the game */
         } else if (ending.status != wanted) {
             what = "another status";
@@ -217,7 +247,8 @@ static int refuse_each(const char *kind, const char *error, char **words) {
             for (int i = 1; words[i] != NULL; i++)
                 printf(" %s", words[i]);
             printf("\n");
-            return bad || spared > 1;
+            /* A reader makes room ahead once, and a comparison reads twice. */
+            return bad || spared > (strcmp(command, "compare") == 0 ? 2 : 1);
         }
     }
 }
@@ -403,12 +434,19 @@ struct hands {
     char *name, *game_name;
 };
 
+/* Inputs of about the same size: below 1, 4 and 16 kilobytes. */
+enum { CLASSES = 3 };
+
+static int class_of(size_t size) {
+    return size < 1024 ? 0 : size < 4096 ? 1 : 2;
+}
+
 struct command {
     char notations[64];
     char *words[20];
     int has_game;
-    double seconds;
-    long kilobytes;
+    double seconds[CLASSES];
+    long kilobytes[CLASSES];
 };
 
 static struct hands hands[20000];
@@ -466,31 +504,42 @@ static void words_with(const struct command *command, const struct hands *item, 
     words[i] = NULL;
 }
 
-/* The most time and memory that each command takes for inputs that are not damaged. */
+/* The most time and memory that each command takes for inputs that are not damaged, by their size: for two hundred of
+ * each, and no less than for smaller ones. */
 static void measure(void) {
     char *words[20];
-    for (int c = 0; c < commands_count; c++)
-        for (int i = 0, seen = 0; i < hands_count && seen < 40; i++) {
-            if (!is_for(&commands[c], &hands[i])) continue;
-            seen++;
-            words_with(&commands[c], &hands[i], hands[i].game_name, words);
+    for (int c = 0; c < commands_count; c++) {
+        struct command *command = &commands[c];
+        int seen[CLASSES] = {0};
+        for (int i = 0; i < hands_count; i++) {
+            int class = class_of(hands[i].input.size);
+            if (!is_for(command, &hands[i]) || seen[class] == 200) continue;
+            seen[class]++;
+            words_with(command, &hands[i], hands[i].game_name, words);
             put_bytes(input_file, hands[i].input.at, hands[i].input.size);
             struct ending ending = run(words, NULL);
-            if (ending.seconds > commands[c].seconds) commands[c].seconds = ending.seconds;
-            if (ending.kilobytes > commands[c].kilobytes) commands[c].kilobytes = ending.kilobytes;
+            if (ending.seconds > command->seconds[class]) command->seconds[class] = ending.seconds;
+            if (ending.kilobytes > command->kilobytes[class]) command->kilobytes[class] = ending.kilobytes;
             drop(&ending);
         }
+        for (int class = 1; class < CLASSES; class++) {
+            if (command->seconds[class] < command->seconds[class - 1])
+                command->seconds[class] = command->seconds[class - 1];
+            if (command->kilobytes[class] < command->kilobytes[class - 1])
+                command->kilobytes[class] = command->kilobytes[class - 1];
+        }
+    }
 }
 
-/* Whether a run took more than five times of what others take, also when it is run again. */
-static const char *waste(const struct command *command, struct ending *ending, char **words) {
-    double most = 5 * (command->seconds > 0.01 ? command->seconds : 0.01);
+/* Whether a run on an input of a class took more than five times of what others take, also when it is run again. */
+static const char *waste(const struct command *command, int class, struct ending *ending, char **words) {
+    double most = 5 * (command->seconds[class] > 0.01 ? command->seconds[class] : 0.01);
     for (int again = 0; again < 3 && ending->seconds > most; again++) {
         drop(ending);
         *ending = run(words, NULL);
     }
     if (ending->seconds > most) return "more than five times the time";
-    return ending->kilobytes > 5 * command->kilobytes ? "more than five times the memory" : NULL;
+    return ending->kilobytes > 5 * command->kilobytes[class] ? "more than five times the memory" : NULL;
 }
 
 static void keep(const char *name, uint64_t number, struct bytes bytes) {
@@ -531,13 +580,15 @@ static void work(uint64_t seed, uint64_t count, int worker, int workers, long *c
         words_with(command, item, damages_game ? game_name : item->game_name, words);
         put_bytes(input_file, input.at, input.size);
         struct ending ending = run(words, NULL);
-        const char *what = wrong(&ending);
+        const char *what = wrong(words[1], &ending);
         if (what == NULL && (ending.status == 2 || ending.status == 5 || ending.status == 6 || ending.status == 8 ||
-                             ending.status == 9 || ending.status == 11))
+                             ending.status == 9 || ending.status == 11 || ending.status == 15))
             what = "a status without its cause";
-        if (what == NULL) what = waste(command, &ending, words);
+        size_t size = input.size; /* a comparison reads the file of the hands, too */
+        if (strcmp(words[1], "compare") == 0 && size < item->input.size) size = item->input.size;
+        if (what == NULL) what = waste(command, class_of(size), &ending, words);
         if (what != NULL) {
-            counts[14]++;
+            counts[WRONG]++;
             fprintf(stderr, "seed %llu, input %llu: ", (unsigned long long)seed, (unsigned long long)number);
             complain(words, what, &ending);
             keep("input", number, input);
@@ -551,18 +602,18 @@ static void work(uint64_t seed, uint64_t count, int worker, int workers, long *c
 }
 
 static int damage_all(uint64_t seed, uint64_t count) {
-    long *counts = mmap(NULL, 4096, PROT_READ | PROT_WRITE, MAP_SHARED | MAP_ANONYMOUS, -1, 0);
     int workers = sysconf(_SC_NPROCESSORS_ONLN);
     if (workers > 64) workers = 64;
-    long *all = calloc(15, sizeof *all);
+    long all[COUNTS] = {0};
     pid_t children[64];
-    long *shared = mmap(NULL, 64 * 15 * sizeof(long), PROT_READ | PROT_WRITE, MAP_SHARED | MAP_ANONYMOUS, -1, 0);
-    if (counts == MAP_FAILED || shared == MAP_FAILED) stop("mmap");
+    long *shared =
+        mmap(NULL, 64 * COUNTS * sizeof(long), PROT_READ | PROT_WRITE, MAP_SHARED | MAP_ANONYMOUS, -1, 0);
+    if (shared == MAP_FAILED) stop("mmap");
     for (int worker = 0; worker < workers; worker++) {
         children[worker] = fork();
         if (children[worker] < 0) stop("fork");
         if (children[worker] == 0) {
-            work(seed, count, worker, workers, shared + worker * 15);
+            work(seed, count, worker, workers, shared + worker * COUNTS);
             exit(0);
         }
     }
@@ -571,14 +622,14 @@ static int damage_all(uint64_t seed, uint64_t count) {
         int how;
         waitpid(children[worker], &how, 0);
         bad |= how != 0;
-        for (int status = 0; status < 15; status++)
-            all[status] += shared[worker * 15 + status];
+        for (int status = 0; status < COUNTS; status++)
+            all[status] += shared[worker * COUNTS + status];
     }
     printf("%llu damaged inputs, seed %llu:", (unsigned long long)count, (unsigned long long)seed);
-    for (int status = 0; status < 14; status++)
+    for (int status = 0; status < STATUSES; status++)
         if (all[status] > 0) printf(" status %d %ld,", status, all[status]);
-    printf(" wrong %ld\n", all[14]);
-    return bad || all[14] > 0;
+    printf(" wrong %ld\n", all[WRONG]);
+    return bad || all[WRONG] > 0;
 }
 
 int main(int count, char **words) {
@@ -587,7 +638,7 @@ int main(int count, char **words) {
     folder = getenv("HOSTILE_FOLDER");
     if (program == NULL || library == NULL || folder == NULL) return 70;
     open_files();
-    if (count >= 5 && strcmp(words[1], "each") == 0) {
+    if (count >= 4 && strcmp(words[1], "each") == 0) {
         char *kind = words[2], *error = words[3];
         words[3] = "handref";
         return refuse_each(kind, error, words + 3);
