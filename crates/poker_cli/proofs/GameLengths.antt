@@ -35,7 +35,7 @@ line_length word numbers =
       arith,
       length-append (word ++ (codes " =" ++ spaced numbers)) (10 ∷ []),
       length-append word (codes " =" ++ spaced numbers),
-      length-append (codes " =") (spaced numbers)
+      length-append (codes " =") (spaced numbers),
     )
 
 short_line : (word numbers : List ℕ) → list_all (λ number. nat_le number MOST_CHIPS) numbers ≡ true → length numbers ≤ 10 → length (key_line word numbers) ≤ length word + 213
@@ -63,7 +63,7 @@ counts_length players few =
       arith,
       length-append (key_line (codes "numPlayers") (players ∷ [])) (key_line (codes "numRounds") (4 ∷ [])),
       short_line (codes "numPlayers") (players ∷ []) (all_one players (omega (arith, few))) (omega arith),
-      short_line (codes "numRounds") (4 ∷ []) (all_one 4 (omega arith)) (omega arith)
+      short_line (codes "numRounds") (4 ∷ []) (all_one 4 (omega arith)) (omega arith),
     )
 
 rows_length : (stacks blinds : List ℕ) → list_all (λ number. nat_le number MOST_CHIPS) stacks ≡ true
@@ -75,7 +75,7 @@ rows_length stacks blinds all others few as_few =
       arith,
       length-append (key_line (codes "stack") stacks) (key_line (codes "blind") blinds),
       short_line (codes "stack") stacks all few,
-      short_line (codes "blind") blinds others as_few
+      short_line (codes "blind") blinds others as_few,
     )
 
 chips_length : (game : GameSaid) → IsGame game → length (chips_text game) ≤ 890
@@ -87,7 +87,7 @@ chips_length game is =
       length-append (counts_text (length game.stacks)) (rows_text game.stacks game.blinds),
       kind_length game.no_limit,
       counts_length (length game.stacks) is.most,
-      rows_length game.stacks game.blinds is.few is.few_blinds is.most (omega (arith, is.most, is.one_row))
+      rows_length game.stacks game.blinds is.few is.few_blinds is.most (omega (arith, is.most, is.one_row)),
     )
 
 size_within : (size : ℕ) → is_size size ≡ true → size ≤ MOST_CHIPS
@@ -103,9 +103,9 @@ unfolding sizes_text
 sizes_length game true limit is = rw limit (omega arith)
 sizes_length game false limit is =
     let fit = sizes_within (greatest game.blinds) game.small_raise game.big_raise
-        (subst (λ (b : Bool). has_fitting_sizes b (greatest game.blinds) game.small_raise game.big_raise ≡ true) limit is.sizes) in
+    (subst (λ (b : Bool). has_fitting_sizes b (greatest game.blinds) game.small_raise game.big_raise ≡ true) limit is.sizes) in
     let few = short_line (codes "raiseSize") (game.small_raise ∷ game.small_raise ∷ game.big_raise ∷ game.big_raise ∷ [])
-        (all_four game.small_raise game.small_raise game.big_raise game.big_raise fit.0 fit.0 fit.1 fit.1) (omega arith) in
+    (all_four game.small_raise game.small_raise game.big_raise game.big_raise fit.0 fit.0 fit.1 fit.1) (omega arith) in
     rw limit (omega (arith, few))
 
 place_within : (number : ℕ) (numbers : List ℕ) → last_place number numbers ≤ length numbers
@@ -146,7 +146,7 @@ turns_length game is =
       arith,
       length-append (first_text game.blinds) (caps_text game.caps),
       first_length game.blinds (omega (arith, is.most, is.one_row)),
-      caps_length game.caps is.caps
+      caps_length game.caps is.caps,
     )
 
 -- the whole file
@@ -164,5 +164,5 @@ game_length game is =
       length-append turns last,
       chips_length game is,
       sizes_length game game.no_limit refl is,
-      turns_length game is
+      turns_length game is,
     )

@@ -71,8 +71,8 @@ pub fn run<S: Source, H: Shelf, K: Sink, D: Sink>(
         input.old input.new out.old out.new diag.old diag.new }
 
     // Of the shelf no name is asked but those that the words give, and the input is read behind it.
-    ensures asks { AsksInTurn H.Asked (H.files shelf.old) (request_said (map string_bytes words.now))
-        result shelf.old shelf.new }
+    ensures asks { AsksInTurn H.Asked (H.files shelf.old)
+        (request_said (map string_bytes words.now)) result shelf.old shelf.new }
     ensures without_file { IfSome (request_said (map string_bytes words.now)) (λ request.
         LacksFile request (H.files shelf.old) → input.new ≡ input.old) }
     ensures without_input { IfSome (request_said (map string_bytes words.now)) (λ request.
