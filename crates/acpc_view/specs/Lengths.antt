@@ -1,5 +1,5 @@
 -- A short trace has short lines: few chips, few moves, and few cards of each owner on each street.
-use Rattle.std.specs.Prelude.{◌≤◌, ℕ, if◌then◌else◌, List, [], length, Option}
+use Rattle.std.specs.Prelude.{◌≡◌, ◌≤◌, ℕ, if◌then◌else◌, List, [], length, Option}
 use Rattle.std.specs.List.{list_any}
 use Rattle.card_set.specs.declared.card.Slot.{Slot}
 use Rattle.card_set.specs.Known.{is_unknown}
@@ -22,6 +22,16 @@ pub record IsShort (trace : Trace) : Type 0 where
   -- and few cards of each owner on each street
   pub dealt : (owner : Option ℕ) (street : ℕ)
       → length (dealt_slots (core_said trace).places owner street) ≤ 7
+
+-- A trace is short, and has so many moves or more.
+pub record IsShortTo (trace : Trace) (count : ℕ) : Type 0 where
+  pub short : IsShort trace
+  pub there : count ≤ length trace.moves
+
+-- A number is the length of a text, which is at most so long.
+pub record IsLengthWithin (most : ℕ) (text : List ℕ) (number : ℕ) : Type 0 where
+  pub value : number ≡ length text
+  pub few : number ≤ most
 
 -- the cards that a seat sees behind the first so many moves of a trace
 abbrev pub seen_by : Trace → (viewer count : ℕ) → List TracedPlace

@@ -6,7 +6,7 @@ ghost use Rattle.acpc_writing.specs.Names.{hand_text};
 ghost use Rattle.acpc_writing.specs.Rounds.{has_board as has_board_said};
 ghost use Rattle.acpc_writing.specs.Seats.{bar_before};
 ghost use Rattle.acpc_writing.specs.Puts.{HaveFewChips};
-ghost use Rattle.acpc_view.specs.Lengths.{IsShort, hole_of, seen_by};
+ghost use Rattle.acpc_view.specs.Lengths.{IsLengthWithin, IsShort, IsShortTo, hole_of, seen_by};
 ghost use Rattle.acpc_view.specs.View.{seen_text, view_line, views_text};
 ghost use Rattle.canon_script.specs.CanonScript.{dealt_slots, plain_move, plain_moves};
 ghost use Rattle.card_set.specs.Spelling.{spelling};
@@ -44,8 +44,7 @@ pub fn views_len(game: &Game, play: &Play, place: u32, viewer: Seat) -> u64
 fn line_len(no_limit: bool, play: &Play, place: usize, viewer: Seat, count: usize) -> u64
     requires sound { IsSound play.now }
     requires there { count ≤ length play.now.trace.moves }
-    ensures value { result ≡ length (view_line no_limit viewer.number place play.now count) }
-    ensures few { result ≤ 400000 }
+    ensures { IsLengthWithin 400000 (view_line no_limit viewer.number place play.now count) result }
 {
     // `MATCHSTATE`, three colons, the digit of the seat, and the end of the line.
     15 + hand_len(place, &play.hand.notes.hand) + seen_len(no_limit, &play.trace, viewer, count)
@@ -53,8 +52,7 @@ fn line_len(no_limit: bool, play: &Play, place: usize, viewer: Seat, count: usiz
 
 // The number of bytes of the number of a hand at a place of its file.
 fn hand_len(place: usize, name: &Option<Text>) -> u64
-    ensures value { result ≡ length (hand_text place name.now) }
-    ensures few { result ≤ 20 }
+    ensures { IsLengthWithin 20 (hand_text place name.now) result }
 {
     let Some(name) = name else {
         return digits_len(place as u64);
@@ -69,22 +67,18 @@ fn hand_len(place: usize, name: &Option<Text>) -> u64
 
 // The number of bytes of the betting and the cards that the seat saw.
 fn seen_len(no_limit: bool, trace: &Trace, viewer: Seat, count: usize) -> u64
-    requires short { IsShort trace.now }
-    requires there { count ≤ length trace.now.moves }
-    ensures value { result ≡ length (seen_text no_limit trace.now viewer.number count) }
-    ensures few { result ≤ 390000 }
+    requires { IsShortTo trace.now count }
+    ensures { IsLengthWithin 390000 (seen_text no_limit trace.now viewer.number count) result }
 {
     betting_len(no_limit, trace, viewer, count) + 1 + cards_len(trace, viewer, count)
 }
 
 // The number of bytes of the betting.
 fn betting_len(no_limit: bool, trace: &Trace, viewer: Seat, count: usize) -> u64
-    requires short { IsShort trace.now }
-    requires there { count ≤ length trace.now.moves }
-    ensures value { result ≡ length (betting_text no_limit trace.now.setup
+    requires { IsShortTo trace.now count }
+    ensures { IsLengthWithin 360000 (betting_text no_limit trace.now.setup
         (seen_by trace.now viewer.number count)
-        (plain_moves (map move_said (take count trace.now.moves)))) }
-    ensures few { result ≤ 360000 }
+        (plain_moves (map move_said (take count trace.now.moves)))) result }
 {
     let made = &trace.moves.as_slice()[..count];
     letters_len(no_limit, &trace.setup, made, 1)
@@ -95,12 +89,10 @@ fn betting_len(no_limit: bool, trace: &Trace, viewer: Seat, count: usize) -> u64
 
 // The number of bytes of a further round, if it has begun.
 fn round_len(no_limit: bool, trace: &Trace, viewer: Seat, count: usize, street: u8) -> u64
-    requires short { IsShort trace.now }
-    requires there { count ≤ length trace.now.moves }
-    ensures value { result ≡ length (round_text no_limit trace.now.setup
+    requires { IsShortTo trace.now count }
+    ensures { IsLengthWithin 90000 (round_text no_limit trace.now.setup
         (seen_by trace.now viewer.number count)
-        (plain_moves (map move_said (take count trace.now.moves))) street) }
-    ensures few { result ≤ 90000 }
+        (plain_moves (map move_said (take count trace.now.moves))) street) result }
 {
     let made = &trace.moves.as_slice()[..count];
     if is_board_seen(trace, count, street) {
@@ -114,9 +106,8 @@ fn round_len(no_limit: bool, trace: &Trace, viewer: Seat, count: usize, street: 
 fn letters_len(no_limit: bool, setup: &Setup, moves: &[Move], street: u8) -> u64
     requires chips { HaveFewChips setup.now moves.now }
     requires short { length moves.now ≤ 4096 }
-    ensures value { result ≡ length (letters_on no_limit setup.now street
-        (plain_moves (map move_said moves.now))) }
-    ensures few { result ≤ 21 * length moves.now }
+    ensures { IsLengthWithin (21 * length moves.now) (letters_on no_limit setup.now street
+        (plain_moves (map move_said moves.now))) result }
 {
     let mut put = posted_chips(setup);
     let mut all: u64 = 0;
@@ -130,9 +121,8 @@ fn letters_len(no_limit: bool, setup: &Setup, moves: &[Move], street: u8) -> u64
 
 // The number of bytes of the letter of a move, or 0 where the move is of another street.
 fn letter_len_on(no_limit: bool, street: u8, played: Move, total: u64) -> u64
-    ensures value { result
-        ≡ length (letter_on no_limit street (plain_move (move_said played)) total) }
-    ensures few { result ≤ 21 }
+    ensures { IsLengthWithin 21
+        (letter_on no_limit street (plain_move (move_said played)) total) result }
 {
     if played.street == street {
         letter_len(no_limit, played.act, total)
@@ -143,8 +133,7 @@ fn letter_len_on(no_limit: bool, street: u8, played: Move, total: u64) -> u64
 
 // The number of bytes of the letter of a move.
 fn letter_len(no_limit: bool, act: Act, total: u64) -> u64
-    ensures value { result ≡ length (letter no_limit (act_said act) total) }
-    ensures few { result ≤ 21 }
+    ensures { IsLengthWithin 21 (letter no_limit (act_said act) total) result }
 {
     match act {
         Act::Fold => 1,
@@ -156,16 +145,14 @@ fn letter_len(no_limit: bool, act: Act, total: u64) -> u64
 
 // The number of bytes of a bet or raise.
 fn raise_len(no_limit: bool, total: u64) -> u64
-    ensures value { result ≡ length (letter no_limit Raised total) }
-    ensures few { result ≤ 21 }
+    ensures { IsLengthWithin 21 (letter no_limit Raised total) result }
 {
     if no_limit { 1 + digits_len(total) } else { 1 }
 }
 
 // The number of decimal digits of a number.
 fn digits_len(number: u64) -> u64
-    ensures value { result ≡ length (decimal number) }
-    ensures few { result ≤ 20 }
+    ensures { IsLengthWithin 20 (decimal number) result }
 {
     if number < 10 {
         1
@@ -184,9 +171,8 @@ fn is_board_seen(trace: &Trace, count: usize, street: u8) -> bool
 // The number of bytes of the cards.
 fn cards_len(trace: &Trace, viewer: Seat, count: usize) -> u64
     requires { IsShort trace.now }
-    ensures value { result ≡ length (cards_text (seen_by trace.now viewer.number count)
-        trace.now.setup.stacks.seats) }
-    ensures few { result ≤ 200 }
+    ensures { IsLengthWithin 200 (cards_text (seen_by trace.now viewer.number count)
+        trace.now.setup.stacks.seats) result }
 {
     holes_len(trace, viewer, count)
         + board_len(trace, viewer, count, 2)
@@ -197,9 +183,8 @@ fn cards_len(trace: &Trace, viewer: Seat, count: usize) -> u64
 // The number of bytes of the hole cards, with the bars between them.
 fn holes_len(trace: &Trace, viewer: Seat, count: usize) -> u64
     requires { IsShort trace.now }
-    ensures value { result ≡ length (holes_text (seen_by trace.now viewer.number count)
-        trace.now.setup.stacks.seats) }
-    ensures few { result ≤ 150 }
+    ensures { IsLengthWithin 150 (holes_text (seen_by trace.now viewer.number count)
+        trace.now.setup.stacks.seats) result }
 {
     let mut all: u64 = 0;
     for index in 0..trace.setup.stacks.seats {
@@ -212,9 +197,8 @@ fn holes_len(trace: &Trace, viewer: Seat, count: usize) -> u64
 // The number of bytes of the bar in front of a seat, and of its hole cards.
 fn seat_len(trace: &Trace, viewer: Seat, count: usize, seat: Seat) -> u64
     requires { IsShort trace.now }
-    ensures value { result ≡ length (bar_before seat.number
-        ++ hole_text (seen_by trace.now viewer.number count) seat.number) }
-    ensures few { result ≤ 15 }
+    ensures { IsLengthWithin 15 (bar_before seat.number
+        ++ hole_text (seen_by trace.now viewer.number count) seat.number) result }
 {
     if 1 < seat.number {
         1 + hole_len(trace, viewer, count, seat)
@@ -226,9 +210,8 @@ fn seat_len(trace: &Trace, viewer: Seat, count: usize, seat: Seat) -> u64
 // The number of bytes of the hole cards of a seat, if they are seen.
 fn hole_len(trace: &Trace, viewer: Seat, count: usize, seat: Seat) -> u64
     requires { IsShort trace.now }
-    ensures value { result
-        ≡ length (hole_text (seen_by trace.now viewer.number count) seat.number) }
-    ensures few { result ≤ 14 }
+    ensures { IsLengthWithin 14
+        (hole_text (seen_by trace.now viewer.number count) seat.number) result }
 {
     if sees_seat_of(trace, viewer, count, seat) {
         known_len(trace.places.as_slice(), seat)
@@ -240,9 +223,8 @@ fn hole_len(trace: &Trace, viewer: Seat, count: usize, seat: Seat) -> u64
 // The number of bytes of the hole cards of a seat, if they are known.
 fn known_len(places: &[Place], seat: Seat) -> u64
     requires { length (dealt_slots (map place_said places.now) (Some seat.number) 1) ≤ 7 }
-    ensures value { result
-        ≡ length (hole_of (dealt_slots (map place_said places.now) (Some seat.number) 1)) }
-    ensures few { result ≤ 14 }
+    ensures { IsLengthWithin 14
+        (hole_of (dealt_slots (map place_said places.now) (Some seat.number) 1)) result }
 {
     if has_unknown(places, Some(seat), 1) {
         0
@@ -254,9 +236,7 @@ fn known_len(places: &[Place], seat: Seat) -> u64
 // The number of bytes of the board of a further round, if it is seen.
 fn board_len(trace: &Trace, viewer: Seat, count: usize, street: u8) -> u64
     requires { IsShort trace.now }
-    ensures value { result
-        ≡ length (board_text (seen_by trace.now viewer.number count) street) }
-    ensures few { result ≤ 15 }
+    ensures { IsLengthWithin 15 (board_text (seen_by trace.now viewer.number count) street) result }
 {
     if is_board_seen(trace, count, street) {
         1 + dealt_len(trace.places.as_slice(), None, street)
@@ -268,9 +248,8 @@ fn board_len(trace: &Trace, viewer: Seat, count: usize, street: u8) -> u64
 // The number of bytes of the cards that an owner was dealt on a street: each has two.
 fn dealt_len(places: &[Place], owner: Option<Seat>, street: u8) -> u64
     requires { length (dealt_slots (map place_said places.now) (seat_named owner) street) ≤ 7 }
-    ensures value { result ≡ length (spelling
-        (dealt_slots (map place_said places.now) (seat_named owner) street)) }
-    ensures few { result ≤ 14 }
+    ensures { IsLengthWithin 14 (spelling
+        (dealt_slots (map place_said places.now) (seat_named owner) street)) result }
 {
     2 * dealt_count(places, owner, street)
 }

@@ -1,7 +1,8 @@
 -- The betting is that of four rounds.
-use Rattle.std.proofs.Common.{List, length, map, take, sym, ap, subst, ◌∙◌}
+use Rattle.std.proofs.Common.{List, length, map, take, sym, ap, subst, ◌∙◌, arith}
 use Rattle.canon_script.specs.CanonScript.{plain_moves}
 use Rattle.play_event.specs.Played.{move_said}
+use Rattle.std.proofs.lemmas.List.{length-take-le}
 use Rattle.play_event.specs.declared.played.Move.{Move}
 use Rattle.acpc_writing.specs.Betting.{letters_on}
 use Rattle.acpc_writing.specs.Puts.{HaveFewChips}
@@ -14,9 +15,15 @@ pub letters_len-requires-clause-chips : goal.letters_len-requires-clause-chips
 letters_len-requires-clause-chips c =
     subst (λ (moves : List Move). HaveFewChips c.args.trace.now.setup (take c.args.count moves)) (sym c.as_slice.ensures) (few_chips c.args.trace.now c.args.count c.requires.short.chips)
 
-pub returns-clause-value : goal.returns-clause-value
-returns-clause-value c =
+pub returns : goal.returns
+returns c =
     let trace = c.args.trace.now in
-    betting_sum c.args.no_limit trace.setup (seen_by trace c.args.viewer.number c.args.count) (plain_moves (map move_said (take c.args.count trace.moves))) c.letters_len.result c.round_len.result c.round_len-2.result c.round_len-3.result
-    (c.letters_len.ensures.value ∙ ap (λ (moves : List Move). length (letters_on c.args.no_limit trace.setup 1 (plain_moves (map move_said (take c.args.count moves))))) c.as_slice.ensures)
-    c.round_len.ensures.value c.round_len-2.ensures.value c.round_len-3.ensures.value
+    let many = ap (length {A = Move}) c.as_slice.ensures in
+    let made = length-take-le c.args.count c.as_slice.result.now (omega (arith, many, c.requires.there)) in
+    record {
+      value =
+          betting_sum c.args.no_limit trace.setup (seen_by trace c.args.viewer.number c.args.count) (plain_moves (map move_said (take c.args.count trace.moves))) c.letters_len.result c.round_len.result c.round_len-2.result c.round_len-3.result
+          (c.letters_len.ensures.value ∙ ap (λ (moves : List Move). length (letters_on c.args.no_limit trace.setup 1 (plain_moves (map move_said (take c.args.count moves))))) c.as_slice.ensures)
+          c.round_len.ensures.value c.round_len-2.ensures.value c.round_len-3.ensures.value;
+      few = omega (arith, made, c.requires.there, c.requires.short.moves);
+    }

@@ -1,5 +1,5 @@
 -- A board that is seen has a stroke and its cards.
-use Rattle.std.proofs.Common.{List, None, length, map, sym, ap, ◌∙◌}
+use Rattle.std.proofs.Common.{List, None, length, map, sym, ap, ◌∙◌, arith}
 use Rattle.canon_script.specs.CanonScript.{dealt_slots}
 use Rattle.card_set.specs.Spelling.{spelling}
 use Rattle.hand_records.specs.TraceRows.{core_said, place_said}
@@ -7,11 +7,19 @@ use Rattle.play_event.specs.declared.played.Place.{Place}
 use Rattle.acpc_view.proofs.LineLengths.{board_not, board_there}
 use Rattle.acpc_view.proofs.counting.board_len.Goals as goal
 
-pub returns-then-is_board_seen-clause-value : goal.returns-then-is_board_seen-clause-value
-returns-then-is_board_seen-clause-value c =
-    board_there (core_said c.args.trace.now) c.args.viewer.number c.args.count c.args.street c.dealt_len.result (sym (c.is_board_seen.ensures c.args.viewer.number) ∙ c.if-is_board_seen.true)
-    (c.dealt_len.ensures.value ∙ ap (λ (places : List Place). length (spelling (dealt_slots (map place_said places) None c.args.street))) c.as_slice.ensures)
+pub returns-then-is_board_seen : goal.returns-then-is_board_seen
+returns-then-is_board_seen c =
+    record {
+      value =
+          board_there (core_said c.args.trace.now) c.args.viewer.number c.args.count c.args.street c.dealt_len.result (sym (c.is_board_seen.ensures c.args.viewer.number) ∙ c.if-is_board_seen.true)
+          (c.dealt_len.ensures.value ∙ ap (λ (places : List Place). length (spelling (dealt_slots (map place_said places) None c.args.street))) c.as_slice.ensures);
+      few = omega arith;
+    }
 
-pub returns-else-is_board_seen-clause-value : goal.returns-else-is_board_seen-clause-value
-returns-else-is_board_seen-clause-value c =
-    board_not (core_said c.args.trace.now) c.args.viewer.number c.args.count c.args.street (sym (c.is_board_seen.ensures c.args.viewer.number) ∙ c.if-is_board_seen.false)
+pub returns-else-is_board_seen : goal.returns-else-is_board_seen
+returns-else-is_board_seen c =
+    record {
+      value =
+          board_not (core_said c.args.trace.now) c.args.viewer.number c.args.count c.args.street (sym (c.is_board_seen.ensures c.args.viewer.number) ∙ c.if-is_board_seen.false);
+      few = omega arith;
+    }

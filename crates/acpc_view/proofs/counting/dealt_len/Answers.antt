@@ -6,5 +6,10 @@ use Rattle.hand_records.specs.TraceRows.{place_said}
 use Rattle.play_event.specs.Said.{seat_named}
 use Rattle.acpc_view.proofs.counting.dealt_len.Goals as goal
 
-pub returns-clause-value : goal.returns-clause-value
-returns-clause-value c = omega (arith, c.dealt_count.ensures, length-spelling (dealt_slots (map place_said c.args.places.now) (seat_named c.args.owner) c.args.street))
+pub returns : goal.returns
+returns c =
+    record {
+      value =
+          omega (arith, c.dealt_count.ensures, length-spelling (dealt_slots (map place_said c.args.places.now) (seat_named c.args.owner) c.args.street));
+      few = omega arith;
+    }

@@ -12,8 +12,12 @@ loop-index-preserved c = record {
   few = omega (arith, c.loop-index.invariant.few, c.seat_len-all.ensures.few);
 }
 
-pub returns-clause-value : goal.returns-clause-value
+pub returns : goal.returns
 unfolding holes_text
-returns-clause-value c =
+returns c =
     let all : c.loop-index.index ≡ c.args.trace.now.setup.stacks.seats = omega (arith, c.loop-index-test.false) in
-    c.loop-index.invariant.counted ∙ ap (λ (n : ℕ). length (for_seats (hole_text (seen_by c.args.trace.now c.args.viewer.number c.args.count)) n)) all
+    record {
+      value =
+          c.loop-index.invariant.counted ∙ ap (λ (n : ℕ). length (for_seats (hole_text (seen_by c.args.trace.now c.args.viewer.number c.args.count)) n)) all;
+      few = omega arith;
+    }

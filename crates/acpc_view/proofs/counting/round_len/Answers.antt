@@ -1,5 +1,6 @@
 -- A further round that has begun has a stroke and its letters.
-use Rattle.std.proofs.Common.{List, take, sym, subst, ◌∙◌}
+use Rattle.std.proofs.Common.{List, ap, length, take, sym, subst, ◌∙◌, arith}
+use Rattle.std.proofs.lemmas.List.{length-take-le}
 use Rattle.play_event.specs.declared.played.Move.{Move}
 use Rattle.acpc_writing.specs.Puts.{HaveFewChips}
 use Rattle.acpc_view.proofs.Writing.{few_chips}
@@ -11,11 +12,21 @@ pub letters_len-requires-clause-chips : goal.letters_len-requires-clause-chips
 letters_len-requires-clause-chips c =
     subst (λ (moves : List Move). HaveFewChips c.args.trace.now.setup (take c.args.count moves)) (sym c.as_slice.ensures) (few_chips c.args.trace.now c.args.count c.requires.short.chips)
 
-pub returns-then-is_board_seen-clause-value : goal.returns-then-is_board_seen-clause-value
-returns-then-is_board_seen-clause-value c =
-    round_sum c.args.no_limit c.args.trace.now (seen_by c.args.trace.now c.args.viewer.number c.args.count) c.args.count c.args.street c.letters_len.result c.as_slice.result.now c.as_slice.ensures
-    (sym (c.is_board_seen.ensures c.args.viewer.number) ∙ c.if-is_board_seen.true) c.letters_len.ensures.value
+pub returns-then-is_board_seen : goal.returns-then-is_board_seen
+returns-then-is_board_seen c =
+    let many = ap (length {A = Move}) c.as_slice.ensures in
+    let made = length-take-le c.args.count c.as_slice.result.now (omega (arith, many, c.requires.there)) in
+    record {
+      value =
+          round_sum c.args.no_limit c.args.trace.now (seen_by c.args.trace.now c.args.viewer.number c.args.count) c.args.count c.args.street c.letters_len.result c.as_slice.result.now c.as_slice.ensures
+          (sym (c.is_board_seen.ensures c.args.viewer.number) ∙ c.if-is_board_seen.true) c.letters_len.ensures.value;
+      few = omega (arith, made, c.requires.there, c.requires.short.moves);
+    }
 
-pub returns-else-is_board_seen-clause-value : goal.returns-else-is_board_seen-clause-value
-returns-else-is_board_seen-clause-value c =
-    round_none c.args.no_limit c.args.trace.now (seen_by c.args.trace.now c.args.viewer.number c.args.count) c.args.count c.args.street (sym (c.is_board_seen.ensures c.args.viewer.number) ∙ c.if-is_board_seen.false)
+pub returns-else-is_board_seen : goal.returns-else-is_board_seen
+returns-else-is_board_seen c =
+    record {
+      value =
+          round_none c.args.no_limit c.args.trace.now (seen_by c.args.trace.now c.args.viewer.number c.args.count) c.args.count c.args.street (sym (c.is_board_seen.ensures c.args.viewer.number) ∙ c.if-is_board_seen.false);
+      few = omega arith;
+    }
