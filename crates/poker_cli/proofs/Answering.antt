@@ -46,7 +46,7 @@ answer_within task reader None bytes answer all is = (bytes, is)
 pub beyond : (n : ℕ) (left : Option (List ℕ)) (P : List ℕ → Type 0) → IfSome left (λ l. n < length l)
     → ((bytes : List ℕ) → n < length bytes → P bytes) → OfBytes left P
 beyond n (Some left) P many each = each left many
-beyond n None P many each = let long = replicate (suc n) 0 in (long, each long (omega (arith, length-replicate (suc n) 0)))
+beyond n None P many each = let long : List ℕ = replicate (suc n) 0 in (long, each long (omega (arith, length-replicate {A = ℕ} (suc n) 0)))
 
 -- more bytes than are read
 pub answer_beyond : (task : Task) (reader : Format) (left : Option (List ℕ)) (answer : Answer)
