@@ -3,7 +3,7 @@ use Rattle.std.proofs.Common.{rules}
 use Rattle.command_words.specs.Requests.{request_in}
 use Rattle.host_io.specs.Faults.{Rose}
 use Rattle.poker_cli.specs.Told.{answer_told}
-use Rattle.poker_cli.proofs.Answering.{ends_where_told}
+use Rattle.poker_cli.proofs.Answering.{ends_memory, ends_where_told}
 use Rattle.poker_cli.proofs.entry.run_request.Goals as goal
 
 pub returns-in-Ok-clause-ends : goal.returns-in-Ok-clause-ends
@@ -29,3 +29,7 @@ pub returns-in-Err-ShelfFault-clause-tells : goal.returns-in-Err-ShelfFault-clau
 returns-in-Err-ShelfFault-clause-tells g c =
     let rose : Rose (g.H.Shelf.faults c.args.shelf.now) (g.H.Shelf.faults c.reply.new.shelf) = search rules in
     record { read_fault = λ is. cc; write_fault = λ is. cc; shelf_fault = λ is. rose; fixed_line = c.tell-in-Err-ShelfFault.ensures }
+
+pub returns-in-Err-Memory-clause-ends : goal.returns-in-Err-Memory-clause-ends
+returns-in-Err-Memory-clause-ends g c =
+    ends_memory (request_in c.args.request) (g.S.Source.left c.args.input.now) (g.H.Shelf.files c.args.shelf.now) _ _ _
