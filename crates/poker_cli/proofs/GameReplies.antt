@@ -1,5 +1,5 @@
 -- The game file of a hand is one that gives its game.
-use Rattle.std.proofs.Common.{◌≡◌, ◌≤◌, ◌×◌, Bool, true, false, not, nat_lt, if◌then◌else◌, ℕ, List, [], ◌∷◌, length, Option, Some, None, IfOk, IfSome, Result, Ok, Err, refl, sym, ap, subst, ◌∙◌, arith}
+use Rattle.std.proofs.Common.{◌≡◌, ◌≤◌, ◌<◌, Bool, true, false, not, nat_lt, if◌then◌else◌, ℕ, List, [], ◌∷◌, get_or, length, Option, Some, None, IfOk, IfSome, Result, Ok, Err, refl, sym, ap, subst, ◌∙◌, arith}
 use Rattle.std.specs.List.{list_any}
 use Rattle.std.specs.Option.{option_map_or}
 use Rattle.std.specs.Result.{result_ok}
@@ -58,6 +58,13 @@ first_game play rest game text fits written =
           subst (λ (r : Result GameSaid Unspelled). IfOk r (λ said. (g : Game) × ((game_in g ≡ said) × GivesGame (Some text) g))) (sym fits)
           (game, (refl, gives_it play.trace.setup game text fits written));
     }
+
+-- of all plays the first
+pub first_of_all : (plays : List Play) (play : Play) (game : Game) (text : List ℕ) → 0 < length plays → play ≡ get_or plays 0 play
+    → game_of play.trace.setup ≡ Ok (game_in game) → text ≡ game_text (game_in game) → IsGameReply plays (done text)
+first_of_all [] play game text some is fits written = absurd (omega (arith, some))
+first_of_all (first ∷ rest) play game text some is fits written =
+    first_game first rest game text (subst (λ (p : Play). game_of p.trace.setup ≡ Ok (game_in game)) is fits) written
 
 -- or a fact that no game has is told
 pub first_unspelled : (play : Play) (rest : List Play) (fact : Unspelled) → game_of play.trace.setup ≡ Err fact
