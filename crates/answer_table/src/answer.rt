@@ -24,8 +24,13 @@ pub fn answer_to(alloc: Global, pieces: &Pieces, row: &str) -> Result<String, Me
     answer.text(alloc, answer.out.held())
 }
 
-/// Runs the program as a row says.
+/// Runs the program as the text of a row says.
 pub fn run_row(alloc: Global, pieces: &Pieces, row: &str) -> Result<Answer, Memory> {
+    run(alloc, read_row(alloc, pieces, row)?)
+}
+
+/// Runs the program as a row says.
+pub fn run(alloc: Global, row: Row) -> Result<Answer, Memory> {
     let Row {
         words,
         input,
@@ -34,7 +39,7 @@ pub fn run_row(alloc: Global, pieces: &Pieces, row: &str) -> Result<Answer, Memo
         take,
         room,
         fails,
-    } = read_row(alloc, pieces, row)?;
+    } = row;
     let take = take.max(1);
     let mut source = MemSource::in_pieces(input, give.max(1), fails.read);
     let mut shelf = MemShelf::new(files, fails.fetch);
@@ -60,8 +65,8 @@ impl Answer {
     }
 }
 
-// Puts bytes that are there behind their name.
-fn push_named(text: &mut String, name: &str, bytes: &[u8]) -> Result<(), Memory> {
+/// Puts bytes that are there behind their name.
+pub fn push_named(text: &mut String, name: &str, bytes: &[u8]) -> Result<(), Memory> {
     if !bytes.is_empty() {
         write!(text, ", {name} ")?;
         for byte in bytes {

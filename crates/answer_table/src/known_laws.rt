@@ -1,24 +1,43 @@
-//! What is promised of all notations and of all traces, and of no run, stands here once more:
-//! without these laws this does not prove.
-ghost use Rattle.std.specs.Prelude.{◌≡◌, ◌↔◌, ℕ, true, List, Some};
+//! What is promised of all traces, and that no notation says what it does not spell, stands here
+//! once more: without these laws this does not prove.
+ghost use Rattle.std.specs.Prelude.{◌≡◌, ◌↔◌, ℕ, List, ◌+◌, sum_by, true, Some};
 ghost use Rattle.std.specs.List.{AllByRecursion};
-ghost use Rattle.canon_script.specs.TraceCore.{core_of};
-ghost use Rattle.chip_ledger.specs.PotRow.{plain_shares};
+ghost use Rattle.canon_script.specs.CanonScript.{canon_of};
+ghost use Rattle.canon_script.specs.PlayedScript.{IsPlayed};
+ghost use Rattle.canon_script.specs.TraceCore.{core_after, core_of};
+ghost use Rattle.chip_ledger.specs.PotRow.{plain_shares, pots_in, shares_in};
 ghost use Rattle.chip_ledger.specs.Rakes.{nets_of};
-ghost use Rattle.hand_canon.specs.LegalHand.{showdown_in};
+ghost use Rattle.chip_ledger.specs.SeatRow.{total_of};
+ghost use Rattle.chip_ledger.specs.declared.pots.Pot.{Pot};
+ghost use Rattle.hand_canon.specs.LegalHand.{IsLegalHand, showdown_in};
 ghost use Rattle.hand_canon.specs.Sharp.{IsOther, is_sharp};
-ghost use Rattle.hand_canon.specs.WholeTrace.{IsTraceOf};
+ghost use Rattle.hand_canon.specs.WholeTrace.{HasShares, IsTraceOf};
+ghost use Rattle.hand_records.specs.TraceRows.{place_said};
 ghost use Rattle.hand_records.specs.declared.record.Record.{Record};
 ghost use Rattle.hand_records.specs.declared.trace.Play.{Play};
 ghost use Rattle.hand_records.specs.declared.trace.Trace.{Trace};
 ghost use Rattle.hand_records.specs.declared.writing.Unspelled.{Unspelled};
-ghost use Rattle.play_event.specs.Past.{Past};
+ghost use Rattle.play_event.specs.Laws.{AreLegal};
+ghost use Rattle.play_event.specs.Past.{Past, moves_of};
+ghost use Rattle.play_event.specs.Played.{IsPlace};
+ghost use Rattle.play_event.specs.Price.{all_chips_put};
+ghost use Rattle.play_event.specs.Said.{Said};
+ghost use Rattle.play_event.specs.Scripts.{past_of, past_at_end};
+ghost use Rattle.play_event.specs.Trace.{TracedPlace};
+ghost use Rattle.play_event.specs.ValidSetup.{IsValid};
+ghost use Rattle.play_event.specs.declared.played.Place.{Place};
+ghost use Rattle.play_event.specs.declared.setup.Rules.{Rules};
 ghost use Rattle.play_event.specs.declared.setup.Setup.{Setup};
+ghost use Rattle.trace_laws.specs.Conserved.{IsConserved};
 ghost use Rattle.trace_laws.specs.Winners.{AllGoToBest};
 
+use chip_laws::law_of_conserved_chips;
 use convert_core::{Notation, law_of_sharpness};
 use hand_records::Keep;
-use trace_laws::{law_of_one_trace, law_of_winners};
+use trace_laws::{
+    law_of_canonical_hands, law_of_finishing_stacks, law_of_one_trace, law_of_places,
+    law_of_pots_and_returns, law_of_winners,
+};
 
 /// No bytes say what a notation does not spell: none of the hands that they say is legal with the
 /// trace of a play that has a fact without a spelling, but for an odd chip or a note.
@@ -42,6 +61,45 @@ pub fn trace_is_one()
     law_of_one_trace();
 }
 
+/// The canonical script of a legal hand is legal, and has its shares and finishing stacks.
+pub fn canonical_hand_is_the_hand()
+    ensures legal { (setup : Setup) (rules : Rules) (script : List Said)
+        → IsLegalHand setup rules script → IsLegalHand setup rules (canon_of setup script) }
+    ensures same_shares { (setup : Setup) (rules : Rules) (script : List Said)
+        → (shares : List (ℕ → ℕ)) (finish : ℕ → ℕ) → IsPlayed setup rules script
+        → HasShares setup (core_after setup script) shares finish
+        ↔ HasShares setup (core_after setup (canon_of setup script)) shares finish }
+{
+    law_of_canonical_hands();
+}
+
+/// Where a card lies is said in one way.
+pub fn place_is_said_once()
+    ensures { (row : Place) (place : TracedPlace) → IsPlace row place ↔ (place_said row ≡ place) }
+{
+    law_of_places();
+}
+
+/// What the seats put is in the pots or is returned.
+pub fn pots_and_returns_are_what_was_put()
+    ensures { (setup : Setup) (past : Past) (trace : Trace) → IsTraceOf setup past trace
+        → sum_by (λ (pot : Pot). pot.chips) (pots_in trace.pots) + total_of trace.pots.returned
+        ≡ all_chips_put setup (moves_of past) }
+{
+    law_of_pots_and_returns();
+}
+
+/// What leaves a hand is that part of its pots that no seat gets.
+pub fn what_leaves_a_hand_is_in_its_pots()
+    ensures { (setup : Setup) (rules : Rules) (events : List Said) (trace : Trace)
+        → IsValid setup → AreLegal setup rules events
+        → IsTraceOf setup (past_of setup events) trace
+        → total_of trace.finish + sum_by (λ (pot : Pot). pot.chips) (pots_in trace.pots)
+        ≡ total_of setup.stacks + sum_by total_of (shares_in trace.shares) }
+{
+    law_of_finishing_stacks();
+}
+
 /// Of a pot that two or more seats may win, only those get chips that were shown and that no shown
 /// hand beats.
 pub fn best_shown_hands_win()
@@ -50,4 +108,14 @@ pub fn best_shown_hands_win()
         (nets_of setup.rakes (core_of setup past).pots) (plain_shares trace.shares) }
 {
     law_of_winners();
+}
+
+/// No chip is made and none is lost in a legal hand.
+pub fn chips_are_conserved()
+    ensures { (setup : Setup) (rules : Rules) (script : List Said) (trace : Trace)
+        → IsValid setup → IsLegalHand setup rules script
+        → IsTraceOf setup (past_at_end setup script) trace
+        → IsConserved setup (past_at_end setup script) trace }
+{
+    law_of_conserved_chips();
 }

@@ -9,7 +9,7 @@ ghost use Rattle.host_io.specs.MemShelf.{shelf_files, shelf_plan};
 ghost use Rattle.host_io.specs.MemSink.{bytes_held, sink_plan};
 ghost use Rattle.host_io.specs.MemSource.{bytes_left, source_plan};
 ghost use Rattle.poker_cli.specs.Headline.{AsksToConvert, Headline};
-ghost use Rattle.poker_cli.specs.Run.{AsksInTurn, LacksFile, MakesHands, ReadsNothing, TellsLine, WhereTold, WritesNothing, change_of, fixed_line};
+ghost use Rattle.poker_cli.specs.Run.{AsksInTurn, EndsLeaving, LacksFile, MakesHands, ReadsNothing, TellsLine, WhereTold, WritesNothing, change_of, fixed_line};
 ghost use Rattle.poker_cli.specs.declared.task.Format.{Format};
 
 use host_io::{MemShelf, MemSink, MemSource};
@@ -27,6 +27,15 @@ pub fn run_on(
 ) -> Status
     // Other words are Usage, and only they are.
     ensures usage { (result ≡ Status.Usage) ↔ (request_said (map string_bytes words.now) ≡ None) }
+    // The answer itself: what the run came to is that of the request to these files and bytes.
+    ensures ends { IfSome (request_said (map string_bytes words.now)) (λ request.
+        WhereTold request (Some (bytes_left input.old)) (Some (shelf_files shelf.old))
+        (λ files bytes. EndsLeaving request files bytes
+        (change_of (λ (sink : MemSink). Some (bytes_held sink))
+        (λ (sink : MemSink). (sink_plan sink).faults) out.old out.new)
+        (change_of (λ (sink : MemSink). Some (bytes_held sink))
+        (λ (sink : MemSink). (sink_plan sink).faults) diag.old diag.new)
+        result (out.new ≡ out.old))) }
     // What a conversion comes to.
     ensures headline { IfSome (request_said (map string_bytes words.now)) (λ request.
         WhereTold request (Some (bytes_left input.old)) (Some (shelf_files shelf.old))

@@ -3,17 +3,21 @@
 #![tactic(auto)]
 
 mod answer;
+mod known_answers;
+mod known_conversions;
 mod known_laws;
 mod known_run;
+mod libraries;
 mod made;
 mod parts;
 mod pieces;
 mod row;
 mod series;
 mod timing;
+mod way;
 
 use card_set::Memory;
-use pieces::Pieces;
+use pieces::{Pieces, parted};
 use std::alloc::Global;
 use std::{env, io};
 
@@ -46,7 +50,8 @@ fn print_answers(rt: &HostRuntime) -> io::Result<()> {
 }
 
 // The answer to a line that is a row. `let NAME = TEXT` names a piece of text, `made SEED HANDS`
-// says which hands are made; a heading begins with `#`.
+// says which hands are made, `way FROM BY TO GAME` which way a conversion goes besides, and
+// `library CALL` what is called in place of the program; a heading begins with `#`.
 fn answer_to(alloc: Global, pieces: &mut Pieces, line: &str) -> Result<Option<String>, Memory> {
     if line.is_empty() || line.starts_with('#') {
         return Ok(None);
@@ -55,8 +60,11 @@ fn answer_to(alloc: Global, pieces: &mut Pieces, line: &str) -> Result<Option<St
         pieces.define(alloc, definition)?;
         return Ok(None);
     }
-    match line.strip_prefix("made ") {
-        Some(numbers) => Ok(Some(made::answer_to(alloc, numbers)?)),
-        None => Ok(Some(series::answers_to(alloc, pieces, line)?)),
+    let (kind, row) = parted(line, " ");
+    match kind {
+        "made" => Ok(Some(made::answer_to(alloc, row)?)),
+        "way" => Ok(Some(way::answer_to(alloc, pieces, row)?)),
+        "library" => Ok(Some(libraries::answer_to(alloc, pieces, row)?)),
+        _ => Ok(Some(series::answers_to(alloc, pieces, line)?)),
     }
 }

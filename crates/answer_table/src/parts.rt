@@ -37,8 +37,8 @@ pub fn write_hands(alloc: Global, from: &str, to: &str, times: u32, bytes: &[u8]
     }
 }
 
-// The plays of the bytes in the notation of this name, if they read as legal hands there.
-fn play_hands(alloc: Global, from: &str, bytes: &[u8]) -> Option<Vec<Play>>
+/// The plays of the bytes in the notation of this name, if they read as legal hands there.
+pub fn play_hands(alloc: Global, from: &str, bytes: &[u8]) -> Option<Vec<Play>>
     ensures sound { IfSome result (λ plays. AllByRecursion IsSound plays.items) }
     ensures few { IfSome result (λ plays. length plays.items ≤ MOST_HANDS) }
 {

@@ -1,0 +1,260 @@
+//! What is promised of all answers, and of runs that are looked at together, stands here once more:
+//! without these laws this does not prove.
+ghost use Rattle.std.specs.Prelude.{◌≡◌, ◌⊎◌, ◌↔◌, ◌≤◌, ℕ, Bool, true, List, None, Some, IfSome, Ok, length};
+ghost use Rattle.std.specs.List.{AllByRecursion};
+ghost use Rattle.acpc_game.specs.declared.game.Game.{Game};
+ghost use Rattle.chip_ledger.specs.declared.numbers.Seat.{Seat};
+ghost use Rattle.command_words.specs.Words.{Load, Request};
+ghost use Rattle.command_words.specs.declared.command.Command.{Command};
+ghost use Rattle.command_words.specs.declared.task.Question.{Question};
+ghost use Rattle.command_words.specs.declared.task.Question.TheVariants as questions;
+ghost use Rattle.hand_canon.specs.Sound.{IsSound};
+ghost use Rattle.hand_equity.specs.Street.{deals_board, first_unknown};
+ghost use Rattle.hand_records.specs.SameHands.{AreSameHands, kept_notes};
+ghost use Rattle.hand_records.specs.declared.record.Record.{Record};
+ghost use Rattle.hand_records.specs.declared.trace.Play.{Play};
+ghost use Rattle.hand_records.specs.declared.writing.Keep.{Keep};
+ghost use Rattle.hand_records.specs.declared.writing.Keep.TheVariants as keeps;
+ghost use Rattle.hand_records.specs.declared.writing.Unspelled.TheVariants as facts;
+ghost use Rattle.poker_cli.specs.Answer.{Answer, AsksToCompare, Files, IsAnswer, IsComparison, IsReply, IsWay, most_input};
+ghost use Rattle.poker_cli.specs.Compared.{compared};
+ghost use Rattle.poker_cli.specs.ComparedRuns.{AreFoundOther, AreFoundSame, AreOther, AreSame, BothRead, FindsOther};
+ghost use Rattle.poker_cli.specs.Headline.{ConversionEnds, ConvertsInto};
+ghost use Rattle.poker_cli.specs.Inputs.{SayRecords};
+ghost use Rattle.poker_cli.specs.LegalInputs.{AsksOfLegal};
+ghost use Rattle.poker_cli.specs.OneAnswer.{AreOneAnswer};
+ghost use Rattle.poker_cli.specs.Outputs.{AreSameIn, first_refusal_in, kept_in, unspelled_in};
+ghost use Rattle.poker_cli.specs.Replies.{AreViews, each_view, hand_numbered, most_view_bytes};
+ghost use Rattle.poker_cli.specs.Run.{Ends, NeedsNoInput, RefusesNothing, Sinks};
+ghost use Rattle.poker_cli.specs.RunTells.{told_by};
+ghost use Rattle.poker_cli.specs.Ways.{way};
+ghost use Rattle.poker_cli.specs.declared.comparison.Comparison.{Comparison};
+ghost use Rattle.poker_cli.specs.declared.status.Status.{Status};
+ghost use Rattle.poker_cli.specs.declared.status.Status.TheVariants as statuses;
+ghost use Rattle.poker_cli.specs.declared.task.Format.{Format};
+ghost use Rattle.poker_cli.specs.declared.task.Format.TheVariants as readers;
+ghost use Rattle.poker_cli.specs.declared.task.Task.{Task};
+ghost use Rattle.poker_cli.specs.declared.task.Task.TheVariants as tasks;
+ghost use Rattle.convert_core.specs.Conversion.{ReadAsPlays};
+ghost use Rattle.convert_core.specs.SameAnswers.{AreSameAnswers};
+
+use poker_cli::{
+    law_of_compared_conversions, law_of_compared_hands, law_of_compared_outputs,
+    law_of_comparisons, law_of_equal_answers, law_of_equal_runs, law_of_legal_inputs,
+    law_of_one_answer, law_of_read_hands, law_of_runs_again, law_of_runs_by_way,
+};
+
+/// An input has one answer.
+pub fn answer_is_one()
+    ensures task { (task : Task) (reader : Format) (bytes : List ℕ) (answer other : Answer)
+        → IsAnswer task reader bytes answer → IsAnswer task reader bytes other
+        → AreOneAnswer task answer other }
+    ensures comparison { (by : Comparison) (file bytes : List ℕ) (answer other : Answer)
+        → IsComparison by file bytes answer → IsComparison by file bytes other → answer ≡ other }
+{
+    law_of_one_answer();
+}
+
+/// No legal input is refused.
+pub fn legal_inputs_are_answered()
+    ensures show { (request : Request) (command : Command) (reader : Format) (files : Files)
+        → (bytes : List ℕ) (plays : List Play) (out diag : Sinks) (status : Status)
+        → AsksOfLegal files request (tasks.Ask (questions.Show command)) reader bytes plays
+        → Ends request files bytes out diag status → RefusesNothing status }
+    ensures ask { (request : Request) (question : Question) (reader : Format) (files : Files)
+        → (bytes : List ℕ) (plays : List Play) (reply : Answer) (out diag : Sinks)
+        → (status : Status) → AsksOfLegal files request (tasks.Ask question) reader bytes plays
+        → IsReply question plays reply → Ends request files bytes out diag status
+        → RefusesNothing status ⊎ (reply.status ≡ status) }
+    ensures options { (request : Request) (hand events : ℕ) (reader : Format) (files : Files)
+        → (bytes : List ℕ) (plays : List Play) (play : Play) (out diag : Sinks) (status : Status)
+        → AsksOfLegal files request (tasks.Ask (questions.Options hand events)) reader bytes plays
+        → hand_numbered plays hand ≡ Some play → events ≤ length play.hand.script
+        → Ends request files bytes out diag status → RefusesNothing status }
+    ensures equity { (request : Request) (hand street : ℕ) (reader : Format) (files : Files)
+        → (bytes : List ℕ) (plays : List Play) (play : Play) (out diag : Sinks) (status : Status)
+        → AsksOfLegal files request (tasks.Ask (questions.Equity hand street)) reader bytes plays
+        → hand_numbered plays hand ≡ Some play → deals_board play.trace street ≡ true
+        → first_unknown play.trace street ≡ None
+        → Ends request files bytes out diag status → RefusesNothing status }
+    ensures views { (request : Request) (game : Game) (seat : Seat) (reader : Format)
+        → (files : Files) (bytes : List ℕ) (plays : List Play) (reply : Answer)
+        → (out diag : Sinks) (status : Status)
+        → AsksOfLegal files request (tasks.Views game seat) reader bytes plays
+        → AreViews game seat plays reply → Ends request files bytes out diag status
+        → RefusesNothing status ⊎ (reply.status ≡ status) }
+    ensures seen { (request : Request) (game : Game) (seat : Seat) (reader : Format)
+        → (files : Files) (bytes : List ℕ) (plays : List Play) (out diag : Sinks)
+        → (status : Status) → AsksOfLegal files request (tasks.Views game seat) reader bytes plays
+        → seat.number ≤ game.stacks.seats
+        → length (each_view game seat 0 plays) ≤ most_view_bytes
+        → Ends request files bytes out diag status → RefusesNothing status }
+    ensures judge { (request : Request) (reader : Format) (files : Files) (bytes : List ℕ)
+        → (records : List Record) (out diag : Sinks) (status : Status)
+        → IsWay files request (way tasks.Judge reader)
+        → length bytes ≤ most_input → SayRecords reader bytes records
+        → Ends request files bytes out diag status → RefusesNothing status }
+    ensures convert { (request : Request) (reader target : Format) (keep : Keep) (files : Files)
+        → (bytes : List ℕ) (plays : List Play) (out diag : Sinks) (status : Status)
+        → AsksOfLegal files request (tasks.Convert target keep) reader bytes plays
+        → first_refusal_in target keep plays ≡ None
+        → Ends request files bytes out diag status → RefusesNothing status }
+    ensures compare { (request : Request) (by : Comparison) (files : Files) (text bytes : List ℕ)
+        → (plays others : List Play) (out diag : Sinks) (status : Status)
+        → AsksToCompare files request by text → BothRead by text bytes plays others
+        → Ends request files bytes out diag status
+        → RefusesNothing status ⊎ ((compared by.notes plays others).status ≡ status) }
+    ensures load { (seed hands : ℕ) (files : Files) (bytes : List ℕ)
+        → (out diag : Sinks) (status : Status)
+        → Ends (Load seed hands) files bytes out diag status → NeedsNoInput status }
+{
+    law_of_legal_inputs();
+}
+
+/// What is read in a notation is spelled there.
+pub fn hands_that_are_read_are_spelled()
+    ensures spelled { (reader : Format) (bytes : List ℕ) (plays : List Play)
+        → ReadAsPlays (SayRecords reader bytes) plays
+        → AllByRecursion (λ play. IfSome (unspelled_in reader keeps.Spelled play)
+        (λ fact. fact ≡ facts.OddChip)) plays }
+    ensures setup { (game : Game) (bytes too : List ℕ) (plays others : List Play)
+        → (hand another : ℕ) (play other : Play)
+        → ReadAsPlays (SayRecords (readers.Acpc game) bytes) plays
+        → ReadAsPlays (SayRecords (readers.Acpc game) too) others
+        → hand_numbered plays hand ≡ Some play → hand_numbered others another ≡ Some other
+        → play.trace.setup ≡ other.trace.setup }
+{
+    law_of_read_hands();
+}
+
+/// Answers are the same exactly of equal hands, again and by any way.
+pub fn answers_to_equal_hands_are_the_same()
+    ensures equal { (from other to : Format) (keep : Keep) (bytes too : List ℕ)
+        → (plays others : List Play) (answer written : Answer)
+        → ReadAsPlays (SayRecords from bytes) plays → ReadAsPlays (SayRecords other too) others
+        → IsAnswer (tasks.Convert to keep) from bytes answer → answer.status ≡ statuses.Done
+        → IsAnswer (tasks.Convert to keep) other too written → written.status ≡ statuses.Done
+        → AreSameHands (kept_notes keep (kept_in to)) plays others
+        ↔ AreSameIn to answer.output written.output }
+    ensures again { (from to : Format) (keep again : Keep) (bytes : List ℕ) (answer other : Answer)
+        → IsAnswer (tasks.Convert to keep) from bytes answer → answer.status ≡ statuses.Done
+        → length answer.output ≤ most_input
+        → IsAnswer (tasks.Convert to again) to answer.output other
+        → (other.status ≡ statuses.Done) × AreSameIn to answer.output other.output }
+    ensures by_way { (from by to : Format) (keep : Keep) (bytes : List ℕ)
+        → (halfway straight by_way : Answer)
+        → IsAnswer (tasks.Convert by keeps.All) from bytes halfway
+        → halfway.status ≡ statuses.Done
+        → length halfway.output ≤ most_input
+        → IsAnswer (tasks.Convert to keep) from bytes straight
+        → IsAnswer (tasks.Convert to keep) by halfway.output by_way
+        → AreOneAnswer (tasks.Convert to keep) straight by_way }
+{
+    law_of_equal_answers();
+}
+
+/// Runs write the same exactly of equal hands.
+pub fn runs_on_equal_hands_write_the_same()
+    ensures { (from other to : Format) (keep : Keep) (bytes too output written : List ℕ)
+        → (plays others : List Play)
+        → ReadAsPlays (SayRecords from bytes) plays → ReadAsPlays (SayRecords other too) others
+        → ConvertsInto from to keep bytes output → ConvertsInto other to keep too written
+        → AreSameHands (kept_notes keep (kept_in to)) plays others
+        ↔ AreSameIn to output written }
+{
+    law_of_equal_runs();
+}
+
+/// A run on an output writes it again.
+pub fn run_on_an_output_writes_it()
+    ensures { (from to : Format) (keep again : Keep) (bytes output : List ℕ)
+        → ConvertsInto from to keep bytes output
+        → (out diag : Sinks) (status : Status)
+        → (ends : ConversionEnds to to again output out diag status)
+        → AreSameAnswers (AreSameIn to) (Ok output)
+        (told_by to to again output out diag status ends) }
+{
+    law_of_runs_again();
+}
+
+/// Two runs may do the work of one.
+pub fn way_of_runs_is_free()
+    ensures { (from by to : Format) (keep : Keep) (bytes output : List ℕ)
+        → ConvertsInto from by keeps.All bytes output
+        → (out diag by_out by_diag : Sinks) (status by_status : Status)
+        → (straight : ConversionEnds from to keep bytes out diag status)
+        → (by_way : ConversionEnds by to keep output by_out by_diag by_status)
+        → AreSameAnswers (AreSameIn to) (told_by from to keep bytes out diag status straight)
+        (told_by by to keep output by_out by_diag by_status by_way) }
+{
+    law_of_runs_by_way();
+}
+
+/// A comparison is done exactly of the same hands, and else names the first difference.
+pub fn same_hands_compare_as_the_same()
+    ensures same { (notes : Bool) (plays others : List Play)
+        → AllByRecursion IsSound plays → AllByRecursion IsSound others
+        → ((compared notes plays others).status ≡ statuses.Done) ↔ AreSame notes plays others }
+    ensures other { (notes : Bool) (plays others : List Play)
+        → AllByRecursion IsSound plays → AllByRecursion IsSound others
+        → (compared notes plays others).status ≡ statuses.Differs
+        → AreOther notes plays others (compared notes plays others) }
+{
+    law_of_compared_hands();
+}
+
+/// A run that compares finds the same hands exactly where they are.
+pub fn comparison_finds_the_same_hands()
+    ensures done { (request : Request) (by : Comparison) (files : Files) (text bytes : List ℕ)
+        → (out diag : Sinks) → AsksToCompare files request by text
+        → Ends request files bytes out diag statuses.Done → AreFoundSame by text bytes out }
+    ensures differs { (request : Request) (by : Comparison) (files : Files) (text bytes : List ℕ)
+        → (out diag : Sinks) → AsksToCompare files request by text
+        → Ends request files bytes out diag statuses.Differs → AreFoundOther by text bytes diag }
+    ensures same { (request : Request) (by : Comparison) (files : Files) (text bytes : List ℕ)
+        → (plays others : List Play) (out diag : Sinks) (status : Status)
+        → AsksToCompare files request by text → BothRead by text bytes plays others
+        → AreSame by.notes plays others
+        → Ends request files bytes out diag status → RefusesNothing status }
+    ensures different { (request : Request) (by : Comparison) (files : Files) (text bytes : List ℕ)
+        → (plays others : List Play) (out diag : Sinks) (status : Status)
+        → AsksToCompare files request by text → BothRead by text bytes plays others
+        → (AreSame by.notes plays others → ⊥)
+        → Ends request files bytes out diag status → FindsOther status }
+{
+    law_of_comparisons();
+}
+
+/// What was converted compares as its source.
+pub fn conversion_compares_as_its_source()
+    ensures source { (request : Request) (files : Files) (from to : Format) (keep : Keep)
+        (notes : Bool)
+        → (bytes output : List ℕ) (out diag : Sinks) (status : Status)
+        → (into : ConvertsInto from to keep bytes output)
+        → (notes ≡ true → first_refusal_in to keeps.All into.plays ≡ None)
+        → AsksToCompare files request (record { from = from; other = to; notes = notes }) output
+        → Ends request files bytes out diag status → RefusesNothing status }
+    ensures output { (request : Request) (files : Files) (from to : Format) (keep : Keep)
+        (notes : Bool)
+        → (bytes output : List ℕ) (out diag : Sinks) (status : Status)
+        → (into : ConvertsInto from to keep bytes output)
+        → (notes ≡ true → first_refusal_in to keeps.All into.plays ≡ None)
+        → length output ≤ most_input
+        → AsksToCompare files request (record { from = to; other = from; notes = notes }) bytes
+        → Ends request files output out diag status → RefusesNothing status }
+{
+    law_of_compared_conversions();
+}
+
+/// Files compare as the same exactly where they are converted into the same output.
+pub fn files_of_one_output_compare_as_the_same()
+    ensures { (request : Request) (files : Files) (from other to : Format)
+        → (bytes too output written : List ℕ) (out diag : Sinks) (status : Status)
+        → ConvertsInto from to keeps.All bytes output → ConvertsInto other to keeps.All too written
+        → AsksToCompare files request (record { from = from; other = other; notes = true }) too
+        → Ends request files bytes out diag status
+        → (AreSameIn to output written → RefusesNothing status)
+        × (status ≡ statuses.Done → AreSameIn to output written) }
+{
+    law_of_compared_outputs();
+}

@@ -1,0 +1,104 @@
+//! Calls of the libraries that the program does not make, or makes on fewer arguments, are made on
+//! the hands of a row, and their answers are told in words.
+ghost use Rattle.std.specs.Prelude.{◌≤◌, length};
+ghost use Rattle.std.specs.List.{AllByRecursion};
+ghost use Rattle.first_fault.specs.declared.limits.TheConstants.{MOST_HANDS};
+ghost use Rattle.hand_canon.specs.Sound.{IsSound};
+
+use crate::answer::push_named;
+use crate::parts::play_hands;
+use crate::pieces::{Pieces, parted};
+use card_set::Memory;
+use hand_equity::{NoEquity, equity_of, equity_text};
+use hand_records::Play;
+use hand_session::{Session, session, session_text};
+use printed_report::report_text;
+use std::alloc::Global;
+
+/// The answer to a call on the hands of the input: `session FROM`, `report FROM`, or
+/// `equity STREET FROM` of the first hand. FROM is the notation, and logs are of three seats with
+/// 100 chips each.
+pub fn answer_to(alloc: Global, pieces: &Pieces, row: &str) -> Result<String, Memory> {
+    let (words, input) = parted(row, "<");
+    let bytes = pieces.bytes_of(alloc, input.strip_prefix(' ').unwrap_or(input))?;
+    let (call, arguments) = parted(words.trim(), " ");
+    let (street, from) = match arguments.split_once(' ') {
+        Some((street, from)) => (street.parse::<u8>().unwrap_or(0), from),
+        None => (0, arguments),
+    };
+    let Some(plays) = play_hands(alloc, from, &bytes) else {
+        return Ok(String::from_str(alloc, "no hands")?);
+    };
+    match call {
+        "session" => told_session(alloc, &plays),
+        "report" => told_report(alloc, &plays),
+        _ => told_equity(alloc, &plays, street),
+    }
+}
+
+// The session of hands: how many steps and rows there are, each of them, and the text.
+fn told_session(alloc: Global, plays: &[Play]) -> Result<String, Memory>
+    requires sound { AllByRecursion IsSound plays.now }
+    requires few { length plays.now ≤ MOST_HANDS }
+{
+    let session = session(alloc, plays)?;
+    let text = session_text(alloc, &session)?;
+    let mut told = String::new(alloc);
+    push_steps(&mut told, &session)?;
+    push_rows(&mut told, &session)?;
+    push_named(&mut told, "text", text.as_bytes())?;
+    Ok(told)
+}
+
+// Puts how many steps a session has, and of each its hand and its name.
+fn push_steps(told: &mut String, session: &Session) -> Result<(), Memory> {
+    let steps = &session.steps;
+    write!(told, "{} steps", steps.len())?;
+    for index in 0..steps.len() {
+        let step = steps.get(index);
+        write!(told, ", {} {}", step.hand, step.name.as_str())?;
+    }
+    Ok(())
+}
+
+// Puts how many rows a session has, and of each its name and its last stack.
+fn push_rows(told: &mut String, session: &Session) -> Result<(), Memory> {
+    let rows = &session.rows;
+    write!(told, ", {} rows", rows.len())?;
+    for index in 0..rows.len() {
+        let row = rows.get(index);
+        write!(told, ", {} {}", row.name.as_str(), row.last)?;
+    }
+    Ok(())
+}
+
+// The report on hands.
+fn told_report(alloc: Global, plays: &[Play]) -> Result<String, Memory>
+    requires few { length plays.now ≤ MOST_HANDS }
+{
+    let text = report_text(alloc, plays)?;
+    let mut told = String::from_str(alloc, "report")?;
+    push_named(&mut told, "text", text.as_bytes())?;
+    Ok(told)
+}
+
+// The equity of the first of some hands on a street, or why there is none.
+fn told_equity(alloc: Global, plays: &[Play], street: u8) -> Result<String, Memory>
+    requires sound { AllByRecursion IsSound plays.now }
+{
+    let [play, ..] = plays else {
+        return Ok(String::from_str(alloc, "no hand")?);
+    };
+    match equity_of(play, street) {
+        Ok(row) => {
+            let text = equity_text(alloc, 1, street, play, &row)?;
+            let mut told = String::from_str(alloc, "equity")?;
+            push_named(&mut told, "text", &text)?;
+            Ok(told)
+        }
+        Err(NoEquity::NoStreet) => Ok(String::from_str(alloc, "no street")?),
+        Err(NoEquity::UnknownCards(seat)) => {
+            Ok(format!(in alloc; "unknown cards of p{}", seat.number)?)
+        }
+    }
+}

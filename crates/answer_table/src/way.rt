@@ -1,0 +1,46 @@
+//! A conversion that goes by another notation is told beside the straight one.
+use crate::answer::{Answer, run};
+use crate::pieces::{Pieces, parted};
+use crate::row::read_row;
+use card_set::Memory;
+use std::alloc::Global;
+
+/// The answer to a row FROM BY TO GAME: what becomes of the input straight, and behind it that the
+/// same becomes of it by way of another notation, or what else. Logs are under the piece of this
+/// name.
+pub fn answer_to(alloc: Global, pieces: &Pieces, row: &str) -> Result<String, Memory> {
+    let (words, input) = parted(row, "<");
+    let (from, words) = parted(words.trim(), " ");
+    let (by, words) = parted(words, " ");
+    let (to, game) = parted(words, " ");
+    let input = pieces.bytes_of(alloc, input.strip_prefix(' ').unwrap_or(input))?;
+    let straight = convert(alloc, pieces, game, from, to, &input)?;
+    let first = convert(alloc, pieces, game, from, by, &input)?;
+    let second = convert(alloc, pieces, game, by, to, first.out.held())?;
+    let mut text = straight.text(alloc, straight.out.held())?;
+    let other = second.text(alloc, second.out.held())?;
+    if other == text {
+        write!(text, "\n    the same by {by}")?;
+    } else {
+        write!(text, "\n    by {by} {other}")?;
+    }
+    Ok(text)
+}
+
+// Runs a conversion of these bytes.
+fn convert(
+    alloc: Global,
+    pieces: &Pieces,
+    game: &str,
+    from: &str,
+    to: &str,
+    input: &[u8],
+) -> Result<Answer, Memory> {
+    let mut words = format!(in alloc; "convert --from {from} --to {to} @room=4000")?;
+    if from == "acpc" || to == "acpc" {
+        write!(words, " --game g @file=g:{game}")?;
+    }
+    let mut row = read_row(alloc, pieces, &words)?;
+    row.input = Vec::from_slice(alloc, input)?;
+    run(alloc, row)
+}
