@@ -1,5 +1,5 @@
 -- The words that are run are those behind the name of the process.
-use Rattle.std.proofs.Common.{◌≡◌, ◌≢◌, ℕ, List, [], drop, map, string_bytes, IfErr, IfOk, Result, Ok, Err, None, ap, refl, sym, subst, inl, inr, ◌∙◌}
+use Rattle.std.proofs.Common.{◌≡◌, ◌≢◌, ℕ, List, [], drop, map, string_bytes, IfErr, IfOk, Result, Ok, Err, Option, None, ap, refl, sym, subst, inl, inr, ◌∙◌}
 use Rattle.std.specs.IoError.{error_kind}
 use Rattle.std.specs.Vec.Iter.{into_iter_items}
 use Rattle.std.specs.declared.alloc.Global.{Global}
@@ -8,6 +8,8 @@ use Rattle.std.specs.declared.io.ErrorKind.TheVariants.{OutOfMemory}
 use Rattle.std.specs.declared.string.String.{String}
 use Rattle.std.specs.declared.vec.IntoIter.{IntoIter}
 use Rattle.command_words.specs.Words.{request_said}
+use Rattle.poker_cli.specs.Answer.{Files}
+use Rattle.poker_cli.specs.Run.{Sinks}
 use Rattle.poker_cli.specs.Process.{RunKeeps, words_given}
 use Rattle.poker_cli.specs.declared.status.Status.{Status}
 use Rattle.poker_cli.specs.declared.status.Status.TheVariants as statuses
@@ -27,11 +29,20 @@ no_command (Ok args) items status none usage = tt
 no_command (Err error) items status none usage =
     λ kind. usage (subst (λ (words : List (String Global)). request_said (map string_bytes words) ≡ None) (sym none) refl)
 
+-- what is kept on some words is kept on the same words
+moved : {S H K D : Type 0} {words given : List (List ℕ)} {left : Option (List ℕ)} {told : Option Files} {Asked : H → H → List ℕ → Type 0} {reads asks : ℕ × ℕ}
+    {out diag : Sinks} {status : Status} {input read : S} {shelf seen : H} {sink written : K} {lines heard : D}
+    → words ≡ given → RunKeeps words left told Asked reads asks out diag status input read shelf seen sink written lines heard
+    → RunKeeps given left told Asked reads asks out diag status input read shelf seen sink written lines heard
+moved {left = left} {told = told} {Asked = Asked} {reads = reads} {asks = asks} {out = out} {diag = diag} {status = status} {input = input} {read = read}
+    {shelf = shelf} {seen = seen} {sink = sink} {written = written} {lines = lines} {heard = heard} same keeps =
+    subst (λ (w : List (List ℕ)). RunKeeps w left told Asked reads asks out diag status input read shelf seen sink written lines heard) same keeps
+
 pub returns-in-Ok-clause-run : goal.returns-in-Ok-clause-run
 returns-in-Ok-clause-run g c =
     let run = c.run.ensures in
     let given = ap (map string_bytes) c.deref.ensures.value ∙ words_are c.args.all c.in-Ok.words.items c.in-Ok.ensures.words c.in-Ok.ensures.no_words in
-    inr (subst (λ (words : List (List ℕ)). RunKeeps words _ _ _ _ _ _ _ _ _ _ _ _ _ _ _ _) given
+    inr (moved given
     (record {
       usage = run.usage;
       ends = run.ends;
