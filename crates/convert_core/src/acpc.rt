@@ -1,5 +1,5 @@
 //! Logs of the competition, under a game.
-ghost use Rattle.std.specs.Prelude.{◌≡◌, ◌⊎◌, ◌≤◌, ◌++◌, [], ◌∷◌, true, List, length, None, Some, IfErr, IfOk, OnOk};
+ghost use Rattle.std.specs.Prelude.{◌≡◌, ◌⊎◌, ◌≤◌, ◌++◌, [], ◌∷◌, true, List, length, None, Some, IfErr, IfOk, OnErr, OnOk};
 ghost use Rattle.std.specs.List.{AllByRecursion};
 ghost use Rattle.acpc_format.proofs.NoteFacts as note_facts;
 ghost use Rattle.acpc_format.proofs.OneForm as forms;
@@ -70,9 +70,10 @@ fn push_acpc_line(
     play: &Play,
 ) -> Result<(), AllocError>
     requires { IsSound play.now }
-    ensures { (before : List AnyPlay)
+    ensures line { (before : List AnyPlay)
         → length before ≡ place → in_acpc.Spell game.now before out.old.items
         → OnOk result (in_acpc.Spell game.now (before ++ play.now ∷ []) out.new.items) }
+    ensures unchanged { OnErr result (out.new.items ≡ out.old.items) }
 {
     acpc_format::push_line(alloc, out, game.no_limit, place, play)?;
     Ok(())

@@ -1,6 +1,6 @@
 //! What a notation is: it reads bytes as records, tells which facts of a play it does not spell,
 //! and writes plays as bytes that read back as these plays, in one form for equal plays.
-ghost use Rattle.std.specs.Prelude.{◌≡◌, ◌⊎◌, ◌↔◌, ◌≤◌, ◌<◌, ℕ, Bool, true, false, List, [], ◌∷◌, ◌++◌, length, Option, None, Some, IfErr, IfOk, OnOk};
+ghost use Rattle.std.specs.Prelude.{◌≡◌, ◌⊎◌, ◌↔◌, ◌≤◌, ◌<◌, ℕ, Bool, true, false, List, [], ◌∷◌, ◌++◌, length, Option, None, Some, IfErr, IfOk, OnErr, OnOk};
 ghost use Rattle.std.specs.List.{AllByRecursion};
 ghost use Rattle.first_fault.specs.declared.limits.TheConstants.{MOST_HANDS};
 ghost use Rattle.hand_canon.specs.Sound.{IsSound};
@@ -107,7 +107,8 @@ pub trait Notation {
         ensures line { is_lined self.now ≡ true → (before : List AnyPlay)
             → length before ≡ place → Spell self.now before out.old.items
             → OnOk result (Spell self.now (before ++ play.now ∷ []) out.new.items) }
-        ensures nothing { is_lined self.now ≡ false → out.new ≡ out.old };
+        ensures nothing { is_lined self.now ≡ false → out.new ≡ out.old }
+        ensures unchanged { OnErr result (out.new.items ≡ out.old.items) };
 
     /// What bytes say is sound, under the rules of the notation, and no more than a file may have.
     ghost reads_file: { (notation : Self) (bytes : List ℕ) (hands : List Record)

@@ -1,5 +1,5 @@
 //! Open Hand History, in a dialect.
-ghost use Rattle.std.specs.Prelude.{◌≡◌, ◌⊎◌, ◌≤◌, ◌++◌, [], ◌∷◌, true, List, length, None, Some, IfErr, IfOk, OnOk};
+ghost use Rattle.std.specs.Prelude.{◌≡◌, ◌⊎◌, ◌≤◌, ◌++◌, [], ◌∷◌, true, List, length, None, Some, IfErr, IfOk, OnErr, OnOk};
 ghost use Rattle.std.specs.List.{AllByRecursion};
 ghost use Rattle.first_fault.specs.declared.limits.TheConstants.{MOST_HANDS};
 ghost use Rattle.hand_canon.specs.Sound.{IsSound};
@@ -69,9 +69,10 @@ fn push_ohh_line(
     play: &Play,
 ) -> Result<(), AllocError>
     requires { IsSound play.now }
-    ensures { (before : List AnyPlay)
+    ensures line { (before : List AnyPlay)
         → length before ≡ place → in_ohh.Spell dialect before out.old.items
         → OnOk result (in_ohh.Spell dialect (before ++ play.now ∷ []) out.new.items) }
+    ensures unchanged { OnErr result (out.new.items ≡ out.old.items) }
 {
     match ohh_format::push_line(alloc, out, dialect, place, play) {
         Ok(()) => Ok(()),
