@@ -112,9 +112,18 @@ fn what_is_fetched(
     shelf: &mut impl Shelf,
     case: &Case<'_>,
 ) -> Result<String, AllocError> {
-    let once = told(alloc, shelf.fetch(alloc, case.text, case.limit))?;
-    let again = told(alloc, shelf.fetch(alloc, case.text, case.limit))?;
+    let name = name_of(alloc, case.text)?;
+    let once = told(alloc, shelf.fetch(alloc, &name, case.limit))?;
+    let again = told(alloc, shelf.fetch(alloc, &name, case.limit))?;
     format!(in alloc; "{once}, {again}")
+}
+
+// The name that a text stands for: `\0` in it is a byte 0.
+fn name_of(alloc: Global, text: &str) -> Result<String, AllocError> {
+    match text.split_once("\\0") {
+        Some((front, behind)) => format!(in alloc; "{front}\0{behind}"),
+        None => String::from_str(alloc, text),
+    }
 }
 
 fn told(alloc: Global, fetched: Result<Fetched, ShelfFault>) -> Result<String, AllocError> {
