@@ -259,7 +259,7 @@ module _ (request : Request) (by : Comparison) (files : Files) (text bytes : Lis
 
   fault_or_not : (AreSame by.notes plays others → ⊥) → (status : Status) → Ends request files bytes out diag status → RefusesNothing status → FindsOther status
   fault_or_not other statuses.Done ends is = absurd (never_done other ends.answer ends.to_input ends.ends)
-  fault_or_not other statuses.WriteFault ends is = absurd (never_done other ends.answer ends.to_input ends.ends)
+  fault_or_not other statuses.WriteFault ends is = absurd (never_done other ends.answer ends.to_input ends.ends.0)
   fault_or_not other statuses.ReadFault ends is = tt
   fault_or_not other statuses.ShelfFault ends is = tt
   fault_or_not other statuses.Memory ends is = tt
