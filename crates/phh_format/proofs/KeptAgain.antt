@@ -1,5 +1,5 @@
 -- What is read again of notes are all of them.
-use Rattle.std.proofs.Common.{◌≡◌, ℕ, ◌-◌, ap, ◌∙◌}
+use Rattle.std.proofs.Common.{◌≡◌, ℕ, ap, ◌∙◌}
 use Rattle.hand_records.specs.SaidNotes.{KeepsNotes, kept_label, name_said, said_notes}
 use Rattle.hand_records.specs.declared.notes.Notes.{Notes}
 use Rattle.phh_fields.specs.NoteFields.{PlainNotes, plain_notes}

@@ -1,5 +1,5 @@
 -- Hands that are the same are written as one table, and what is written as one table are the same hands.
-use Rattle.std.proofs.Common.{◌≡◌, ℕ, sum_by, ◌+◌, ◌-◌, ◌≤◌, ◌↔◌, Bool, true, false, cond, if◌then◌else◌, bytes_eq, List, [], ◌∷◌, ◌++◌, length, map, take, Option, Some, None, is_some, option_map, unwrap_or, decimal, Ok, refl, sym, ap, ap₂, subst, ◌∙◌, arith}
+use Rattle.std.proofs.Common.{◌≡◌, ℕ, sum_by, ◌+◌, ◌≤◌, ◌↔◌, Bool, true, false, cond, if◌then◌else◌, bytes_eq, List, [], ◌∷◌, ◌++◌, length, map, take, Option, Some, None, is_some, option_map, unwrap_or, decimal, Ok, refl, sym, ap, ap₂, subst, ◌∙◌, arith}
 use Rattle.std.specs.List.{AllByRecursion, list_any, range_with_len}
 use Rattle.std.specs.Str.{IsUtf8}
 use Rattle.std.proofs.lemmas.Str.{is_utf8-from_IsUtf8}
@@ -9,8 +9,7 @@ use Rattle.canon_laws.specs.Confluence.{HasTraceOf}
 use Rattle.chip_ledger.specs.Seat.{seats_of}
 use Rattle.chip_ledger.specs.SeatsSaid.{default_name}
 use Rattle.first_fault.specs.declared.limits.TheConstants.{MOST_FILE_MOVES, MOST_HANDS}
-use Rattle.hand_canon.proofs.SameSetups.{amounts_same, rakes_same}
-use Rattle.hand_canon.proofs.SameSetups as setups
+use Rattle.phh_reading.proofs.SamePlay.{setup_same}
 use Rattle.hand_records.specs.SaidNotes.{SaidNotes, kept_label, name_said, notes_of, said_notes}
 use Rattle.hand_canon.specs.Sound.{IsSound}
 use Rattle.hand_records.specs.SoundRecord.{script_said}
@@ -21,7 +20,6 @@ use Rattle.hand_records.specs.declared.trace.Trace.{Trace}
 use Rattle.hand_records.specs.declared.writing.Unspelled.TheVariants as unspellables
 use Rattle.list_laws.proofs.NumbersOfRange.{map_agree}
 use Rattle.phh_fields.specs.NoteFields.{PlainNotes}
-use Rattle.phh_fields.specs.SetupFields.{PlainSetup, plain_setup}
 use Rattle.phh_format.proofs.SoundPlays.{same_script, sound_again}
 use Rattle.phh_format.specs.Again.{hand_again, hands_again}
 use Rattle.phh_reading.specs.Hand.{PlainHand}
@@ -31,7 +29,6 @@ use Rattle.phh_writing.specs.HandFields.{hand_field, label, names_field, note_fi
 use Rattle.phh_writing.specs.Members.{Field, table_of}
 use Rattle.phh_writing.specs.Spelled as facts
 use Rattle.play_event.specs.Said.{Numbered}
-use Rattle.play_event.specs.declared.setup.Setup.{Setup}
 use Rattle.hand_records.proofs.NoteLaws.{AreUnusual, at_seat, taken_alike, tests_alike, unusual_said}
 use Rattle.trace_laws.proofs.SameWords.{one_trace}
 use Rattle.phh_format.specs.KeptNotes.{kept_in_phh}
@@ -131,22 +128,6 @@ one_table plays others bytes too sound other_sound spell spell_too all =
     }
 
 -- ---- hands of one table
-
--- setups that say the same are one
-setup_same : (s t : Setup) → plain_setup s ≡ plain_setup t → s.rakes.rakes ≡ t.rakes.rakes → s ≡ t
-setup_same s t same rakes =
-    setups.setups_same s t (record {
-      code = ap (λ (setup : PlainSetup). setup.code) same;
-      stacks = amounts_same s.stacks t.stacks (ap (λ (setup : PlainSetup). setup.stacks) same);
-      antes = amounts_same s.antes t.antes (ap (λ (setup : PlainSetup). setup.antes) same);
-      dead_antes = ap (λ (setup : PlainSetup). setup.dead_antes) same;
-      blinds = amounts_same s.blinds t.blinds (ap (λ (setup : PlainSetup). setup.blinds) same);
-      bring_in = ap (λ (setup : PlainSetup). setup.sizes.bring_in) same;
-      small_bet = ap (λ (setup : PlainSetup). setup.sizes.small_bet) same;
-      big_bet = ap (λ (setup : PlainSetup). setup.sizes.big_bet) same;
-      min_bet = ap (λ (setup : PlainSetup). setup.sizes.min_bet) same;
-      rakes = rakes_same s.rakes t.rakes rakes;
-    })
 
 -- the canonical script of a sound play comes to its trace
 own_words : (play : Play) → IsSound play → HasTraceOf play.hand.setup play.hand.rules (script_said play.hand) (script_of play.trace)

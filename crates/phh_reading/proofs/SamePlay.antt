@@ -12,6 +12,7 @@ use Rattle.play_event.specs.declared.event.Kind.{Kind}
 use Rattle.play_event.specs.declared.event.Kind.TheVariants as kinds
 use Rattle.play_event.specs.declared.setup.Setup.{Setup}
 use Rattle.play_event.specs.Said.{Numbered, kind_said, numbered, seat_named}
+use Rattle.phh_fields.specs.SetupFields.{PlainSetup, plain_setup}
 use Rattle.phh_reading.specs.Hand.{PlainHand, plain}
 use Rattle.list_laws.proofs.Lists.{lists_same}
 use Rattle.chip_ledger.specs.SeatRow.{amounts_in}
@@ -37,22 +38,25 @@ event_same a b same =
     ap₂ (λ at kind. record { at = at; kind = kind }) (ap (λ (n : Numbered). n.0) same)
     (kind_same a.kind b.kind (ap (λ (n : Numbered). n.1) same))
 
+-- setups that say the same are one
+pub setup_same : (s t : Setup) → plain_setup s ≡ plain_setup t → s.rakes.rakes ≡ t.rakes.rakes → s ≡ t
+setup_same s t same rakes =
+    setups_same s t (record {
+      code = ap (λ (setup : PlainSetup). setup.code) same;
+      stacks = amounts_same s.stacks t.stacks (ap (λ (setup : PlainSetup). setup.stacks) same);
+      antes = amounts_same s.antes t.antes (ap (λ (setup : PlainSetup). setup.antes) same);
+      dead_antes = ap (λ (setup : PlainSetup). setup.dead_antes) same;
+      blinds = amounts_same s.blinds t.blinds (ap (λ (setup : PlainSetup). setup.blinds) same);
+      bring_in = ap (λ (setup : PlainSetup). setup.sizes.bring_in) same;
+      small_bet = ap (λ (setup : PlainSetup). setup.sizes.small_bet) same;
+      big_bet = ap (λ (setup : PlainSetup). setup.sizes.big_bet) same;
+      min_bet = ap (λ (setup : PlainSetup). setup.sizes.min_bet) same;
+      rakes = rakes_same s.rakes t.rakes rakes;
+    })
+
 pub same_setup : (a b : Record) → plain a ≡ plain b → a.setup ≡ b.setup
 same_setup a b same =
-    let s = a.setup in
-    let t = b.setup in
-    setups_same s t (record {
-      code = ap (λ (hand : PlainHand). hand.setup.code) same;
-      stacks = amounts_same s.stacks t.stacks (ap (λ (hand : PlainHand). hand.setup.stacks) same);
-      antes = amounts_same s.antes t.antes (ap (λ (hand : PlainHand). hand.setup.antes) same);
-      dead_antes = ap (λ (hand : PlainHand). hand.setup.dead_antes) same;
-      blinds = amounts_same s.blinds t.blinds (ap (λ (hand : PlainHand). hand.setup.blinds) same);
-      bring_in = ap (λ (hand : PlainHand). hand.setup.sizes.bring_in) same;
-      small_bet = ap (λ (hand : PlainHand). hand.setup.sizes.small_bet) same;
-      big_bet = ap (λ (hand : PlainHand). hand.setup.sizes.big_bet) same;
-      min_bet = ap (λ (hand : PlainHand). hand.setup.sizes.min_bet) same;
-      rakes = rakes_same s.rakes t.rakes (ap (λ (hand : PlainHand). hand.rakes) same);
-    })
+    setup_same a.setup b.setup (ap (λ (hand : PlainHand). hand.setup) same) (ap (λ (hand : PlainHand). hand.rakes) same)
 
 pub same_rules : (a b : Record) → plain a ≡ plain b → a.rules ≡ b.rules
 same_rules a b same = ap (λ (hand : PlainHand). hand.rules) same

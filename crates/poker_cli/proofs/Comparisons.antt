@@ -11,7 +11,7 @@ use Rattle.convert_core.specs.Conversion.{ReadAsPlays}
 use Rattle.convert_core.specs.declared.refusal.Refusal.{Refusal}
 use Rattle.convert_core.proofs.Conversions.{all_both, all_turned}
 use Rattle.convert_core.proofs.KeptByChoice.{again_spelled}
-use Rattle.convert_core.proofs.LawfulNotations.{AreReadSame, IsReadAgain, all_read_same, never_refused, read_again, read_few, read_same, read_sound}
+use Rattle.convert_core.proofs.LawfulNotations.{AreReadSame, IsReadAgain, never_refused, read_again, read_few, read_same, read_sound}
 use Rattle.convert_core.proofs.OneConversion.{all_same}
 use Rattle.convert_core.proofs.OneOutcome.{same_refused}
 use Rattle.convert_core.proofs.Paired.{each_both, each_spelled, paired_below, paired_both, paired_turned}
@@ -19,9 +19,8 @@ use Rattle.first_fault.specs.declared.limits.TheConstants.{MOST_HANDS}
 use Rattle.hand_canon.specs.Sound.{IsSound}
 use Rattle.hand_differences.proofs.SameHands.{same_traces, same_with_notes}
 use Rattle.hand_differences.specs.FirstDifference.{PlainDifference, first_difference, note_difference, play_difference}
-use Rattle.hand_records.specs.SaidNotes.{SaidNotes, notes_of}
+use Rattle.hand_records.specs.SaidNotes.{SaidNotes}
 use Rattle.hand_records.specs.SameHands.{AllPaired, AreSameHand, AreSameHands, kept_notes}
-use Rattle.hand_records.specs.WriteRefusals.{first_refusal}
 use Rattle.hand_records.specs.declared.trace.Play.{Play}
 use Rattle.hand_records.specs.declared.trace.Trace.{Trace}
 use Rattle.hand_records.specs.declared.writing.Keep.{Keep}

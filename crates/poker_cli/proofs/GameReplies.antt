@@ -1,5 +1,5 @@
 -- The game file of a hand is one that gives its game.
-use Rattle.std.proofs.Common.{◌≡◌, ◌≤◌, ◌<◌, Bool, true, false, not, nat_lt, if◌then◌else◌, ℕ, List, [], ◌∷◌, get_or, length, Option, Some, None, IfOk, IfSome, Result, Ok, Err, refl, sym, ap, subst, ◌∙◌, arith}
+use Rattle.std.proofs.Common.{◌≡◌, ◌<◌, Bool, true, false, not, nat_lt, if◌then◌else◌, ℕ, List, [], ◌∷◌, get_or, length, Option, Some, None, IfOk, IfSome, Result, Ok, Err, refl, sym, ap, subst, ◌∙◌, arith}
 use Rattle.std.specs.List.{list_any}
 use Rattle.std.specs.Option.{option_map_or}
 use Rattle.std.specs.Result.{result_ok}
@@ -16,7 +16,7 @@ use Rattle.hand_records.specs.declared.trace.Play.{Play}
 use Rattle.hand_records.specs.declared.writing.Unspelled.{Unspelled}
 use Rattle.hand_records.specs.declared.writing.Unspelled.TheVariants as facts
 use Rattle.play_event.specs.declared.setup.Setup.{Setup}
-use Rattle.poker_cli.specs.Answer.{GivesGame, IsGameReply, done, most_input, to_game, to_unspelled}
+use Rattle.poker_cli.specs.Answer.{GivesGame, IsGameReply, done, to_game, to_unspelled}
 use Rattle.poker_cli.proofs.GameLengths.{game_length}
 
 -- no hand says caps

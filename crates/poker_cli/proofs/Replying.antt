@@ -1,5 +1,5 @@
 -- A request to compare is answered by what the shelf and the source have.
-use Rattle.std.proofs.Common.{◌≡◌, ◌⊎◌, ℕ, ◌<◌, ◌≤◌, Bool, List, length, Option, Some, None, IfOk, IfSome, Result, Ok, Err, refl, sym, subst, inl, inr}
+use Rattle.std.proofs.Common.{◌≡◌, ℕ, ◌<◌, ◌≤◌, Bool, List, length, Option, Some, None, IfOk, IfSome, Result, Ok, Err, refl, sym, subst, inl, inr}
 use Rattle.command_words.specs.Words.{Sides, Compare, PlainSides, SidesUnder, Under}
 use Rattle.command_words.specs.declared.request.Logs.{Logs}
 use Rattle.acpc_game.specs.declared.game.Game.{Game}

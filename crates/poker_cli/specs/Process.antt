@@ -5,7 +5,7 @@ use Rattle.std.specs.Vec.Iter.{into_iter_items}
 use Rattle.std.specs.declared.alloc.Global.{Global}
 use Rattle.std.specs.declared.string.String.{String}
 use Rattle.std.specs.declared.vec.IntoIter.{IntoIter}
-use Rattle.command_words.specs.Words.{Request, request_said}
+use Rattle.command_words.specs.Words.{request_said}
 use Rattle.hand_records.specs.declared.writing.Keep.{Keep}
 use Rattle.poker_cli.specs.Answer.{Files}
 use Rattle.poker_cli.specs.Headline.{AsksToConvert, Headline, IsTold}

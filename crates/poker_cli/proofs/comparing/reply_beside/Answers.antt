@@ -1,5 +1,5 @@
 -- The answer is by the bytes of the file, or says that they are too many.
-use Rattle.std.proofs.Common.{IfOk, IfSome, List, ℕ, subst, sym}
+use Rattle.std.proofs.Common.{IfOk, IfSome, List, ℕ, subst}
 use Rattle.poker_cli.specs.Answer.{Files, IsComparison}
 use Rattle.poker_cli.specs.Lacking.{HasNoFile}
 use Rattle.poker_cli.specs.Run.{OfBytes}

@@ -1,5 +1,5 @@
 -- The answer is by the two files, or tells what that of the game lacks.
-use Rattle.std.proofs.Common.{◌≡◌, IfOk, IfSome, Option, None, subst, sym}
+use Rattle.std.proofs.Common.{◌≡◌, IfOk, IfSome, Option, None, subst}
 use Rattle.command_words.specs.Requests.{sides_in}
 use Rattle.poker_cli.specs.Answer.{Files, IsComparedTo}
 use Rattle.poker_cli.specs.Lacking.{HasNoGameFor, IsLackTold}
@@ -7,7 +7,7 @@ use Rattle.poker_cli.specs.Run.{IsNotThere, OfBytes}
 use Rattle.poker_cli.specs.Told.{answer_told}
 use Rattle.poker_cli.specs.declared.games.Lack.{Lack}
 use Rattle.poker_cli.specs.declared.games.NoGame.{NoGame}
-use Rattle.poker_cli.proofs.Replying.{both_asked, compared_lack, compared_reply, game_asked, missing_reply, where_lacking}
+use Rattle.poker_cli.proofs.Replying.{both_asked, compared_lack, compared_reply, missing_reply, where_lacking}
 use Rattle.poker_cli.proofs.comparing.reply_to_comparison.Goals as goal
 
 pub returns-in-Ok-clause-answer : goal.returns-in-Ok-clause-answer

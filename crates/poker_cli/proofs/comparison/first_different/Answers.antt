@@ -1,6 +1,6 @@
 -- A hand differs or is the same, and where one side has no more hands none differs.
 use Rattle.std.proofs.Common.{rules, ◌≡◌, ◌∙◌, ◌≤◌, Some, None, ap, sym, length, option_map}
-use Rattle.hand_differences.specs.FirstDifference.{difference_said, first_difference}
+use Rattle.hand_differences.specs.FirstDifference.{difference_said}
 use Rattle.poker_cli.specs.Compared.{hand_difference_said}
 use Rattle.poker_cli.proofs.FirstDifferent.{differs_here, none_beside, none_left, same_here}
 use Rattle.poker_cli.proofs.comparison.first_different.Goals as goal
