@@ -1,5 +1,5 @@
 //! The bytes of the lines that a seat saw are counted, without memory.
-ghost use Rattle.std.specs.Prelude.{◌≡◌, ◌≤◌, ◌*◌, ◌++◌, ℕ, List, Some, None, decimal, length, map, take};
+ghost use Rattle.std.specs.Prelude.{◌≡◌, ◌≤◌, ◌*◌, ◌++◌, ℕ, Some, None, decimal, length, map, take};
 ghost use Rattle.acpc_writing.specs.Betting.{betting_text, letter, letter_on, letters_on, round_text};
 ghost use Rattle.acpc_writing.specs.Cards.{board_text, cards_text, hole_text, holes_text};
 ghost use Rattle.acpc_writing.specs.Names.{hand_text};

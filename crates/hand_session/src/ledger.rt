@@ -2,7 +2,6 @@
 ghost use Rattle.std.specs.Prelude.{◌≡◌, ◌-◌, ◌+◌, ℕ, List, false, [], bytes_eq, map, Some, IfOk, OnOk};
 ghost use Rattle.std.specs.List.{list_any, position_from};
 ghost use Rattle.chip_ledger.specs.Seat.{seats_of};
-ghost use Rattle.hand_records.specs.AllowedNotes.{name_written};
 ghost use Rattle.name_index.specs.Indexed.{AreIndexed};
 ghost use Rattle.hand_session.specs.Hands.{hand_of, seated_in};
 ghost use Rattle.hand_session.specs.Ledgers.{HasGrown, TakesHand};
