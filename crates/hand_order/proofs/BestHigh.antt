@@ -11,9 +11,9 @@ use Rattle.hand_order.specs.declared.ladder.FlushPlace.{FlushPlace}
 use Rattle.hand_order.specs.declared.ladder.FlushPlace.TheVariants as flushes
 use Rattle.hand_order.specs.declared.straights.LowStraight.{LowStraight}
 use Rattle.hand_order.specs.Choices.{choices, IsAmong, AreHeld}
-use Rattle.hand_order.specs.Digits.{class_above, with_digits, AreDigits}
+use Rattle.hand_order.specs.Digits.{class_above, AreDigits}
 use Rattle.hand_order.specs.Ladder.{flush_class, ladder_points, leveled}
-use Rattle.hand_order.specs.Patterns.{Fits, IsPicked, IsPattern, pattern, IsBestPattern}
+use Rattle.hand_order.specs.Patterns.{Fits, IsPicked, IsPattern, pattern, IsBestNumber, IsBestPattern}
 use Rattle.hand_order.specs.Points.{greatest}
 use Rattle.hand_order.specs.StraightRanks.{HasStraight, topped}
 use Rattle.hand_order.specs.Straights.{is_straight, straight_top}
@@ -180,9 +180,8 @@ leveled_few flushes.AboveFullHouse class kind = by_test (class == 6) (class_few 
     by_test true few = omega arith
     by_test false few = few
 
--- the ranks of the best pattern make a number below the sixth place
-pub pattern_below : (T : ℕ → ℕ) (class : ℕ) (hs seen : List ℕ) → IsBestPattern T class hs → seen ≡ hs → with_digits 0 seen < 16 ^ 5
-pattern_below T class hs seen best is =
-    let same = ap (with_digits 0) is in
-    let long = fits-length T (pattern class) hs (picked_fits T (pattern class) hs best.picked) in
-    omega (arith, same, number_below hs (omega (arith, long, pattern_few class best.kind)) best.digits)
+-- the number of the best pattern is below the sixth place
+pub pattern_below : (T : ℕ → ℕ) (class number : ℕ) → IsBestNumber T class number → number < 16 ^ 5
+pattern_below T class number found =
+    let long = fits-length T (pattern class) found.hs (picked_fits T (pattern class) found.hs found.best.picked) in
+    omega (arith, found.written, number_below found.hs (omega (arith, long, pattern_few class found.best.kind)) found.best.digits)

@@ -1,19 +1,20 @@
 -- The best pattern is read from the masks of the heights that occur once, twice, three times and four times at least.
-use Rattle.std.proofs.Common.{◌≡◌, ◌↔◌, ℕ, suc, ◌+◌, ◌-◌, ◌*◌, ◌^◌, ◌%◌, ◌<◌, ◌≤◌, ◌==◌, Bool, true, false, cond, List, [], ◌∷◌, ◌++◌, inl, inr, refl, sym, ◌∙◌, ap, subst, arith, eqb-true, bit_and, w16}
+use Rattle.std.proofs.Common.{◌≡◌, ◌↔◌, ℕ, suc, ◌+◌, ◌-◌, ◌*◌, ◌^◌, ◌%◌, ◌<◌, ◌≤◌, ◌==◌, Bool, true, false, cond, List, [], ◌∷◌, inl, inr, refl, sym, ◌∙◌, ap, subst, arith, eqb-true, bit_and, w16}
 use Rattle.std.specs.Int.{bit_at, bit_not}
 use Rattle.std.proofs.lemmas.Bool.{cases_lt, eqb-false}
 use Rattle.std.proofs.lemmas.Nat.{and_le_l}
 use Rattle.std.proofs.lemmas.Nat.Bits.{bit_at-zero}
 use Rattle.card_set.specs.Ranks.{falling_heights, high_ace}
 use Rattle.card_set.proofs.Counted.{IsHeight-high_ace}
-use Rattle.hand_order.proofs.Digits.{AreDigits}
+use Rattle.hand_order.proofs.Digits.{AreDigits, with_digits-cons}
+use Rattle.hand_order.specs.Digits.{with_digits}
 use Rattle.hand_order.specs.Tops.{highest, tops, Shows}
 use Rattle.hand_order.proofs.Fits.{picked_fits}
 use Rattle.hand_order.proofs.FittingChoices.{without_of_ranks, sum_without}
 use Rattle.hand_order.proofs.OwnRanks.{InRange-high_ace}
 use Rattle.hand_order.proofs.PlainHands.{pattern_cases, four_and_one, three_and_two, three_alone, two_and_two, two_alone, ones_alone}
 use Rattle.hand_order.proofs.ShownRanks.{top_shown, tops_picked}
-use Rattle.hand_order.specs.Patterns.{without, Fits, IsPicked, OfRanks, AreSome, pattern, IsPattern, IsBestPattern, AreCounts}
+use Rattle.hand_order.specs.Patterns.{without, Fits, IsPicked, OfRanks, AreSome, pattern, IsPattern, IsBestNumber, IsBestPattern, AreCounts}
 use Rattle.list_laws.proofs.Numbers.{positive}
 use Rattle.list_laws.proofs.Sums.{once_sum, some_sum}
 use Rattle.list_laws.proofs.Tests.{passes_or_not}
@@ -217,12 +218,22 @@ cleared_at mask rest place n other T shows some is number bits =
     let small : rest < 2 ^ 16 = omega (arith, number, and_le_l mask (bit_not w16 (1 * 2 ^ place % 2 ^ 16)), shows.small) in
     subst (λ (p : ℕ). Shows rest n (without T (p + 2))) is (cleared_shows mask rest place n T shows some small bits)
 
--- heights put one after the other
-pub grown_one : (start pushed result more : List ℕ) (place other : ℕ) → start ≡ [] → pushed ≡ start ++ (place + 2) ∷ [] → place ≡ other → result ≡ pushed ++ more → result ≡ (other + 2) ∷ more
-grown_one start pushed result more place other none is_pushed is is_result =
-    is_result
-    ∙ ap (λ (l : List ℕ). l ++ more) (is_pushed ∙ ap (λ (l : List ℕ). l ++ (place + 2) ∷ []) none)
-    ∙ ap (λ (p : ℕ). (p + 2) ∷ more) is
+-- a best pattern is written as a number: its first height, and then the others
+pub written_one : (T : ℕ → ℕ) (class place other number : ℕ) (more : List ℕ) → place ≡ other → number ≡ with_digits (place + 2) more → IsBestPattern T class ((other + 2) ∷ more) → IsBestNumber T class number
+written_one T class place other number more is written best = record {
+  hs = (other + 2) ∷ more;
+  best = best;
+  written = written ∙ ap (λ (v : ℕ). with_digits v more) {y = 0 * 16 + (other + 2)} (omega (arith, is)) ∙ sym (with_digits-cons 0 (other + 2) more);
+}
 
-pub grown_two : (pushed more : List ℕ) (first place other : ℕ) → pushed ≡ (first + 2) ∷ (place + 2) ∷ [] → place ≡ other → pushed ++ more ≡ (first + 2) ∷ (other + 2) ∷ more
-grown_two pushed more first place other is_pushed is = ap (λ (l : List ℕ). l ++ more) is_pushed ∙ ap (λ (p : ℕ). (first + 2) ∷ (p + 2) ∷ more) is
+-- and its first two heights, and then the others
+pub written_two : (T : ℕ → ℕ) (class first one second two number : ℕ) (more : List ℕ) → first ≡ one → second ≡ two → number ≡ with_digits ((first + 2) * 16 + second + 2) more → IsBestPattern T class ((one + 2) ∷ (two + 2) ∷ more) → IsBestNumber T class number
+written_two T class first one second two number more is is_second written best = record {
+  hs = (one + 2) ∷ (two + 2) ∷ more;
+  best = best;
+  written =
+      written
+      ∙ ap (λ (v : ℕ). with_digits v more) {y = (0 * 16 + (one + 2)) * 16 + (two + 2)} (omega (arith, is, is_second))
+      ∙ sym (with_digits-cons (0 * 16 + (one + 2)) (two + 2) more)
+      ∙ sym (with_digits-cons 0 (one + 2) ((two + 2) ∷ more));
+}

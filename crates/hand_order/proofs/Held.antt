@@ -96,7 +96,7 @@ different_parts (x ∷ xs) ys different =
     let parts = different_parts xs ys different.1 in
     ((lacks.0, parts.0), parts.1, (lacks.1, parts.2))
 
-different_both : (xs ys : List Card) → AllDifferent xs → AllDifferent ys → Apart xs ys → AllDifferent (xs ++ ys)
+pub different_both : (xs ys : List Card) → AllDifferent xs → AllDifferent ys → Apart xs ys → AllDifferent (xs ++ ys)
 different_both [] ys first second apart = second
 different_both (x ∷ xs) ys first second apart = (every-both (λ other. x ≢ other) xs ys first.0 apart.0, different_both xs ys first.1 second apart.1)
 
@@ -123,7 +123,9 @@ held_start held n start cards more same none different among =
 -- hole cards that follow no card can join the board
 pub joins_start : (held : ℕ) (start hole board more : List Card) → held ≡ 5 → start ≡ [] → AllDifferent (hole ++ board) → IsAmong more (choices 2 hole) → CanJoin held (start ++ more) board
 joins_start held start hole board more same none different among =
-    let joins : CanJoin held more board = (omega (arith, length_chosen 2 hole more among), λ others other. let is = held_both 2 3 hole board more others different among other in (is.0 ∙ sym same, is.1)) in
+    let parts = different_parts hole board different in
+    let apart = every_chosen (λ card. Lacks card board) 2 hole more among parts.2 in
+    let joins : CanJoin held more board = (omega (arith, same, length_chosen 2 hole more among), different_both more board (different_chosen 2 hole more among parts.0) parts.1 apart) in
     subst (λ (l : List Card). CanJoin held l board) (ap (λ (l : List Card). l ++ more) (sym none)) joins
 
 -- a choice that several others are made into

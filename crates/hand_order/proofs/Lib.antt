@@ -1,3 +1,4 @@
+pub mod AbsentRanks
 pub mod Alike
 pub mod BestHigh
 pub mod BestPatterns
@@ -12,6 +13,7 @@ pub mod HighAlike
 pub mod HighLaw
 pub mod HighReadings
 pub mod Lawful
+pub mod Joined
 pub mod LowHeights
 pub mod LowestLaws
 pub mod OwnRanks
@@ -27,4 +29,6 @@ pub mod ShownRanks
 pub mod StraightBits
 pub mod SuitBits
 pub mod SuitedHands
+pub mod TopCounts
+pub mod TopDigits
 pub mod Wanted

@@ -138,3 +138,41 @@ few_lowest has (suc heights) from (suc m) =
     by_test : (b : Bool) → length (lowest has heights (from + 1) m) ≤ m → length (lowest has heights (from + 1) (suc m)) ≤ suc m → length (cond b (lowest has heights (from + 1) m ++ from ∷ []) (lowest has heights (from + 1) (suc m))) ≤ suc m
     by_test true fewer same = omega (arith, fewer, length-append (lowest has heights (from + 1) m) (from ∷ []))
     by_test false fewer same = same
+
+-- heights that do not pass are left out
+lowest_past : (has : ℕ → Bool) (k heights from need : ℕ) → k ≤ heights → ((j : ℕ) → j < k → has (from + j) ≡ false) → lowest has heights from need ≡ lowest has (heights - k) (from + k) need
+lowest_past has zero heights from need within absent =
+    ap (λ (n : ℕ). lowest has n from need) {x = heights} {y = heights - 0} (omega arith) ∙ ap (λ (h : ℕ). lowest has (heights - 0) h need) {x = from} {y = from + 0} (omega arith)
+lowest_past has (suc k) zero from need within absent = absurd (omega arith)
+lowest_past has (suc k) (suc heights) from need within absent =
+    next need
+    ∙ lowest_past has k heights (from + 1) need (omega arith) (λ j below. ap has {x = from + 1 + j} {y = from + (j + 1)} (omega arith) ∙ absent (j + 1) (omega arith))
+    ∙ ap (λ (n : ℕ). lowest has n (from + 1 + k) need) {x = heights - k} {y = suc heights - suc k} (omega arith)
+    ∙ ap (λ (h : ℕ). lowest has (suc heights - suc k) h need) {x = from + 1 + k} {y = from + suc k} (omega arith)
+  where
+    here : has from ≡ false
+    here = ap has {x = from} {y = from + 0} (omega arith) ∙ absent 0 (omega arith)
+
+    none : (n : ℕ) → lowest has n (from + 1) 0 ≡ []
+    none zero = refl
+    none (suc n) = refl
+
+    next : (need : ℕ) → lowest has (suc heights) from need ≡ lowest has heights (from + 1) need
+    next zero = sym (none heights)
+    next (suc m) = lowest_some has heights from m ∙ ap (λ (b : Bool). cond b (lowest has heights (from + 1) m ++ from ∷ []) (lowest has heights (from + 1) (suc m))) here
+
+-- no height passes
+pub lowest_absent : (has : ℕ → Bool) (k heights from need : ℕ) → heights ≤ k → ((j : ℕ) → j < k → has (from + j) ≡ false) → [] ≡ lowest has heights from need
+lowest_absent has k heights from need past absent =
+    ap (λ (n : ℕ). lowest has n (from + heights) need) {x = 0} {y = heights - heights} (omega arith)
+    ∙ sym (lowest_past has heights heights from need (omega arith) (λ j below. absent j (omega (arith, past, below))))
+
+-- the first that passes is the last of the list
+pub lowest_first : (has : ℕ → Bool) (k heights from need : ℕ) → k < heights → (need ≡ 0 → ⊥) → ((j : ℕ) → j < k → has (from + j) ≡ false) → has (from + k) ≡ true → lowest has (heights - k - 1) (from + k + 1) (need - 1) ++ (from + k) ∷ [] ≡ lowest has heights from need
+lowest_first has k heights from zero within some absent here = absurd (some refl)
+lowest_first has k heights from (suc m) within some absent here =
+    ap (λ (n : ℕ). lowest has (heights - k - 1) (from + k + 1) n ++ (from + k) ∷ []) (one_less m)
+    ∙ sym (ap (λ (b : Bool). cond b (lowest has (heights - k - 1) (from + k + 1) m ++ (from + k) ∷ []) (lowest has (heights - k - 1) (from + k + 1) (suc m))) here)
+    ∙ sym (lowest_some has (heights - k - 1) (from + k) m)
+    ∙ ap (λ (n : ℕ). lowest has n (from + k) (suc m)) {x = suc (heights - k - 1)} {y = heights - k} (omega arith)
+    ∙ sym (lowest_past has k heights from (suc m) (omega arith) absent)

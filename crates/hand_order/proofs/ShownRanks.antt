@@ -1,7 +1,7 @@
 -- What masks show is picked by their highest bits.
-use Rattle.std.proofs.Common.{◌≡◌, ◌↔◌, ℕ, zero, suc, ◌+◌, ◌-◌, ◌*◌, ◌^◌, ◌%◌, ◌<◌, ◌≤◌, ◌==◌, min, Bool, true, false, cond, List, [], ◌∷◌, ◌++◌, append_assoc, sum_by, inl, inr, refl, sym, ◌∙◌, ap, subst, arith, eqb-true, bit_and, w16}
+use Rattle.std.proofs.Common.{◌≡◌, ◌↔◌, ℕ, zero, suc, ◌+◌, ◌-◌, ◌*◌, ◌^◌, ◌%◌, ◌<◌, ◌≤◌, ◌==◌, min, Bool, true, false, cond, [], ◌∷◌, sum_by, inl, inr, refl, sym, ◌∙◌, ap, subst, arith, eqb-true, w16}
 use Rattle.std.specs.Int.{bit_at, bit_not}
-use Rattle.std.proofs.lemmas.Bool.{cases_lt, eqb-false, ne_eqb}
+use Rattle.std.proofs.lemmas.Bool.{cases_lt, eqb-false}
 use Rattle.std.proofs.lemmas.Nat.{and_le_l}
 use Rattle.std.proofs.lemmas.Nat.Bits.{bit_at-zero}
 use Rattle.card_set.specs.declared.card.Rank.{Rank}
@@ -12,7 +12,6 @@ use Rattle.hand_order.proofs.FittingChoices.{without_of_ranks, sum_without}
 use Rattle.hand_order.proofs.OwnRanks.{several}
 use Rattle.hand_order.specs.Patterns.{without, IsPicked, IsOfRank, OfRanks}
 use Rattle.list_laws.proofs.Bits.{cleared, top_highest, top_set}
-use Rattle.list_laws.proofs.Numbers.{one_less}
 use Rattle.list_laws.proofs.Sums.{sum_by-same, none_occur}
 
 -- the highest bit that is shown
@@ -97,15 +96,3 @@ tops_picked height is T (suc n) mask of shows enough =
     by_zero : (b : Bool) → (mask == 0) ≡ b → 0 < mask → IsPicked T (several (suc n) 1) ((highest mask + 2) ∷ tops n (lowered mask)) → IsPicked T (several (suc n) 1) (cond b [] ((highest mask + 2) ∷ tops n (lowered mask)))
     by_zero true is_zero positive picked = absurd (omega (arith, eqb-true mask 0 is_zero))
     by_zero false is_zero positive picked = picked
-
--- one height more, and then the others
-pub tops_grown : (row pushed result : List ℕ) (mask need place rest : ℕ) → (need ≡ 0 → ⊥) → (mask ≡ 0 → ⊥) → place ≡ highest mask → pushed ≡ row ++ (place + 2) ∷ [] → rest ≡ bit_and mask (bit_not w16 (1 * 2 ^ place % 2 ^ 16)) → result ≡ pushed ++ tops (need - 1) rest → result ≡ row ++ tops need mask
-tops_grown row pushed result mask zero place rest some_need some_mask is is_pushed is_rest is_result = absurd (some_need refl)
-tops_grown row pushed result mask (suc need) place rest some_need some_mask is is_pushed is_rest is_result =
-    is_result
-    ∙ ap (λ (n : ℕ). pushed ++ tops n rest) (one_less need)
-    ∙ ap (λ (l : List ℕ). l ++ tops need rest) is_pushed
-    ∙ append_assoc row ((place + 2) ∷ []) (tops need rest)
-    ∙ ap (λ (m : ℕ). row ++ (place + 2) ∷ tops need m) is_rest
-    ∙ ap (λ (p : ℕ). row ++ (p + 2) ∷ tops need (bit_and mask (bit_not w16 (1 * 2 ^ p % 2 ^ 16)))) is
-    ∙ ap (λ (b : Bool). row ++ cond b [] ((highest mask + 2) ∷ tops need (lowered mask))) (sym (ne_eqb mask 0 some_mask))

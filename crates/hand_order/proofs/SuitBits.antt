@@ -77,8 +77,8 @@ tops-le (suc n) mask = by_zero (mask == 0) (tops-le n (lowered mask))
     by_zero false rest = omega arith
 
 -- the number of a suit's ranks is below the sixth place
-pub tops_below : (seen : List ℕ) (n mask : ℕ) → n ≤ 5 → mask < 2 ^ 13 → seen ≡ tops n mask → with_digits 0 seen < 16 ^ 5
-tops_below seen n mask few small is = let same = ap (with_digits 0) is in omega (arith, number_below (tops n mask) (omega (arith, tops-le n mask)) (tops_digits n mask small), same)
+pub tops_below : (n mask : ℕ) → n ≤ 5 → mask < 2 ^ 13 → with_digits 0 (tops n mask) < 16 ^ 5
+tops_below n mask few small = number_below (tops n mask) (omega (arith, tops-le n mask)) (tops_digits n mask small)
 
 -- a suit of fewer than five cards has no flush
 pub suit_none : (flush : FlushPlace) (low : LowStraight) (T : ℕ → ℕ) (mask : ℕ) → OfRanks high_ace T → Shows mask 1 T → length (tops 5 mask) < 5 → IsBestOfSuit flush low T 0
@@ -96,9 +96,11 @@ suit_none flush low T mask of shows few = record {
 top_digit : (top : ℕ) → with_digits 0 (top ∷ []) ≡ top
 top_digit top = omega (arith, with_digits-cons 0 top [], with_digits-nil (0 * 16 + top))
 
--- a top is a number below the sixth place
-pub top_below : (top : ℕ) → top < 2 ^ 8 → with_digits 0 (top ∷ []) < 16 ^ 5
-top_below top small = omega (arith, top_digit top)
+-- the points of a straight with a top
+pub topped_some : (class top : ℕ) → (top ≡ 0 → ⊥) → topped class top ≡ class * 16 ^ 5 + top
+topped_some class top some =
+    let here = ap (λ (b : Bool). cond b 0 (class_above class (top ∷ []))) (ne_eqb top 0 some) in
+    omega (arith, here, top_digit top)
 
 straight_some : (low : LowStraight) (T : ℕ → ℕ) (top : ℕ) → HasStraight low T top → 0 < top
 straight_some low T top (inl run) = omega (arith, run.0)

@@ -46,11 +46,9 @@ IsAmong choice (option ∷ others) = (choice ≡ option) ⊎ IsAmong choice othe
 abbrev pub AreHeld : ℕ → List Card → Type 0
 AreHeld held cards = (length cards ≡ held) × AllDifferent cards
 
--- at most four cards make so many different cards with each three of the board
+-- these cards and three of the board are so many, and all are different
 abbrev pub CanJoin : ℕ → List Card → List Card → Type 0
-CanJoin held cards board =
-    (length cards ≤ 4)
-    × ((more : List Card) → IsAmong more (choices 3 board) → AreHeld held (cards ++ more))
+CanJoin held cards board = (length cards + 3 ≡ held) × AllDifferent (cards ++ board)
 
 -- points that do not look at the order of the cards
 abbrev pub AreAlike : (List Card → Option ℕ) → ℕ → Type 0

@@ -4,7 +4,7 @@ use Rattle.card_set.specs.declared.card.Rank.{Rank}
 use Rattle.card_set.specs.Classes.{place}
 use Rattle.card_set.specs.Ranks.{falling_heights, high_ace}
 use Rattle.hand_order.specs.Tables.{high_table}
-use Rattle.hand_order.specs.Digits.{AreDigits}
+use Rattle.hand_order.specs.Digits.{AreDigits, with_digits}
 
 -- the counts without a height
 abbrev pub without : (ℕ → ℕ) → ℕ → ℕ → ℕ
@@ -80,6 +80,12 @@ pub record IsBestPattern (T : ℕ → ℕ) (k : ℕ) (hs : List ℕ) : Type 0 wh
   pub picked : IsPicked T (pattern k) hs
   pub digits : AreDigits hs
   pub none : (j : ℕ) (ks : List ℕ) → IsPattern j → k < j → Fits T (pattern j) ks → ⊥
+
+-- the digits of a number are the heights that are picked by the best pattern that fits
+pub record IsBestNumber (T : ℕ → ℕ) (k number : ℕ) : Type 0 where
+  pub hs : List ℕ
+  pub best : IsBestPattern T k hs
+  pub written : number ≡ with_digits 0 hs
 
 -- the counts of at least five cards
 pub record AreCounts (T : ℕ → ℕ) : Type 0 where

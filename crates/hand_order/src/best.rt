@@ -1,8 +1,8 @@
 //! The best of a holding is the greatest score of the choices that its pick allows.
-ghost use Rattle.std.specs.Prelude.{◌≡◌, ℕ, ◌+◌, ◌≤◌, List, ◌++◌, drop, length, Option, IfSome, IfNone};
+ghost use Rattle.std.specs.Prelude.{◌≡◌, ℕ, ◌+◌, ◌≤◌, true, false, List, ◌++◌, drop, length, Option, IfSome, IfNone};
 ghost use Rattle.std.specs.Option.{option_map};
 ghost use Rattle.card_set.specs.declared.card.Card.{Card};
-ghost use Rattle.card_set.specs.CardSet.{count_of, IsListing};
+ghost use Rattle.card_set.specs.CardSet.{count_of, is_in, is_one_of, IsListing};
 ghost use Rattle.card_set.specs.Row.{cards_of};
 ghost use Rattle.card_set.specs.Different.{AllDifferent};
 ghost use Rattle.hand_order.specs.Choices.{AreAlike, AreHeld, CanJoin, CanPick, IsAmong, allowed, choices, choices_of_both};
@@ -158,22 +158,6 @@ pub fn better_score(first: Option<Score>, second: Option<Score>) -> Option<Score
     }
 }
 
-// Judges a whole hand by its score.
-#[derive(Drop)]
-struct ByOrder<O: HandOrder> {
-    order: PhantomData<O>,
-}
-
-impl<O: HandOrder> Judge for ByOrder<O> {
-    ghost accepts = { λ judge cards. AreHeld O.HELD cards };
-
-    ghost points = { λ judge cards. O.points cards };
-
-    fn judge(&self, chosen: &CardRow) -> Option<Score> {
-        O::score(chosen)
-    }
-}
-
 // Judges hole cards by the best hand that they make with three cards of the board.
 #[derive(Drop)]
 struct WithBoard<O: HandOrder> {
@@ -188,7 +172,31 @@ impl<O: HandOrder> Judge for WithBoard<O> {
         greatest (λ more. O.points (cards ++ more)) (choices 3 (cards_of judge.board)) };
 
     fn judge(&self, chosen: &CardRow) -> Option<Score> {
-        let judge = ByOrder::<O> { order: PhantomData };
-        best_choice(&judge, &self.board, 0, *chosen, 3)
+        best_with::<O>(CardSet::of(chosen), &self.board, 0, 3)
     }
+}
+
+// The best hand of a set and so many of the cards from place `from` on.
+fn best_with<O: HandOrder>(chosen: CardSet, cards: &CardRow, from: u8, need: u8) -> Option<Score>
+    requires held { count_of chosen + need ≡ O.HELD }
+    requires different { AllDifferent (drop from (cards_of cards.now)) }
+    requires apart { (card : Card) → is_one_of card (drop from (cards_of cards.now)) ≡ true
+        → is_in chosen card ≡ false }
+    ensures { (listing : List Card) → IsListing chosen listing
+        → option_map (λ s. s.points) result ≡ greatest (λ more. O.points (listing ++ more))
+        (choices need (drop from (cards_of cards.now))) }
+{
+    if need == 0 {
+        return O::best_set(&chosen);
+    }
+    if cards.len.saturating_sub(from) < need {
+        return None;
+    }
+    let card = cards.cards[from as usize];
+    let mut with = chosen;
+    with.insert(card);
+    better_score(
+        best_with::<O>(with, cards, from + 1, need - 1),
+        best_with::<O>(chosen, cards, from + 1, need),
+    )
 }

@@ -16,10 +16,9 @@ ghost use Rattle.hand_order.specs.Tops.{Shows};
 
 use crate::ladder::{FlushPlace, flush_class, leveled};
 use crate::levels::levels_of;
-use crate::mask::with_tops;
+use crate::mask::with_top_digits;
 use crate::pattern::best_pattern;
-use crate::ranks::class_above;
-use crate::row::RankRow;
+use crate::ranks::above_number;
 use crate::straights::{LowStraight, top_straight};
 use card_set::{CardRow, CardSet, Suit};
 
@@ -47,7 +46,7 @@ pub fn best_high(cards: &CardSet, low: LowStraight, flush: FlushPlace) -> u32
     let spades = cards.rank_mask(Suit::S);
     let levels = levels_of(clubs, diamonds, hearts, spades);
     let pattern = best_pattern(levels.all, levels.two, levels.three, levels.four);
-    let plain = class_above(leveled(flush, pattern.class), pattern.ranks.as_slice());
+    let plain = above_number(leveled(flush, pattern.class), pattern.number);
     let straight = straight_points(4, top_straight(levels.all, low));
     plain
         .max(straight)
@@ -63,14 +62,11 @@ fn suit_points(mask: u16, low: LowStraight, flush: FlushPlace) -> u32
     requires { mask < 2 ^ 13 }
     ensures { (T : ℕ → ℕ) → OfRanks high_ace T → Shows mask 1 T → IsBestOfSuit flush low T result }
 {
-    let ranks = with_tops(RankRow::new(), mask, 5);
-    if ranks.as_slice().len() < 5 {
+    if mask.count_ones() < 5 {
         return 0;
     }
-    class_above(flush_class(flush), ranks.as_slice()).max(straight_points(
-        8,
-        top_straight(mask, low),
-    ))
+    let suited = above_number(flush_class(flush), with_top_digits(0, mask, 5));
+    suited.max(straight_points(8, top_straight(mask, low)))
 }
 
 // The points of a straight with this top, 0 where there is none.
@@ -81,5 +77,5 @@ fn straight_points(class: u32, top: u8) -> u32
     if top == 0 {
         return 0;
     }
-    class_above(class, &[top])
+    above_number(class, u32::from(top))
 }

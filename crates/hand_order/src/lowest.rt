@@ -1,5 +1,5 @@
 //! The lowest ranks of a mask, where the ace is the lowest.
-ghost use Rattle.std.specs.Prelude.{◌≡◌, ◌≤◌, ◌+◌, length};
+ghost use Rattle.std.specs.Prelude.{◌≡◌, ◌≤◌, ◌<◌, ◌+◌, ℕ, true, false, length};
 ghost use Rattle.hand_order.specs.Heights.{heights_of};
 ghost use Rattle.hand_order.specs.Lowest.{has_height, lowest};
 
@@ -17,12 +17,30 @@ pub fn lowest_ranks(mask: u16, heights: u8, from: u8, need: u8) -> RankRow
     if heights == 0 || need == 0 {
         return RankRow::new();
     }
-    if !has_rank(mask, from) {
-        return lowest_ranks(mask, heights - 1, from + 1, need);
+    let absent = absent_from(mask, from);
+    if absent >= heights {
+        return RankRow::new();
     }
-    let mut row = lowest_ranks(mask, heights - 1, from + 1, need - 1);
-    row.push(from);
+    let height = from + absent;
+    let mut row = lowest_ranks(mask, heights - absent - 1, height + 1, need - 1);
+    row.push(height);
     row
+}
+
+// How many heights in a row, this one the first of them, a mask has no rank of.
+fn absent_from(mask: u16, from: u8) -> u8
+    requires first { 1 ≤ from }
+    requires last { from ≤ 13 }
+    ensures absent { (k : ℕ) → k < result → has_height mask (from + k) ≡ false }
+    ensures next { from + result ≤ 13 → has_height mask (from + result) ≡ true }
+{
+    if has_rank(mask, from) {
+        return 0;
+    }
+    if from == 1 {
+        return 1 + mask.trailing_zeros() as u8;
+    }
+    (mask >> (from - 2)).trailing_zeros() as u8
 }
 
 // Whether a mask has the rank of a height, the ace the lowest.

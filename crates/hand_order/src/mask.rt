@@ -2,23 +2,19 @@
 ghost use Rattle.std.specs.Prelude.{◌≡◌, ◌<◌, ◌≤◌, ℕ, ◌==◌, if◌then◌else◌, ◌+◌, ◌*◌, ◌-◌, ◌^◌, ◌%◌, ◌++◌, length};
 ghost use Rattle.std.specs.Int.{bit_at, bit_not, w16};
 ghost use lib.Bits.{bit_and};
-ghost use Rattle.hand_order.specs.Heights.{heights_of};
+ghost use Rattle.hand_order.specs.Digits.{with_digits};
 ghost use Rattle.hand_order.specs.Tops.{highest, tops};
 
-use crate::row::RankRow;
-
-/// Puts so many of the highest ranks after the others.
-pub fn with_tops(row: RankRow, mask: u16, need: u8) -> RankRow
-    requires { length (heights_of row) + need ≤ 5 }
-    ensures { heights_of result ≡ heights_of row ++ tops need mask }
+/// The number with so many of the highest ranks as further digits.
+pub fn with_top_digits(number: u32, mask: u16, need: u8) -> u32
+    requires { with_digits number (tops need mask) < 2 ^ 32 }
+    ensures { result ≡ with_digits number (tops need mask) }
 {
     if need == 0 || mask == 0 {
-        return row;
+        return number;
     }
     let place = top(mask);
-    let mut more = row;
-    more.push(place as u8 + 2);
-    with_tops(more, clear(mask, place), need - 1)
+    with_top_digits(number * 16 + place + 2, clear(mask, place), need - 1)
 }
 
 /// The place of the highest bit.

@@ -1,5 +1,5 @@
 //! The ranks of a hand make a number: a class above the heights, those that occur oftener first.
-ghost use Rattle.std.specs.Prelude.{◌≡◌, ◌+◌, ◌<◌, ◌≤◌, ◌^◌, ◌++◌, length};
+ghost use Rattle.std.specs.Prelude.{◌≡◌, ◌+◌, ◌*◌, ◌<◌, ◌≤◌, ◌^◌, ◌++◌, length};
 ghost use Rattle.card_set.specs.Row.{cards_of};
 ghost use Rattle.card_set.specs.Ranks.{falling_heights, occurring, ranks_of, times};
 ghost use Rattle.hand_order.specs.Digits.{class_above, with_digits};
@@ -107,7 +107,16 @@ pub fn class_above(class: u32, heights: &[u8]) -> u32
     requires below { with_digits 0 heights.now < 16 ^ 5 }
     ensures { result ≡ class_above class heights.now }
 {
-    class * 0x10_0000 + number_of(heights)
+    above_number(class, number_of(heights))
+}
+
+/// The number that a class makes above one of five digits.
+pub fn above_number(class: u32, number: u32) -> u32
+    requires class { class ≤ 15 }
+    requires below { number < 16 ^ 5 }
+    ensures { result ≡ class * 16 ^ 5 + number }
+{
+    class * 0x10_0000 + number
 }
 
 // The number with these digits to the base sixteen.

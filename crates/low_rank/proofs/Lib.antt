@@ -1,5 +1,7 @@
+pub mod AllRanks
 pub mod EightBest
 pub mod EightMask
+pub mod EightRanks
 pub mod FreeRanks
 pub mod LowAlike
 pub mod LowNumber

@@ -11,6 +11,9 @@ ghost use Rattle.low_rank.specs.EightLow.{points};
 use card_set::{CardSet, Suit};
 use hand_order::{Score, class_above, lowest_ranks};
 
+// The mask of the ace and of the ranks from two to eight.
+const LOW_RANKS: u16 = 0x107F;
+
 /// The score of the best five of a set's cards in eight-or-better, none where no five qualify.
 pub fn best_eight(cards: &CardSet) -> Option<Score>
     requires { 5 ≤ count_of cards.now }
@@ -21,10 +24,11 @@ pub fn best_eight(cards: &CardSet) -> Option<Score>
     let diamonds = cards.rank_mask(Suit::D);
     let hearts = cards.rank_mask(Suit::H);
     let spades = cards.rank_mask(Suit::S);
-    let ranks = lowest_ranks(clubs | diamonds | hearts | spades, 8, 1, 5);
-    if ranks.as_slice().len() < 5 {
+    let all = clubs | diamonds | hearts | spades;
+    if (all & LOW_RANKS).count_ones() < 5 {
         return None;
     }
+    let ranks = lowest_ranks(all, 8, 1, 5);
     Some(Score {
         points: 0x100_0000 - class_above(0, ranks.as_slice()),
     })

@@ -154,6 +154,10 @@ fn lowest_ranks(masks: &SuitMasks, least: u8, others: &RankRow, need: u8) -> Ran
         ≡ lowest_ranks (is_free (low_count masks.now) least (heights_of others.now)) need }
     ensures long { length (heights_of result) ≤ need }
 {
+    if least == 1 && others.as_slice().is_empty() {
+        let all = masks.clubs | masks.diamonds | masks.hearts | masks.spades;
+        return hand_order::lowest_ranks(all, 13, 1, need);
+    }
     lowest_free(masks, least, others, 13, 1, need)
 }
 

@@ -1,19 +1,16 @@
-use Rattle.std.proofs.Common.{ℕ, ◌<◌, ◌^◌, List, filter, arith, ap, ◌∙◌}
+use Rattle.std.proofs.Common.{ℕ, ◌<◌, ◌^◌, filter, arith}
 use Rattle.card_set.specs.declared.card.Suit.TheVariants as suits
 use Rattle.card_set.specs.CardSet.{listed}
 use Rattle.card_set.specs.Ranks.{high_ace, times}
 use Rattle.card_set.proofs.Listing.{count_of-listing, listed_listing}
-use Rattle.hand_order.specs.Digits.{class_above}
-use Rattle.hand_order.specs.Heights.{heights_of}
-use Rattle.hand_order.specs.Ladder.{leveled}
 use Rattle.hand_order.proofs.BestHigh.{high_best, leveled_few, pattern_below}
 use Rattle.hand_order.proofs.FittingChoices.{times_of_ranks}
 use Rattle.hand_order.proofs.SetCounts.{are_counts, level_shows, mask_counts, suit_shows}
 use Rattle.hand_order.proofs.SuitedHands.{of_suit}
 use Rattle.hand_order.proofs.high.best_high.Goals as goal
 
-pub class_above-plain-requires-clause-class : goal.class_above-plain-requires-clause-class
-class_above-plain-requires-clause-class c =
+pub above_number-plain-requires-clause-class : goal.above_number-plain-requires-clause-class
+above_number-plain-requires-clause-class c =
     let lists = listed_listing c.args.cards.now in
     let set = c.args.cards.now in
     let clubs = mask_counts set c.rank_mask-clubs.result suits.C (listed c.args.cards.now) lists c.rank_mask-clubs.ensures.within c.rank_mask-clubs.ensures.ranks in
@@ -25,11 +22,11 @@ class_above-plain-requires-clause-class c =
     let shows = λ (level n : ℕ) (some : 0 < n) (small : level < 2 ^ 16). level_shows (listed c.args.cards.now) c.rank_mask-clubs.result c.rank_mask-diamonds.result c.rank_mask-hearts.result c.rank_mask-spades.result level n some small clubs diamonds hearts spades in
     let all = shows levels.all 1 (omega arith) says.small.0 says.all in
     let best = c.best_pattern-pattern.ensures (times high_ace (listed c.args.cards.now)) (are_counts (listed c.args.cards.now) lists.different (omega (arith, count_of-listing set (listed c.args.cards.now) lists, c.requires))) all (shows levels.two 2 (omega arith) says.small.1 says.two) (shows levels.three 3 (omega arith) says.small.2 says.three) (shows levels.four 4 (omega arith) says.small.3 says.four) in
-    let level = leveled_few c.args.flush c.best_pattern-pattern.result.class best.kind in
+    let level = leveled_few c.args.flush c.best_pattern-pattern.result.class best.best.kind in
     omega (arith, c.leveled.ensures)
 
-pub class_above-plain-requires-clause-below : goal.class_above-plain-requires-clause-below
-class_above-plain-requires-clause-below c =
+pub above_number-plain-requires-clause-below : goal.above_number-plain-requires-clause-below
+above_number-plain-requires-clause-below c =
     let lists = listed_listing c.args.cards.now in
     let set = c.args.cards.now in
     let clubs = mask_counts set c.rank_mask-clubs.result suits.C (listed c.args.cards.now) lists c.rank_mask-clubs.ensures.within c.rank_mask-clubs.ensures.ranks in
@@ -41,7 +38,7 @@ class_above-plain-requires-clause-below c =
     let shows = λ (level n : ℕ) (some : 0 < n) (small : level < 2 ^ 16). level_shows (listed c.args.cards.now) c.rank_mask-clubs.result c.rank_mask-diamonds.result c.rank_mask-hearts.result c.rank_mask-spades.result level n some small clubs diamonds hearts spades in
     let all = shows levels.all 1 (omega arith) says.small.0 says.all in
     let best = c.best_pattern-pattern.ensures (times high_ace (listed c.args.cards.now)) (are_counts (listed c.args.cards.now) lists.different (omega (arith, count_of-listing set (listed c.args.cards.now) lists, c.requires))) all (shows levels.two 2 (omega arith) says.small.1 says.two) (shows levels.three 3 (omega arith) says.small.2 says.three) (shows levels.four 4 (omega arith) says.small.3 says.four) in
-    pattern_below (times high_ace (listed c.args.cards.now)) c.best_pattern-pattern.result.class (heights_of c.best_pattern-pattern.result.ranks) c.as_slice.result.now best c.as_slice.ensures
+    pattern_below (times high_ace (listed c.args.cards.now)) c.best_pattern-pattern.result.class c.best_pattern-pattern.result.number best
 
 pub returns : goal.returns
 returns c = λ listing lists.
@@ -57,13 +54,9 @@ returns c = λ listing lists.
     let best = c.best_pattern-pattern.ensures (times high_ace listing) (are_counts listing lists.different (omega (arith, count_of-listing set listing lists, c.requires))) all (shows levels.two 2 (omega arith) says.small.1 says.two) (shows levels.three 3 (omega arith) says.small.2 says.three) (shows levels.four 4 (omega arith) says.small.3 says.four) in
     let ranks = λ (s : ℕ). times_of_ranks high_ace (filter (of_suit s) listing) in
     let suited = λ (mask s : ℕ) (small : mask < 2 ^ 13). suit_shows listing mask s (omega arith) in
-    let plain =
-    c.class_above-plain.ensures
-    ∙ ap (λ (k : ℕ). class_above k c.as_slice.result.now) c.leveled.ensures
-    ∙ ap (λ (l : List ℕ). class_above (leveled c.args.flush c.best_pattern-pattern.result.class) l) c.as_slice.ensures in
-    high_best c.args.flush c.args.low listing c.best_pattern-pattern.result.class (heights_of c.best_pattern-pattern.result.ranks) c.top_straight.result c.suit_points.result c.suit_points-2.result c.suit_points-3.result c.suit_points-4.result c.max-5.result lists.different
+    high_best c.args.flush c.args.low listing c.best_pattern-pattern.result.class best.hs c.top_straight.result c.suit_points.result c.suit_points-2.result c.suit_points-3.result c.suit_points-4.result c.max-5.result lists.different
     (record {
-      plain = best;
+      plain = best.best;
       above = λ other. c.top_straight.ensures.most (times high_ace listing) other all;
       found = c.top_straight.ensures.found (times high_ace listing) all;
       of_clubs = c.suit_points.ensures (times high_ace (filter (of_suit 0) listing)) (ranks 0) (suited c.rank_mask-clubs.result 0 c.rank_mask-clubs.ensures.within clubs);
@@ -71,4 +64,4 @@ returns c = λ listing lists.
       of_hearts = c.suit_points-3.ensures (times high_ace (filter (of_suit 2) listing)) (ranks 2) (suited c.rank_mask-hearts.result 2 c.rank_mask-hearts.ensures.within hearts);
       of_spades = c.suit_points-4.ensures (times high_ace (filter (of_suit 3) listing)) (ranks 3) (suited c.rank_mask-spades.result 3 c.rank_mask-spades.ensures.within spades);
     })
-    (omega (arith, plain, c.straight_points-straight.ensures, c.max.ensures, c.max-2.ensures, c.max-3.ensures, c.max-4.ensures, c.max-5.ensures))
+    (omega (arith, c.above_number-plain.ensures, c.leveled.ensures, best.written, c.straight_points-straight.ensures, c.max.ensures, c.max-2.ensures, c.max-3.ensures, c.max-4.ensures, c.max-5.ensures))

@@ -1,5 +1,6 @@
-use Rattle.hand_order.proofs.SuitBits.{top_below}
+use Rattle.std.proofs.Common.{arith}
+use Rattle.hand_order.proofs.SuitBits.{topped_some}
 use Rattle.hand_order.proofs.high.straight_points.Goals as goal
 
-pub class_above-requires-clause-below : goal.class_above-requires-clause-below
-class_above-requires-clause-below c = top_below c.args.top c.ranges.top.fits
+pub returns : goal.returns
+returns c = omega (arith, c.above_number.ensures, topped_some c.args.class c.args.top c.if-top-eq0.false)
