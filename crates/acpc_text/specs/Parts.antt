@@ -1,5 +1,4 @@
--- Texts that are cut at a sign: a file at newlines, a line at colons, a field at bars and strokes,
--- numbers at spaces.
+-- Texts that are cut at a sign: a file at newlines, a line at colons, a field at bars and strokes.
 use Rattle.std.specs.Prelude.{ℕ, ◌-◌, ◌==◌, Bool, bytes_eq, if◌then◌else◌, List, [], ◌∷◌, length, take, map, slice_index}
 use Rattle.std.specs.List.{slice_split}
 

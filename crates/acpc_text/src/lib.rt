@@ -8,4 +8,4 @@ mod parts;
 
 pub use fault::{AcpcFault, LineFault, LineFaultKind, fault_in_line, kept};
 pub use letters::{cut_digits, cut_first};
-pub use parts::{count_parts, cut_at, has_prefix, next_line, next_word};
+pub use parts::{count_parts, cut_at, has_prefix, next_line};

@@ -1,11 +1,9 @@
-//! A text is cut at a sign: a file at newlines, a line at colons, a field at bars and strokes,
-//! numbers at spaces.
-ghost use Rattle.std.specs.Prelude.{◌≡◌, ◌+◌, ◌<◌, ◌≤◌, ◌==◌, ◌⊎◌, [], ◌∷◌, false, length, slice_index, IfSome};
-ghost use Rattle.std.specs.List.{position_or_len};
+//! A text is cut at a sign: a file at newlines, a line at colons, a field at bars and strokes.
+ghost use Rattle.std.specs.Prelude.{◌≡◌, ◌+◌, ◌<◌, ◌≤◌, [], ◌∷◌, length, IfSome};
 ghost use Rattle.std.specs.Option.{option_map_or};
 ghost use Rattle.acpc_text.specs.Parts.{has_front, lines_of, parts_of, without_return as without_return_said};
-ghost use Rattle.first_fault.specs.Words.{is_space, words_of};
 
+use first_fault::place_of;
 use memchr::memchr;
 
 /// Whether the text begins with these bytes.
@@ -51,45 +49,6 @@ fn without_return(line: &[u8]) -> &[u8]
     }
 }
 
-/// The first word of a text, and what stands behind it; `None` where the text has no word.
-pub fn next_word(text: &[u8]) -> Option<(&[u8], &[u8])>
-    ensures words { words_of text.now
-        ≡ option_map_or (λ cut. cut.0.now ∷ words_of cut.1.now) result [] }
-    ensures shorter { IfSome result (λ cut. length cut.1.now < length text.now) }
-{
-    let text = skip_spaces(text);
-    if text.is_empty() {
-        return None;
-    }
-    let len = word_len(text);
-    Some(text.split_at(len))
-}
-
-// The text without the spaces that it begins with.
-fn skip_spaces(text: &[u8]) -> &[u8]
-    ensures words { words_of result.now ≡ words_of text.now }
-    ensures begins { result.now ≡ [] ⊎ is_space (slice_index result.now 0) ≡ false }
-    ensures shorter { length result.now ≤ length text.now }
-{
-    let mut rest = text;
-    while let [b' ', behind @ ..] = rest {
-        rest = behind;
-    }
-    rest
-}
-
-// How many bytes stand before the first space.
-fn word_len(text: &[u8]) -> usize
-    ensures { result ≡ position_or_len is_space text.now }
-{
-    for (index, sign) in text.iter().enumerate() {
-        if *sign == b' ' {
-            return index;
-        }
-    }
-    text.len()
-}
-
 /// How many parts the sign divides the text into.
 pub fn count_parts(text: &[u8], sign: u8) -> usize
     ensures { result ≡ length (parts_of sign text.now) }
@@ -119,16 +78,4 @@ pub fn cut_at(text: &[u8], sign: u8) -> (&[u8], Option<&[u8]>)
     let (front, rest) = text.split_at(len);
     let (_sign, behind) = rest.split_at(1);
     (front, Some(behind))
-}
-
-// How many bytes stand before the first such sign.
-fn place_of(text: &[u8], sign: u8) -> usize
-    ensures { result ≡ position_or_len (λ b. b == sign) text.now }
-{
-    for (index, other) in text.iter().enumerate() {
-        if *other == sign {
-            return index;
-        }
-    }
-    text.len()
 }

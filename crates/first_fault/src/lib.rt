@@ -1,13 +1,15 @@
 //! Reading in a fixed order gives a value or the first fault, whatever the notation and its faults
-//! are.
+//! are; and texts are cut into words.
 #![tactic(auto)]
 
 mod digits;
 mod limits;
 mod stop;
 mod text;
+mod words;
 
 pub use digits::{are_digits, read_digits};
 pub use limits::{MOST_FILE_MOVES, MOST_HANDS, MOST_TEXT_BYTES, Quantity};
 pub use stop::Stop;
 pub use text::Text;
+pub use words::{next_word, place_of};

@@ -7,10 +7,10 @@ ghost use Rattle.phh_actions.specs.Action.{amount_said, cards_said, has_fraction
 ghost use Rattle.chip_ledger.specs.SeatsSaid.{default_name};
 
 use crate::fault::ActionFault;
-use crate::words::{is_word, place_of};
+use crate::words::is_word;
 use card_set::{CardRow, Slot, SlotRow, read_slots as read_row};
 use chip_ledger::{MOST_CHIPS, Seat};
-use first_fault::{are_digits, read_digits};
+use first_fault::{are_digits, place_of, read_digits};
 
 /// The seat of the hand that a word names.
 #[tactic(auto, unfolding(crate::specs::Action::seat_said))]

@@ -6,9 +6,10 @@ ghost use Rattle.first_fault.specs.Words.{words_of};
 
 use crate::fault::ActionFault;
 use crate::parts::{read_amount, read_cards, read_seat, read_slots};
-use crate::words::{before_commentary, is_word, next_word};
+use crate::words::{before_commentary, is_word};
 use card_set::SlotRow;
 use chip_ledger::Seat;
+use first_fault::next_word;
 use play_event::{Kind, Spelled};
 
 /// What an action says in a hand with so many seats; an action without a word says no event.

@@ -1,5 +1,5 @@
 use Rattle.std.proofs.Common.{◌≡◌, ℕ, ◌<◌, get_or, false, eqb}
-use Rattle.acpc_text.proofs.parts.place_of.Given as goal
+use Rattle.first_fault.proofs.words.place_of.Given as goal
 
 -- no byte so far is the sign
 abbrev pub invariant-loop-index : goal.invariant-loop-index

@@ -1,5 +1,5 @@
 use Rattle.std.proofs.Common.{◌≡◌, ◌≤◌, length}
-use Rattle.acpc_text.proofs.parts.skip_spaces.Given as goal
+use Rattle.first_fault.proofs.words.skip_spaces.Given as goal
 use Rattle.first_fault.specs.Words.{words_of}
 
 -- what is left has the words of the text
