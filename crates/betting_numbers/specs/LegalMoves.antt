@@ -97,3 +97,19 @@ IsInReach b legal = legal.target ≤ all_in_seen b legal.seat.number
 -- it may come where this is due
 abbrev pub IsFit : RunningNumbers → LegalMove → Type 0
 IsFit b legal = may_come_at (act_said legal.act) b.due ≡ true
+
+-- An event that would be a move of the seat in turn, if it is known, is answered as the rules do.
+pub record IsAnswered (b : RunningNumbers) (in_turn : Option Seat) (event : Said)
+    (answer : Result LegalMove Illegal) : Type 0 where
+  -- a refusal has the reason of the rules
+  pub refused : WhereTurn b in_turn (IsRefused b event answer)
+  -- what is allowed is legal, and takes place as the move that is given
+  pub legal : WhereTurn b in_turn (IsAllowed b event answer)
+  -- that move may come where this is due
+  pub fits : IfOk answer (IsFit b)
+  -- it is of a seat of the hand
+  pub in_hand : IfOk answer (IsOfHand b)
+  -- it is of the seat in turn
+  pub seat : IfOk answer (IsInTurn in_turn)
+  -- it goes no further than all-in
+  pub reach : IfOk answer (IsInReach b)

@@ -18,6 +18,14 @@ abbrev pub last_of : (ℕ → ℕ) → ℕ → ℕ
 last_of blinds count =
     unwrap_or (find (λ seat. blinds seat == big_of blinds count) (reverse (seats_of count))) 0
 
+-- each seat's ante and blind can be posted
+pub record IsPostable (setup : Setup) : Type 0 where
+  -- the rows of antes and blinds have the seats of the hand
+  pub antes : setup.antes.seats ≡ setup.stacks.seats
+  pub blinds : setup.blinds.seats ≡ setup.stacks.seats
+  -- no ante is more than the stack
+  pub reach : (seat : ℕ) → amount_of setup.antes seat ≤ amount_of setup.stacks seat
+
 -- the first so many seats have posted
 pub record HasPosted (setup : Setup) (count : ℕ) (p : Posted) : Type 0 where
   -- each row has the seats of the hand

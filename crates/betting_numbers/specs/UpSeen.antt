@@ -1,5 +1,5 @@
 -- Who opens a street by up-cards, by the running numbers and a row of up-cards.
-use Rattle.std.specs.Prelude.{◌≡◌, ℕ, ◌≤◌, Bool, ◌&&◌, ◌==◌, not, if◌then◌else◌, find, Option, None}
+use Rattle.std.specs.Prelude.{◌≡◌, ℕ, ◌≤◌, Bool, true, ◌&&◌, ◌==◌, not, if◌then◌else◌, find, Option, None}
 use Rattle.std.specs.List.{list_any}
 use Rattle.play_event.specs.declared.card_rows.UpRow.{UpRow}
 use Rattle.play_event.specs.declared.setup.Setup.{Setup}
@@ -40,6 +40,12 @@ is_before_seen opener b up seat other =
     is_able_seen b other
     && is_opener_before opener (b.street == 1) (known_cards (ups_of up other))
     (known_cards (ups_of up seat))
+
+-- a seat opens before each seat that the leader opens before
+abbrev pub LeadsAsWell : Opener → RunningNumbers → UpRow → (lead other : ℕ) → Type 0
+LeadsAsWell opener b up lead other =
+    (seat : ℕ) → is_before_seen opener b up seat lead ≡ true
+    → is_before_seen opener b up seat other ≡ true
 
 -- a seat's up-cards open before all that another's open before
 abbrev pub is_as_early_seen : Opener → RunningNumbers → UpRow → (seat other : ℕ) → Bool

@@ -1,11 +1,12 @@
 //! An event is allowed as a legal move: whose it is, and where it goes. It is made elsewhere.
-ghost use Rattle.std.specs.Prelude.{◌≡◌, ◌≤◌, true, false, None, Some, IfOk, IfSome};
+ghost use Rattle.std.specs.Prelude.{◌≡◌, ◌≤◌, true, false, None, IfSome};
 ghost use Rattle.play_event.specs.Said as said;
 ghost use Rattle.play_event.specs.Streets.{limit_of, unit};
-ghost use Rattle.betting_numbers.specs.LegalMoves.{IsRefused, IsAllowed, IsOfHand, IsInReach, IsInTurn, IsFit, WhereTurn};
+ghost use Rattle.betting_numbers.specs.LegalMoves.{IsAnswered};
 ghost use Rattle.betting_numbers.specs.Why.{is_unable, now_why, unknown_why};
 ghost use Rattle.chip_ledger.specs.SeatsSaid.{seat_said};
 
+use crate::raising::Raiser;
 use crate::running::RunningNumbers;
 use chip_ledger::Seat;
 use play_event::{Act, Due, Illegal, Limit, Spelled};
@@ -38,14 +39,7 @@ impl RunningNumbers {
     pub fn legal_fold(&self, turn: Option<Seat>, actor: Option<Seat>) -> Result<LegalMove, Illegal>
         requires in_hand { IfSome turn (λ seat. seat.number ≤ self.now.setup.stacks.seats) }
         requires now { now_why true false self.now.due ≡ None }
-        ensures refused { WhereTurn self.now turn
-            (IsRefused self.now (said.Fold (seat_said actor)) result) }
-        ensures legal { WhereTurn self.now turn
-            (IsAllowed self.now (said.Fold (seat_said actor)) result) }
-        ensures fits { IfOk result (IsFit self.now) }
-        ensures in_hand { IfOk result (IsOfHand self.now) }
-        ensures seat { IfOk result (IsInTurn turn) }
-        ensures reach { IfOk result (IsInReach self.now) }
+        ensures { IsAnswered self.now turn (said.Fold (seat_said actor)) result }
     {
         match turn {
             None => Err(self.unknown(actor)),
@@ -74,14 +68,7 @@ impl RunningNumbers {
     ) -> Result<LegalMove, Illegal>
         requires in_hand { IfSome turn (λ seat. seat.number ≤ self.now.setup.stacks.seats) }
         requires now { now_why true false self.now.due ≡ None }
-        ensures refused { WhereTurn self.now turn
-            (IsRefused self.now (said.Call (seat_said actor) stated) result) }
-        ensures legal { WhereTurn self.now turn
-            (IsAllowed self.now (said.Call (seat_said actor) stated) result) }
-        ensures fits { IfOk result (IsFit self.now) }
-        ensures in_hand { IfOk result (IsOfHand self.now) }
-        ensures seat { IfOk result (IsInTurn turn) }
-        ensures reach { IfOk result (IsInReach self.now) }
+        ensures { IsAnswered self.now turn (said.Call (seat_said actor) stated) result }
     {
         match turn {
             None => Err(self.unknown(actor)),
@@ -113,25 +100,23 @@ impl RunningNumbers {
         requires in_hand { IfSome turn (λ seat. seat.number ≤ self.now.setup.stacks.seats) }
         requires now { now_why true true self.now.due ≡ None }
         requires limit { limit_of self.now.setup.code ≡ limit }
-        requires from_one { 1 ≤ self.now.street }
         requires size { size ≡ unit self.now.setup self.now.street }
-        ensures refused { WhereTurn self.now turn
-            (IsRefused self.now (said.Raise (seat_said actor) amount) result) }
-        ensures legal { WhereTurn self.now turn
-            (IsAllowed self.now (said.Raise (seat_said actor) amount) result) }
-        ensures fits { IfOk result (IsFit self.now) }
-        ensures in_hand { IfOk result (IsOfHand self.now) }
-        ensures seat { IfOk result (IsInTurn turn) }
-        ensures reach { IfOk result (IsInReach self.now) }
+        ensures { IsAnswered self.now turn (said.Raise (seat_said actor) amount) result }
     {
         match turn {
             None => Err(self.unknown(actor)),
             Some(seat) => {
+                let raiser = Raiser {
+                    numbers: self,
+                    seat,
+                    limit,
+                    size,
+                };
                 let floor = self.floor(self.start_price());
-                match self.against_raise(limit, floor, size, actor, amount, seat) {
+                match raiser.against(floor, actor, amount) {
                     Some(reason) => Err(reason),
                     None => {
-                        let target = self.target(seat, size, amount) as u64;
+                        let target = raiser.target(amount) as u64;
                         Ok(LegalMove {
                             seat,
                             act: Act::Raise,
@@ -151,14 +136,7 @@ impl RunningNumbers {
     ) -> Result<LegalMove, Illegal>
         requires in_hand { IfSome turn (λ seat. seat.number ≤ self.now.setup.stacks.seats) }
         requires now { now_why false true self.now.due ≡ None }
-        ensures refused { WhereTurn self.now turn
-            (IsRefused self.now (said.BringIn (seat_said actor)) result) }
-        ensures legal { WhereTurn self.now turn
-            (IsAllowed self.now (said.BringIn (seat_said actor)) result) }
-        ensures fits { IfOk result (IsFit self.now) }
-        ensures in_hand { IfOk result (IsOfHand self.now) }
-        ensures seat { IfOk result (IsInTurn turn) }
-        ensures reach { IfOk result (IsInReach self.now) }
+        ensures { IsAnswered self.now turn (said.BringIn (seat_said actor)) result }
     {
         match turn {
             None => Err(self.unknown(actor)),

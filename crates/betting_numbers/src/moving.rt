@@ -62,8 +62,8 @@ impl RunningNumbers {
         self.due = due;
         clear(&mut self.bets);
         self.price = 0;
-        unflag(&mut self.moved);
-        unflag(&mut self.since_rise);
+        keep(&mut self.moved, false);
+        keep(&mut self.since_rise, false);
         self.last = None;
         self.raises = 0;
         self.full_raise = self.setup.min_bet;
@@ -123,16 +123,8 @@ fn keep(row: &mut LiveRow, kept: bool)
     ensures flags { (n : ℕ) → flag_of row.new n ≡ (kept && flag_of row.old n) }
 {
     if !kept {
-        unflag(row);
+        row.flags = [false; 10];
     }
-}
-
-// No seat is flagged any more.
-fn unflag(row: &mut LiveRow)
-    ensures seats { row.new.seats ≡ row.old.seats }
-    ensures all_false { (n : ℕ) → flag_of row.new n ≡ false }
-{
-    row.flags = [false; 10];
 }
 
 // A live seat stays live, but where it folds.

@@ -41,7 +41,6 @@ impl RunningNumbers {
     /// The price at which the street starts.
     #[tactic(auto, using(crate::proofs::NextStreet::starts_at_zero))]
     pub fn start_price(&self) -> u64
-        requires { 1 ≤ self.now.street }
         ensures value { result ≡ starting_price self.now.setup self.now.street }
         ensures bounded { result ≤ MOST_AMOUNT }
     {

@@ -1,5 +1,5 @@
 //! Who may raise, and to what, by the running numbers.
-ghost use Rattle.std.specs.Prelude.{◌≡◌, ◌≤◌, ◌<◌, ◌-◌, ◌&&◌, ◌||◌, ◌==◌, min};
+ghost use Rattle.std.specs.Prelude.{◌≡◌, ◌≤◌, ◌<◌, ◌-◌, ◌&&◌, ◌||◌, ◌==◌};
 ghost use Rattle.chip_ledger.specs.declared.rows.TheConstants.{MOST_AMOUNT};
 ghost use Rattle.play_event.specs.declared.limit.Limit.TheVariants as limits;
 ghost use Rattle.play_event.specs.Streets.{unit};
@@ -86,70 +86,75 @@ impl RunningNumbers {
         }
     }
 
-    /// Why a raise is refused.
-    pub fn against_raise(
-        &self,
-        limit: Limit,
-        floor: u64,
-        size: u64,
-        named: Option<Seat>,
-        amount: Spelled,
-        mover: Seat,
-    ) -> Option<Illegal>
-        requires in_hand { mover.number ≤ self.now.setup.stacks.seats }
-        requires from_one { 1 ≤ self.now.street }
-        requires size { size ≡ unit self.now.setup self.now.street }
-        ensures { result ≡ raise_why limit self.now floor (seat_said named) amount mover.number }
+    /// The raises are within the cap.
+    pub fn is_within_cap(&self) -> bool
+        ensures { result ≡ is_within_cap_by self.now.rules.caps self.now.raises self.now.street }
     {
-        if another(named, mover) {
+        match self.rules.caps {
+            None => true,
+            Some(caps) => 4 < self.street || self.raises < caps[self.street as usize - 1],
+        }
+    }
+}
+
+/// A seat as it bets or raises, with the limit and the unit that its targets are judged by.
+#[derive(Clone, Copy)]
+pub struct Raiser<'a> {
+    pub numbers: &'a RunningNumbers,
+    pub seat: Seat,
+    pub limit: Limit,
+    /// The unit of the street's bets.
+    pub size: u64,
+    pub ghost in_hand: { seat.number ≤ numbers.now.setup.stacks.seats },
+    pub ghost size_is: { size ≡ unit numbers.now.setup numbers.now.street },
+}
+
+impl Raiser<'_> {
+    /// Why a raise is refused.
+    pub fn against(&self, floor: u64, named: Option<Seat>, amount: Spelled) -> Option<Illegal>
+        ensures { result
+            ≡ raise_why self.now.limit self.now.numbers.now floor (seat_said named) amount
+            self.now.seat.number }
+    {
+        if another(named, self.seat) {
             Some(Illegal::WrongSeat)
         } else {
-            let target = self.target(mover, size, amount);
-            self.against_target(limit, floor, size, mover, target)
+            self.against_target(floor, self.target(amount))
         }
     }
 
-    /// Where a raise goes, where bets have this unit.
-    pub fn target(&self, seat: Seat, size: u64, amount: Spelled) -> u128
-        requires in_hand { seat.number ≤ self.now.setup.stacks.seats }
-        requires size { size ≡ unit self.now.setup self.now.street }
-        ensures { result ≡ target_seen self.now seat.number amount }
+    /// Where a raise goes.
+    pub fn target(&self, amount: Spelled) -> u128
+        ensures { result ≡ target_seen self.now.numbers.now self.now.seat.number amount }
     {
+        let numbers = self.numbers;
+        let bet = numbers.bets.get(self.seat);
         match amount {
             Spelled::To(amount) => u128::from(amount),
-            Spelled::Added(amount) => u128::from(self.bets.get(seat)) + u128::from(amount),
+            Spelled::Added(amount) => u128::from(bet) + u128::from(amount),
             Spelled::HandTotal(amount) => {
-                let before = self.puts.get(seat).saturating_sub(self.bets.get(seat));
+                let before = numbers.puts.get(self.seat).saturating_sub(bet);
                 u128::from(amount.saturating_sub(before))
             }
             Spelled::Unit => {
-                let price = self.price();
-                let target = if price < size {
-                    u128::from(size)
+                let price = numbers.price();
+                let target = if price < self.size {
+                    u128::from(self.size)
                 } else {
-                    u128::from(price) + u128::from(size)
+                    u128::from(price) + u128::from(self.size)
                 };
-                target.min(u128::from(self.all_in(seat)))
+                target.min(u128::from(numbers.all_in(self.seat)))
             }
         }
     }
 
     /// Why a raise to a target is refused.
-    pub fn against_target(
-        &self,
-        limit: Limit,
-        floor: u64,
-        size: u64,
-        mover: Seat,
-        target: u128,
-    ) -> Option<Illegal>
-        requires in_hand { mover.number ≤ self.now.setup.stacks.seats }
-        requires from_one { 1 ≤ self.now.street }
-        requires size { size ≡ unit self.now.setup self.now.street }
-        ensures { result ≡ raise_to_why limit self.now floor mover.number target }
+    pub fn against_target(&self, floor: u64, target: u128) -> Option<Illegal>
+        ensures { result
+            ≡ raise_to_why self.now.limit self.now.numbers.now floor self.now.seat.number target }
     {
-        let (legal, greatest) = self.judge(limit, floor, size, mover, target);
-        if !self.may_raise(limit, size, mover) {
+        let (legal, greatest) = self.judge(floor, target);
+        if !self.may_raise() {
             Some(Illegal::RaiseClosed)
         } else if !legal && target < greatest {
             Some(Illegal::RaiseTooSmall)
@@ -161,79 +166,54 @@ impl RunningNumbers {
     }
 
     /// Whether a target is legal, and the greatest that is, in chips of the street.
-    pub fn judge(
-        &self,
-        limit: Limit,
-        floor: u64,
-        size: u64,
-        mover: Seat,
-        target: u128,
-    ) -> (bool, u128)
-        requires in_hand { mover.number ≤ self.now.setup.stacks.seats }
-        requires size { size ≡ unit self.now.setup self.now.street }
-        ensures legal { result.0 ≡ is_legal_seen limit self.now floor mover.number target }
-        ensures greatest { result.1 ≡ greatest_seen limit self.now mover.number }
+    pub fn judge(&self, floor: u64, target: u128) -> (bool, u128)
+        ensures legal { result.0
+            ≡ is_legal_seen self.now.limit self.now.numbers.now floor self.now.seat.number
+            target }
+        ensures greatest { result.1
+            ≡ greatest_seen self.now.limit self.now.numbers.now self.now.seat.number }
     {
-        let all_in = u128::from(self.all_in(mover));
-        match limit {
+        let numbers = self.numbers;
+        let all_in = u128::from(numbers.all_in(self.seat));
+        match self.limit {
             Limit::No => (
                 (u128::from(floor) <= target && target <= all_in) || target == all_in,
                 all_in,
             ),
             Limit::Pot => {
-                let ceiling = u128::from(self.ceiling(mover));
-                let least = u128::from(self.price() + self.full_raise);
+                let ceiling = u128::from(self.ceiling());
+                let least = u128::from(numbers.price() + numbers.full_raise);
                 (
                     (least <= target && target <= all_in.min(ceiling))
                         || (target == all_in && target <= ceiling),
                     all_in.min(ceiling),
                 )
             }
-            Limit::Fixed => Self::judge_fixed(self.fulls(size), all_in, target),
+            Limit::Fixed => judge_fixed(self.fulls(), all_in, target),
         }
     }
 
     /// The greatest raise of pot limit, in chips of the street: the price, and the pot with what
     /// the seat owes in it.
-    pub fn ceiling(&self, seat: Seat) -> u64
-        requires { seat.number ≤ self.now.setup.stacks.seats }
-        ensures { result ≡ ceiling_seen self.now seat.number }
+    pub fn ceiling(&self) -> u64
+        ensures { result ≡ ceiling_seen self.now.numbers.now self.now.seat.number }
     {
-        let price = self.price();
-        (price + self.full_raise).max(price + self.pot + self.owed(seat))
-    }
-
-    // Whether a target is legal, and the greatest that is, in fixed limit.
-    fn judge_fixed(fulls: (u128, Option<u128>), all_in: u128, target: u128) -> (bool, u128)
-        ensures legal { result.0 ≡ is_legal_by limits.Fixed 0 0 all_in 0 (fulls_list fulls) target }
-        ensures greatest { result.1 ≡ greatest_by limits.Fixed all_in 0 (fulls_list fulls) }
-    {
-        let (first, other) = fulls;
-        match other {
-            None => (
-                (target == first && target <= all_in) || (target == all_in && target < first),
-                all_in.min(first),
-            ),
-            Some(second) => (
-                ((target == first || target == second) && target <= all_in)
-                    || (target == all_in && target < first.max(second)),
-                all_in.min(first.max(second)),
-            ),
-        }
+        let numbers = self.numbers;
+        let price = numbers.price();
+        (price + numbers.full_raise).max(price + numbers.pot + numbers.owed(self.seat))
     }
 
     /// The first full raise of fixed limit, and the other one where there is one, in chips of the
     /// street.
-    pub fn fulls(&self, size: u64) -> (u128, Option<u128>)
-        requires { size ≡ unit self.now.setup self.now.street }
-        ensures { fulls_seen self.now ≡ fulls_list result }
+    pub fn fulls(&self) -> (u128, Option<u128>)
+        ensures { fulls_seen self.now.numbers.now ≡ fulls_list result }
     {
-        let price = u128::from(self.price());
-        let size = u128::from(size);
+        let price = u128::from(self.numbers.price());
+        let size = u128::from(self.size);
         if price < size {
             return (size, None);
         }
-        let above = u128::from(self.full_bet) + size;
+        let above = u128::from(self.numbers.full_bet) + size;
         if price < above {
             (price + size, Some(above))
         } else {
@@ -241,42 +221,51 @@ impl RunningNumbers {
         }
     }
 
-    /// The seat may raise, where bets have this size.
-    pub fn may_raise(&self, limit: Limit, size: u64, seat: Seat) -> bool
-        requires in_hand { seat.number ≤ self.now.setup.stacks.seats }
-        requires from_one { 1 ≤ self.now.street }
-        requires size { size ≡ unit self.now.setup self.now.street }
-        ensures { result ≡ may_raise_seen limit self.now seat.number }
+    /// The seat may raise.
+    pub fn may_raise(&self) -> bool
+        ensures { result ≡ may_raise_seen self.now.limit self.now.numbers.now self.now.seat.number }
     {
-        let open = match self.rules.reopen {
+        let numbers = self.numbers;
+        let open = match numbers.rules.reopen {
             Reopen::Always => true,
-            Reopen::Full => !self.moved.get(seat) || self.owes_enough(limit, size, seat),
+            Reopen::Full => !numbers.moved.get(self.seat) || self.owes_enough(),
         };
-        self.has_opponent(seat) && self.price() < self.all_in(seat) && self.is_within_cap() && open
+        numbers.has_opponent(self.seat)
+            && numbers.price() < numbers.all_in(self.seat)
+            && numbers.is_within_cap()
+            && open
     }
 
-    /// What the seat owes reopens the betting to it, where bets have this size.
-    pub fn owes_enough(&self, limit: Limit, size: u64, seat: Seat) -> bool
-        requires { seat.number ≤ self.now.setup.stacks.seats }
+    /// What the seat owes reopens the betting to it.
+    pub fn owes_enough(&self) -> bool
         ensures { result
-            ≡ is_reopened_by limit self.now.full_raise size (owed_seen self.now seat.number) }
+            ≡ is_reopened_by self.now.limit self.now.numbers.now.full_raise self.now.size
+            (owed_seen self.now.numbers.now self.now.seat.number) }
     {
-        let owed = self.owed(seat);
-        match limit {
-            Limit::No | Limit::Pot => self.full_raise <= owed,
-            Limit::Fixed => u128::from(size) <= 2 * u128::from(owed),
+        let owed = self.numbers.owed(self.seat);
+        match self.limit {
+            Limit::No | Limit::Pot => self.numbers.full_raise <= owed,
+            Limit::Fixed => u128::from(self.size) <= 2 * u128::from(owed),
         }
     }
+}
 
-    /// The raises are within the cap.
-    pub fn is_within_cap(&self) -> bool
-        requires { 1 ≤ self.now.street }
-        ensures { result ≡ is_within_cap_by self.now.rules.caps self.now.raises self.now.street }
-    {
-        match self.rules.caps {
-            None => true,
-            Some(caps) => 4 < self.street || self.raises < caps[self.street as usize - 1],
-        }
+// Whether a target is legal, and the greatest that is, in fixed limit.
+fn judge_fixed(fulls: (u128, Option<u128>), all_in: u128, target: u128) -> (bool, u128)
+    ensures legal { result.0 ≡ is_legal_by limits.Fixed 0 0 all_in 0 (fulls_list fulls) target }
+    ensures greatest { result.1 ≡ greatest_by limits.Fixed all_in 0 (fulls_list fulls) }
+{
+    let (first, other) = fulls;
+    match other {
+        None => (
+            (target == first && target <= all_in) || (target == all_in && target < first),
+            all_in.min(first),
+        ),
+        Some(second) => (
+            ((target == first || target == second) && target <= all_in)
+                || (target == all_in && target < first.max(second)),
+            all_in.min(first.max(second)),
+        ),
     }
 }
 

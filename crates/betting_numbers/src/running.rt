@@ -74,6 +74,7 @@ pub struct RunningNumbers {
     pub ghost first_price_bounded: { first_price ≤ MOST_AMOUNT },
     pub ghost first_opener_is: { first_opener.number ≡ blinds_opener setup 1 },
     pub ghost first_opener_in: { first_opener.number ≤ setup.stacks.seats },
+    pub ghost from_one: { 1 ≤ street },
     pub ghost ante_seats: { setup.antes.seats ≡ setup.stacks.seats },
     pub ghost blind_seats: { setup.blinds.seats ≡ setup.stacks.seats },
     pub ghost put_seats: { puts.seats ≡ setup.stacks.seats },

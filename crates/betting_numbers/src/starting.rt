@@ -5,7 +5,7 @@ ghost use Rattle.chip_ledger.specs.SeatRow.{amount_of};
 ghost use Rattle.play_event.specs.declared.reason.Due.TheVariants as dues;
 ghost use Rattle.play_event.specs.Streets.{unit};
 ghost use Rattle.play_event.specs.ValidSetup.{IsValid};
-ghost use Rattle.betting_numbers.specs.Posting.{HasPosted};
+ghost use Rattle.betting_numbers.specs.Posting.{HasPosted, IsPostable};
 ghost use Rattle.betting_numbers.specs.Standing.{StandsFor};
 
 use crate::caps::caps_fit;
@@ -80,9 +80,7 @@ pub fn start(setup: &Setup, rules: &Rules, size: u64) -> RunningNumbers
 
 // What all seats post.
 fn post_all(setup: &Setup) -> Posted
-    requires antes { setup.now.antes.seats ≡ setup.now.stacks.seats }
-    requires blinds { setup.now.blinds.seats ≡ setup.now.stacks.seats }
-    requires reach { (n : ℕ) → amount_of setup.now.antes n ≤ amount_of setup.now.stacks n }
+    requires { IsPostable setup.now }
     ensures { HasPosted setup.now setup.now.stacks.seats result }
 {
     let mut posted = Posted {
@@ -104,9 +102,7 @@ fn post_all(setup: &Setup) -> Posted
 impl Posted {
     // One seat more posts, behind so many.
     fn post(&mut self, setup: &Setup, index: u8)
-        requires antes { setup.now.antes.seats ≡ setup.now.stacks.seats }
-        requires blinds { setup.now.blinds.seats ≡ setup.now.stacks.seats }
-        requires reach { (n : ℕ) → amount_of setup.now.antes n ≤ amount_of setup.now.stacks n }
+        requires posts { IsPostable setup.now }
         requires less { index < setup.now.stacks.seats }
         requires posted { HasPosted setup.now index self.old }
         ensures { HasPosted setup.now (index + 1) self.new }

@@ -12,6 +12,7 @@ ghost use Rattle.play_event.specs.Targets.{smallest};
 ghost use Rattle.betting_numbers.specs.Why.{fulls_list, greatest_seen, floor_seen};
 ghost use Rattle.chip_ledger.specs.SeatsSaid.{seat_said};
 
+use crate::raising::Raiser;
 use crate::running::RunningNumbers;
 use chip_ledger::Seat;
 use play_event::Limit;
@@ -30,7 +31,6 @@ impl RunningNumbers {
     pub fn targets_of(&self, turn: Option<Seat>, limit: Limit, size: u64) -> Option<Targets>
         requires in_hand { IfSome turn (λ seat. seat.number ≤ self.now.setup.stacks.seats) }
         requires limit { limit_of self.now.setup.code ≡ limit }
-        requires from_one { 1 ≤ self.now.street }
         requires size { size ≡ unit self.now.setup self.now.street }
         ensures some { (past : Past) → StandsFor self.now past
             → is_some result
@@ -43,10 +43,16 @@ impl RunningNumbers {
         match turn {
             None => None,
             Some(seat) => {
-                if self.may_raise(limit, size, seat) {
+                let raiser = Raiser {
+                    numbers: self,
+                    seat,
+                    limit,
+                    size,
+                };
+                if raiser.may_raise() {
                     Some(Targets {
-                        least: self.least_to(limit, size, seat),
-                        greatest: self.greatest_to(limit, size, seat),
+                        least: raiser.least_to(),
+                        greatest: raiser.greatest_to(),
                         all_in: self.all_in(seat),
                     })
                 } else {
@@ -55,34 +61,33 @@ impl RunningNumbers {
             }
         }
     }
+}
 
+impl Raiser<'_> {
     // The least legal target.
-    fn least_to(&self, limit: Limit, size: u64, seat: Seat) -> u64
-        requires in_hand { seat.number ≤ self.now.setup.stacks.seats }
-        requires from_one { 1 ≤ self.now.street }
-        requires size { size ≡ unit self.now.setup self.now.street }
+    fn least_to(&self) -> u64
         ensures { result
-            ≡ least_seen limit self.now (floor_seen self.now) seat.number }
+            ≡ least_seen self.now.limit self.now.numbers.now (floor_seen self.now.numbers.now)
+            self.now.seat.number }
     {
-        let all_in = self.all_in(seat);
-        match limit {
-            Limit::No => all_in.min(self.floor(self.start_price())),
-            Limit::Pot => all_in.min(self.price() + self.full_raise),
-            Limit::Fixed => u128::from(all_in).min(smaller(self.fulls(size))) as u64,
+        let numbers = self.numbers;
+        let all_in = numbers.all_in(self.seat);
+        match self.limit {
+            Limit::No => all_in.min(numbers.floor(numbers.start_price())),
+            Limit::Pot => all_in.min(numbers.price() + numbers.full_raise),
+            Limit::Fixed => u128::from(all_in).min(smaller(self.fulls())) as u64,
         }
     }
 
     // The greatest legal target.
-    fn greatest_to(&self, limit: Limit, size: u64, seat: Seat) -> u64
-        requires in_hand { seat.number ≤ self.now.setup.stacks.seats }
-        requires size { size ≡ unit self.now.setup self.now.street }
-        ensures { result ≡ greatest_seen limit self.now seat.number }
+    fn greatest_to(&self) -> u64
+        ensures { result ≡ greatest_seen self.now.limit self.now.numbers.now self.now.seat.number }
     {
-        let all_in = self.all_in(seat);
-        match limit {
+        let all_in = self.numbers.all_in(self.seat);
+        match self.limit {
             Limit::No => all_in,
-            Limit::Pot => all_in.min(self.ceiling(seat)),
-            Limit::Fixed => u128::from(all_in).min(larger(self.fulls(size))) as u64,
+            Limit::Pot => all_in.min(self.ceiling()),
+            Limit::Fixed => u128::from(all_in).min(larger(self.fulls())) as u64,
         }
     }
 }

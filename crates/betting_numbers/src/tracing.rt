@@ -9,6 +9,7 @@ ghost use Rattle.betting_numbers.specs.LegalMoves.{move_of};
 ghost use Rattle.betting_numbers.specs.Traced.{is_closed_seen, traced_seen, unit_seen};
 
 use crate::moving::raises;
+use crate::raising::Raiser;
 use crate::running::RunningNumbers;
 use chip_ledger::Seat;
 use play_event::{Act, Limit, Move, Spelled};
@@ -24,47 +25,52 @@ impl RunningNumbers {
             ≡ traced_move self.now.setup
             (move_of self.now moves seat.number (act_said act) target) moves }
     {
-        self.traced_by(limit, size, seat, act, target)
+        let raiser = Raiser {
+            numbers: self,
+            seat,
+            limit,
+            size,
+        };
+        raiser.traced(act, target)
     }
+}
 
+impl Raiser<'_> {
     // The move by the numbers before it.
-    fn traced_by(&self, limit: Limit, size: u64, seat: Seat, act: Act, target: u64) -> Move
-        requires in_hand { seat.number ≤ self.now.setup.stacks.seats }
-        requires size { size ≡ unit self.now.setup self.now.street }
-        ensures { move_said result ≡ traced_seen limit self.now seat.number (act_said act) target }
+    fn traced(&self, act: Act, target: u64) -> Move
+        ensures { move_said result
+            ≡ traced_seen self.now.limit self.now.numbers.now self.now.seat.number (act_said act)
+            target }
     {
         Move {
-            street: self.street,
-            seat,
+            street: self.numbers.street,
+            seat: self.seat,
             act,
-            from: self.bets.get(seat),
+            from: self.numbers.bets.get(self.seat),
             to: target,
-            price: self.price(),
-            closed: raises(act) && self.closed(limit, size, seat, target),
-            unit_to: self.unit_to(limit, size, seat),
+            price: self.numbers.price(),
+            closed: raises(act) && self.closed(target),
+            unit_to: self.unit_to(),
         }
     }
 
     // The raise needs rules by which betting always reopens.
-    fn closed(&self, limit: Limit, size: u64, seat: Seat, target: u64) -> bool
-        requires in_hand { seat.number ≤ self.now.setup.stacks.seats }
-        requires size { size ≡ unit self.now.setup self.now.street }
-        ensures { result ≡ is_closed_seen limit self.now seat.number target }
+    fn closed(&self, target: u64) -> bool
+        ensures { result
+            ≡ is_closed_seen self.now.limit self.now.numbers.now self.now.seat.number target }
     {
-        let floor = self.price() + self.full_raise;
-        let (legal, _) = self.judge(limit, floor, size, seat, u128::from(target));
-        let open = !self.moved.get(seat) || self.owes_enough(limit, size, seat);
+        let numbers = self.numbers;
+        let (legal, _) = self.judge(numbers.price() + numbers.full_raise, u128::from(target));
+        let open = !numbers.moved.get(self.seat) || self.owes_enough();
         !open || !legal
     }
 
     // Where a raise by the unit goes, in fixed limit, else 0.
-    fn unit_to(&self, limit: Limit, size: u64, seat: Seat) -> u64
-        requires in_hand { seat.number ≤ self.now.setup.stacks.seats }
-        requires size { size ≡ unit self.now.setup self.now.street }
-        ensures { result ≡ unit_seen limit self.now seat.number }
+    fn unit_to(&self) -> u64
+        ensures { result ≡ unit_seen self.now.limit self.now.numbers.now self.now.seat.number }
     {
-        match limit {
-            Limit::Fixed => self.target(seat, size, Spelled::Unit) as u64,
+        match self.limit {
+            Limit::Fixed => self.target(Spelled::Unit) as u64,
             Limit::Pot | Limit::No => 0,
         }
     }

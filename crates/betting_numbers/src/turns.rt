@@ -25,7 +25,8 @@ impl RunningNumbers {
         }
     }
 
-    // Where the turn is passed to, where this seat opens.
+    // Where the turn is passed to, where this seat opens: to the seat after that which moved last,
+    // going round.
     fn passed_to(&self, opener: Seat) -> Seat
         requires { opener.number ≤ self.now.setup.stacks.seats }
         ensures value { TheSeat result.number
@@ -34,22 +35,15 @@ impl RunningNumbers {
         ensures in_hand { result.number ≤ self.now.setup.stacks.seats }
     {
         match self.last {
-            Some(seat) => self.seat_after(seat),
             None => opener,
-        }
-    }
-
-    // The seat after this one, going round.
-    fn seat_after(&self, seat: Seat) -> Seat
-        requires { seat.number ≤ self.now.setup.stacks.seats }
-        ensures value { result.number ≡ openers.seat_after self.now.setup seat.number }
-        ensures in_hand { result.number ≤ self.now.setup.stacks.seats }
-    {
-        if seat.number == self.setup.stacks.seats {
-            Seat { number: 1 }
-        } else {
-            Seat {
-                number: seat.number + 1,
+            Some(seat) => {
+                if seat.number == self.setup.stacks.seats {
+                    Seat { number: 1 }
+                } else {
+                    Seat {
+                        number: seat.number + 1,
+                    }
+                }
             }
         }
     }

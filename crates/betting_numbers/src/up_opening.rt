@@ -1,8 +1,8 @@
 //! Who opens a street by up-cards, and who is behind.
-ghost use Rattle.std.specs.Prelude.{◌≡◌, ◌≤◌, ℕ, true, ◌&&◌, not, IfSome};
+ghost use Rattle.std.specs.Prelude.{◌≡◌, ◌≤◌, ◌&&◌, not, IfSome};
 ghost use Rattle.chip_ledger.specs.SeatsSaid.{seat_said};
 ghost use Rattle.play_event.specs.Openers.{in_turn};
-ghost use Rattle.betting_numbers.specs.UpSeen.{is_as_early_seen, is_before_seen, has_unknown_seen, known_opener_seen};
+ghost use Rattle.betting_numbers.specs.UpSeen.{LeadsAsWell, is_before_seen, has_unknown_seen, known_opener_seen};
 ghost use Rattle.betting_numbers.specs.Seen.{first_behind_seen, is_able_seen};
 
 use crate::running::RunningNumbers;
@@ -38,6 +38,11 @@ impl RunningNumbers {
             (λ seat. seat.number ≤ self.now.setup.stacks.seats) }
     {
         let seats = self.setup.stacks.seats;
+        let ups = Ups {
+            numbers: self,
+            up,
+            opener,
+        };
         let mut lead: u8 = seats;
         let mut first: Option<Seat> = None;
         let mut behind: Option<Seat> = None;
@@ -46,14 +51,14 @@ impl RunningNumbers {
             let seat = Seat {
                 number: seats - index,
             };
-            if self.up_unknown(up, seat) {
+            if ups.unknown(seat) {
                 return SeatInTurn {
                     seat: None,
                     behind: None,
                 };
             }
-            let next = self.earlier(opener, up, Seat { number: lead }, seat);
-            if self.opens(opener, up, next, seat) {
+            let next = ups.earlier(Seat { number: lead }, seat);
+            if ups.opens(next, seat) {
                 first = Some(seat);
                 behind = nearest;
             }
@@ -67,80 +72,71 @@ impl RunningNumbers {
             behind: behind.or(nearest),
         }
     }
+}
 
+// The up-cards of the seats, of which the one that opens is sought.
+#[derive(Clone, Copy)]
+struct Ups<'a> {
+    numbers: &'a RunningNumbers,
+    up: &'a UpRow,
+    // Whether the lowest or the highest up-card opens.
+    opener: Opener,
+    ghost row: { up.now.seats ≡ numbers.now.setup.stacks.seats },
+}
+
+impl Ups<'_> {
     // The seat is able, and an up-card of it is unknown.
-    fn up_unknown(&self, up: &UpRow, seat: Seat) -> bool
-        requires in_hand { seat.number ≤ self.now.setup.stacks.seats }
-        requires row { up.now.seats ≡ self.now.setup.stacks.seats }
-        ensures { result ≡ has_unknown_seen self.now up.now seat.number }
+    fn unknown(&self, seat: Seat) -> bool
+        requires { seat.number ≤ self.now.numbers.now.setup.stacks.seats }
+        ensures { result ≡ has_unknown_seen self.now.numbers.now self.now.up.now seat.number }
     {
-        self.able(seat) && has_unknown(up.get(seat).as_slice())
+        self.numbers.able(seat) && has_unknown(self.up.get(seat).as_slice())
     }
 
     // The able one of two seats or, where both are, the one that opens before all that the other
     // opens before.
-    fn earlier(&self, opener: Opener, up: &UpRow, lead: Seat, other: Seat) -> Seat
-        requires lead_in { lead.number ≤ self.now.setup.stacks.seats }
+    fn earlier(&self, lead: Seat, other: Seat) -> Seat
+        requires lead_in { lead.number ≤ self.now.numbers.now.setup.stacks.seats }
         requires other_in { other.number ≤ lead.number }
-        requires row { up.now.seats ≡ self.now.setup.stacks.seats }
-        ensures in_hand { result.number ≤ self.now.setup.stacks.seats }
+        ensures in_hand { result.number ≤ self.now.numbers.now.setup.stacks.seats }
         ensures from { other.number ≤ result.number }
-        ensures lead { (seat : ℕ)
-            → is_before_seen opener self.now up.now seat lead.number ≡ true
-            → is_before_seen opener self.now up.now seat result.number ≡ true }
-        ensures other { (seat : ℕ)
-            → is_before_seen opener self.now up.now seat other.number ≡ true
-            → is_before_seen opener self.now up.now seat result.number ≡ true }
+        ensures lead { LeadsAsWell self.now.opener self.now.numbers.now self.now.up.now
+            lead.number result.number }
+        ensures other { LeadsAsWell self.now.opener self.now.numbers.now self.now.up.now
+            other.number result.number }
     {
-        if !self.able(lead) {
+        if !self.numbers.able(lead) {
             return other;
         }
-        if !self.able(other) {
+        if !self.numbers.able(other) {
             return lead;
         }
-        let early = self.as_early(opener, up, other, lead);
+        let early = is_as_early(
+            self.opener,
+            self.numbers.street == 1,
+            &known(&self.up.get(other)),
+            &known(&self.up.get(lead)),
+        );
         if early { other } else { lead }
     }
 
-    // The seat's up-cards open before all that the other seat's open before.
-    fn as_early(&self, opener: Opener, up: &UpRow, seat: Seat, other: Seat) -> bool
-        requires in_hand { seat.number ≤ self.now.setup.stacks.seats }
-        requires other_in { other.number ≤ self.now.setup.stacks.seats }
-        requires row { up.now.seats ≡ self.now.setup.stacks.seats }
-        ensures { result ≡ is_as_early_seen opener self.now up.now seat.number other.number }
-    {
-        is_as_early(
-            opener,
-            self.street == 1,
-            &known(&up.get(seat)),
-            &known(&up.get(other)),
-        )
-    }
-
     // The seat is able, and the leader does not open before it.
-    fn opens(&self, opener: Opener, up: &UpRow, lead: Seat, seat: Seat) -> bool
-        requires lead_in { lead.number ≤ self.now.setup.stacks.seats }
-        requires in_hand { seat.number ≤ self.now.setup.stacks.seats }
-        requires row { up.now.seats ≡ self.now.setup.stacks.seats }
-        ensures { result ≡ (is_able_seen self.now seat.number
-            && not (is_before_seen opener self.now up.now seat.number lead.number)) }
+    fn opens(&self, lead: Seat, seat: Seat) -> bool
+        requires lead_in { lead.number ≤ self.now.numbers.now.setup.stacks.seats }
+        requires in_hand { seat.number ≤ self.now.numbers.now.setup.stacks.seats }
+        ensures { result
+            ≡ (is_able_seen self.now.numbers.now seat.number
+            && not (is_before_seen self.now.opener self.now.numbers.now self.now.up.now seat.number
+            lead.number)) }
     {
-        self.able(seat) && !self.before(opener, up, seat, lead)
-    }
-
-    // The other seat is able, and opens before this one.
-    fn before(&self, opener: Opener, up: &UpRow, seat: Seat, other: Seat) -> bool
-        requires in_hand { seat.number ≤ self.now.setup.stacks.seats }
-        requires other_in { other.number ≤ self.now.setup.stacks.seats }
-        requires row { up.now.seats ≡ self.now.setup.stacks.seats }
-        ensures { result ≡ is_before_seen opener self.now up.now seat.number other.number }
-    {
-        self.able(other)
-            && is_opener_before(
-                opener,
-                self.street == 1,
-                &known(&up.get(other)),
-                &known(&up.get(seat)),
-            )
+        let numbers = self.numbers;
+        numbers.able(seat)
+            && !(numbers.able(lead)
+                && is_opener_before(
+                    self.opener,
+                    numbers.street == 1,
+                    &known(&self.up.get(lead)),
+                    &known(&self.up.get(seat)),
+                ))
     }
 }

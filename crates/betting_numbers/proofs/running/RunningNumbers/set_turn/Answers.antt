@@ -19,11 +19,12 @@ use Rattle.betting_numbers.specs.Caps.{cap_at}
 use Rattle.betting_numbers.proofs.running.RunningNumbers.set_turn.Goals as goal
 
 -- what a table keeps
-record Kept (setup : Setup) (rules : Rules) (first_price : ℕ) (first_opener : Seat) (puts : SeatRow) (pot : ℕ) (bets : SeatRow) (price : ℕ) (live : LiveRow) (live_count able_count : ℕ) (moved since_rise : LiveRow) (last : Option Seat) (full_raise : ℕ) : Type 0 where
+record Kept (setup : Setup) (rules : Rules) (first_price : ℕ) (first_opener : Seat) (street : ℕ) (puts : SeatRow) (pot : ℕ) (bets : SeatRow) (price : ℕ) (live : LiveRow) (live_count able_count : ℕ) (moved since_rise : LiveRow) (last : Option Seat) (full_raise : ℕ) : Type 0 where
   first_price_is : first_price ≡ starting_price setup 1
   first_price_bounded : first_price ≤ MOST_AMOUNT
   first_opener_is : first_opener.number ≡ blinds_opener setup 1
   first_opener_in : first_opener.number ≤ setup.stacks.seats
+  from_one : 1 ≤ street
   ante_seats : setup.antes.seats ≡ setup.stacks.seats
   blind_seats : setup.blinds.seats ≡ setup.stacks.seats
   put_seats : puts.seats ≡ setup.stacks.seats
@@ -44,11 +45,11 @@ record Kept (setup : Setup) (rules : Rules) (first_price : ℕ) (first_opener : 
   caps_fit : (k : ℕ) → cap_at rules.caps k ≤ 4294967295
   last_in : (seat : Seat) → last ≡ Some seat → seat.number ≤ setup.stacks.seats
 
-Kept-prop : (setup : Setup) (rules : Rules) (first_price : ℕ) (first_opener : Seat) (puts : SeatRow) (pot : ℕ) (bets : SeatRow) (price : ℕ) (live : LiveRow) (live_count able_count : ℕ) (moved since_rise : LiveRow) (last : Option Seat) (full_raise : ℕ) → IsProp (Kept setup rules first_price first_opener puts pot bets price live live_count able_count moved since_rise last full_raise)
-Kept-prop setup rules first_price first_opener puts pot bets price live live_count able_count moved since_rise last full_raise = hlevel props
+Kept-prop : (setup : Setup) (rules : Rules) (first_price : ℕ) (first_opener : Seat) (street : ℕ) (puts : SeatRow) (pot : ℕ) (bets : SeatRow) (price : ℕ) (live : LiveRow) (live_count able_count : ℕ) (moved since_rise : LiveRow) (last : Option Seat) (full_raise : ℕ) → IsProp (Kept setup rules first_price first_opener street puts pot bets price live live_count able_count moved since_rise last full_raise)
+Kept-prop setup rules first_price first_opener street puts pot bets price live live_count able_count moved since_rise last full_raise = hlevel props
 
 abbrev KeptBy : RunningNumbers → Type 0
-KeptBy b = Kept b.setup b.rules b.first_price b.first_opener b.puts b.pot b.bets b.price b.live b.live_count b.able_count b.moved b.since_rise b.last b.full_raise
+KeptBy b = Kept b.setup b.rules b.first_price b.first_opener b.street b.puts b.pot b.bets b.price b.live b.live_count b.able_count b.moved b.since_rise b.last b.full_raise
 
 abbrev turn_by : (b : RunningNumbers) → Due → Option Seat → KeptBy b → RunningNumbers
 turn_by b due next kept = record {
@@ -78,6 +79,7 @@ turn_by b due next kept = record {
   first_price_bounded = kept.first_price_bounded;
   first_opener_is = kept.first_opener_is;
   first_opener_in = kept.first_opener_in;
+  from_one = kept.from_one;
   ante_seats = kept.ante_seats;
   blind_seats = kept.blind_seats;
   put_seats = kept.put_seats;
@@ -102,4 +104,4 @@ turn_by b due next kept = record {
 pub returns : goal.returns
 returns c =
     let b = c.args.self.now in
-    ap (turn_by b c.args.due c.args.next) (Kept-prop b.setup b.rules b.first_price b.first_opener b.puts b.pot b.bets b.price b.live b.live_count b.able_count b.moved b.since_rise b.last b.full_raise (record { first_price_is = _; first_price_bounded = _; first_opener_is = _; first_opener_in = _; ante_seats = _; blind_seats = _; put_seats = _; bet_seats = _; live_seats = _; moved_seats = _; since_seats = _; within = _; inside = _; pot_is = _; pot_bounded = _; price_is = _; price_bounded = _; live_is = _; able_is = _; least = _; least_bet = _; caps_fit = _; last_in = _ }) (record { first_price_is = b.first_price_is; first_price_bounded = b.first_price_bounded; first_opener_is = b.first_opener_is; first_opener_in = b.first_opener_in; ante_seats = b.ante_seats; blind_seats = b.blind_seats; put_seats = b.put_seats; bet_seats = b.bet_seats; live_seats = b.live_seats; moved_seats = b.moved_seats; since_seats = b.since_seats; within = b.within; inside = b.inside; pot_is = b.pot_is; pot_bounded = b.pot_bounded; price_is = b.price_is; price_bounded = b.price_bounded; live_is = b.live_is; able_is = b.able_is; least = b.least; least_bet = b.least_bet; caps_fit = b.caps_fit; last_in = b.last_in }))
+    ap (turn_by b c.args.due c.args.next) (Kept-prop b.setup b.rules b.first_price b.first_opener b.street b.puts b.pot b.bets b.price b.live b.live_count b.able_count b.moved b.since_rise b.last b.full_raise (record { first_price_is = _; first_price_bounded = _; first_opener_is = _; first_opener_in = _; from_one = _; ante_seats = _; blind_seats = _; put_seats = _; bet_seats = _; live_seats = _; moved_seats = _; since_seats = _; within = _; inside = _; pot_is = _; pot_bounded = _; price_is = _; price_bounded = _; live_is = _; able_is = _; least = _; least_bet = _; caps_fit = _; last_in = _ }) (record { first_price_is = b.first_price_is; first_price_bounded = b.first_price_bounded; first_opener_is = b.first_opener_is; first_opener_in = b.first_opener_in; from_one = b.from_one; ante_seats = b.ante_seats; blind_seats = b.blind_seats; put_seats = b.put_seats; bet_seats = b.bet_seats; live_seats = b.live_seats; moved_seats = b.moved_seats; since_seats = b.since_seats; within = b.within; inside = b.inside; pot_is = b.pot_is; pot_bounded = b.pot_bounded; price_is = b.price_is; price_bounded = b.price_bounded; live_is = b.live_is; able_is = b.able_is; least = b.least; least_bet = b.least_bet; caps_fit = b.caps_fit; last_in = b.last_in }))

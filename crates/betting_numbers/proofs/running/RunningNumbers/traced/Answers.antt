@@ -6,4 +6,4 @@ use Rattle.betting_numbers.proofs.running.RunningNumbers.traced.Goals as goal
 
 pub returns : goal.returns
 returns c =
-    λ moves st. c.traced_by.ensures ∙ traced_is c.args.self.now moves st c.args.seat.number (record { first = c.args.seat.first; last = c.requires.in_hand }) c.args.limit c.requires.limit (act_said c.args.act) c.args.target
+    λ moves st. c.traced.ensures ∙ traced_is c.args.self.now moves st c.args.seat.number (record { first = c.args.seat.first; last = c.requires.in_hand }) c.args.limit c.requires.limit (act_said c.args.act) c.args.target

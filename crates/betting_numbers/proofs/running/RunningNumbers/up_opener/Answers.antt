@@ -9,11 +9,11 @@ use Rattle.betting_numbers.proofs.Leading.{IsWalked, walked_more, walked_unknown
 use Rattle.betting_numbers.proofs.running.RunningNumbers.up_opener.Goals.{then-opens, else-opens, then-able, else-able}
 use Rattle.betting_numbers.proofs.running.RunningNumbers.up_opener.Goals as goal
 
-pub returns-then-up_unknown-clause-found : goal.returns-then-up_unknown-clause-found
-returns-then-up_unknown-clause-found c =
+pub returns-then-unknown-clause-found : goal.returns-then-unknown-clause-found
+returns-then-unknown-clause-found c =
     let b = c.args.self.now in
     let less = c.loop-index-test.true in
-    walked_unknown c.args.opener b c.args.up.now (b.setup.stacks.seats - c.loop-index.index) (omega (arith, less)) (omega arith) (sym c.up_unknown.ensures ∙ c.if-up_unknown.true)
+    walked_unknown c.args.opener b c.args.up.now (b.setup.stacks.seats - c.loop-index.index) (omega (arith, less)) (omega arith) (sym c.unknown.ensures ∙ c.if-unknown.true)
 
 pub loop-index-preserved : goal.loop-index-preserved
 loop-index-preserved c =
@@ -25,7 +25,7 @@ loop-index-preserved c =
     let less = c.loop-index-test.true in
     let less_than : index < n = omega (arith, less) in
     let walked : (opens : Bool) → c.opens.result ≡ opens → IsWalked c.args.opener b c.args.up.now (n + 1 - (index + 1)) (index + 1) next.result.number (if opens then Some (n - index) else seat_said c.loop-index.first) = λ opens is.
-    walked_more c.args.opener b c.args.up.now n index (n - index) c.loop-index.lead next.result.number (seat_said c.loop-index.first) opens less_than refl kept.walked (sym c.up_unknown.ensures ∙ c.if-up_unknown.false) next.ensures.lead next.ensures.other next.ensures.from next.ensures.in_hand (sym is ∙ c.opens.ensures) in
+    walked_more c.args.opener b c.args.up.now n index (n - index) c.loop-index.lead next.result.number (seat_said c.loop-index.first) opens less_than refl kept.walked (sym c.unknown.ensures ∙ c.if-unknown.false) next.ensures.lead next.ensures.other next.ensures.from next.ensures.in_hand (sym is ∙ c.opens.ensures) in
     let nearer : (able : Bool) → c.able.result ≡ able → (if able then Some (n - index) else seat_said c.loop-index.nearest) ≡ able_from b (n + 1 - (index + 1)) (index + 1) = λ able is.
     nearest_more b index (n - index) (seat_said c.loop-index.nearest) able less_than refl (sym is ∙ c.able.ensures) kept.nearest_is in
     let IsIn : Option Seat → Type 0 = λ (f : Option Seat). IfSome f (λ seat. seat.number ≤ n) in

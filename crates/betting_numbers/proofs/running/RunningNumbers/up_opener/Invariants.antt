@@ -8,7 +8,7 @@ abbrev pub invariant-loop-index : goal.invariant-loop-index
 invariant-loop-index l =
     let seats = l.self.setup.stacks.seats in
     record {
-      walked : IsWalked l.opener l.self l.up (seats + 1 - l.index) l.index l.lead (seat_said l.first);
+      walked : IsWalked l.fn.opener l.self l.fn.up (seats + 1 - l.index) l.index l.lead (seat_said l.first);
       far : seats ≤ l.lead + l.index;
       lead_first : 1 ≤ l.lead;
       lead_in : l.lead ≤ seats;
