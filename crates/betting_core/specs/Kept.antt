@@ -19,6 +19,11 @@ pub record AreKept (streets : ℕ) (b : RunningNumbers) : Type 0 where
   pub turn : KeepsTurn b
   pub seat : KeepsSeat b
 
+-- the numbers are of a hand of the game of this code, with so many streets
+pub record AreOfGame (game : Code) (streets : ℕ) (b : RunningNumbers) : Type 0 where
+  pub code : b.setup.code ≡ game
+  pub kept : AreKept streets b
+
 -- the numbers are on a street of the game, and where no seat has moved on it none has since the
 -- price rose
 pub record IsOnStreet (streets : ℕ) (b : RunningNumbers) : Type 0 where

@@ -1,6 +1,5 @@
 //! The betting of a hand of one game, and what is seen of it.
-ghost use Rattle.std.specs.Prelude.{◌≡◌, [], ℕ, true, IfSome, is_some};
-ghost use Rattle.std.proofs.Props.{props};
+ghost use Rattle.std.specs.Prelude.{◌≡◌, [], ℕ, true, IfSome, is_none, is_some};
 ghost use Rattle.play_event.specs.declared.reason.Due.TheVariants as dues;
 ghost use Rattle.play_event.specs.Past.{Past, moves_of};
 ghost use Rattle.chip_ledger.specs.SeatRow.{amount_of};
@@ -10,7 +9,7 @@ ghost use Rattle.play_event.specs.Openers.{TheSeat};
 ghost use Rattle.play_event.specs.TurnTargets.{has_targets, is_bet_due};
 ghost use Rattle.betting_numbers.specs.SeatsSaid.{turn_of};
 ghost use Rattle.play_event.specs.Streets.{unit};
-ghost use Rattle.betting_core.specs.Kept.{AreKept, IsOfTable};
+ghost use Rattle.betting_core.specs.Kept.{AreOfGame, IsOfTable};
 ghost use Rattle.betting_core.specs.Seen.{TellsLive, TellsSeats};
 ghost use Rattle.betting_numbers.specs.Standing.{StandsFor};
 ghost use Rattle.betting_numbers.specs.LegalMoves.{IsTurn, WhereUps};
@@ -24,10 +23,11 @@ ghost use Rattle.chip_ledger.specs.SeatsSaid.{seat_said};
 use betting_numbers::{RunningNumbers, SeatInTurn, Targets, start};
 use chip_ledger::{LiveRow, Seat, SeatRow};
 use play_event::{Due, Rules, Setup, UpRow};
-use std::marker::PhantomData;
+use std::marker::{Model, PhantomData};
 use variant_table::{Opener, Size, Variant};
 
-/// The betting of a hand of the game `V`, at some moment of the hand.
+/// The betting of a hand of the game `V`, at some moment of the hand. A contract sees it as its
+/// running numbers.
 ///
 /// What it answers is told by pasts: a past is any list of what took place in a hand, and
 /// `StandsFor` says that the state is what the rules make of that past. A state stands up to its
@@ -35,11 +35,19 @@ use variant_table::{Opener, Size, Variant};
 /// [`dealt`](Betting::dealt) was not called yet.
 #[derive(Drop)]
 pub struct Betting<V: Variant> {
-    /// The running numbers. They are public for the contracts of those who hold a machine.
-    pub table: RunningNumbers,
-    pub game: PhantomData<V>,
-    pub ghost code: { table.setup.code ≡ V.CODE },
-    pub ghost kept: { AreKept V.STREETS table } by { Prim.hlevel props },
+    pub(crate) numbers: RunningNumbers,
+    game: PhantomData<V>,
+}
+
+impl<V: Variant> Model for Betting<V> {
+    ghost use Rattle.betting_numbers.specs.declared.running.RunningNumbers.{RunningNumbers};
+    ghost use Rattle.betting_core.specs.Kept.{AreOfGame};
+
+    ghost Value = { RunningNumbers };
+
+    ghost view = { λ b. b.numbers };
+
+    ghost invariant = { λ b. AreOfGame V.CODE V.STREETS b.numbers };
 }
 
 impl<V: Variant> Betting<V> {
@@ -47,10 +55,10 @@ impl<V: Variant> Betting<V> {
     pub fn start(setup: &Setup, rules: &Rules) -> Self
         requires valid { IsValid setup.now }
         requires code { setup.now.code ≡ V.CODE }
-        ensures stands { StandsFor result.table [] }
-        ensures due { result.table.due ≡ dues.Deal 1 }
-        ensures setup { result.table.setup ≡ setup.now }
-        ensures rules { result.table.rules ≡ rules.now }
+        ensures stands { StandsFor result [] }
+        ensures due { result.due ≡ dues.Deal 1 }
+        ensures setup { result.setup ≡ setup.now }
+        ensures rules { result.rules ≡ rules.now }
     {
         let size = match V::street(1).size {
             Size::Small => setup.small_bet,
@@ -58,7 +66,7 @@ impl<V: Variant> Betting<V> {
             Size::Least => setup.min_bet,
         };
         Betting {
-            table: start(setup, rules, size),
+            numbers: start(setup, rules, size),
             game: PhantomData,
         }
     }
@@ -66,66 +74,75 @@ impl<V: Variant> Betting<V> {
     /// What is due: a deal, a draw, a bring-in, a move, the showdown, or nothing as the hand is
     /// over.
     pub fn due(&self) -> Due
-        ensures value { result ≡ self.now.table.due }
+        ensures value { result ≡ self.now.due }
         ensures within { IsDueWithin V.STREETS result }
-        ensures stands { (past : Past) → StandsFor self.now.table past
-            → result ≡ (turn self.now.table.setup past).1 }
+        ensures stands { (past : Past) → StandsFor self.now past
+            → result ≡ (turn self.now.setup past).1 }
+        ensures game { AreOfGame V.CODE V.STREETS self.now }
     {
-        self.table.due
+        self.numbers.due
+    }
+
+    /// Whether no seat has moved on the street yet.
+    pub fn is_unmoved(&self) -> bool
+        ensures value { result ≡ is_none self.now.last }
+        ensures game { AreOfGame V.CODE V.STREETS self.now }
+    {
+        self.numbers.last.is_none()
     }
 
     /// Which seats are live: those that have not folded.
     pub fn live(&self) -> LiveRow
-        ensures { TellsLive result self.now.table }
+        ensures { TellsLive result self.now }
     {
-        self.table.live
+        self.numbers.live
     }
 
     /// The chips that each seat has put in this hand, antes included.
     pub fn puts(&self) -> SeatRow
-        ensures { TellsSeats result.seats self.now.table (λ past seat.
-            amount_of result seat ≡ chips_put self.now.table.setup (moves_of past) seat) }
+        ensures { TellsSeats result.seats self.now (λ past seat.
+            amount_of result seat ≡ chips_put self.now.setup (moves_of past) seat) }
     {
-        self.table.puts
+        self.numbers.puts
     }
 
     /// The chips that each seat has left.
     pub fn stacks(&self) -> SeatRow
-        ensures { TellsSeats result.seats self.now.table (λ past seat.
-            amount_of result seat ≡ chips_left self.now.table.setup (moves_of past) seat) }
+        ensures { TellsSeats result.seats self.now (λ past seat.
+            amount_of result seat ≡ chips_left self.now.setup (moves_of past) seat) }
     {
-        self.table.stacks_left()
+        self.numbers.stacks_left()
     }
 
     /// Whether the hand is settled: two or more seats are live, and no betting can come any more.
     pub fn settled(&self) -> bool
-        ensures stands { (past : Past) → StandsFor self.now.table past
+        ensures stands { (past : Past) → StandsFor self.now past
             → result
-            ≡ is_settled self.now.table.setup (moves_of past) (turn self.now.table.setup past) }
-        ensures up_to { (past : Past) → StandsUpTo self.now.table past
+            ≡ is_settled self.now.setup (moves_of past) (turn self.now.setup past) }
+        ensures up_to { (past : Past) → StandsUpTo self.now past
             → result
-            ≡ is_settled self.now.table.setup (moves_of past)
-            (self.now.table.street, self.now.table.due) }
+            ≡ is_settled self.now.setup (moves_of past)
+            (self.now.street, self.now.due) }
     {
-        self.table.settled()
+        self.numbers.settled()
     }
 
     /// Where the seat in turn may raise to: the least and the greatest legal target, and its
     /// all-in. `None` where no move or bring-in is due, it is not known whose turn it is, or that
     /// seat may not raise.
     pub fn targets(&self, up: &UpRow) -> Option<Targets>
-        requires row { up.now.seats ≡ self.now.table.setup.stacks.seats }
-        ensures some { WhereUps self.now.table up.now
-            (λ past. is_some result ≡ has_targets self.now.table.setup self.now.table.rules past) }
-        ensures ends { WhereUps self.now.table up.now
+        requires row { up.now.seats ≡ self.now.setup.stacks.seats }
+        ensures some { WhereUps self.now up.now
+            (λ past. is_some result ≡ has_targets self.now.setup self.now.rules past) }
+        ensures ends { WhereUps self.now up.now
             (λ past. IfSome result (λ targets. (seat : ℕ)
-            → IsTurn self.now.table past (TheSeat seat)
-            → AreEndsFor self.now.table (moves_of past) seat targets)) }
+            → IsTurn self.now past (TheSeat seat)
+            → AreEndsFor self.now (moves_of past) seat targets)) }
     {
-        if betting_due(self.table.due) {
+        if betting_due(self.numbers.due) {
             let turn = self.turn_now(up);
             let size = self.unit();
-            self.table.targets_of(turn, V::LIMIT, size)
+            self.numbers.targets_of(turn, V::LIMIT, size)
         } else {
             None
         }
@@ -134,11 +151,11 @@ impl<V: Variant> Betting<V> {
     /// Whose turn it is, if it is known, where a bring-in or a move is due. The row is read in
     /// stud, where no seat has moved on the street yet.
     pub fn turn_now(&self, up: &UpRow) -> Option<Seat>
-        requires row { up.now.seats ≡ self.now.table.setup.stacks.seats }
-        requires bets { is_bet_due self.now.table.due ≡ true }
-        ensures turn { WhereUps self.now.table up.now
-            (λ past. IsTurn self.now.table past (turn_of (seat_said result))) }
-        ensures in_hand { IsOfTable self.now.table result }
+        requires row { up.now.seats ≡ self.now.setup.stacks.seats }
+        requires bets { is_bet_due self.now.due ≡ true }
+        ensures turn { WhereUps self.now up.now
+            (λ past. IsTurn self.now past (turn_of (seat_said result))) }
+        ensures in_hand { IsOfTable self.now result }
     {
         self.turn_found(up).seat
     }
@@ -146,42 +163,42 @@ impl<V: Variant> Betting<V> {
     // Whose turn it is, if it is known, and who is behind where the row is read. It is nobody's
     // where neither a bring-in nor a move is due.
     pub(crate) fn turn_found(&self, up: &UpRow) -> SeatInTurn
-        requires row { up.now.seats ≡ self.now.table.setup.stacks.seats }
-        ensures turn { WhereUps self.now.table up.now
-            (λ past. is_bet_due self.now.table.due ≡ true
-            → IsTurn self.now.table past (turn_of (seat_said result.seat))) }
-        ensures in_hand { IsOfTable self.now.table result.seat }
+        requires row { up.now.seats ≡ self.now.setup.stacks.seats }
+        ensures turn { WhereUps self.now up.now
+            (λ past. is_bet_due self.now.due ≡ true
+            → IsTurn self.now past (turn_of (seat_said result.seat))) }
+        ensures in_hand { IsOfTable self.now result.seat }
         ensures behind { IfSome result.seat
-            (λ seat. IfSome result.behind (IsFirstBehind self.now.table seat.number)) }
+            (λ seat. IfSome result.behind (IsFirstBehind self.now seat.number)) }
     {
-        if !betting_due(self.table.due) {
+        if !betting_due(self.numbers.due) {
             return SeatInTurn {
                 seat: None,
                 behind: None,
             };
         }
         let kept = SeatInTurn {
-            seat: self.table.next,
+            seat: self.numbers.next,
             behind: None,
         };
-        match self.table.last {
+        match self.numbers.last {
             Some(_) => kept,
             None => match V::OPEN {
                 Opener::Blinds => kept,
-                Opener::LowUp => self.table.up_opener(Opener::LowUp, up),
-                Opener::HighUp => self.table.up_opener(Opener::HighUp, up),
+                Opener::LowUp => self.numbers.up_opener(Opener::LowUp, up),
+                Opener::HighUp => self.numbers.up_opener(Opener::HighUp, up),
             },
         }
     }
 
     // The bet size of the street.
     pub(crate) fn unit(&self) -> u64
-        ensures { result ≡ unit self.now.table.setup self.now.table.street }
+        ensures { result ≡ unit self.now.setup self.now.street }
     {
-        match V::street(self.table.street).size {
-            Size::Small => self.table.setup.small_bet,
-            Size::Big => self.table.setup.big_bet,
-            Size::Least => self.table.setup.min_bet,
+        match V::street(self.numbers.street).size {
+            Size::Small => self.numbers.setup.small_bet,
+            Size::Big => self.numbers.setup.big_bet,
+            Size::Least => self.numbers.setup.min_bet,
         }
     }
 }

@@ -25,34 +25,34 @@ impl<V: Variant> Betting<V> {
     /// comes behind it where nobody has to move, as the next street's deal. Where that is complete
     /// in the past too it is ended by the next call; a showdown that is ended is over.
     pub fn dealt(&mut self)
-        requires { is_cards_due self.old.table.due ≡ true }
-        ensures stands { (past : Past) → StandsUpTo self.old.table past
-            → is_done self.old.table.setup past self.new.table.due ≡ false
-            → StandsFor self.new.table past }
-        ensures up_to { (past : Past) → StandsUpTo self.old.table past
-            → is_done self.old.table.setup past self.new.table.due ≡ true
-            → StandsUpTo self.new.table past }
-        ensures showdown { (past : Past) → StandsUpTo self.old.table past
-            → is_done self.old.table.setup past self.new.table.due ≡ true
-            → self.new.table.due ≡ dues.Show }
-        ensures over { self.old.table.due ≡ dues.Show → self.new.table.due ≡ dues.Over }
-        ensures same { IsSameHand self.old.table self.new.table }
+        requires { is_cards_due self.old.due ≡ true }
+        ensures stands { (past : Past) → StandsUpTo self.old past
+            → is_done self.old.setup past self.new.due ≡ false
+            → StandsFor self.new past }
+        ensures up_to { (past : Past) → StandsUpTo self.old past
+            → is_done self.old.setup past self.new.due ≡ true
+            → StandsUpTo self.new past }
+        ensures showdown { (past : Past) → StandsUpTo self.old past
+            → is_done self.old.setup past self.new.due ≡ true
+            → self.new.due ≡ dues.Show }
+        ensures over { self.old.due ≡ dues.Show → self.new.due ≡ dues.Over }
+        ensures same { IsSameHand self.old self.new }
     {
-        match self.table.due {
-            Due::Show => self.table.set_due(Due::Over),
+        match self.numbers.due {
+            Due::Show => self.numbers.set_due(Due::Over),
             _ => self.bet(),
         }
     }
 
     // The deal or the draw of the street is ended.
     fn bet(&mut self)
-        requires { is_deal_or_draw self.old.table.due ≡ true }
-        ensures { IsDealtTo self.old.table self.new.table }
+        requires { is_deal_or_draw self.old.due ≡ true }
+        ensures { IsDealtTo self.old self.new }
     {
-        if self.table.is_bring_in_due(stud::<V>()) {
-            self.table.set_turn(Due::BringIn, None);
+        if self.numbers.is_bring_in_due(stud::<V>()) {
+            self.numbers.set_turn(Due::BringIn, None);
         } else {
-            pass::<V>(&mut self.table, None);
+            pass::<V>(&mut self.numbers, None);
         }
     }
 }

@@ -2,6 +2,7 @@
 #![tactic(auto)]
 
 mod betting;
+mod choices;
 mod dealt;
 mod step;
 

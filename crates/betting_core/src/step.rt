@@ -28,21 +28,21 @@ impl<V: Variant> Betting<V> {
     /// `up` has the up-cards of each seat. They are read in stud, where no seat has moved on the
     /// street yet: there they decide who opens it.
     pub fn step(&mut self, up: &UpRow, event: &Event) -> Result<Moved, Illegal>
-        requires row { up.now.seats ≡ self.old.table.setup.stacks.seats }
+        requires row { up.now.seats ≡ self.old.setup.stacks.seats }
         requires kind { is_card_said (said_of event.now) ≡ false }
-        ensures refused { WhereUps self.old.table up.now
-            (IsRefused self.old.table (said_of event.now) result) }
-        ensures legal { WhereUps self.old.table up.now
-            (λ past. OnOk result (reason_after self.old.table past (said_of event.now) ≡ None)) }
-        ensures stands { WhereUps self.old.table up.now
-            (λ past. OnOk result (StandsFor self.new.table
-            (past_with self.old.table past (said_of event.now)))) }
-        ensures moved { WhereUps self.old.table up.now
+        ensures refused { WhereUps self.old up.now
+            (IsRefused self.old (said_of event.now) result) }
+        ensures legal { WhereUps self.old up.now
+            (λ past. OnOk result (reason_after self.old past (said_of event.now) ≡ None)) }
+        ensures stands { WhereUps self.old up.now
+            (λ past. OnOk result (StandsFor self.new
+            (past_with self.old past (said_of event.now)))) }
+        ensures moved { WhereUps self.old up.now
             (λ past. IfOk result (λ moved. (move : plays.Move)
-            → past_with self.old.table past (said_of event.now) ≡ plays.Moved move ∷ past
-            → move_said moved ≡ traced_move self.old.table.setup move (moves_of past))) }
+            → past_with self.old past (said_of event.now) ≡ plays.Moved move ∷ past
+            → move_said moved ≡ traced_move self.old.setup move (moves_of past))) }
         ensures unchanged { OnErr result (self.new ≡ self.old) }
-        ensures same { IsSameHand self.old.table self.new.table }
+        ensures same { IsSameHand self.old self.new }
     {
         let turn = self.turn_found(up);
         match self.legal_move(turn.seat, event) {
@@ -53,37 +53,38 @@ impl<V: Variant> Betting<V> {
 
     // The move that an event says, if it is legal.
     fn legal_move(&self, turn: Option<Seat>, event: &Event) -> Result<LegalMove, Illegal>
-        requires turn_in { IsOfTable self.now.table turn }
+        requires turn_in { IsOfTable self.now turn }
         requires kind { is_card_said (said_of event.now) ≡ false }
-        ensures refused { WhereBets self.now.table turn
-            (IsRefused self.now.table (said_of event.now) result) }
-        ensures legal { WhereBets self.now.table turn
-            (IsAllowed self.now.table (said_of event.now) result) }
-        ensures due { OnOk result (is_bet_due self.now.table.due ≡ true) }
-        ensures fits { IfOk result (IsFit self.now.table) }
-        ensures in_hand { IfOk result (IsOfHand self.now.table) }
+        ensures refused { WhereBets self.now turn
+            (IsRefused self.now (said_of event.now) result) }
+        ensures legal { WhereBets self.now turn
+            (IsAllowed self.now (said_of event.now) result) }
+        ensures due { OnOk result (is_bet_due self.now.due ≡ true) }
+        ensures fits { IfOk result (IsFit self.now) }
+        ensures in_hand { IfOk result (IsOfHand self.now) }
         ensures seat { IfOk result (IsInTurn turn) }
-        ensures reach { IfOk result (IsInReach self.now.table) }
+        ensures reach { IfOk result (IsInReach self.now) }
     {
         match event.kind {
-            Kind::Fold { actor } => match not_now(self.table.due, true, false) {
+            Kind::Fold { actor } => match not_now(self.numbers.due, true, false) {
                 Some(reason) => Err(reason),
-                None => self.table.legal_fold(turn, actor),
+                None => self.numbers.legal_fold(turn, actor),
             },
-            Kind::Call { actor, stated } => match not_now(self.table.due, true, false) {
+            Kind::Call { actor, stated } => match not_now(self.numbers.due, true, false) {
                 Some(reason) => Err(reason),
-                None => self.table.legal_call(turn, actor, stated),
+                None => self.numbers.legal_call(turn, actor, stated),
             },
-            Kind::Raise { actor, amount } => match not_now(self.table.due, true, true) {
+            Kind::Raise { actor, amount } => match not_now(self.numbers.due, true, true) {
                 Some(reason) => Err(reason),
                 None => {
                     let size = self.unit();
-                    self.table.legal_raise(turn, V::LIMIT, size, actor, amount)
+                    self.numbers
+                        .legal_raise(turn, V::LIMIT, size, actor, amount)
                 }
             },
-            Kind::BringIn { actor } => match not_now(self.table.due, false, true) {
+            Kind::BringIn { actor } => match not_now(self.numbers.due, false, true) {
                 Some(reason) => Err(reason),
-                None => self.table.legal_bring_in(turn, actor),
+                None => self.numbers.legal_bring_in(turn, actor),
             },
             _ => Err(Illegal::WrongKind),
         }
@@ -91,25 +92,25 @@ impl<V: Variant> Betting<V> {
 
     // Makes a legal move, where this seat, if it was looked for, is the first able one behind.
     fn play(&mut self, legal: LegalMove, behind: Option<Seat>) -> Moved
-        requires in_hand { legal.seat.number ≤ self.old.table.setup.stacks.seats }
-        requires behind { IfSome behind (IsFirstBehind self.old.table legal.seat.number) }
-        requires reach { legal.target ≤ all_in_seen self.old.table legal.seat.number }
-        requires due { is_bet_due self.old.table.due ≡ true }
-        requires fits { may_come_at (act_said legal.act) self.old.table.due ≡ true }
-        ensures stands { (past : Past) (event : Said) → StandsFor self.old.table past
-            → IsLegalMove self.old.table past event legal.seat.number (act_said legal.act)
+        requires in_hand { legal.seat.number ≤ self.old.setup.stacks.seats }
+        requires behind { IfSome behind (IsFirstBehind self.old legal.seat.number) }
+        requires reach { legal.target ≤ all_in_seen self.old legal.seat.number }
+        requires due { is_bet_due self.old.due ≡ true }
+        requires fits { may_come_at (act_said legal.act) self.old.due ≡ true }
+        ensures stands { (past : Past) (event : Said) → StandsFor self.old past
+            → IsLegalMove self.old past event legal.seat.number (act_said legal.act)
             legal.target
-            → StandsFor self.new.table (past_with self.old.table past event) }
-        ensures moved { (past : Past) (event : Said) → StandsFor self.old.table past
-            → IsLegalMove self.old.table past event legal.seat.number (act_said legal.act)
+            → StandsFor self.new (past_with self.old past event) }
+        ensures moved { (past : Past) (event : Said) → StandsFor self.old past
+            → IsLegalMove self.old past event legal.seat.number (act_said legal.act)
             legal.target
-            → (move : plays.Move) → past_with self.old.table past event ≡ plays.Moved move ∷ past
-            → move_said result ≡ traced_move self.old.table.setup move (moves_of past) }
-        ensures same { IsSameHand self.old.table self.new.table }
+            → (move : plays.Move) → past_with self.old past event ≡ plays.Moved move ∷ past
+            → move_said result ≡ traced_move self.old.setup move (moves_of past) }
+        ensures same { IsSameHand self.old self.new }
     {
         let size = self.unit();
         let moved = self
-            .table
+            .numbers
             .traced(V::LIMIT, size, legal.seat, legal.act, legal.target);
         self.make(legal.seat, legal.act, legal.target, behind);
         moved
@@ -117,18 +118,18 @@ impl<V: Variant> Betting<V> {
 
     // Makes a legal move, and what comes behind it.
     fn make(&mut self, seat: Seat, act: Act, target: u64, behind: Option<Seat>)
-        requires in_hand { seat.number ≤ self.old.table.setup.stacks.seats }
-        requires behind { IfSome behind (IsFirstBehind self.old.table seat.number) }
-        requires reach { target ≤ all_in_seen self.old.table seat.number }
-        requires fits { may_come_at (act_said act) self.old.table.due ≡ true }
-        ensures stands { (past : Past) → StandsFor self.old.table past
-            → is_bet_due self.old.table.due ≡ true
-            → StandsFor self.new.table
-            (with_move self.old.table past seat.number (act_said act) target) }
-        ensures same { IsSameHand self.old.table self.new.table }
+        requires in_hand { seat.number ≤ self.old.setup.stacks.seats }
+        requires behind { IfSome behind (IsFirstBehind self.old seat.number) }
+        requires reach { target ≤ all_in_seen self.old seat.number }
+        requires fits { may_come_at (act_said act) self.old.due ≡ true }
+        ensures stands { (past : Past) → StandsFor self.old past
+            → is_bet_due self.old.due ≡ true
+            → StandsFor self.new
+            (with_move self.old past seat.number (act_said act) target) }
+        ensures same { IsSameHand self.old self.new }
     {
         let unit = self.unit();
-        self.table.make(seat, act, target, unit);
-        settle::<V>(&mut self.table, behind);
+        self.numbers.make(seat, act, target, unit);
+        settle::<V>(&mut self.numbers, behind);
     }
 }

@@ -5,9 +5,9 @@ use Rattle.street_laws.proofs.DueStreets.{here_within}
 use Rattle.betting_core.proofs.betting.Betting.due.Goals as goal
 
 pub returns-clause-stands : goal.returns-clause-stands
-returns-clause-stands g c = λ past stands. sym (ap (λ (p : ℕ × Due). p.1) stands.turn_is)
+returns-clause-stands g c = rw (← c.self.view_is) (λ past stands. sym (ap (λ (p : ℕ × Due). p.1) stands.turn_is))
 
 pub returns-clause-within : goal.returns-clause-within
 returns-clause-within g c =
-    let whole = c.args.self.now in
-    here_within whole.table.due whole.table.street g.V.Variant.STREETS whole.kept.here whole.kept.first whole.kept.last
+    let kept = c.self.invariant.kept in
+    here_within c.self.inside.numbers.due c.self.inside.numbers.street g.V.Variant.STREETS kept.here kept.first kept.last

@@ -8,10 +8,10 @@ use Rattle.betting_core.proofs.betting.Betting.settled.Goals as goal
 
 pub returns-clause-stands : goal.returns-clause-stands
 returns-clause-stands g c =
-    let b = c.args.self.now.table in
-    λ past stands. c.settled.ensures ∙ settled_is b (moves_of past) stands.standing ∙ ap (λ (now : ℕ × Due). is_settled b.setup (moves_of past) now) (sym stands.turn_is)
+    let b = c.self.inside.numbers in
+    rw (← c.self.view_is) (λ past stands. c.settled.ensures ∙ settled_is b (moves_of past) stands.standing ∙ ap (λ (now : ℕ × Due). is_settled b.setup (moves_of past) now) (sym stands.turn_is))
 
 pub returns-clause-up_to : goal.returns-clause-up_to
 returns-clause-up_to g c =
-    let b = c.args.self.now.table in
-    λ past stands. c.settled.ensures ∙ settled_is b (moves_of past) stands.standing
+    let b = c.self.inside.numbers in
+    rw (← c.self.view_is) (λ past stands. c.settled.ensures ∙ settled_is b (moves_of past) stands.standing)

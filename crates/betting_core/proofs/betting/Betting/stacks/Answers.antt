@@ -6,8 +6,9 @@ use Rattle.betting_core.proofs.betting.Betting.stacks.Goals as goal
 
 pub returns : goal.returns
 returns g c =
-    let b = c.args.self.now.table in
+    let b = c.self.inside.numbers in
     let amounts = c.stacks_left.ensures.amounts in
+    rw (← c.self.view_is)
     record {
       seats = c.stacks_left.ensures.seats;
       stands = λ past stands seat in_hand. amounts seat in_hand.first in_hand.last ∙ left_is b (moves_of past) stands.standing seat in_hand;
