@@ -40,6 +40,15 @@ abbrev pub board_owed_in : CardState → ℕ → ℕ
 board_owed_in t on =
     board_cards_on t.table.code on - count_by (is_in_group None on) (placed t.places)
 
+-- the first seat that is owed cards of the street, if one is
+abbrev pub first_owed_in : CardState → LiveRow → ℕ → Option ℕ
+first_owed_in t live on = find (λ seat. nat_lt 0 (owed_in t live on seat)) (seats_of t.seats)
+
+-- how many cards of the street an owner is owed
+abbrev pub owed_to_in : CardState → LiveRow → ℕ → Option ℕ → ℕ
+owed_to_in t live on (Some seat) = owed_in t live on seat
+owed_to_in t live on None = board_owed_in t on
+
 -- the reasons of a deal in their order
 abbrev pub deal_chain : (wrong_seat : Bool) (owed count : ℕ) (taken : Bool) → Option Illegal
 deal_chain wrong_seat owed count taken =

@@ -10,7 +10,7 @@ ghost use Rattle.street_laws.specs.Dues.{IsDueWithin};
 
 use crate::card_state::CardState;
 use crate::counting::OwnerCounts;
-use crate::discarding::first_to_draw;
+use crate::owing::next_to_draw;
 use chip_ledger::{LiveRow, Seat};
 use play_event::Due;
 
@@ -19,7 +19,6 @@ use play_event::Due;
 pub fn done(state: &CardState, live: &LiveRow, due: Due) -> bool
     requires due { IsDueWithin 5 due }
     requires live { live.now.seats ≡ state.now.seats }
-    requires ten { state.now.seats ≤ 10 }
     ensures { result ≡ why.is_done_in state.now live.now due }
 {
     match due {
@@ -29,8 +28,7 @@ pub fn done(state: &CardState, live: &LiveRow, due: Due) -> bool
         }
         Due::Draw(on) => {
             !(state.table.street(on).draws
-                && (first_to_draw(state, live, on, 1, state.seats).is_some()
-                    || some_owed(state, on)))
+                && (next_to_draw(state, live, on).is_some() || some_owed(state, on)))
         }
         Due::Show => !some_to_show(state, live),
         Due::BringIn | Due::Move | Due::Over => false,
@@ -38,33 +36,20 @@ pub fn done(state: &CardState, live: &LiveRow, due: Due) -> bool
 }
 
 // Some seat lacks cards of the street's deal.
-#[tactic(auto, using(chip_ledger::proofs::SeatLists::any_more))]
 fn some_lacks(state: &CardState, live: &LiveRow, on: u8, dealt: &OwnerCounts) -> bool
     requires live { live.now.seats ≡ state.now.seats }
-    requires ten { state.now.seats ≤ 10 }
     requires dealt { AreCounts dealt.now.numbers on (placed state.now.places) }
     ensures { result
         ≡ list_any (why.is_owed_deal_in state.now live.now on) (seats_of state.now.seats) }
 {
+    let street = state.table.street(on);
     let mut any = false;
     for index in 0..state.seats {
         let seat = Seat { number: index + 1 };
-        let this = lacks(state, live, on, seat, dealt.of(Some(seat)));
+        let this = live.get(seat) && dealt.of(Some(seat)) < street.down + street.up;
         any = any || this;
     }
     any
-}
-
-// The seat, which was dealt so many cards of the street, lacks cards of its deal.
-fn lacks(state: &CardState, live: &LiveRow, on: u8, seat: Seat, dealt: u8) -> bool
-    requires live { live.now.seats ≡ state.now.seats }
-    requires seat { seat.number ≤ state.now.seats }
-    requires dealt { dealt
-        ≡ count_by (is_in_group (Some seat.number) on) (placed state.now.places) }
-    ensures { result ≡ why.is_owed_deal_in state.now live.now on seat.number }
-{
-    let street = state.table.street(on);
-    live.get(seat) && dealt < street.down + street.up
 }
 
 // The board, which was dealt so many cards of the street, lacks cards of it.
@@ -76,37 +61,24 @@ fn board_lacks(state: &CardState, on: u8, dealt: u8) -> bool
 }
 
 // Some seat is owed cards for its discards.
-#[tactic(auto, using(chip_ledger::proofs::SeatLists::any_more))]
 fn some_owed(state: &CardState, on: u8) -> bool
     requires street { on ≤ 5 }
-    requires ten { state.now.seats ≤ 10 }
     ensures { result ≡ list_any (why.is_owed_draw_in state.now on) (seats_of state.now.seats) }
 {
     let dealt = OwnerCounts::on(&state.places, on);
     let mut any = false;
     for index in 0..state.seats {
         let seat = Seat { number: index + 1 };
-        let this = is_owed(state, on, seat, dealt.of(Some(seat)));
+        let this = dealt.of(Some(seat)) < state.draws.named(on, seat);
         any = any || this;
     }
     any
-}
-
-// The seat, which was dealt so many cards in the draw of the street, is owed more for its discards.
-fn is_owed(state: &CardState, on: u8, seat: Seat, dealt: u8) -> bool
-    requires street { on ≤ 5 }
-    requires dealt { dealt
-        ≡ count_by (is_in_group (Some seat.number) on) (placed state.now.places) }
-    ensures { result ≡ why.is_owed_draw_in state.now on seat.number }
-{
-    dealt < state.draws.named(on, seat)
 }
 
 // Some seat has still to show or muck.
 #[tactic(auto, using(chip_ledger::proofs::SeatLists::any_more))]
 fn some_to_show(state: &CardState, live: &LiveRow) -> bool
     requires live { live.now.seats ≡ state.now.seats }
-    requires ten { state.now.seats ≤ 10 }
     ensures { result ≡ list_any (why.has_to_show_in state.now live.now) (seats_of state.now.seats) }
 {
     let mut any = false;

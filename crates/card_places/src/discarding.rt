@@ -1,11 +1,9 @@
 //! A discard is refused exactly by the rules, and else takes the cards that its names find.
-ghost use Rattle.std.specs.Prelude.{◌≡◌, ◌≤◌, ◌+◌, true, find, length, count_by, None, Some, IfErr, OnErr, OnOk};
-ghost use Rattle.std.specs.List.{range_with_len};
+ghost use Rattle.std.specs.Prelude.{◌≡◌, ◌≤◌, ◌+◌, true, length, count_by, None, Some, IfErr, OnErr, OnOk};
 ghost use Rattle.card_set.specs.Row.{slots_of};
 ghost use Rattle.play_event.specs.Naming.{after_discard};
 ghost use Rattle.play_event.specs.Places.{is_held_by};
 ghost use Rattle.card_places.specs.Placed.{placed};
-ghost use Rattle.chip_ledger.specs.SeatsSaid.{seat_said};
 ghost use Rattle.card_places.specs.Refusals as why;
 ghost use Rattle.card_places.specs.Room.{is_seat_of};
 ghost use Rattle.card_places.specs.Discarded.{IsDiscarded, IsDiscardSearch};
@@ -16,6 +14,7 @@ use crate::dealt_cards::DealtCards;
 use crate::misplacing::is_misplacing;
 use crate::names::{blanks, known};
 use crate::naming::has_unplaced_name;
+use crate::owing::next_to_draw;
 use crate::search::{Search, run, search_of};
 use card_set::SlotRow;
 use chip_ledger::{LiveRow, Seat};
@@ -86,37 +85,9 @@ fn is_next_to_draw(state: &CardState, live: &LiveRow, on: u8, seat: Seat) -> boo
     requires live { live.now.seats ≡ state.now.seats }
     ensures { result ≡ why.is_next_in state.now live.now on seat.number }
 {
-    match first_to_draw(state, live, on, 1, state.seats) {
+    match next_to_draw(state, live, on) {
         Some(next) => next.number == seat.number,
         None => false,
-    }
-}
-
-/// The first of `count` seats, from the number `first` on, that is live and has not drawn on the
-/// street.
-#[tactic(auto, using(list_laws::proofs::Finding::find_step))]
-pub fn first_to_draw(
-    state: &CardState,
-    live: &LiveRow,
-    on: u8,
-    first: u8,
-    count: u8,
-) -> Option<Seat>
-    requires street { on ≤ 5 }
-    requires live { live.now.seats ≡ state.now.seats }
-    requires from_one { 1 ≤ first }
-    requires within { first + count ≤ state.now.seats + 1 }
-    ensures { seat_said result ≡ find (why.has_to_draw state.now live.now on)
-        (range_with_len first count) }
-{
-    if count == 0 {
-        return None;
-    }
-    let seat = Seat { number: first };
-    if live.get(seat) && !state.draws.drew(on, seat) {
-        Some(seat)
-    } else {
-        first_to_draw(state, live, on, first + 1, count - 1)
     }
 }
 

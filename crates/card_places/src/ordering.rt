@@ -14,8 +14,7 @@ use play_event::Place;
 
 /// The place at this index, from 0, in the order of the trace.
 pub fn place(state: &CardState, index: u8) -> Place
-    requires seats { state.now.seats ≤ 10 }
-    requires within { index < state.now.places.count }
+    requires { index < state.now.places.count }
     ensures { IsPlaceOf result (slice_get
         (ordered state.now.table.code state.now.seats (placed state.now.places)) index) }
 {
@@ -38,8 +37,7 @@ pub fn place(state: &CardState, index: u8) -> Place
 
 // The same of the cards of so many streets, from this one on.
 fn in_streets(state: &CardState, first: u8, count: u8, index: u8) -> Result<DealtCard, u8>
-    requires seats { state.now.seats ≤ 10 }
-    requires within { first + count ≤ 6 }
+    requires { first + count ≤ 6 }
     ensures found { IfOk result (λ card. slice_get
         (on_streets state.now.seats (placed state.now.places) first count) index
         ≡ Some (place_of card)) }
@@ -57,7 +55,6 @@ fn in_streets(state: &CardState, first: u8, count: u8, index: u8) -> Result<Deal
 
 // The same of all cards of a street: first those of the seats, and then the board's.
 fn in_street(state: &CardState, street: u8, index: u8) -> Result<DealtCard, u8>
-    requires { state.now.seats ≤ 10 }
     ensures found { IfOk result (λ card. slice_get
         (on_street state.now.seats (placed state.now.places) street) index ≡ Some (place_of card)) }
     ensures past { IfErr result (λ left.

@@ -6,6 +6,7 @@ ghost use Rattle.street_laws.specs.Dues.{IsDueWithin};
 ghost use Rattle.card_places.specs.DueStreet.{due_street};
 
 use crate::card_state::CardState;
+use crate::owing::{board_owed, owed};
 use crate::taken::has_taken_card;
 use card_set::Slot;
 use chip_ledger::{LiveRow, Seat};
@@ -86,36 +87,13 @@ pub fn board_why(state: &CardState, due: Due, cards: &[Slot]) -> Option<Illegal>
 fn board_why_on(state: &CardState, on: u8, cards: &[Slot]) -> Option<Illegal>
     ensures { result ≡ why.board_why_on state.now on cards.now }
 {
-    let owed = state
-        .table
-        .street(on)
-        .board
-        .saturating_sub(state.places.in_group(None, on));
+    let owed = board_owed(state, on);
     if is_wrong_deal(owed, cards.len()) {
         Some(Illegal::WrongCount)
     } else if has_taken_card(&state.table, state.places.as_slice(), on, cards) {
         Some(Illegal::CardTaken)
     } else {
         None
-    }
-}
-
-/// How many cards the seat is still owed on the street: in place of those that it discarded, or by
-/// the deal while it is live.
-pub fn owed(state: &CardState, live: &LiveRow, on: u8, seat: Seat) -> u8
-    requires street { on ≤ 5 }
-    requires live { live.now.seats ≡ state.now.seats }
-    requires seat { seat.number ≤ state.now.seats }
-    ensures { result ≡ why.owed_in state.now live.now on seat.number }
-{
-    let street = state.table.street(on);
-    let dealt = state.places.in_group(Some(seat), on);
-    if street.draws {
-        state.draws.named(on, seat).saturating_sub(dealt)
-    } else if live.get(seat) {
-        (street.down + street.up).saturating_sub(dealt)
-    } else {
-        0
     }
 }
 

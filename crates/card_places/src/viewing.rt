@@ -18,7 +18,6 @@ use play_event::{HandRow, UpRow};
 
 /// The cards that each seat has, in the order of dealing.
 pub fn hands(state: &CardState) -> HandRow
-    requires { state.now.seats ≤ 10 }
     ensures seats { result.seats ≡ state.now.seats }
     ensures hands { (seat : ℕ) → 1 ≤ seat → seat ≤ state.now.seats
         → slots_of_hand result seat ≡ held.held_slots (Some seat) (placed state.now.places) }
@@ -49,7 +48,6 @@ fn put_held(row: &mut HandRow, seat: Seat, slot: Slot)
 
 /// The up-cards of each seat, in the order of dealing.
 pub fn up(state: &CardState) -> UpRow
-    requires { state.now.seats ≤ 10 }
     ensures seats { result.seats ≡ state.now.seats }
     ensures ups { (seat : ℕ) → 1 ≤ seat → seat ≤ state.now.seats → ups_of result seat
         ≡ places.up_slots state.now.table.code (placed state.now.places) seat }
@@ -102,8 +100,6 @@ fn board_slots(state: &CardState) -> SlotRow
 
 /// Which seats have a card that is unknown.
 pub fn unknown(state: &CardState) -> LiveRow
-    requires least { 2 ≤ state.now.seats }
-    requires most { state.now.seats ≤ 10 }
     ensures seats { result.seats ≡ state.now.seats }
     ensures unknown { (seat : ℕ) → 1 ≤ seat → seat ≤ state.now.seats → flag_of result seat
         ≡ list_any (λ place. is_held_by seat place && known.is_unknown place.slot)

@@ -11,4 +11,4 @@ pub returns-in-Err : goal.returns-in-Err
 returns-in-Err c =
     let t = c.args.state.now in
     let ps : List Place = placed t.places in
-    absurd (omega (arith, c.in-Err.ensures.past, ap (λ (n : ℕ). length (on_streets t.seats ps 1 n)) c.streets.ensures.streets, all_ordered t.table.code t.seats ps t.within, placed_length t.places, c.requires.within))
+    absurd (omega (arith, c.in-Err.ensures.past, ap (λ (n : ℕ). length (on_streets t.seats ps 1 n)) c.streets.ensures.streets, all_ordered t.table.code t.seats ps t.within, placed_length t.places, c.requires))
