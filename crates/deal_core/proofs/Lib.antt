@@ -12,4 +12,4 @@ pub mod DiscardTurn
 pub mod IsDone
 pub mod Boards
 pub mod Games
-pub mod Kept
+pub mod Owing

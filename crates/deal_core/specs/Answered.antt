@@ -1,6 +1,6 @@
 -- What an event of cards does to the state of the cards: the answer of the rules, and what stands
 -- after it. And what a row tells of the seats.
-use Rattle.std.specs.Prelude.{◌≡◌, ℕ, Bool, Result, None, Some, OnOk, IfErr}
+use Rattle.std.specs.Prelude.{◌≡◌, ℕ, Bool, Result, None, Some, OnOk, OnErr, IfErr}
 use Rattle.chip_ledger.specs.declared.rows.LiveRow.{LiveRow}
 use Rattle.play_event.specs.declared.reason.Due.{Due}
 use Rattle.play_event.specs.declared.reason.Illegal.{Illegal}
@@ -19,6 +19,11 @@ abbrev pub WhereNow : CardState → Due → LiveRow → (Setup → Past → Type
 WhereNow t due live P =
     (setup : Setup) (past : Past) → IsNow t due live setup past → P setup past
 
+-- after each past of a hand for which the state stands and these seats are live, whatever is due
+abbrev pub WhereLive : CardState → LiveRow → (Setup → Past → Type 0) → Type 0
+WhereLive t live P =
+    (setup : Setup) (past : Past) (due : Due) → IsNow t due live setup past → P setup past
+
 -- every past will do
 abbrev pub AsksNothing : Setup → Past → Type 0
 AsksNothing setup past = Unit {0}
@@ -26,6 +31,13 @@ AsksNothing setup past = Unit {0}
 -- the hand is settled or not, as this says
 abbrev pub IsSettledAs : Bool → Setup → Past → Type 0
 IsSettledAs settled setup past = is_settled setup (moves_of past) (turn setup past) ≡ settled
+
+-- the cards before and behind are those of one hand
+pub record AreOfOneHand (t next : CardState) : Type 0 where
+  -- they are of the same game
+  pub code : next.table.code ≡ t.table.code
+  -- and of as many seats
+  pub seats : next.seats ≡ t.seats
 
 -- An event of cards is answered, where `t` is the state before it and `next` the state behind it.
 -- The reasons are those of the pasts that meet `asks`.
@@ -41,7 +53,10 @@ pub record IsAnswered (t next : CardState) (due : Due) (live : LiveRow)
     -- the state stands for the past with it
     pub stands : WhereNow t due live (λ setup past.
         OnOk answer (StandsFor next (with_event setup event past)))
-    pub seats : next.seats ≡ t.seats
+    -- where it is refused, the state is as it was
+    pub unchanged : OnErr answer (next ≡ t)
+    -- taken or refused, the hand is the same
+    pub hand : AreOfOneHand t next
 
 -- a row of so many seats has those of the state, and this is so of each of them after each past
 -- for which the state stands

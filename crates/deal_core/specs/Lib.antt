@@ -2,3 +2,4 @@
 pub mod Standing
 pub mod Answered
 pub mod Board
+pub mod NextDeal

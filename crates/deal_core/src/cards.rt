@@ -1,9 +1,10 @@
 //! Each call on the cards of a hand answers as the rules do, for every past for which the state
 //! stands.
-ghost use Rattle.std.specs.Prelude.{◌≡◌, ◌≤◌, ◌<◌, ◌∷◌, [], ℕ, length, slice_get, true, OnErr, IsSomeAnd, None, Some};
+ghost use Rattle.std.specs.Prelude.{◌≡◌, ◌≤◌, ◌<◌, ◌∷◌, [], ℕ, length, map, slice_get, true, IfSome, IsSomeAnd, None, Some};
 ghost use Rattle.card_set.specs.Row.{cards_of};
 ghost use Rattle.chip_ledger.specs.LiveRow.{flag_of};
 ghost use Rattle.chip_ledger.specs.SeatsSaid.{seat_said};
+ghost use Rattle.play_event.specs.Dealing.{next_to_draw};
 ghost use Rattle.play_event.specs.Past.{Past, Move, Moved, is_fold};
 ghost use Rattle.play_event.specs.Played.{IsPlace};
 ghost use Rattle.play_event.specs.Said.{said_of};
@@ -11,7 +12,6 @@ ghost use Rattle.play_event.specs.SeatSlots.{slots_of_hand, ups_of};
 ghost use Rattle.play_event.specs.Showing.{has_mucked};
 ghost use Rattle.play_event.specs.Table.{places_of, up_cards};
 ghost use Rattle.play_event.specs.Trace.{has_unknown_card, traced_places};
-ghost use Rattle.play_event.specs.declared.reason.Due.{Due as DueNow};
 ghost use Rattle.play_event.specs.declared.setup.Setup.{Setup};
 ghost use Rattle.street_laws.specs.CardEvents.{is_showing};
 ghost use Rattle.street_laws.specs.Done.{is_done};
@@ -20,29 +20,42 @@ ghost use Rattle.card_places.specs.CardEvents.{is_deal, is_discard};
 ghost use Rattle.card_places.specs.Dealt.{IsDealt};
 ghost use Rattle.card_places.specs.DueStreet.{due_street};
 ghost use Rattle.card_places.specs.Placed.{placed};
+ghost use Rattle.card_places.specs.Plain.{place_of};
 ghost use Rattle.card_places.specs.Room.{IsOwed};
 ghost use Rattle.play_event.specs.Held.{held_slots};
-ghost use Rattle.deal_core.specs.Answered.{AsksNothing, IsAnswered, IsSettledAs, TellsSeats};
+ghost use Rattle.deal_core.specs.Answered.{AreOfOneHand, AsksNothing, IsAnswered, IsSettledAs, TellsSeats, WhereLive};
 ghost use Rattle.deal_core.specs.Board.{board_cards};
-ghost use Rattle.deal_core.specs.Standing.{IsNow, StandsFor};
+ghost use Rattle.deal_core.specs.NextDeal.{IsNextDeal};
+ghost use Rattle.deal_core.specs.Standing.{StandsFor};
 
 use card_places::{
-    CardState, board, board_why, discard_on, done, empty, fold, hands, hole_why, lay, muck_why,
-    place, set_muck, show_on, shut, slots, street_due, unknown, up,
+    CardState, DealtCard, NextDeal, board, board_why, discard_on, done, empty, fold, hands,
+    hole_why, lay, muck_why, next_deal, next_to_draw, place, set_muck, show_on, shut, slots,
+    street_due, unknown, up,
 };
 use card_set::{CardRow, Slot};
 use chip_ledger::{LiveRow, Seat};
 use play_event::{Due, Event, HandRow, Illegal, Kind, Place, UpRow};
-use std::marker::PhantomData;
+use std::marker::{Model, PhantomData};
 use variant_table::Variant;
 
-/// The cards of a hand of the game `V`. What the calls say of the past holds for every past for
-/// which the state stands.
+/// The cards of a hand of the game `V`, which contracts see as their state. What the calls say of
+/// the past holds for every past for which the state stands.
 #[derive(Drop)]
 pub struct Cards<V: Variant> {
-    pub state: CardState,
-    pub game: PhantomData<V>,
-    pub ghost code: { state.table.code ≡ V.CODE },
+    state: CardState,
+    game: PhantomData<V>,
+}
+
+impl<V: Variant> Model for Cards<V> {
+    ghost use Rattle.std.specs.Prelude.{◌≡◌};
+    ghost use Rattle.card_places.specs.declared.card_state.CardState.{CardState};
+
+    ghost Value = { CardState };
+
+    ghost view = { λ c. c.state };
+
+    ghost invariant = { λ c. c.state.table.code ≡ V.CODE };
 }
 
 impl<V: Variant> Cards<V> {
@@ -50,8 +63,9 @@ impl<V: Variant> Cards<V> {
     pub fn start(seats: u8) -> Self
         requires least { 2 ≤ seats }
         requires most { seats ≤ V.SEATS }
-        ensures stands { StandsFor result.state [] }
-        ensures seats { result.state.seats ≡ seats }
+        ensures stands { StandsFor result [] }
+        ensures code { result.table.code ≡ V.CODE }
+        ensures seats { result.seats ≡ seats }
     {
         Cards {
             state: empty(V::CODE, seats),
@@ -64,10 +78,8 @@ impl<V: Variant> Cards<V> {
     pub fn deal(&mut self, due: Due, live: &LiveRow, event: &Event) -> Result<(), Illegal>
         requires kind { is_deal (said_of event.now) ≡ true }
         requires due { IsDueWithin V.STREETS due }
-        requires live { live.now.seats ≡ self.old.state.seats }
-        ensures answered { IsAnswered self.old.state self.new.state due live.now AsksNothing
-            (said_of event.now) result }
-        ensures unchanged { OnErr result (self.new ≡ self.old) }
+        requires live { live.now.seats ≡ self.old.seats }
+        ensures { IsAnswered self.old self.new due live.now AsksNothing (said_of event.now) result }
     {
         match event.kind {
             Kind::Hole { seat, cards } => {
@@ -98,11 +110,11 @@ impl<V: Variant> Cards<V> {
     // Deals cards that are owed on the street that is due.
     fn put(&mut self, due: Due, owner: Option<Seat>, cards: &[Slot])
         requires { (on : ℕ) → due_street due ≡ Some on
-            → IsOwed self.old.state.table.code self.old.state.seats self.old.state.draws
-            (placed self.old.state.places) (seat_said owner) on (length cards.now) }
+            → IsOwed self.old.table.code self.old.seats self.old.draws (placed self.old.places)
+            (seat_said owner) on (length cards.now) }
         ensures dealt { (on : ℕ) → due_street due ≡ Some on
-            → IsDealt self.old.state self.new.state (seat_said owner) on cards.now }
-        ensures seats { self.new.state.seats ≡ self.old.state.seats }
+            → IsDealt self.old self.new (seat_said owner) on cards.now }
+        ensures hand { AreOfOneHand self.old self.new }
     {
         if let Some(on) = street_due(due) {
             lay(&mut self.state, owner, on, cards);
@@ -114,10 +126,8 @@ impl<V: Variant> Cards<V> {
     pub fn discard(&mut self, due: Due, live: &LiveRow, event: &Event) -> Result<(), Illegal>
         requires kind { is_discard (said_of event.now) ≡ true }
         requires due { IsDueWithin V.STREETS due }
-        requires live { live.now.seats ≡ self.old.state.seats }
-        ensures answered { IsAnswered self.old.state self.new.state due live.now AsksNothing
-            (said_of event.now) result }
-        ensures unchanged { OnErr result (self.new ≡ self.old) }
+        requires live { live.now.seats ≡ self.old.seats }
+        ensures { IsAnswered self.old self.new due live.now AsksNothing (said_of event.now) result }
     {
         match event.kind {
             Kind::Discard { seat, cards } => match due {
@@ -140,10 +150,9 @@ impl<V: Variant> Cards<V> {
         event: &Event,
     ) -> Result<(), Illegal>
         requires kind { is_showing (said_of event.now) ≡ true }
-        requires live { live.now.seats ≡ self.old.state.seats }
-        ensures answered { IsAnswered self.old.state self.new.state due live.now
-            (IsSettledAs settled) (said_of event.now) result }
-        ensures unchanged { OnErr result (self.new ≡ self.old) }
+        requires live { live.now.seats ≡ self.old.seats }
+        ensures { IsAnswered self.old self.new due live.now (IsSettledAs settled)
+            (said_of event.now) result }
     {
         match event.kind {
             Kind::Show { seat, cards } => match shut(&self.state, live, due, settled, seat) {
@@ -164,10 +173,10 @@ impl<V: Variant> Cards<V> {
 
     /// The seat folded: its cards are gone.
     pub fn folded(&mut self, seat: Seat)
-        ensures stands { (past : Past) (move : Move) → StandsFor self.old.state past
+        ensures stands { (past : Past) (move : Move) → StandsFor self.old past
             → is_fold move.act ≡ true → move.seat ≡ seat.number
-            → StandsFor self.new.state (Moved move ∷ past) }
-        ensures seats { self.new.state.seats ≡ self.old.state.seats }
+            → StandsFor self.new (Moved move ∷ past) }
+        ensures hand { AreOfOneHand self.old self.new }
     {
         fold(&mut self.state, seat);
     }
@@ -176,17 +185,40 @@ impl<V: Variant> Cards<V> {
     /// told what is due now: the next street's deal may be complete before it is looked at.
     pub fn done(&self, due: Due, live: &LiveRow) -> bool
         requires due { IsDueWithin V.STREETS due }
-        requires live { live.now.seats ≡ self.now.state.seats }
-        ensures done { (setup : Setup) (past : Past) (now : DueNow)
-            → IsNow self.now.state now live.now setup past → result ≡ is_done setup past due }
+        requires live { live.now.seats ≡ self.now.seats }
+        ensures done { WhereLive self.now live.now
+            (λ setup past. result ≡ is_done setup past due) }
         ensures ended { result ≡ true → is_cards_due due ≡ true }
     {
         done(&self.state, live, due)
     }
 
+    /// What the street deals next: to the first seat that is owed cards all that it is owed, and
+    /// where no seat is owed any, to the board.
+    pub fn next_deal(&self, live: &LiveRow, on: u8) -> NextDeal
+        requires street { on ≤ V.STREETS }
+        requires live { live.now.seats ≡ self.now.seats }
+        ensures next { WhereLive self.now live.now
+            (λ setup past. IsNextDeal setup past on result) }
+        ensures most { result.count ≤ 7 }
+    {
+        next_deal(&self.state, live, on)
+    }
+
+    /// The seat that draws next on the street, if one has to.
+    pub fn next_to_draw(&self, live: &LiveRow, on: u8) -> Option<Seat>
+        requires street { on ≤ V.STREETS }
+        requires live { live.now.seats ≡ self.now.seats }
+        ensures next { WhereLive self.now live.now
+            (λ setup past. seat_said result ≡ next_to_draw setup past on) }
+        ensures in_hand { IfSome result (λ seat. seat.number ≤ self.now.seats) }
+    {
+        next_to_draw(&self.state, live, on)
+    }
+
     /// The up-cards of each seat, in the order of dealing. Folded seats have none.
     pub fn up(&self) -> UpRow
-        ensures { TellsSeats result.seats self.now.state
+        ensures { TellsSeats result.seats self.now
             (λ past seat. ups_of result seat ≡ up_cards V.CODE past seat) }
     {
         up(&self.state)
@@ -195,7 +227,7 @@ impl<V: Variant> Cards<V> {
     /// The cards that each seat has, in the order of dealing. Discarded cards and those of folded
     /// seats are gone.
     pub fn hands(&self) -> HandRow
-        ensures { TellsSeats result.seats self.now.state
+        ensures { TellsSeats result.seats self.now
             (λ past seat. slots_of_hand result seat
             ≡ held_slots (Some seat) (places_of V.CODE past)) }
     {
@@ -204,7 +236,7 @@ impl<V: Variant> Cards<V> {
 
     /// The cards of the board, in the order of dealing.
     pub fn board(&self) -> CardRow
-        ensures { (past : Past) → StandsFor self.now.state past
+        ensures { (past : Past) → StandsFor self.now past
             → cards_of result ≡ board_cards past }
     {
         board(&self.state)
@@ -212,7 +244,7 @@ impl<V: Variant> Cards<V> {
 
     /// Which seats mucked.
     pub fn mucked(&self) -> LiveRow
-        ensures { TellsSeats result.seats self.now.state
+        ensures { TellsSeats result.seats self.now
             (λ past seat. flag_of result seat ≡ has_mucked past seat) }
     {
         self.state.mucked
@@ -220,17 +252,34 @@ impl<V: Variant> Cards<V> {
 
     /// Which seats have a card that is not known.
     pub fn unknown(&self) -> LiveRow
-        ensures { TellsSeats result.seats self.now.state
+        ensures { TellsSeats result.seats self.now
             (λ past seat. (setup : Setup) → setup.code ≡ V.CODE
             → flag_of result seat ≡ has_unknown_card setup past seat) }
     {
         unknown(&self.state)
     }
 
+    /// How many seats there are.
+    pub fn seats(&self) -> u8
+        ensures seats { result ≡ self.now.seats }
+        ensures code { self.now.table.code ≡ V.CODE }
+    {
+        self.state.seats
+    }
+
+    /// The cards that were dealt so far, those that are gone too, in the order of dealing.
+    pub fn dealt(&self) -> &[DealtCard]
+        ensures dealt { map place_of result.now ≡ placed self.now.places }
+        ensures places { (past : Past) → StandsFor self.now past
+            → map place_of result.now ≡ places_of V.CODE past }
+    {
+        self.state.places.as_slice()
+    }
+
     /// How many cards were dealt so far, those that are gone too.
     pub fn place_count(&self) -> u8
-        ensures count { result ≡ self.now.state.places.count }
-        ensures places { (past : Past) → StandsFor self.now.state past
+        ensures count { result ≡ self.now.places.count }
+        ensures places { (past : Past) → StandsFor self.now past
             → result ≡ length (places_of V.CODE past) }
     {
         self.state.places.count
@@ -240,9 +289,9 @@ impl<V: Variant> Cards<V> {
     /// first and the board last, then in the order of dealing. Ask for an index below
     /// `place_count`.
     pub fn place(&self, index: u8) -> Place
-        requires { index < self.now.state.places.count }
+        requires { index < self.now.places.count }
         ensures { (setup : Setup) (past : Past) → setup.code ≡ V.CODE
-            → setup.stacks.seats ≡ self.now.state.seats → StandsFor self.now.state past
+            → setup.stacks.seats ≡ self.now.seats → StandsFor self.now past
             → IsSomeAnd (slice_get (traced_places setup past) index) (IsPlace result) }
     {
         place(&self.state, index)

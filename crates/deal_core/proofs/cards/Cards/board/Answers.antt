@@ -10,6 +10,6 @@ use Rattle.card_set.proofs.KnownCards.{all_known}
 
 pub returns : goal.returns
 returns g c =
-    λ past stands.
+    rw (← c.self.view_is) λ past stands.
     c.board.ensures ∙ ap (λ (ps : List Place). known_cards (held_slots None ps)) stands.places
-    ∙ ap known_cards (board_held c.args.self.now.state.table.code past) ∙ all_known (board_cards past)
+    ∙ ap known_cards (board_held c.self.inside.state.table.code past) ∙ all_known (board_cards past)
