@@ -122,12 +122,12 @@ module _ (b : RunningNumbers) (past : Past) (stands : StandsFor b past) (seat : 
   -- the options, with these raises
   module _ (limit : Limit) (limit_is : limit_of b.setup.code ≡ limit) (found : Option Targets) (some : is_some found ≡ has_targets b.setup b.rules past)
       (ends : IfSome found (λ targets. (other : ℕ) → IsTurn b past (TheSeat other) → AreEndsFor b (moves_of past) other targets)) (raise : RaiseSet) (told : raise ≡ set_of limit found) where
-    pub at_move : b.due ≡ dues.Move → (fold : Bool) (chips : ℕ) → fold ≡ is_none (fold_why b (Some seat.number) seat.number) → chips ≡ call_seen b seat.number - amount_of b.bets seat.number
-        → AreOptions b.setup b.rules past (record { due = b.due; seat = Some seat; fold = fold; call = Some chips; bring_in = None; raise = raise })
-    at_move due fold chips fold_by chips_by =
+    pub at_move : (now : Due) → now ≡ b.due → b.due ≡ dues.Move → (fold : Bool) (chips : ℕ) → fold ≡ is_none (fold_why b (Some seat.number) seat.number) → chips ≡ call_seen b seat.number - amount_of b.bets seat.number
+        → AreOptions b.setup b.rules past (record { due = now; seat = Some seat; fold = fold; call = Some chips; bring_in = None; raise = raise })
+    at_move now now_is due fold chips fold_by chips_by =
         let mover = seat_is (ap is_bet_due due) in
         record {
-          due = sym (ap (λ (t : ℕ × Due). t.1) stands.turn_is);
+          due = now_is ∙ sym (ap (λ (t : ℕ × Due). t.1) stands.turn_is);
           seat = sym mover;
           fold = fold_by ∙ fold_is due ∙ sym (ap (λ (s : Option ℕ). option_map_or (λ n. is_legal b.setup b.rules past (Fold (Some n))) s false) mover);
           call = ap Some chips_by ∙ sym (call_is due) ∙ sym (ap (option_and_then (call_of b.setup b.rules past)) mover);
@@ -136,12 +136,12 @@ module _ (b : RunningNumbers) (past : Past) (stands : StandsFor b past) (seat : 
           form = subst (IsSetOf (limit_of b.setup.code)) (sym told) (forms limit limit_is found ends);
         }
 
-    pub at_bring_in : b.due ≡ dues.BringIn → (target : ℕ) → target ≡ bring_in_seen b seat.number
-        → AreOptions b.setup b.rules past (record { due = b.due; seat = Some seat; fold = false; call = None; bring_in = Some target; raise = raise })
-    at_bring_in due target target_by =
+    pub at_bring_in : (now : Due) → now ≡ b.due → b.due ≡ dues.BringIn → (target : ℕ) → target ≡ bring_in_seen b seat.number
+        → AreOptions b.setup b.rules past (record { due = now; seat = Some seat; fold = false; call = None; bring_in = Some target; raise = raise })
+    at_bring_in now now_is due target target_by =
         let mover = seat_is (ap is_bet_due due) in
         record {
-          due = sym (ap (λ (t : ℕ × Due). t.1) stands.turn_is);
+          due = now_is ∙ sym (ap (λ (t : ℕ × Due). t.1) stands.turn_is);
           seat = sym mover;
           fold = sym (no_fold due) ∙ sym (ap (λ (s : Option ℕ). option_map_or (λ n. is_legal b.setup b.rules past (Fold (Some n))) s false) mover);
           call = sym (no_call due) ∙ sym (ap (option_and_then (call_of b.setup b.rules past)) mover);

@@ -13,11 +13,11 @@ use variant_table::Variant;
 /// What is due now, and which moves of the seat in turn are legal. No seat is told where it is not
 /// known whose turn it is.
 pub fn options_now<V: Variant>(hand: &HandInPlay<V>) -> Options
-    ensures legal { WhereTogether hand.now.betting.table hand.now.cards.state
-        (λ past. AreOptions hand.now.betting.table.setup hand.now.betting.table.rules past result) }
-    ensures undecided { WhereTogether hand.now.betting.table hand.now.cards.state
+    ensures legal { WhereTogether hand.now.betting hand.now.cards
+        (λ past. AreOptions hand.now.betting.setup hand.now.betting.rules past result) }
+    ensures undecided { WhereTogether hand.now.betting hand.now.cards
         (λ past. IfNone result.seat (is_bet_due result.due ≡ true
-        → IsUndecided hand.now.betting.table.setup past)) }
+        → IsUndecided hand.now.betting.setup past)) }
 {
     let due = hand.betting.due();
     if !is_bet(due) {

@@ -145,7 +145,7 @@ fn folded<V: Variant>(
 }
 
 fn done<V: Variant>(alloc: Global, cards: &Cards<V>, told: &Told) -> Result<String, AllocError> {
-    if told.live.seats != cards.state.seats || !is_within::<V>(told.due) {
+    if told.live.seats != cards.seats() || !is_within::<V>(told.due) {
         return String::from_str(alloc, "no such street");
     }
     let done = cards.done(told.due, &told.live);
@@ -300,7 +300,7 @@ fn dealt<V: Variant>(
 ) -> Result<String, AllocError>
     requires { is_deal (kind_said kind) ≡ true }
 {
-    if told.live.seats != cards.state.seats || !is_within::<V>(told.due) {
+    if told.live.seats != cards.seats() || !is_within::<V>(told.due) {
         return String::from_str(alloc, "no such street");
     }
     outcome(
@@ -334,7 +334,7 @@ fn discarded<V: Variant>(
 ) -> Result<String, AllocError>
     requires { is_discard (kind_said kind) ≡ true }
 {
-    if told.live.seats != cards.state.seats || !is_within::<V>(told.due) {
+    if told.live.seats != cards.seats() || !is_within::<V>(told.due) {
         return String::from_str(alloc, "no such street");
     }
     outcome(
@@ -362,7 +362,7 @@ fn shown<V: Variant>(
 ) -> Result<String, AllocError>
     requires { is_showing (kind_said kind) ≡ true }
 {
-    if told.live.seats != cards.state.seats {
+    if told.live.seats != cards.seats() {
         return String::from_str(alloc, "no such seats");
     }
     outcome(

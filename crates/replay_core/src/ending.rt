@@ -39,7 +39,7 @@ pub fn at_end<V: Variant>(
     moves: Moves,
 ) -> Result<HandAtEnd, Memory>
     ensures { (setup : Setup) (rules : Rules) (script : List Said) → setup.code ≡ V.CODE
-        → StandAtEnd setup rules script hand.now.betting.table hand.now.cards.state
+        → StandAtEnd setup rules script hand.now.betting hand.now.cards
         → AreMovesOf setup (past_at_end setup script) moves
         → IfOk result (IsAtEnd setup (past_at_end setup script)) }
 {

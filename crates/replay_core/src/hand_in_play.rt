@@ -34,7 +34,7 @@ pub struct HandInPlay<V: Variant> {
     pub betting: Betting<V>,
     pub cards: Cards<V>,
     /// The cards are those of the seats that bet.
-    pub ghost seats: { betting.table.setup.stacks.seats ≡ cards.state.seats },
+    pub ghost seats: { betting.setup.stacks.seats ≡ cards.seats },
 }
 
 impl<V: Variant> HandInPlay<V> {
@@ -42,10 +42,10 @@ impl<V: Variant> HandInPlay<V> {
     pub fn start(setup: &Setup, rules: &Rules) -> Self
         requires valid { IsValid setup.now }
         requires code { setup.now.code ≡ V.CODE }
-        ensures stands { StandTogether result.betting.table result.cards.state [] }
-        ensures setup { result.betting.table.setup ≡ setup.now }
-        ensures rules { result.betting.table.rules ≡ rules.now }
-        ensures seats { result.cards.state.seats ≡ setup.now.stacks.seats }
+        ensures stands { StandTogether result.betting result.cards [] }
+        ensures setup { result.betting.setup ≡ setup.now }
+        ensures rules { result.betting.rules ≡ rules.now }
+        ensures seats { result.cards.seats ≡ setup.now.stacks.seats }
     {
         HandInPlay {
             betting: Betting::<V>::start(setup, rules),
@@ -55,18 +55,18 @@ impl<V: Variant> HandInPlay<V> {
 
     /// The chips that each seat has put in this hand, antes included.
     pub fn puts(&self) -> SeatRow
-        ensures { TellsOfHand result.seats self.now.betting.table self.now.cards.state
+        ensures { TellsOfHand result.seats self.now.betting self.now.cards
             (λ past seat. amount_of result seat
-            ≡ chips_put self.now.betting.table.setup (moves_of past) seat) }
+            ≡ chips_put self.now.betting.setup (moves_of past) seat) }
     {
         self.betting.puts()
     }
 
     /// The chips that each seat has left.
     pub fn stacks(&self) -> SeatRow
-        ensures { TellsOfHand result.seats self.now.betting.table self.now.cards.state
+        ensures { TellsOfHand result.seats self.now.betting self.now.cards
             (λ past seat. amount_of result seat
-            ≡ chips_left self.now.betting.table.setup (moves_of past) seat) }
+            ≡ chips_left self.now.betting.setup (moves_of past) seat) }
     {
         self.betting.stacks()
     }
@@ -76,8 +76,8 @@ impl<V: Variant> HandInPlay<V> {
     /// told.
     pub fn advance(&mut self, event: &Event) -> Result<Option<Move>, Illegal>
         ensures advanced { Advances
-            self.old.betting.table self.new.betting.table
-            self.old.cards.state self.new.cards.state (said_of event.now) result }
+            self.old.betting self.new.betting
+            self.old.cards self.new.cards (said_of event.now) result }
         ensures unchanged { OnErr result (self.new ≡ self.old) }
     {
         match event.kind {
@@ -103,8 +103,8 @@ impl<V: Variant> HandInPlay<V> {
     fn bet(&mut self, event: &Event) -> Result<Option<Move>, Illegal>
         requires { is_card_said (said_of event.now) ≡ false }
         ensures advanced { Advances
-            self.old.betting.table self.new.betting.table
-            self.old.cards.state self.new.cards.state (said_of event.now) result }
+            self.old.betting self.new.betting
+            self.old.cards self.new.cards (said_of event.now) result }
         ensures unchanged { OnErr result (self.new ≡ self.old) }
     {
         let up = self.opening_up_cards();
@@ -122,16 +122,17 @@ impl<V: Variant> HandInPlay<V> {
     /// stud who opens it. After that nobody reads them, and the row is empty. Where blinds decide
     /// who opens, no card is dealt face up.
     pub fn opening_up_cards(&self) -> UpRow
-        ensures seats { result.seats ≡ self.now.cards.state.seats }
-        ensures ups { WhereTogether self.now.betting.table self.now.cards.state
-            (HoldsOpeningUps self.now.betting.table result) }
+        ensures seats { result.seats ≡ self.now.cards.seats }
+        ensures ups { WhereTogether self.now.betting self.now.cards
+            (HoldsOpeningUps self.now.betting result) }
     {
-        match self.betting.table.last {
-            Some(_) => UpRow::new(self.cards.state.seats),
-            None => match V::OPEN {
-                Opener::Blinds => UpRow::new(self.cards.state.seats),
+        if self.betting.is_unmoved() {
+            match V::OPEN {
+                Opener::Blinds => UpRow::new(self.cards.seats()),
                 Opener::LowUp | Opener::HighUp => self.cards.up(),
-            },
+            }
+        } else {
+            UpRow::new(self.cards.seats())
         }
     }
 
@@ -139,8 +140,8 @@ impl<V: Variant> HandInPlay<V> {
     fn take_cards(&mut self, event: &Event) -> Result<Option<Move>, Illegal>
         requires { is_card_said (said_of event.now) ≡ true }
         ensures advanced { Advances
-            self.old.betting.table self.new.betting.table
-            self.old.cards.state self.new.cards.state (said_of event.now) result }
+            self.old.betting self.new.betting
+            self.old.cards self.new.cards (said_of event.now) result }
         ensures unchanged { OnErr result (self.new ≡ self.old) }
     {
         let due = self.betting.due();
@@ -158,11 +159,11 @@ impl<V: Variant> HandInPlay<V> {
     // Ends what is due, and the showdown behind it, where they are complete.
     fn end(&mut self)
         ensures stands { (past : Past)
-            → StandUpToDue self.old.betting.table self.old.cards.state past
-            → StandTogether self.new.betting.table self.new.cards.state past }
+            → StandUpToDue self.old.betting self.old.cards past
+            → StandTogether self.new.betting self.new.cards past }
         ensures same { IsHandOf
-            self.old.betting.table self.new.betting.table
-            self.old.cards.state self.new.cards.state }
+            self.old.betting self.new.betting
+            self.old.cards self.new.cards }
     {
         if self.end_one() {
             self.end_one();
@@ -172,23 +173,23 @@ impl<V: Variant> HandInPlay<V> {
     // Ends the deal, the draw or the show that is due, if it is complete.
     fn end_one(&mut self) -> bool
         ensures up_to { (past : Past)
-            → StandUpToDue self.old.betting.table self.old.cards.state past
-            → StandUpToDue self.new.betting.table self.new.cards.state past }
+            → StandUpToDue self.old.betting self.old.cards past
+            → StandUpToDue self.new.betting self.new.cards past }
         ensures done { (past : Past)
-            → StandUpToDue self.old.betting.table self.old.cards.state past → result ≡ true
-            → is_done self.old.betting.table.setup past self.old.betting.table.due ≡ true }
+            → StandUpToDue self.old.betting self.old.cards past → result ≡ true
+            → is_done self.old.betting.setup past self.old.betting.due ≡ true }
         ensures next { (past : Past)
-            → StandUpToDue self.old.betting.table self.old.cards.state past → result ≡ true
-            → is_done self.new.betting.table.setup past self.new.betting.table.due ≡ true
-            → self.new.betting.table.due ≡ dues.Show }
-        ensures over { result ≡ true → self.old.betting.table.due ≡ dues.Show
-            → self.new.betting.table.due ≡ dues.Over }
+            → StandUpToDue self.old.betting self.old.cards past → result ≡ true
+            → is_done self.new.betting.setup past self.new.betting.due ≡ true
+            → self.new.betting.due ≡ dues.Show }
+        ensures over { result ≡ true → self.old.betting.due ≡ dues.Show
+            → self.new.betting.due ≡ dues.Over }
         ensures undone { (past : Past)
-            → StandUpToDue self.old.betting.table self.old.cards.state past → result ≡ false
-            → StandTogether self.new.betting.table self.new.cards.state past }
+            → StandUpToDue self.old.betting self.old.cards past → result ≡ false
+            → StandTogether self.new.betting self.new.cards past }
         ensures same { IsHandOf
-            self.old.betting.table self.new.betting.table
-            self.old.cards.state self.new.cards.state }
+            self.old.betting self.new.betting
+            self.old.cards self.new.cards }
     {
         let due = self.betting.due();
         let live = self.betting.live();
@@ -202,15 +203,15 @@ impl<V: Variant> HandInPlay<V> {
 
     /// What is due.
     pub fn due(&self) -> Due
-        ensures { WhereTogether self.now.betting.table self.now.cards.state
-            (λ past. result ≡ (turn self.now.betting.table.setup past).1) }
+        ensures { WhereTogether self.now.betting self.now.cards
+            (λ past. result ≡ (turn self.now.betting.setup past).1) }
     {
         self.betting.due()
     }
 
     /// Which seats are live: those that have not folded.
     pub fn live(&self) -> LiveRow
-        ensures { TellsOfHand result.seats self.now.betting.table self.now.cards.state
+        ensures { TellsOfHand result.seats self.now.betting self.now.cards
             (λ past seat. flag_of result seat ≡ is_live (moves_of past) seat) }
     {
         self.betting.live()
@@ -237,10 +238,9 @@ fn lay<V: Variant>(
 ) -> Result<(), Illegal>
     requires kind { is_card_said (said_of event.now) ≡ true }
     requires due { IsDueWithin V.STREETS due }
-    requires live { live.now.seats ≡ cards.old.state.seats }
-    ensures answered { IsAnswered cards.old.state cards.new.state due live.now
-        (IsSettledAs settled) (said_of event.now) result }
-    ensures unchanged { OnErr result (cards.new ≡ cards.old) }
+    requires live { live.now.seats ≡ cards.old.seats }
+    ensures { IsAnswered cards.old cards.new due live.now (IsSettledAs settled)
+        (said_of event.now) result }
 {
     match event.kind {
         Kind::Hole { seat: _, cards: _ } | Kind::Board { cards: _ } => {

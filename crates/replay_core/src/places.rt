@@ -23,12 +23,11 @@ use variant_table::Variant;
 /// board last, then in the order of dealing.
 pub fn places_of<V: Variant>(alloc: Global, cards: &Cards<V>) -> Result<Places, Memory>
     ensures { (setup : Setup) (past : Past) → setup.code ≡ V.CODE
-        → setup.stacks.seats ≡ cards.now.state.seats → StandsFor cards.now.state past
+        → setup.stacks.seats ≡ cards.now.seats → StandsFor cards.now past
         → IfOk result (λ places. map place_said places ≡ traced_places setup past) }
 {
     let mut places = Places::new(alloc);
-    let dealt = cards.state.places.as_slice();
-    push_streets(&mut places, dealt, cards.state.seats, 0, V::STREETS)?;
+    push_streets(&mut places, cards.dealt(), cards.seats(), 0, V::STREETS)?;
     Ok(places)
 }
 

@@ -59,19 +59,19 @@ fn play_events<V: Variant>(
     moves: &mut Moves,
     script: &Script,
 ) -> Result<u32, ReplayFault>
-    requires start { StandTogether hand.old.betting.table hand.old.cards.state [] }
+    requires start { StandTogether hand.old.betting hand.old.cards [] }
     requires none { moves.old ≡ [] }
     requires few { length script.now < 2 ^ 32 }
     ensures fault { IfErr result
-        (AreRefused hand.old.betting.table.setup hand.old.betting.table.rules script.now) }
-    ensures legal { OnOk result (AreLegal hand.old.betting.table.setup
-        hand.old.betting.table.rules (reverse (said_by script.now))) }
+        (AreRefused hand.old.betting.setup hand.old.betting.rules script.now) }
+    ensures legal { OnOk result (AreLegal hand.old.betting.setup
+        hand.old.betting.rules (reverse (said_by script.now))) }
     ensures count { IfOk result (λ count. count ≡ length script.now) }
-    ensures stands { OnOk result (StandTogether hand.new.betting.table hand.new.cards.state
-        (past_at_end hand.old.betting.table.setup (said_by script.now))) }
-    ensures moves { OnOk result (AreMovesOf hand.old.betting.table.setup
-        (past_at_end hand.old.betting.table.setup (said_by script.now)) moves.new) }
-    ensures setup { hand.new.betting.table.setup ≡ hand.old.betting.table.setup }
+    ensures stands { OnOk result (StandTogether hand.new.betting hand.new.cards
+        (past_at_end hand.old.betting.setup (said_by script.now))) }
+    ensures moves { OnOk result (AreMovesOf hand.old.betting.setup
+        (past_at_end hand.old.betting.setup (said_by script.now)) moves.new) }
+    ensures setup { hand.new.betting.setup ≡ hand.old.betting.setup }
 {
     let mut cursor = script.cursor();
     let mut count: u32 = 0;
@@ -92,19 +92,19 @@ fn play_event<V: Variant>(
     event: &Event,
     number: u32,
 ) -> Result<(), ReplayFault>
-    ensures fault { WhereTogether hand.old.betting.table hand.old.cards.state
-        (λ past. IfErr result (IsRefusedEvent hand.old.betting.table event.now number past)) }
-    ensures legal { WhereTogether hand.old.betting.table hand.old.cards.state
+    ensures fault { WhereTogether hand.old.betting hand.old.cards
+        (λ past. IfErr result (IsRefusedEvent hand.old.betting event.now number past)) }
+    ensures legal { WhereTogether hand.old.betting hand.old.cards
         (λ past. OnOk result
-        (reason_after hand.old.betting.table past (said_of event.now) ≡ None)) }
-    ensures stands { WhereTogether hand.old.betting.table hand.old.cards.state
-        (λ past. OnOk result (StandTogether hand.new.betting.table hand.new.cards.state
-        (past_with hand.old.betting.table past (said_of event.now)))) }
-    ensures moves { WhereTogether hand.old.betting.table hand.old.cards.state
-        (λ past. AreMovesOf hand.old.betting.table.setup past moves.old
-        → OnOk result (AreMovesOf hand.old.betting.table.setup
-        (past_with hand.old.betting.table past (said_of event.now)) moves.new)) }
-    ensures same { IsSameHand hand.old.betting.table hand.new.betting.table }
+        (reason_after hand.old.betting past (said_of event.now) ≡ None)) }
+    ensures stands { WhereTogether hand.old.betting hand.old.cards
+        (λ past. OnOk result (StandTogether hand.new.betting hand.new.cards
+        (past_with hand.old.betting past (said_of event.now)))) }
+    ensures moves { WhereTogether hand.old.betting hand.old.cards
+        (λ past. AreMovesOf hand.old.betting.setup past moves.old
+        → OnOk result (AreMovesOf hand.old.betting.setup
+        (past_with hand.old.betting past (said_of event.now)) moves.new)) }
+    ensures same { IsSameHand hand.old.betting hand.new.betting }
 {
     match hand.advance(event) {
         Ok(told) => match tell(moves, told) {

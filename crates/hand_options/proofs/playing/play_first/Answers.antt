@@ -14,8 +14,8 @@ unwrap-event-requires g c =
 
 pub unreachable-requires : goal.unreachable-requires
 unreachable-requires g c =
-    let first = c.args.hand.now.betting.table in
-    let b = c.loop.hand.betting.table in
+    let first = c.args.hand.now.betting in
+    let b = c.loop.hand.betting in
     let script = c.args.script.now in
     let count : ℕ = c.loop.counter in
     let inv = c.loop.invariant in
@@ -27,24 +27,24 @@ unreachable-requires g c =
 
 pub loop-preserved : goal.loop-preserved
 loop-preserved g c =
-    let first = c.args.hand.now.betting.table in
+    let first = c.args.hand.now.betting in
     let new = c.advance.new.self in
     let script = c.args.script.now in
     let count : ℕ = c.loop.counter in
     let inv = c.loop.invariant in
     let event = c.unwrap-event.result in
     let next = this_next script count c.next.result c.loop.cursor c.next.new.self event inv.left c.next.ensures.first c.unwrap-event.ensures in
-    let stands = subst (λ (s : Setup). StandTogether new.betting.table new.cards.state (with_event s (said_of event) (past_of first.setup (so_far script count)))) inv.setup
+    let stands = subst (λ (s : Setup). StandTogether new.betting new.cards (with_event s (said_of event) (past_of first.setup (so_far script count)))) inv.setup
     (c.in-Ok.ensures.advanced.stands (past_of first.setup (so_far script count)) inv.stands) in
     record {
       left = next.left;
-      stands = subst (λ (events : List Said). StandTogether new.betting.table new.cards.state (past_of first.setup events)) (sym next.longer) stands;
+      stands = subst (λ (events : List Said). StandTogether new.betting new.cards (past_of first.setup events)) (sym next.longer) stands;
       setup = c.in-Ok.ensures.advanced.same.hand.setup ∙ inv.setup;
       rules = c.in-Ok.ensures.advanced.same.hand.rules ∙ inv.rules;
     }
 
 pub returns-clause-stands : goal.returns-clause-stands
 returns-clause-stands g c =
-    let first = c.args.hand.now.betting.table in
+    let first = c.args.hand.now.betting in
     let all : c.loop.counter ≡ c.args.events = omega (arith, c.loop-test.false) in
-    subst (λ (n : ℕ). StandTogether c.loop.hand.betting.table c.loop.hand.cards.state (past_of first.setup (so_far c.args.script.now n))) all c.loop.invariant.stands
+    subst (λ (n : ℕ). StandTogether c.loop.hand.betting c.loop.hand.cards (past_of first.setup (so_far c.args.script.now n))) all c.loop.invariant.stands

@@ -8,8 +8,8 @@ use Rattle.replay_core.proofs.ending.at_end.Goals as goal
 
 pub returns : goal.returns
 returns g c = λ setup rules script code ends moves.
-    let b = c.args.hand.now.betting.table in
-    let t = c.args.hand.now.cards.state in
+    let b = c.args.hand.now.betting in
+    let t = c.args.hand.now.cards in
     let live = c.live-live.result in
     let silent = c.mucked-silent.result in
     let unknown = c.unknown-unknown.result in

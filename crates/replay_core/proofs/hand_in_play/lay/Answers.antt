@@ -15,11 +15,12 @@ anyway asks answered = record {
   legal = λ rules setup past now asked. answered.legal rules setup past now tt;
   illegal = λ rules setup past now asked. answered.illegal rules setup past now tt;
   stands = answered.stands;
-  seats = answered.seats;
+  unchanged = answered.unchanged;
+  hand = answered.hand;
 }
 
-pub returns-in-Hole-clause-answered : goal.returns-in-Hole-clause-answered
-returns-in-Hole-clause-answered g c = anyway _ c.deal.ensures.answered
+pub returns-in-Hole : goal.returns-in-Hole
+returns-in-Hole g c = anyway _ c.deal.ensures
 
-pub returns-in-Discard-clause-answered : goal.returns-in-Discard-clause-answered
-returns-in-Discard-clause-answered g c = anyway _ c.discard.ensures.answered
+pub returns-in-Discard : goal.returns-in-Discard
+returns-in-Discard g c = anyway _ c.discard.ensures

@@ -15,41 +15,41 @@ use Rattle.play_event.proofs.SaidSoFar.{all_played, is_next, none_left, so_far}
 
 pub returns-in-Err-clause-fault : goal.returns-in-Err-clause-fault
 returns-in-Err-clause-fault g c =
-    let first = c.args.hand.now.betting.table in
+    let first = c.args.hand.now.betting in
     let script = c.args.script.now in
     let count : ℕ = c.loop-event.count in
     let inv = c.loop-event.invariant in
     let next = is_next script count c.in-Some.event c.next.new.self (sym c.in-Some.ensures.first ∙ inv.left) in
-    refused_at first.setup first.rules script count c.in-Some.event c.next.new.self c.loop-event.hand.betting.table c.loop-event.hand.cards.state c.loop-event.moves c.in-Err.fault next inv.played inv.setup inv.rules
+    refused_at first.setup first.rules script count c.in-Some.event c.next.new.self c.loop-event.hand.betting c.loop-event.hand.cards c.loop-event.moves c.in-Err.fault next inv.played inv.setup inv.rules
     (c.in-Err.ensures.fault (past_of first.setup (so_far script count)) inv.played.stands)
 
 pub loop-event-preserved : goal.loop-event-preserved
 loop-event-preserved g c =
-    let first = c.args.hand.now.betting.table in
+    let first = c.args.hand.now.betting in
     let script = c.args.script.now in
     let count : ℕ = c.loop-event.count in
     let inv = c.loop-event.invariant in
-    let b = c.loop-event.hand.betting.table in
+    let b = c.loop-event.hand.betting in
     let new = c.play_event.new.hand in
     let event : Said = said_of c.in-Some.event in
     let past : Past = past_of first.setup (so_far script count) in
     let next = is_next script count c.in-Some.event c.next.new.self (sym c.in-Some.ensures.first ∙ inv.left) in
     let legal : why first.setup first.rules past event ≡ None =
     sym (ap (λ (s : Setup). why s b.rules past event) inv.setup ∙ ap (λ (r : Rules). why first.setup r past event) inv.rules) ∙ c.in-Ok.ensures.legal past inv.played.stands in
-    let stands = subst (λ (s : Setup). StandTogether new.betting.table new.cards.state (with_event s event past)) inv.setup (c.in-Ok.ensures.stands past inv.played.stands) in
+    let stands = subst (λ (s : Setup). StandTogether new.betting new.cards (with_event s event past)) inv.setup (c.in-Ok.ensures.stands past inv.played.stands) in
     let told = c.in-Ok.ensures.moves past inv.played.stands (subst (λ (s : Setup). AreMovesOf s past c.loop-event.moves) (sym inv.setup) inv.played.moves) in
     let moves = subst (λ (s : Setup). AreMovesOf s (with_event s event past) c.play_event.new.moves) inv.setup told in
     record {
       left = next.left;
       within = omega (arith, next.within);
-      played = one_more first.setup first.rules script count c.in-Some.event c.next.new.self b new.betting.table c.loop-event.hand.cards.state new.cards.state c.loop-event.moves c.play_event.new.moves next inv.played legal stands moves;
+      played = one_more first.setup first.rules script count c.in-Some.event c.next.new.self b new.betting c.loop-event.hand.cards new.cards c.loop-event.moves c.play_event.new.moves next inv.played legal stands moves;
       setup = c.in-Ok.ensures.same.setup ∙ inv.setup;
       rules = c.in-Ok.ensures.same.rules ∙ inv.rules;
     }
 
 pub returns-clause-legal : goal.returns-clause-legal
 returns-clause-legal g c =
-    let first = c.args.hand.now.betting.table in
+    let first = c.args.hand.now.betting in
     let inv = c.loop-event.invariant in
     let all = all_played c.args.script.now c.loop-event.count (none_left c.args.script.now c.loop-event.count (sym c.in_default.ensures.end.0 ∙ inv.left)) in
     subst (λ (events : List Said). AreLegal first.setup first.rules events) all inv.played.legal
@@ -61,14 +61,14 @@ returns-clause-count g c =
 
 pub returns-clause-stands : goal.returns-clause-stands
 returns-clause-stands g c =
-    let first = c.args.hand.now.betting.table in
+    let first = c.args.hand.now.betting in
     let inv = c.loop-event.invariant in
     let all = all_played c.args.script.now c.loop-event.count (none_left c.args.script.now c.loop-event.count (sym c.in_default.ensures.end.0 ∙ inv.left)) in
-    subst (λ (events : List Said). StandTogether c.loop-event.hand.betting.table c.loop-event.hand.cards.state (past_of first.setup events)) all inv.played.stands
+    subst (λ (events : List Said). StandTogether c.loop-event.hand.betting c.loop-event.hand.cards (past_of first.setup events)) all inv.played.stands
 
 pub returns-clause-moves : goal.returns-clause-moves
 returns-clause-moves g c =
-    let first = c.args.hand.now.betting.table in
+    let first = c.args.hand.now.betting in
     let inv = c.loop-event.invariant in
     let all = all_played c.args.script.now c.loop-event.count (none_left c.args.script.now c.loop-event.count (sym c.in_default.ensures.end.0 ∙ inv.left)) in
     subst (λ (events : List Said). AreMovesOf first.setup (past_of first.setup events) c.loop-event.moves) all inv.played.moves

@@ -5,12 +5,12 @@ use Rattle.replay_core.proofs.playing.play_events.Given as goal
 
 abbrev pub invariant-loop-event : goal.invariant-loop-event
 invariant-loop-event g l =
-    let first = l.initial.hand.betting.table in
-    let b = l.hand.betting.table in
+    let first = l.initial.hand.betting in
+    let b = l.hand.betting in
     record {
       left : l.cursor ≡ drop l.count l.script;
       within : l.count ≤ length l.script;
-      played : IsPlayedTo first.setup first.rules l.script l.count b l.hand.cards.state l.moves;
+      played : IsPlayedTo first.setup first.rules l.script l.count b l.hand.cards l.moves;
       setup : b.setup ≡ first.setup;
       rules : b.rules ≡ first.rules;
     }

@@ -15,8 +15,8 @@ returns-in-Ok-at_end-clause-ended g c =
     let setup = c.args.setup.now in
     let rules = c.args.rules.now in
     let script = said_by c.args.script.now in
-    let b = c.play_events.new.hand.betting.table in
-    let t = c.play_events.new.hand.cards.state in
-    let ends = ended setup rules script c.start-hand.result.betting.table b t c.due.result c.start-hand.ensures.setup c.start-hand.ensures.rules c.in-Ok.ensures.setup c.in-Ok.ensures.legal c.in-Ok.ensures.stands c.due.ensures (sym c.is_unfinished.ensures ∙ c.if-is_unfinished.false) in
+    let b = c.play_events.new.hand.betting in
+    let t = c.play_events.new.hand.cards in
+    let ends = ended setup rules script c.start-hand.result.betting b t c.due.result c.start-hand.ensures.setup c.start-hand.ensures.rules c.in-Ok.ensures.setup c.in-Ok.ensures.legal c.in-Ok.ensures.stands c.due.ensures (sym c.is_unfinished.ensures ∙ c.if-is_unfinished.false) in
     c.in-Ok-at_end.ensures setup rules script c.requires.code ends
     (subst (λ (s : Setup). AreMovesOf s (past_at_end s script) c.play_events.new.moves) c.start-hand.ensures.setup c.in-Ok.ensures.moves)

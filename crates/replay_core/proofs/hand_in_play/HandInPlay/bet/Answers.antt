@@ -18,8 +18,8 @@ returns-in-Err-clause-advanced g c =
 
 pub returns-then-folds-clause-advanced : goal.returns-then-folds-clause-advanced
 returns-then-folds-clause-advanced g c =
-    let t = c.args.self.now.cards.state in
-    let b = c.args.self.now.betting.table in
+    let t = c.args.self.now.cards in
+    let b = c.args.self.now.betting in
     let event = said_of c.args.event.now in
     let hand = c.step.ensures.same in
     record {
@@ -28,20 +28,20 @@ returns-then-folds-clause-advanced g c =
       stands = λ past both.
           let ups = c.opening_up_cards-up.ensures.ups past both in
           record {
-            code_is = ap (λ (s : Setup). s.code) hand.setup ∙ both.code_is ∙ c.args.self.now.cards.code ∙ sym c.folded.new.self.code;
-            seats = ap (λ (s : Setup). s.stacks.seats) hand.setup ∙ both.seats ∙ sym c.folded.ensures.seats;
+            code_is = ap (λ (s : Setup). s.code) hand.setup ∙ both.code_is ∙ sym c.folded.ensures.hand.code;
+            seats = ap (λ (s : Setup). s.stacks.seats) hand.setup ∙ both.seats ∙ sym c.folded.ensures.hand.seats;
             betting = c.in-Ok.ensures.stands past both.betting ups;
-            cards = folded_stands t c.folded.new.self.state b.setup past event c.in-Ok.moved c.requires (c.in-Ok.ensures.moved past both.betting ups)
+            cards = folded_stands t c.folded.new.self b.setup past event c.in-Ok.moved c.requires (c.in-Ok.ensures.moved past both.betting ups)
                 (λ move. c.folded.ensures.stands past move both.cards) (sym c.folds.ensures ∙ c.if-folds.true);
           };
       told = λ past both. move_told b past event c.in-Ok.moved c.requires (c.in-Ok.ensures.moved past both.betting (c.opening_up_cards-up.ensures.ups past both));
-      same = record { hand = hand; seats = c.folded.ensures.seats };
+      same = record { hand = hand; seats = c.folded.ensures.hand.seats };
     }
 
 pub returns-else-folds-clause-advanced : goal.returns-else-folds-clause-advanced
 returns-else-folds-clause-advanced g c =
-    let t = c.args.self.now.cards.state in
-    let b = c.args.self.now.betting.table in
+    let t = c.args.self.now.cards in
+    let b = c.args.self.now.betting in
     let event = said_of c.args.event.now in
     let hand = c.step.ensures.same in
     record {
@@ -63,5 +63,5 @@ returns-else-folds-clause-advanced g c =
 pub returns-in-Err-clause-unchanged : goal.returns-in-Err-clause-unchanged
 returns-in-Err-clause-unchanged g c =
     let cards = c.args.self.now.cards in
-    same_whole (λ betting. betting.table.setup.stacks.seats ≡ cards.state.seats) (λ betting seats. record { betting = betting; cards = cards; seats = seats })
+    same_whole (λ betting. betting.setup.stacks.seats ≡ cards.seats) (λ betting seats. record { betting = betting; cards = cards; seats = seats })
     (λ betting. one_number _ _) c.step.new.self c.args.self.now.betting _ c.args.self.now.seats c.in-Err.ensures.unchanged

@@ -8,5 +8,5 @@ returns-then-end_one-clause-stands g c =
     let second = c.end_one-then-end_one in
     λ past half.
     let mid = first.ensures.up_to past half in
-    end_by first.new.self.betting.table second.new.self.betting.table first.new.self.cards.state second.new.self.cards.state past second.result
+    end_by first.new.self.betting second.new.self.betting first.new.self.cards second.new.self.cards past second.result
     (second.ensures.undone past mid) (second.ensures.done past mid) (first.ensures.next past half c.if-end_one.true) second.ensures.over (second.ensures.up_to past mid)

@@ -8,8 +8,8 @@ use Rattle.replay_core.proofs.hand_in_play.HandInPlay.end_one.Goals as goal
 
 pub returns-then-done-clause-up_to : goal.returns-then-done-clause-up_to
 returns-then-done-clause-up_to g c =
-    let b = c.args.self.now.betting.table in
-    let t = c.args.self.now.cards.state in
+    let b = c.args.self.now.betting in
+    let t = c.args.self.now.cards in
     λ past half.
     let now = now_up_to b t c.live-live.result past half (c.live-live.ensures.stands past) (c.live-live.ensures.up_to past) in
     let done : is_done b.setup past b.due ≡ true =
@@ -18,14 +18,14 @@ returns-then-done-clause-up_to g c =
       code_is = ap (λ (s : Setup). s.code) c.dealt.ensures.same.setup ∙ half.code_is;
       seats = ap (λ (s : Setup). s.stacks.seats) c.dealt.ensures.same.setup ∙ half.seats;
       cards = half.cards;
-      kept = λ unended. c.dealt.ensures.stands past (half.ended done) (sym (ap (λ (s : Setup). is_done s past c.dealt.new.self.table.due) c.dealt.ensures.same.setup) ∙ unended);
-      ended = λ ended. c.dealt.ensures.up_to past (half.ended done) (sym (ap (λ (s : Setup). is_done s past c.dealt.new.self.table.due) c.dealt.ensures.same.setup) ∙ ended);
+      kept = λ unended. c.dealt.ensures.stands past (half.ended done) (sym (ap (λ (s : Setup). is_done s past c.dealt.new.self.due) c.dealt.ensures.same.setup) ∙ unended);
+      ended = λ ended. c.dealt.ensures.up_to past (half.ended done) (sym (ap (λ (s : Setup). is_done s past c.dealt.new.self.due) c.dealt.ensures.same.setup) ∙ ended);
     }
 
 pub returns-else-done-clause-undone : goal.returns-else-done-clause-undone
 returns-else-done-clause-undone g c =
-    let b = c.args.self.now.betting.table in
-    let t = c.args.self.now.cards.state in
+    let b = c.args.self.now.betting in
+    let t = c.args.self.now.cards in
     λ past half same.
     let now = now_up_to b t c.live-live.result past half (c.live-live.ensures.stands past) (c.live-live.ensures.up_to past) in
     let undone : is_done b.setup past b.due ≡ false =
@@ -34,8 +34,8 @@ returns-else-done-clause-undone g c =
 
 pub returns-then-done-clause-done : goal.returns-then-done-clause-done
 returns-then-done-clause-done g c =
-    let b = c.args.self.now.betting.table in
-    let t = c.args.self.now.cards.state in
+    let b = c.args.self.now.betting in
+    let t = c.args.self.now.cards in
     λ past half same.
     let now = now_up_to b t c.live-live.result past half (c.live-live.ensures.stands past) (c.live-live.ensures.up_to past) in
     let done : is_done b.setup past b.due ≡ true =
@@ -44,10 +44,10 @@ returns-then-done-clause-done g c =
 
 pub returns-then-done-clause-next : goal.returns-then-done-clause-next
 returns-then-done-clause-next g c =
-    let b = c.args.self.now.betting.table in
-    let t = c.args.self.now.cards.state in
+    let b = c.args.self.now.betting in
+    let t = c.args.self.now.cards in
     λ past half same ended.
     let now = now_up_to b t c.live-live.result past half (c.live-live.ensures.stands past) (c.live-live.ensures.up_to past) in
     let done : is_done b.setup past b.due ≡ true =
     ap (is_done b.setup past) (sym c.due-due.ensures.value) ∙ sym (c.done.ensures.done b.setup past (turn b.setup past).1 now) ∙ c.if-done.true in
-    c.dealt.ensures.showdown past (half.ended done) (sym (ap (λ (s : Setup). is_done s past c.dealt.new.self.table.due) c.dealt.ensures.same.setup) ∙ ended)
+    c.dealt.ensures.showdown past (half.ended done) (sym (ap (λ (s : Setup). is_done s past c.dealt.new.self.due) c.dealt.ensures.same.setup) ∙ ended)

@@ -1,18 +1,21 @@
 -- Before the first move of a street the row has the up-cards of the past: where blinds decide who opens, there are none.
-use Rattle.std.proofs.Common.{sym, ◌∙◌}
+use Rattle.std.proofs.Common.{sym, ap, is_none, ◌∙◌}
+use Rattle.std.proofs.lemmas.Bool.{true≢false}
 use Rattle.replay_core.proofs.Joined.{ups_of_past}
 use Rattle.replay_core.proofs.NoUpCards.{no_up_cards}
 use Rattle.replay_core.proofs.hand_in_play.HandInPlay.opening_up_cards.Goals as goal
 
-pub returns-in-Some-clause-ups : goal.returns-in-Some-clause-ups
-returns-in-Some-clause-ups g c = λ past both. record { held = λ none. absurd (cc) }
+pub returns-else-is_unmoved-clause-ups : goal.returns-else-is_unmoved-clause-ups
+returns-else-is_unmoved-clause-ups g c = λ past both. record {
+  held = λ none. absurd (true≢false (sym (c.is_unmoved.ensures.value ∙ ap is_none none) ∙ c.if-is_unmoved.false));
+}
 
 pub returns-in-Blinds-clause-ups : goal.returns-in-Blinds-clause-ups
 returns-in-Blinds-clause-ups g c =
     let hand = c.args.self.now in
     λ past both. record {
-      held = λ none. ups_of_past g.V.Variant.CODE hand.betting.table hand.cards.state c.new-in-Blinds.result past hand.betting.code both
-          (λ seat in_hand. c.new-in-Blinds.ensures.empty seat
+      held = λ none. ups_of_past g.V.Variant.CODE hand.betting hand.cards c.new.result past c.is_unmoved.ensures.game.code both
+          (λ seat in_hand. c.new.ensures.empty seat
           ∙ sym (no_up_cards g.V.Variant.CODE past seat (sym (c.OPEN.ensures ∙ g.met.V.Variant.values.opener_is) ∙ c.in-Blinds.is)));
     }
 
@@ -20,6 +23,6 @@ pub returns-in-LowUp-clause-ups : goal.returns-in-LowUp-clause-ups
 returns-in-LowUp-clause-ups g c =
     let hand = c.args.self.now in
     λ past both. record {
-      held = λ none. ups_of_past g.V.Variant.CODE hand.betting.table hand.cards.state c.up.result past hand.betting.code both
+      held = λ none. ups_of_past g.V.Variant.CODE hand.betting hand.cards c.up.result past c.is_unmoved.ensures.game.code both
           (λ seat in_hand. c.up.ensures.each past seat both.cards in_hand);
     }

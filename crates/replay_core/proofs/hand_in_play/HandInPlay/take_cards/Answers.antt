@@ -15,42 +15,42 @@ use Rattle.replay_core.proofs.hand_in_play.HandInPlay.take_cards.Goals as goal
 
 pub returns-in-Ok-clause-advanced : goal.returns-in-Ok-clause-advanced
 returns-in-Ok-clause-advanced g c =
-    let whole = c.args.self.now.betting in
-    let b = whole.table in
-    let t = c.args.self.now.cards.state in
+    let b = c.args.self.now.betting in
+    let game = c.due-due.ensures.game in
+    let t = c.args.self.now.cards in
     let event = said_of c.args.event.now in
     let now : (past : Past) → StandTogether b t past → IsNow t c.due-due.result c.live-live.result b.setup past =
     λ past both. now_at b t c.due-due.result c.live-live.result past both c.due-due.ensures.value (c.live-live.ensures.stands past both.betting) in
     let legal : (past : Past) → StandTogether b t past → reason_after b past event ≡ None =
-    λ past both. c.in-Ok.ensures.answered.legal b.rules b.setup past (now past both) (sym (c.settled-settled.ensures.stands past both.betting)) in
-    let most : b.street ≤ street_count g.V.Variant.CODE = omega (arith, whole.kept.last, g.met.V.Variant.values.streets_is) in
-    let within : b.street ≤ street_count b.setup.code = subst (λ (code : Code). b.street ≤ street_count code) (sym whole.code) most in
+    λ past both. c.in-Ok.ensures.legal b.rules b.setup past (now past both) (sym (c.settled-settled.ensures.stands past both.betting)) in
+    let most : b.street ≤ street_count g.V.Variant.CODE = omega (arith, game.kept.last, g.met.V.Variant.values.streets_is) in
+    let within : b.street ≤ street_count b.setup.code = subst (λ (code : Code). b.street ≤ street_count code) (sym game.code) most in
     record {
       refused = λ past both. tt;
       legal = legal;
       stands = λ past both. c.end.ensures.stands (with_event b.setup event past)
-          (up_to_after b past event t c.lay.new.cards.state both c.requires (legal past both) whole.kept.first within
-          (c.lay.new.cards.code ∙ sym c.args.self.now.cards.code) c.lay.ensures.answered.seats (c.in-Ok.ensures.answered.stands b.setup past (now past both)));
+          (up_to_after b past event t c.lay.new.cards both c.requires (legal past both) game.kept.first within
+          c.lay.ensures.hand.code c.lay.ensures.hand.seats (c.in-Ok.ensures.stands b.setup past (now past both)));
       told = λ past both. none_told b past event c.requires;
-      same = record { hand = c.end.ensures.same.hand; seats = c.end.ensures.same.seats ∙ c.lay.ensures.answered.seats };
+      same = record { hand = c.end.ensures.same.hand; seats = c.end.ensures.same.seats ∙ c.lay.ensures.hand.seats };
     }
 
 pub returns-in-Err-clause-advanced : goal.returns-in-Err-clause-advanced
 returns-in-Err-clause-advanced g c =
-    let b = c.args.self.now.betting.table in
-    let t = c.args.self.now.cards.state in
+    let b = c.args.self.now.betting in
+    let t = c.args.self.now.cards in
     record {
       refused = λ past both.
           let now = now_at b t c.due-due.result c.live-live.result past both c.due-due.ensures.value (c.live-live.ensures.stands past both.betting) in
-          c.in-Err.ensures.answered.illegal b.rules b.setup past now (sym (c.settled-settled.ensures.stands past both.betting));
+          c.in-Err.ensures.illegal b.rules b.setup past now (sym (c.settled-settled.ensures.stands past both.betting));
       legal = λ past both. tt;
       stands = λ past both. tt;
       told = λ past both. tt;
-      same = record { hand = record { setup = refl; rules = refl }; seats = c.lay.ensures.answered.seats };
+      same = record { hand = record { setup = refl; rules = refl }; seats = c.lay.ensures.hand.seats };
     }
 
 pub returns-in-Err-clause-unchanged : goal.returns-in-Err-clause-unchanged
 returns-in-Err-clause-unchanged g c =
     let betting = c.args.self.now.betting in
-    same_whole (λ cards. betting.table.setup.stacks.seats ≡ cards.state.seats) (λ cards seats. record { betting = betting; cards = cards; seats = seats })
+    same_whole (λ cards. betting.setup.stacks.seats ≡ cards.seats) (λ cards seats. record { betting = betting; cards = cards; seats = seats })
     (λ cards. one_number _ _) c.lay.new.cards c.args.self.now.cards _ c.args.self.now.seats c.in-Err.ensures.unchanged
