@@ -19,7 +19,8 @@ use Rattle.play_event.specs.Scripts.{past_of, with_event}
 use Rattle.hand_records.specs.declared.record.Record.{Record}
 use Rattle.list_laws.proofs.Ranges.{range_more}
 use Rattle.replay_core.specs.Together.{StandTogether}
-use Rattle.hand_gen.specs.Coming.{Coming, bring_in_comes, coming, comes_at, deal_comes, deal_of, discard_or, first_owed, held_by, in_turn_on, move_comes}
+use Rattle.deal_core.specs.NextDeal.{first_owed}
+use Rattle.hand_gen.specs.Coming.{Coming, bring_in_comes, coming, comes_at, deal_comes, deal_of, discard_or, held_by, in_turn_on, move_comes}
 use Rattle.hand_gen.specs.Made.{AreMadeFrom, HaveCome, IsMade, backward, next_event, number_behind, number_behind_all, stock_behind}
 use Rattle.hand_gen.specs.MadeTo.{IsMadeTo}
 use Rattle.hand_gen.specs.Stock.{Stock}

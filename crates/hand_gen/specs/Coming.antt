@@ -1,5 +1,5 @@
 -- Which event comes next in a hand that is made, after a past, and what it leaves of the stock.
-use Rattle.std.specs.Prelude.{ℕ, Bool, ◌==◌, nat_lt, nat_le, if◌then◌else◌, List, take, find, Option, Some, None}
+use Rattle.std.specs.Prelude.{ℕ, Bool, ◌==◌, nat_lt, nat_le, if◌then◌else◌, List, take, Option, Some, None}
 use Rattle.std.specs.Option.{option_map}
 use Rattle.card_set.specs.declared.card.Slot.{Slot}
 use Rattle.card_set.specs.Known.{known_slots}
@@ -17,9 +17,9 @@ use Rattle.play_event.specs.Past.{Move, Past, moves_of}
 use Rattle.play_event.specs.Price.{owed}
 use Rattle.play_event.specs.Raising.{may_raise}
 use Rattle.play_event.specs.Said.{Board, BringIn, Call, Discard, Fold, Hole, Raise, Said}
-use Rattle.play_event.specs.Seats.{all_seats}
 use Rattle.play_event.specs.Table.{places_of, up_cards}
 use Rattle.play_event.specs.Targets.{greatest_target, least_target}
+use Rattle.deal_core.specs.NextDeal.{first_owed}
 use Rattle.hand_gen.specs.Stock.{Stock, after_cards, after_draw, draw_of, next_cards}
 
 -- the event that comes next, if one does, and the stock behind it
@@ -53,11 +53,6 @@ discard_of held stock seat =
 abbrev pub deal_of : Option ℕ → (ℕ → ℕ) → ℕ → Stock → Coming
 deal_of (Some seat) owed board stock = hole_of (owed seat) stock seat
 deal_of None owed board stock = board_of board stock
-
--- the first seat, from p1 upward, that is owed cards of a street
-abbrev pub first_owed : Setup → Past → ℕ → Option ℕ
-first_owed setup past street =
-    find (λ seat. nat_lt 0 (cards_owed setup past street seat)) (all_seats setup)
 
 -- seats are dealt their cards from p1 upward, and then the board
 abbrev pub deal_comes : Setup → Past → ℕ → Stock → Coming

@@ -16,18 +16,17 @@ use variant_table::Variant;
 
 /// The event that comes next, if one does. What it takes of the stock is taken.
 pub fn next<V: Variant>(hand: &HandInPlay<V>, stock: &mut Stock) -> Option<Kind>
-    requires seats { hand.now.betting.table.setup.stacks.seats ≡ hand.now.cards.state.seats }
-    ensures event { WhereTogether hand.now.betting.table hand.now.cards.state
-        (λ past. event_said result ≡ (coming hand.now.betting.table.setup
-        hand.now.betting.table.rules past stock.old).event) }
-    ensures left { WhereTogether hand.now.betting.table hand.now.cards.state
-        (λ past. stock.new ≡ (coming hand.now.betting.table.setup
-        hand.now.betting.table.rules past stock.old).left) }
+    ensures event { WhereTogether hand.now.betting hand.now.cards
+        (λ past. event_said result ≡ (coming hand.now.betting.setup
+        hand.now.betting.rules past stock.old).event) }
+    ensures left { WhereTogether hand.now.betting hand.now.cards
+        (λ past. stock.new ≡ (coming hand.now.betting.setup
+        hand.now.betting.rules past stock.old).left) }
 {
     let live = hand.betting.live();
     match hand.betting.due() {
-        Due::Deal(on) => Some(deal(&hand.cards.state, &live, on, stock)),
-        Due::Draw(on) => Some(draw(&hand.cards.state, &live, on, stock)),
+        Due::Deal(on) => Some(deal(&hand.cards, &live, on, stock)),
+        Due::Draw(on) => Some(draw(&hand.cards, &live, on, stock)),
         Due::BringIn => bring_in(hand),
         Due::Move => acted(hand, stock),
         Due::Show => None,
@@ -37,16 +36,15 @@ pub fn next<V: Variant>(hand: &HandInPlay<V>, stock: &mut Stock) -> Option<Kind>
 
 // The bring-in of the seat in turn.
 fn bring_in<V: Variant>(hand: &HandInPlay<V>) -> Option<Kind>
-    requires seats { hand.now.betting.table.setup.stacks.seats ≡ hand.now.cards.state.seats }
-    requires due { hand.now.betting.table.due ≡ dues.BringIn }
-    ensures event { WhereTogether hand.now.betting.table hand.now.cards.state
+    requires due { hand.now.betting.due ≡ dues.BringIn }
+    ensures event { WhereTogether hand.now.betting hand.now.cards
         (λ past. (stock : stocks.Stock) → event_said result
-        ≡ (bring_in_comes stock (in_turn_on hand.now.betting.table.setup past
-        hand.now.betting.table.street)).event) }
-    ensures left { WhereTogether hand.now.betting.table hand.now.cards.state
+        ≡ (bring_in_comes stock (in_turn_on hand.now.betting.setup past
+        hand.now.betting.street)).event) }
+    ensures left { WhereTogether hand.now.betting hand.now.cards
         (λ past. (stock : stocks.Stock) → stock
-        ≡ (bring_in_comes stock (in_turn_on hand.now.betting.table.setup past
-        hand.now.betting.table.street)).left) }
+        ≡ (bring_in_comes stock (in_turn_on hand.now.betting.setup past
+        hand.now.betting.street)).left) }
 {
     let up = hand.opening_up_cards();
     match hand.betting.turn_now(&up) {
@@ -57,18 +55,17 @@ fn bring_in<V: Variant>(hand: &HandInPlay<V>) -> Option<Kind>
 
 // The move of the seat in turn.
 fn acted<V: Variant>(hand: &HandInPlay<V>, stock: &mut Stock) -> Option<Kind>
-    requires seats { hand.now.betting.table.setup.stacks.seats ≡ hand.now.cards.state.seats }
-    requires due { hand.now.betting.table.due ≡ dues.Move }
-    ensures event { WhereTogether hand.now.betting.table hand.now.cards.state
+    requires due { hand.now.betting.due ≡ dues.Move }
+    ensures event { WhereTogether hand.now.betting hand.now.cards
         (λ past. event_said result
-        ≡ (move_comes hand.now.betting.table.setup hand.now.betting.table.rules (moves_of past)
-        hand.now.betting.table.street stock.old
-        (in_turn_on hand.now.betting.table.setup past hand.now.betting.table.street)).event) }
-    ensures left { WhereTogether hand.now.betting.table hand.now.cards.state
+        ≡ (move_comes hand.now.betting.setup hand.now.betting.rules (moves_of past)
+        hand.now.betting.street stock.old
+        (in_turn_on hand.now.betting.setup past hand.now.betting.street)).event) }
+    ensures left { WhereTogether hand.now.betting hand.now.cards
         (λ past. stock.new
-        ≡ (move_comes hand.now.betting.table.setup hand.now.betting.table.rules (moves_of past)
-        hand.now.betting.table.street stock.old
-        (in_turn_on hand.now.betting.table.setup past hand.now.betting.table.street)).left) }
+        ≡ (move_comes hand.now.betting.setup hand.now.betting.rules (moves_of past)
+        hand.now.betting.street stock.old
+        (in_turn_on hand.now.betting.setup past hand.now.betting.street)).left) }
 {
     let up = hand.opening_up_cards();
     match hand.betting.turn_now(&up) {

@@ -1,69 +1,81 @@
 //! What the deals and draws of a street bring next.
 ghost use Rattle.std.specs.Prelude.{◌≡◌, ◌≤◌, take, Some};
 ghost use Rattle.card_set.specs.Row.{slots_of};
+ghost use Rattle.chip_ledger.specs.SeatsSaid.{seat_said};
+ghost use Rattle.deal_core.specs.Answered.{WhereLive};
+ghost use Rattle.deal_core.specs.Standing.{StandsFor};
+ghost use Rattle.play_event.specs.Held.{held_slots};
+ghost use Rattle.play_event.specs.Past.{Past};
 ghost use Rattle.play_event.specs.Said.{kind_said};
+ghost use Rattle.play_event.specs.Table.{places_of};
 ghost use Rattle.hand_gen.specs.Coming as comes;
 ghost use Rattle.hand_gen.specs.Seen as seen;
+ghost use Rattle.hand_gen.specs.Stock.{after_draw};
 
-use crate::owed::{board_owed, first_owed, first_to_draw, owed};
 use crate::stock::Stock;
-use card_places::{CardState, hands, slots};
+use card_places::{NextDeal, slots};
 use card_set::SlotRow;
 use chip_ledger::{LiveRow, Seat};
+use deal_core::Cards;
 use play_event::Kind;
+use variant_table::Variant;
 
 /// What comes next in the draw of the street: a discard, or a deal.
-pub fn draw(state: &CardState, live: &LiveRow, on: u8, stock: &mut Stock) -> Kind
-    requires street { on ≤ 5 }
-    requires live { live.now.seats ≡ state.now.seats }
-    requires ten { state.now.seats ≤ 10 }
-    ensures event { Some (kind_said result)
-        ≡ (seen.draw_in state.now live.now on stock.old).event }
-    ensures left { stock.new ≡ (seen.draw_in state.now live.now on stock.old).left }
+pub fn draw<V: Variant>(cards: &Cards<V>, live: &LiveRow, on: u8, stock: &mut Stock) -> Kind
+    requires street { on ≤ V.STREETS }
+    requires live { live.now.seats ≡ cards.now.seats }
+    ensures event { WhereLive cards.now live.now (λ setup past. setup.code ≡ V.CODE
+        → Some (kind_said result) ≡ (comes.draw_comes setup past on stock.old).event) }
+    ensures left { WhereLive cards.now live.now (λ setup past.
+        stock.new ≡ (comes.draw_comes setup past on stock.old).left) }
 {
-    match first_to_draw(state, live, on, 1, state.seats) {
-        Some(seat) => discard(state, seat, stock),
-        None => deal(state, live, on, stock),
+    match cards.next_to_draw(live, on) {
+        Some(seat) => discard(cards, seat, stock),
+        None => deal(cards, live, on, stock),
     }
 }
 
 /// What is dealt next on the street: to a seat what it is owed, or to the board.
-pub fn deal(state: &CardState, live: &LiveRow, on: u8, stock: &mut Stock) -> Kind
-    requires street { on ≤ 5 }
-    requires live { live.now.seats ≡ state.now.seats }
-    requires ten { state.now.seats ≤ 10 }
-    ensures event { Some (kind_said result)
-        ≡ (seen.deal_in state.now live.now on stock.old).event }
-    ensures left { stock.new ≡ (seen.deal_in state.now live.now on stock.old).left }
+pub fn deal<V: Variant>(cards: &Cards<V>, live: &LiveRow, on: u8, stock: &mut Stock) -> Kind
+    requires street { on ≤ V.STREETS }
+    requires live { live.now.seats ≡ cards.now.seats }
+    ensures event { WhereLive cards.now live.now (λ setup past.
+        Some (kind_said result) ≡ (comes.deal_comes setup past on stock.old).event) }
+    ensures left { WhereLive cards.now live.now (λ setup past.
+        stock.new ≡ (comes.deal_comes setup past on stock.old).left) }
 {
-    match first_owed(state, live, on, 1, state.seats) {
-        Some(seat) => {
-            let count = owed(state, live, on, seat);
-            let cards = stock.take_cards(count);
-            Kind::Hole {
-                seat,
-                cards: slots(&cards),
-            }
-        }
-        None => {
-            let count = board_owed(state, on);
-            let cards = stock.take_cards(count);
-            Kind::Board { cards }
-        }
+    let next = cards.next_deal(live, on);
+    dealt(next, stock)
+}
+
+// So many cards are dealt to a seat or to the board.
+fn dealt(next: NextDeal, stock: &mut Stock) -> Kind
+    requires { next.count ≤ 7 }
+    ensures event { Some (kind_said result)
+        ≡ (seen.dealt_to (seat_said next.owner) next.count stock.old).event }
+    ensures left { stock.new
+        ≡ (seen.dealt_to (seat_said next.owner) next.count stock.old).left }
+{
+    let cards = stock.take_cards(next.count);
+    match next.owner {
+        Some(seat) => Kind::Hole {
+            seat,
+            cards: slots(&cards),
+        },
+        None => Kind::Board { cards },
     }
 }
 
 // The discard of a seat.
-fn discard(state: &CardState, seat: Seat, stock: &mut Stock) -> Kind
-    requires seat { seat.number ≤ state.now.seats }
-    requires ten { state.now.seats ≤ 10 }
-    ensures event { Some (kind_said result)
-        ≡ (comes.discard_of (seen.held_in state.now seat.number) stock.old seat.number).event }
-    ensures left { stock.new
-        ≡ (comes.discard_of (seen.held_in state.now seat.number) stock.old seat.number).left }
+fn discard<V: Variant>(cards: &Cards<V>, seat: Seat, stock: &mut Stock) -> Kind
+    requires { seat.number ≤ cards.now.seats }
+    ensures event { (past : Past) → StandsFor cards.now past → Some (kind_said result)
+        ≡ (comes.discard_of (held_slots (Some seat.number) (places_of V.CODE past)) stock.old
+        seat.number).event }
+    ensures left { stock.new ≡ after_draw stock.old }
 {
     let count = stock.draw(3) as u8;
-    let held = hands(state).get(seat);
+    let held = cards.hands().get(seat);
     Kind::Discard {
         seat,
         cards: first_slots(&held, count),

@@ -62,16 +62,14 @@ fn play_next<V: Variant>(
     script: &mut Script,
     stock: &mut Stock,
 ) -> Result<bool, Memory>
-    requires seats { hand.old.betting.table.setup.stacks.seats ≡ hand.old.cards.state.seats }
     requires underway { IsUnderway
-        hand.old.betting.table hand.old.cards.state script.old stock.old }
+        hand.old.betting hand.old.cards script.old stock.old }
     requires few { length script.old < 2 ^ 31 }
     ensures step { (setup : SetupNow) (start : stocks.Stock)
-        → IsMadeTo setup start hand.old.betting.table hand.old.cards.state script.old stock.old
-        → IfOk result (IsStep setup start script.old hand.new.betting.table
-        hand.new.cards.state script.new stock.new) }
-    ensures seats { hand.new.cards.state.seats ≡ hand.old.cards.state.seats }
-    ensures setup { hand.new.betting.table.setup ≡ hand.old.betting.table.setup }
+        → IsMadeTo setup start hand.old.betting hand.old.cards script.old stock.old
+        → IfOk result (IsStep setup start script.old hand.new.betting
+        hand.new.cards script.new stock.new) }
+    ensures setup { hand.new.betting.setup ≡ hand.old.betting.setup }
 {
     let kind = match next(hand, stock) {
         Some(kind) => kind,

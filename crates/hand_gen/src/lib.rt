@@ -10,7 +10,6 @@ mod laws;
 mod loading;
 mod making;
 mod moving;
-mod owed;
 mod setups;
 mod stock;
 mod summary;

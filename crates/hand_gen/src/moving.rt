@@ -23,17 +23,17 @@ pub fn make_move<V: Variant>(
     seat: Seat,
     stock: &mut Stock,
 ) -> Kind
-    requires row { up.now.seats ≡ betting.now.table.setup.stacks.seats }
-    requires bets { is_bet_due betting.now.table.due ≡ true }
-    requires in_hand { seat.number ≤ betting.now.table.setup.stacks.seats }
-    ensures event { WhereUps betting.now.table up.now
-        (λ past. IsTurn betting.now.table past (TheSeat seat.number)
-        → kind_said result ≡ move_by betting.now.table.setup betting.now.table.rules
-        (moves_of past) betting.now.table.street seat.number (draw_of 8 stock.old)) }
+    requires row { up.now.seats ≡ betting.now.setup.stacks.seats }
+    requires bets { is_bet_due betting.now.due ≡ true }
+    requires in_hand { seat.number ≤ betting.now.setup.stacks.seats }
+    ensures event { WhereUps betting.now up.now
+        (λ past. IsTurn betting.now past (TheSeat seat.number)
+        → kind_said result ≡ move_by betting.now.setup betting.now.rules
+        (moves_of past) betting.now.street seat.number (draw_of 8 stock.old)) }
     ensures left { stock.new ≡ after_draw stock.old }
 {
     let number = stock.draw(8);
-    let owes = 0 < betting.table.owed(seat);
+    let owes = 0 < betting.owed(seat);
     let ends = betting.targets(up);
     chosen(owes, ends, seat, number)
 }

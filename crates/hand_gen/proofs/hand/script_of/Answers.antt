@@ -1,10 +1,9 @@
 -- Each step makes one event more, which comes nearer to the limits, or the script is whole, and so it is legal.
-use Rattle.std.proofs.Common.{◌≡◌, Bool, List, None, map, sym, ap, subst, ◌∙◌, arith}
+use Rattle.std.proofs.Common.{◌≡◌, Bool, List, None, map, sym, subst, ◌∙◌, arith}
 use Rattle.canon_script.specs.PlayedScript.{IsWithinLimits}
 use Rattle.hand_canon.specs.LegalHand.{IsLegalHand}
 use Rattle.play_event.specs.HistoryRules.{history_rules}
 use Rattle.play_event.specs.declared.event.Event.{Event}
-use Rattle.play_event.specs.declared.setup.Setup.{Setup}
 use Rattle.play_event.specs.Said.{said_of}
 use Rattle.hand_gen.specs.Made.{backward, next_event}
 use Rattle.hand_gen.specs.MadeTo.{IsStep}
@@ -14,51 +13,45 @@ use Rattle.hand_gen.proofs.hand.script_of.Goals as goal
 pub loop-script-init : goal.loop-script-init
 loop-script-init g c =
     let hand = c.start-hand.result in
-    record {
-      made = first_made c.args.setup.now c.args.stock.now hand.betting.table hand.cards.state c.new-script.result c.new-script.ensures c.start-hand.ensures.stands c.start-hand.ensures.setup (c.start-hand.ensures.rules ∙ c.history_rules.ensures);
-      seats = ap (λ (s : Setup). s.stacks.seats) c.start-hand.ensures.setup ∙ sym c.start-hand.ensures.seats;
-    }
+    first_made c.args.setup.now c.args.stock.now hand.betting hand.cards c.new-script.result c.new-script.ensures c.start-hand.ensures.stands c.start-hand.ensures.setup (c.start-hand.ensures.rules ∙ c.history_rules.ensures)
 
 pub play_next-requires-clause-underway : goal.play_next-requires-clause-underway
 play_next-requires-clause-underway g c =
-    underway c.args.setup.now c.args.stock.now c.loop-script.hand.betting.table c.loop-script.hand.cards.state c.loop-script.script c.loop-script.stock c.requires.small c.requires.deck c.loop-script.invariant.made
+    underway c.args.setup.now c.args.stock.now c.loop-script.hand.betting c.loop-script.hand.cards c.loop-script.script c.loop-script.stock c.requires.small c.requires.deck c.loop-script.invariant
 
 pub play_next-requires-clause-few : goal.play_next-requires-clause-few
 play_next-requires-clause-few g c =
-    let going = underway c.args.setup.now c.args.stock.now c.loop-script.hand.betting.table c.loop-script.hand.cards.state c.loop-script.script c.loop-script.stock c.requires.small c.requires.deck c.loop-script.invariant.made in
-    omega (arith, few_so_far c.loop-script.hand.betting.table c.loop-script.hand.cards.state c.loop-script.script c.loop-script.stock going)
+    let going = underway c.args.setup.now c.args.stock.now c.loop-script.hand.betting c.loop-script.hand.cards c.loop-script.script c.loop-script.stock c.requires.small c.requires.deck c.loop-script.invariant in
+    omega (arith, few_so_far c.loop-script.hand.betting c.loop-script.hand.cards c.loop-script.script c.loop-script.stock going)
 
 pub loop-script-smaller : goal.loop-script-smaller
 loop-script-smaller g c =
     let new = c.play_next.new in
-    let step = subst (λ (came : Bool). IsStep c.args.setup.now c.args.stock.now c.loop-script.script new.hand.betting.table new.hand.cards.state new.script new.stock came) c.in-Ok-true.field-0-test
-    (c.in-Ok-true.ensures.step c.args.setup.now c.args.stock.now c.loop-script.invariant.made) in
-    let going = underway c.args.setup.now c.args.stock.now c.loop-script.hand.betting.table c.loop-script.hand.cards.state c.loop-script.script c.loop-script.stock c.requires.small c.requires.deck c.loop-script.invariant.made in
-    omega (arith, step.1, few_so_far c.loop-script.hand.betting.table c.loop-script.hand.cards.state c.loop-script.script c.loop-script.stock going)
+    let step = subst (λ (came : Bool). IsStep c.args.setup.now c.args.stock.now c.loop-script.script new.hand.betting new.hand.cards new.script new.stock came) c.in-Ok-true.field-0-test
+    (c.in-Ok-true.ensures.step c.args.setup.now c.args.stock.now c.loop-script.invariant) in
+    let going = underway c.args.setup.now c.args.stock.now c.loop-script.hand.betting c.loop-script.hand.cards c.loop-script.script c.loop-script.stock c.requires.small c.requires.deck c.loop-script.invariant in
+    omega (arith, step.1, few_so_far c.loop-script.hand.betting c.loop-script.hand.cards c.loop-script.script c.loop-script.stock going)
 
 pub loop-script-preserved : goal.loop-script-preserved
 loop-script-preserved g c =
     let new = c.play_next.new in
-    let step = subst (λ (came : Bool). IsStep c.args.setup.now c.args.stock.now c.loop-script.script new.hand.betting.table new.hand.cards.state new.script new.stock came) c.in-Ok-true.field-0-test
-    (c.in-Ok-true.ensures.step c.args.setup.now c.args.stock.now c.loop-script.invariant.made) in
-    record {
-      made = step.0;
-      seats = ap (λ (s : Setup). s.stacks.seats) c.in-Ok-true.ensures.setup ∙ c.loop-script.invariant.seats ∙ sym c.in-Ok-true.ensures.seats;
-    }
+    let step = subst (λ (came : Bool). IsStep c.args.setup.now c.args.stock.now c.loop-script.script new.hand.betting new.hand.cards new.script new.stock came) c.in-Ok-true.field-0-test
+    (c.in-Ok-true.ensures.step c.args.setup.now c.args.stock.now c.loop-script.invariant) in
+    step.0
 
 pub returns-in-Ok-false-clause-within : goal.returns-in-Ok-false-clause-within
 returns-in-Ok-false-clause-within g c =
     let new = c.play_next.new in
-    let step = subst (λ (came : Bool). IsStep c.args.setup.now c.args.stock.now c.loop-script.script new.hand.betting.table new.hand.cards.state new.script new.stock came) c.in-Ok-false.field-0-test
-    (c.in-Ok-false.ensures.step c.args.setup.now c.args.stock.now c.loop-script.invariant.made) in
+    let step = subst (λ (came : Bool). IsStep c.args.setup.now c.args.stock.now c.loop-script.script new.hand.betting new.hand.cards new.script new.stock came) c.in-Ok-false.field-0-test
+    (c.in-Ok-false.ensures.step c.args.setup.now c.args.stock.now c.loop-script.invariant) in
     subst (λ (s : List Event). IsWithinLimits (map said_of s)) (sym step.0)
-    (made_within c.args.setup.now c.args.stock.now c.loop-script.script c.requires.small c.requires.deck c.loop-script.invariant.made.come)
+    (made_within c.args.setup.now c.args.stock.now c.loop-script.script c.requires.small c.requires.deck c.loop-script.invariant.come)
 
 pub returns-in-Ok-false-clause-legal : goal.returns-in-Ok-false-clause-legal
 returns-in-Ok-false-clause-legal g c =
     let new = c.play_next.new in
-    let step = subst (λ (came : Bool). IsStep c.args.setup.now c.args.stock.now c.loop-script.script new.hand.betting.table new.hand.cards.state new.script new.stock came) c.in-Ok-false.field-0-test
-    (c.in-Ok-false.ensures.step c.args.setup.now c.args.stock.now c.loop-script.invariant.made) in
+    let step = subst (λ (came : Bool). IsStep c.args.setup.now c.args.stock.now c.loop-script.script new.hand.betting new.hand.cards new.script new.stock came) c.in-Ok-false.field-0-test
+    (c.in-Ok-false.ensures.step c.args.setup.now c.args.stock.now c.loop-script.invariant) in
     let ended = subst (λ (s : List Event). next_event c.args.setup.now history_rules c.args.stock.now (backward s) ≡ None) step.0 step.1.ended in
     subst (λ (s : List Event). IsLegalHand c.args.setup.now history_rules (map said_of s)) (sym step.0)
-    (made_legal c.args.setup.now c.args.stock.now c.loop-script.script c.requires.small c.requires.deck c.loop-script.invariant.made.come ended)
+    (made_legal c.args.setup.now c.args.stock.now c.loop-script.script c.requires.small c.requires.deck c.loop-script.invariant.come ended)

@@ -10,7 +10,7 @@ use Rattle.hand_gen.proofs.moving.make_move.Goals as goal
 
 pub returns-clause-event : goal.returns-clause-event
 returns-clause-event g c =
-    let b = c.args.betting.now.table in
+    let b = c.args.betting.now in
     let seat = c.args.seat in
     λ past stands holds turned.
     c.chosen.ensures
