@@ -1,6 +1,6 @@
 -- Which notes may stand in a record: texts that are not too long, numbers in their range, a civil
 -- date, and no defaults.
-use Rattle.std.specs.Prelude.{◌≡◌, ◌≢◌, ℕ, ◌-◌, ◌%◌, ◌≤◌, ◌==◌, ◌&&◌, ◌||◌, Bool, not, if◌then◌else◌, List, length, take, slice_index, slice_index_or, None, IfSome, Option, Some, bytes_eq, unwrap_or}
+use Rattle.std.specs.Prelude.{◌≡◌, ◌≢◌, ℕ, ◌-◌, ◌%◌, ◌≤◌, ◌==◌, ◌&&◌, ◌||◌, Bool, not, if◌then◌else◌, List, length, take, slice_index, slice_index_or, None, IfSome, Option, Some, bytes_eq, unwrap_or, nat_le, Result, Ok, Err}
 use Rattle.std.specs.List.{range_with_len}
 use Rattle.first_fault.specs.declared.limits.TheConstants.{MOST_TEXT_BYTES}
 use Rattle.hand_records.specs.declared.notes.Clock.{Clock}
@@ -79,6 +79,11 @@ name_written notes seat = unwrap_or (slice_index_or notes.names (seat - 1) None)
 -- a note that equals its default is none, and an empty text is none
 abbrev pub noted : List ℕ → List ℕ → Option (List ℕ)
 noted default text = if (length text == 0) || bytes_eq text default then None else Some text
+
+-- the note that a text of at most 255 bytes says, or this fault where it has more
+abbrev pub noted_or : {F : Type 0} → F → List ℕ → List ℕ → Result (Option (List ℕ)) F
+noted_or fault default text =
+    if nat_le (length text) MOST_TEXT_BYTES then Ok (noted default text) else Err fault
 
 -- numbers of seats, none where they are the usual ones from 1 on
 abbrev pub unless_usual : ℕ → List ℕ → Option (List ℕ)

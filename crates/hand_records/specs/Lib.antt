@@ -1,9 +1,10 @@
 -- Records and traces: what is said of their rows, which notes are allowed and are said, what a
--- record is as a reader gives it, and when hands are the same.
+-- record is as a reader gives it, what it says with plain lists, and when hands are the same.
 pub mod NetRow
 pub mod TraceRows
 pub mod AllowedNotes
 pub mod SaidNotes
+pub mod PlainHands
 pub mod SameHands
 pub mod SoundRecord
 pub mod Moves

@@ -1,5 +1,5 @@
 -- The notes that are said of a hand, as one value: those that are no defaults.
-use Rattle.std.specs.Prelude.{◌≡◌, ℕ, ◌-◌, if◌then◌else◌, bytes_eq, List, map, take, slice_index_or, Option, Some, None, option_and_then}
+use Rattle.std.specs.Prelude.{◌≡◌, ℕ, ◌-◌, if◌then◌else◌, bytes_eq, List, map, take, slice_index_or, Option, Some, None, option_and_then, option_map}
 use Rattle.std.specs.Fmt.{decimal}
 use Rattle.chip_ledger.specs.Seat.{seats_of}
 use Rattle.hand_records.specs.AllowedNotes.{unless_usual}
@@ -45,6 +45,24 @@ said_notes place count notes =
       seats = numbers_said count notes.seats;
       seat_count = notes.seat_count;
       hand = kept_label place notes.hand;
+      table = notes.table;
+      venue = notes.venue;
+      currency = notes.currency;
+      year = notes.year;
+      month = notes.month;
+      day = notes.day;
+      time = notes.time;
+      zone = notes.zone;
+    }
+
+-- the notes of so many seats as they stand in a record
+abbrev pub plain_notes : ℕ → Notes → SaidNotes
+plain_notes count notes =
+    record {
+      names = take count notes.names;
+      seats = option_map (take count) notes.seats;
+      seat_count = notes.seat_count;
+      hand = notes.hand;
       table = notes.table;
       venue = notes.venue;
       currency = notes.currency;

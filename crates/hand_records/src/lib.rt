@@ -5,11 +5,15 @@
 mod calendar;
 mod notes;
 mod record;
+mod sizes;
+mod texts;
 mod trace;
 mod writing;
 
 pub use calendar::has_day;
-pub use notes::{Clock, NoteName, Notes, name_of};
+pub use notes::{CivilDate, Clock, Moment, NoteName, Notes, name_of};
 pub use record::{NetRow, Record, Records, Stated};
+pub use sizes::Sizes;
+pub use texts::{keep_short, keep_text};
 pub use trace::{Moves, Places, Play, Trace};
 pub use writing::{Keep, Unspelled, WriteRefusal};

@@ -19,6 +19,24 @@ pub struct Clock {
     pub nano: u32,
 }
 
+/// A day of the calendar.
+#[derive(Clone, Copy, Debug, PartialEq, Eq)]
+pub struct CivilDate {
+    /// 1 to 9999.
+    pub year: u16,
+    /// 1 to 12.
+    pub month: u8,
+    /// 1 to 31.
+    pub day: u8,
+}
+
+/// A moment in universal time.
+#[derive(Clone, Copy, Debug, PartialEq, Eq)]
+pub struct Moment {
+    pub day: CivilDate,
+    pub time: Clock,
+}
+
 /// The notes of a hand. A note that equals its default, which a reader takes where nothing is said,
 /// is `None`.
 #[derive(Debug, Drop)]
