@@ -1,4 +1,5 @@
--- The lemmas by which a canonical script is written; and setups with the same parts.
+-- The lemmas by which a canonical script is written; and setups with the same parts, and records
+-- that say the same plain hand.
 pub mod WrittenWords
 pub mod OneByOne
 pub mod Differences
@@ -7,5 +8,6 @@ pub mod ShortScripts
 pub mod CanonParts
 pub mod StreetRows
 pub mod SameSetups
+pub mod SamePlay
 pub mod SameTraces
 pub mod UnusualNumbers

@@ -43,31 +43,19 @@ pub fn check_stated(trace: &Trace, stated: &Stated) -> Result<(), FactDiffers>
     ensures { option_map difference_said (result_err result)
         ≡ first_difference trace.now stated.now }
 {
-    match first_differing(trace, stated) {
+    if let Some(differs) = first_finish(trace, stated.finish) {
+        return Err(differs);
+    }
+    if let Some(differs) = first_win(trace, stated.wins) {
+        return Err(differs);
+    }
+    if let Some(differs) = differing_total(trace, stated.pot_total) {
+        return Err(differs);
+    }
+    match first_value(trace, stated.values) {
         Some(differs) => Err(differs),
         None => Ok(()),
     }
-}
-
-// The first stated fact that differs.
-fn first_differing(trace: &Trace, stated: &Stated) -> Option<FactDiffers>
-    requires stated { IsStatedFor trace.now.setup.stacks.seats stated.now }
-    requires pots { HasBoundedPots trace.now }
-    ensures { option_map difference_said result ≡ first_difference trace.now stated.now }
-{
-    let finish = first_finish(trace, stated.finish);
-    if finish.is_some() {
-        return finish;
-    }
-    let win = first_win(trace, stated.wins);
-    if win.is_some() {
-        return win;
-    }
-    let total = differing_total(trace, stated.pot_total);
-    if total.is_some() {
-        return total;
-    }
-    first_value(trace, stated.values)
 }
 
 // The first stated finishing stack that differs.
@@ -80,25 +68,17 @@ fn first_finish(trace: &Trace, row: Option<SeatRow>) -> Option<FactDiffers>
         return None;
     };
     for index in 0..trace.setup.stacks.seats {
-        let found = differing_finish(trace, &row, Seat { number: index + 1 });
+        let seat = Seat { number: index + 1 };
+        let found = compare(
+            Which::Finish(seat),
+            signed(row.get(seat)),
+            signed(finish(trace, seat)),
+        );
         if found.is_some() {
             return found;
         }
     }
     None
-}
-
-// The stated finishing stack of a seat, if it differs.
-fn differing_finish(trace: &Trace, row: &SeatRow, seat: Seat) -> Option<FactDiffers>
-    requires { seat.number ≤ row.now.seats }
-    ensures { option_map difference_said result
-        ≡ difference_of (finish_compared trace.now row.now seat.number) }
-{
-    compare(
-        Which::Finish(seat),
-        signed(row.get(seat)),
-        signed(finish(trace, seat)),
-    )
 }
 
 // The finishing stack of a seat.
@@ -119,25 +99,17 @@ fn first_win(trace: &Trace, row: Option<SeatRow>) -> Option<FactDiffers>
         return None;
     };
     for index in 0..trace.setup.stacks.seats {
-        let found = differing_win(trace, &row, Seat { number: index + 1 });
+        let seat = Seat { number: index + 1 };
+        let found = compare(
+            Which::Win(seat),
+            signed(row.get(seat)),
+            signed(win(trace, seat)),
+        );
         if found.is_some() {
             return found;
         }
     }
     None
-}
-
-// The stated win of a seat, if it differs.
-fn differing_win(trace: &Trace, row: &SeatRow, seat: Seat) -> Option<FactDiffers>
-    requires { seat.number ≤ row.now.seats }
-    ensures { option_map difference_said result
-        ≡ difference_of (win_compared trace.now row.now seat.number) }
-{
-    compare(
-        Which::Win(seat),
-        signed(row.get(seat)),
-        signed(win(trace, seat)),
-    )
 }
 
 // What a seat wins of the pots: its shares together.
@@ -196,21 +168,13 @@ fn first_value(trace: &Trace, row: Option<NetRow>) -> Option<FactDiffers>
         return None;
     };
     for index in 0..trace.setup.stacks.seats {
-        let found = differing_value(trace, &row, Seat { number: index + 1 });
+        let seat = Seat { number: index + 1 };
+        let found = compare(Which::Value(seat), row.get(seat), value(trace, seat));
         if found.is_some() {
             return found;
         }
     }
     None
-}
-
-// The stated value of a seat, if it differs.
-fn differing_value(trace: &Trace, row: &NetRow, seat: Seat) -> Option<FactDiffers>
-    requires { seat.number ≤ row.now.seats }
-    ensures { option_map difference_said result
-        ≡ difference_of (value_compared trace.now row.now seat.number) }
-{
-    compare(Which::Value(seat), row.get(seat), value(trace, seat))
 }
 
 // A fact whose two numbers differ, if they do.

@@ -4,10 +4,8 @@ ghost use Rattle.std.specs.Prelude.{◌≡◌, ◌≤◌, ◌++◌, length, map,
 ghost use Rattle.std.specs.List.{flat_map, range_with_len};
 ghost use Rattle.play_event.specs.Played.{move_said};
 ghost use Rattle.play_event.specs.Said.{kind_said, said_of};
-ghost use Rattle.play_event.specs.SeatSlots.{slots_of_hand};
 ghost use Rattle.card_set.specs.Row.{slots_of};
-ghost use Rattle.chip_ledger.specs.Seat.{seats_of};
-ghost use Rattle.canon_script.specs.CanonScript.{board_said, canonical_script, deal_said, deals_said, discards_said, move_named, plain_move, plain_moves, showdown_said, street_said};
+ghost use Rattle.canon_script.specs.CanonScript.{board_said, canonical_script, deal_said, deals_said, discards_said, move_named, plain_move, plain_moves, showdown_said};
 ghost use Rattle.hand_canon.specs.RowTests.{discards_from, said_on, showings_from};
 ghost use Rattle.canon_script.specs.Tidy.{HasTidyCards, IsTidy};
 ghost use Rattle.hand_records.specs.TraceRows.{core_said};
@@ -34,23 +32,13 @@ pub fn canon(alloc: Global, trace: &Trace) -> Result<Script, Memory>
 {
     let mut written = Numbered::new(alloc);
     for index in 0..count_streets(trace.setup.code) {
-        write_street(&mut written, trace, index + 1)?;
+        let street = index + 1;
+        write_discards(&mut written, trace, street)?;
+        write_deals(&mut written, trace, street)?;
+        write_moves(&mut written, trace.moves.as_slice(), street)?;
     }
     write_showdown(&mut written, trace)?;
     Ok(written.script)
-}
-
-// Writes what happens on a street.
-fn write_street(written: &mut Numbered, trace: &Trace, street: u8) -> Result<(), Memory>
-    requires street { 1 ≤ street }
-    requires tidy { HasTidyCards (core_said trace.now) }
-    ensures { OnOk result (words_of written.new ≡ words_of written.old
-        ++ street_said trace.now.setup (core_said trace.now).places
-        (plain_moves (core_said trace.now).moves) street) }
-{
-    write_discards(written, trace, street)?;
-    write_deals(written, trace, street)?;
-    write_moves(written, trace.moves.as_slice(), street)
 }
 
 // Writes the discards of a street: those of each seat that is live when it begins, if the street
@@ -71,24 +59,8 @@ fn write_discards(written: &mut Numbered, trace: &Trace, street: u8) -> Result<(
         return Ok(());
     }
     let discards = discarded_by_seats(trace.places.as_slice(), street);
-    write_each_discard(written, &folded, &discards, seats)
-}
-
-// Writes the discard of each of so many seats that has not folded.
-fn write_each_discard(
-    written: &mut Numbered,
-    folded: &LiveRow,
-    discards: &HandRow,
-    seats: u8,
-) -> Result<(), Memory>
-    requires folded { folded.now.seats ≡ 10 }
-    requires discards { discards.now.seats ≡ 10 }
-    requires seats { seats ≤ 10 }
-    ensures { OnOk result (words_of written.new ≡ words_of written.old
-        ++ flat_map (discards_from folded.now discards.now) (seats_of seats)) }
-{
     for index in 0..seats {
-        write_discard(written, folded, discards, Seat { number: index + 1 })?;
+        write_discard(written, &folded, &discards, Seat { number: index + 1 })?;
     }
     Ok(())
 }
@@ -119,23 +91,12 @@ fn write_deals(written: &mut Numbered, trace: &Trace, street: u8) -> Result<(), 
         ++ deals_said trace.now.setup (core_said trace.now).places street) }
 {
     let hands = dealt_to_seats(trace.places.as_slice(), street);
-    write_each_deal(written, &hands, trace.setup.stacks.seats)?;
-    let board = dealt_to_board(trace.places.as_slice(), street);
-    write_board(written, &board)
-}
-
-// Writes the deal to each of so many seats.
-fn write_each_deal(written: &mut Numbered, hands: &HandRow, seats: u8) -> Result<(), Memory>
-    requires hands { hands.now.seats ≡ 10 }
-    requires seats { seats ≤ 10 }
-    ensures { OnOk result (words_of written.new ≡ words_of written.old
-        ++ flat_map (λ seat. deal_said seat (slots_of_hand hands.now seat)) (seats_of seats)) }
-{
-    for index in 0..seats {
+    for index in 0..trace.setup.stacks.seats {
         let seat = Seat { number: index + 1 };
         write_deal(written, seat, hands.get(seat))?;
     }
-    Ok(())
+    let board = dealt_to_board(trace.places.as_slice(), street);
+    write_board(written, &board)
 }
 
 // Writes the deal of these cards to a seat, if there are any.
@@ -216,26 +177,9 @@ fn write_showdown(written: &mut Numbered, trace: &Trace) -> Result<(), Memory>
         return Ok(());
     }
     let held = held_by_seats(trace.places.as_slice());
-    write_each_showing(written, &folded, &trace.shown, &held, seats)
-}
-
-// Writes for each of so many seats that has not folded that it shows all it holds, or mucks.
-fn write_each_showing(
-    written: &mut Numbered,
-    folded: &LiveRow,
-    shown: &LiveRow,
-    held: &HandRow,
-    seats: u8,
-) -> Result<(), Memory>
-    requires folded { folded.now.seats ≡ 10 }
-    requires held { held.now.seats ≡ 10 }
-    requires seats { seats ≤ 10 }
-    ensures { OnOk result (words_of written.new ≡ words_of written.old
-        ++ flat_map (showings_from folded.now shown.now held.now) (seats_of seats)) }
-{
     for index in 0..seats {
         let seat = Seat { number: index + 1 };
-        write_showing(written, folded, shown, held, seat)?;
+        write_showing(written, &folded, &trace.shown, &held, seat)?;
     }
     Ok(())
 }

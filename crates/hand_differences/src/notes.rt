@@ -1,5 +1,6 @@
 //! The notes of two hands are compared, in the order in which notes are named.
 ghost use Rattle.std.specs.Prelude.{◌≡◌, ◌≤◌, IfSome, bytes_eq, decimal, find, map, not, option_map};
+ghost use Rattle.std.proofs.Props.{props};
 ghost use Rattle.chip_ledger.specs.Seat.{seats_of};
 ghost use Rattle.hand_records.specs.AllowedNotes.{AreSeatNumbers};
 ghost use Rattle.hand_records.specs.SaidNotes.{kept_label, name_said, numbers_said, said_notes};
@@ -36,55 +37,68 @@ pub(crate) fn note_difference(
         NoteName::Day,
         NoteName::Time,
     ];
-    match first_other(place, count, notes, others, names.as_slice()) {
+    let both = BothNotes {
+        place,
+        count,
+        notes,
+        others,
+    };
+    match both.first_other(names.as_slice()) {
         Some(name) => Some(Difference::Note(name)),
         None => None,
     }
 }
 
-// The first of some notes that differs.
-fn first_other(
+// The notes of two hands with so many seats, each at this place of its file.
+#[derive(Clone, Copy)]
+struct BothNotes<'a> {
     place: usize,
     count: u8,
-    notes: &Notes,
-    others: &Notes,
-    names: &[NoteName],
-) -> Option<NoteName>
-    requires { AreBothAllowed count notes.now others.now }
-    ensures { result ≡ find (λ name. not (is_same_note_said
-        (said_notes place count notes.now) (said_notes place count others.now) name)) names.now }
-{
-    match names {
-        [] => None,
-        [name, rest @ ..] => {
-            if is_same_note(place, count, notes, others, *name) {
-                first_other(place, count, notes, others, rest)
-            } else {
-                Some(*name)
+    notes: &'a Notes,
+    others: &'a Notes,
+    ghost allowed: { AreBothAllowed count notes.now others.now } by { Prim.hlevel props },
+}
+
+impl BothNotes<'_> {
+    // The first of some notes that differs.
+    fn first_other(&self, names: &[NoteName]) -> Option<NoteName>
+        ensures { result ≡ find (λ name. not (is_same_note_said
+            (said_notes self.now.place self.now.count self.now.notes.now)
+            (said_notes self.now.place self.now.count self.now.others.now) name)) names.now }
+    {
+        match names {
+            [] => None,
+            [name, rest @ ..] => {
+                if self.is_same_note(*name) {
+                    self.first_other(rest)
+                } else {
+                    Some(*name)
+                }
             }
         }
     }
-}
 
-// A note is the same.
-fn is_same_note(place: usize, count: u8, notes: &Notes, others: &Notes, name: NoteName) -> bool
-    requires { AreBothAllowed count notes.now others.now }
-    ensures { result ≡ is_same_note_said
-        (said_notes place count notes.now) (said_notes place count others.now) name }
-{
-    match name {
-        NoteName::Players => are_same_names(count, &notes.names, &others.names),
-        NoteName::Seats => are_same_seats(count, &notes.seats, &others.seats),
-        NoteName::SeatCount => is_same_byte(notes.seat_count, others.seat_count),
-        NoteName::Hand => is_same_label(place, &notes.hand, &others.hand),
-        NoteName::Table => is_same_text(&notes.table, &others.table),
-        NoteName::Venue => is_same_text(&notes.venue, &others.venue),
-        NoteName::Currency => is_same_text(&notes.currency, &others.currency),
-        NoteName::TimeZone => is_same_text(&notes.zone, &others.zone),
-        NoteName::Year => is_same_year(notes.year, others.year),
-        NoteName::Month => is_same_byte(notes.month, others.month),
-        NoteName::Day => is_same_byte(notes.day, others.day),
-        NoteName::Time => is_same_time(notes.time, others.time),
+    // A note is the same.
+    fn is_same_note(&self, name: NoteName) -> bool
+        ensures { result ≡ is_same_note_said
+            (said_notes self.now.place self.now.count self.now.notes.now)
+            (said_notes self.now.place self.now.count self.now.others.now) name }
+    {
+        let (notes, others) = (self.notes, self.others);
+        match name {
+            NoteName::Players => are_same_names(self.count, &notes.names, &others.names),
+            NoteName::Seats => are_same_seats(self.count, &notes.seats, &others.seats),
+            NoteName::SeatCount => is_same_byte(notes.seat_count, others.seat_count),
+            NoteName::Hand => is_same_label(self.place, &notes.hand, &others.hand),
+            NoteName::Table => is_same_text(&notes.table, &others.table),
+            NoteName::Venue => is_same_text(&notes.venue, &others.venue),
+            NoteName::Currency => is_same_text(&notes.currency, &others.currency),
+            NoteName::TimeZone => is_same_text(&notes.zone, &others.zone),
+            NoteName::Year => is_same_year(notes.year, others.year),
+            NoteName::Month => is_same_byte(notes.month, others.month),
+            NoteName::Day => is_same_byte(notes.day, others.day),
+            NoteName::Time => is_same_time(notes.time, others.time),
+        }
     }
 }
 

@@ -1,5 +1,5 @@
 //! The printed lines of an equity.
-ghost use Rattle.std.specs.Prelude.{◌≡◌, ◌≤◌, ◌++◌, [], IfOk, OnOk, length, string_bytes, if◌then◌else◌};
+ghost use Rattle.std.specs.Prelude.{◌≡◌, ◌≤◌, ◌++◌, [], IfOk, OnOk, string_bytes, if◌then◌else◌};
 ghost use Rattle.chip_ledger.specs.LiveRow.{flag_of, flagged};
 ghost use Rattle.hand_equity.specs.Text.{equity_said, low_lines, seat_line, seat_lines, total_line};
 
@@ -67,11 +67,9 @@ fn push_seats(
     text: &mut String,
     label: &str,
     live: &LiveRow,
-    wins: &[u32],
-    ties: &[u32],
+    wins: &[u32; 10],
+    ties: &[u32; 10],
 ) -> Result<(), Memory>
-    requires wins { length wins.now ≡ 10 }
-    requires ties { length ties.now ≡ 10 }
     ensures { OnOk result (string_bytes text.new ≡ string_bytes text.old
         ++ seat_lines label.now wins.now ties.now (flagged live.now)) }
 {
@@ -88,12 +86,10 @@ fn push_seat(
     label: &str,
     live: &LiveRow,
     seat: Seat,
-    wins: &[u32],
-    ties: &[u32],
+    wins: &[u32; 10],
+    ties: &[u32; 10],
 ) -> Result<(), Memory>
-    requires seat { seat.number ≤ live.now.seats }
-    requires wins { length wins.now ≡ 10 }
-    requires ties { length ties.now ≡ 10 }
+    requires { seat.number ≤ live.now.seats }
     ensures { OnOk result (string_bytes text.new ≡ string_bytes text.old
         ++ (if flag_of live.now seat.number
         then seat_line label.now wins.now ties.now seat.number else [])) }

@@ -1,5 +1,6 @@
 -- What a sink in memory shows.
-use Rattle.std.specs.Prelude.{ℕ, ◌-◌, List, length}
+use Rattle.std.specs.Prelude.{◌≡◌, ℕ, ◌-◌, List, [], length}
+use Rattle.host_io.specs.FaultPlan.{IsFresh}
 use Rattle.host_io.specs.declared.fault_plan.FaultPlan.{FaultPlan}
 use Rattle.host_io.specs.declared.mem_sink.MemSink.{MemSink}
 
@@ -18,3 +19,11 @@ sink_piece sink = sink.piece
 -- which of its calls fail
 abbrev pub sink_plan : MemSink → FaultPlan
 sink_plan sink = sink.plan
+
+-- a sink took nothing yet: it has so much room, takes so much in one call, and fails at the calls
+-- with these numbers
+pub record IsEmptySink (sink : MemSink) (bytes most : ℕ) (fail_at : List ℕ) : Type 0 where
+  pub held : bytes_held sink ≡ []
+  pub room : room_left sink ≡ bytes
+  pub piece : sink_piece sink ≡ most
+  pub plan : IsFresh (sink_plan sink) fail_at

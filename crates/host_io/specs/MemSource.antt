@@ -1,5 +1,6 @@
 -- What a source in memory shows.
-use Rattle.std.specs.Prelude.{ℕ, List, drop}
+use Rattle.std.specs.Prelude.{◌≡◌, ℕ, List, drop}
+use Rattle.host_io.specs.FaultPlan.{IsFresh}
 use Rattle.host_io.specs.declared.fault_plan.FaultPlan.{FaultPlan}
 use Rattle.host_io.specs.declared.mem_source.MemSource.{MemSource}
 
@@ -14,3 +15,11 @@ source_piece source = source.piece
 -- which of its calls fail
 abbrev pub source_plan : MemSource → FaultPlan
 source_plan source = source.plan
+
+-- a source gave nothing yet: it has these bytes, gives so many of them in one call, and fails at
+-- the calls with these numbers
+pub record IsFullSource (source : MemSource) (bytes : List ℕ) (most : ℕ) (fail_at : List ℕ) : Type 0
+  where
+    pub left : bytes_left source ≡ bytes
+    pub piece : source_piece source ≡ most
+    pub plan : IsFresh (source_plan source) fail_at

@@ -1,10 +1,10 @@
 //! A sink in memory holds what it took in order, and fails at the calls that are listed and where
 //! it is full.
-ghost use Rattle.std.specs.Prelude.{◌≡◌, ◌⊎◌, ◌+◌, ◌-◌, ◌^◌, ◌<◌, ◌≤◌, ◌↔◌, [], ◌++◌, min, length, vec_len, vec_capacity, Some, IfOk, OnErr, IsErr, is_err};
+ghost use Rattle.std.specs.Prelude.{◌≡◌, ◌⊎◌, ◌+◌, ◌-◌, ◌^◌, ◌<◌, ◌≤◌, ◌↔◌, ◌++◌, min, length, vec_len, vec_capacity, Some, IfOk, OnErr, IsErr, is_err};
 ghost use Rattle.std.specs.Io.{WritesAtMost};
 ghost use Rattle.std.specs.Io.KnownBytes.{WriteAppends};
 ghost use Rattle.host_io.specs.Faults.{Rose};
-ghost use Rattle.host_io.specs.FaultPlan.{IsFresh, FailsNext, CountsCall};
+ghost use Rattle.host_io.specs.FaultPlan.{FailsNext, CountsCall};
 
 use crate::fault::Failed;
 use crate::fault_plan::FaultPlan;
@@ -26,7 +26,7 @@ pub struct MemSink {
 }
 
 impl MemSink {
-    ghost use Rattle.host_io.specs.MemSink.{bytes_held, room_left, sink_piece, sink_plan};
+    ghost use Rattle.host_io.specs.MemSink.{IsEmptySink, bytes_held};
 
     /// The bytes that the sink holds.
     pub fn held(&self) -> &[u8]
@@ -38,10 +38,7 @@ impl MemSink {
     /// An empty sink with room for `room` bytes, that fails at the calls with these numbers,
     /// counted from 0. It takes all its memory here. Bytes of any number are one piece.
     pub fn new(alloc: Global, room: usize, fail_at: Vec<u64>) -> Result<MemSink, Memory>
-        ensures held { IfOk result (λ sink. bytes_held sink ≡ []) }
-        ensures room { IfOk result (λ sink. room_left sink ≡ room) }
-        ensures piece { IfOk result (λ sink. sink_piece sink ≡ 2 ^ 64 - 1) }
-        ensures plan { IfOk result (λ sink. IsFresh (sink_plan sink) fail_at.items) }
+        ensures { IfOk result (λ sink. IsEmptySink sink room (2 ^ 64 - 1) fail_at.items) }
     {
         MemSink::in_pieces(alloc, room, usize::MAX, fail_at)
     }
@@ -54,10 +51,7 @@ impl MemSink {
         fail_at: Vec<u64>,
     ) -> Result<MemSink, Memory>
         requires { 1 ≤ piece }
-        ensures held { IfOk result (λ sink. bytes_held sink ≡ []) }
-        ensures room { IfOk result (λ sink. room_left sink ≡ room) }
-        ensures piece { IfOk result (λ sink. sink_piece sink ≡ piece) }
-        ensures plan { IfOk result (λ sink. IsFresh (sink_plan sink) fail_at.items) }
+        ensures { IfOk result (λ sink. IsEmptySink sink room piece fail_at.items) }
     {
         Ok(MemSink {
             bytes: Vec::with_capacity(alloc, room)?,

@@ -3,7 +3,7 @@ ghost use Rattle.std.specs.Prelude.{◌≡◌, ◌+◌, ◌-◌, ◌^◌, ◌≤
 ghost use Rattle.std.specs.Io.{ReadsAtMost};
 ghost use Rattle.std.specs.Io.KnownBytes.{ReadConsumes};
 ghost use Rattle.host_io.specs.Faults.{Rose};
-ghost use Rattle.host_io.specs.FaultPlan.{IsFresh, FailsNext, CountsCall};
+ghost use Rattle.host_io.specs.FaultPlan.{FailsNext, CountsCall};
 
 use crate::fault::Failed;
 use crate::fault_plan::FaultPlan;
@@ -22,14 +22,12 @@ pub struct MemSource {
 }
 
 impl MemSource {
-    ghost use Rattle.host_io.specs.MemSource.{bytes_left, source_piece, source_plan};
+    ghost use Rattle.host_io.specs.MemSource.{IsFullSource};
 
     /// A source that has these bytes left, and fails at the calls with these numbers, counted
     /// from 0. Bytes of any number are one piece.
     pub fn new(bytes: Vec<u8>, fail_at: Vec<u64>) -> MemSource
-        ensures left { bytes_left result ≡ bytes.items }
-        ensures piece { source_piece result ≡ 2 ^ 64 - 1 }
-        ensures plan { IsFresh (source_plan result) fail_at.items }
+        ensures { IsFullSource result bytes.items (2 ^ 64 - 1) fail_at.items }
     {
         MemSource::in_pieces(bytes, usize::MAX, fail_at)
     }
@@ -37,9 +35,7 @@ impl MemSource {
     /// As `new`, and a call gives at most `piece` bytes.
     pub fn in_pieces(bytes: Vec<u8>, piece: usize, fail_at: Vec<u64>) -> MemSource
         requires { 1 ≤ piece }
-        ensures left { bytes_left result ≡ bytes.items }
-        ensures piece { source_piece result ≡ piece }
-        ensures plan { IsFresh (source_plan result) fail_at.items }
+        ensures { IsFullSource result bytes.items piece fail_at.items }
     {
         MemSource {
             bytes,

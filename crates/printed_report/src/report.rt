@@ -1,10 +1,9 @@
 //! The report on hands: a line for each game that was played, one for all hands, and one for each
 //! name.
-ghost use Rattle.std.specs.Prelude.{◌≡◌, ◌≤◌, ◌<◌, ◌++◌, ◌∷◌, [], List, flat_map, length, option_to_list, slice_get, IfOk, OnOk, string_bytes};
+ghost use Rattle.std.specs.Prelude.{◌≡◌, ◌≤◌, ◌<◌, ◌++◌, ◌∷◌, [], List, flat_map, length, IfOk, OnOk, string_bytes};
 ghost use Rattle.std.specs.List.{AllByRecursion};
 ghost use Rattle.first_fault.specs.declared.limits.TheConstants.{MOST_HANDS};
 ghost use Rattle.hand_records.specs.declared.trace.Play.{Play as AnyPlay};
-ghost use Rattle.indexmap.specs.IndexMap.{index_map_len};
 ghost use Rattle.printed_report.specs.Report.{report_said};
 ghost use Rattle.printed_report.specs.SoFar.{IsReportSoFar};
 ghost use Rattle.printed_report.specs.Tallies.{IsRowWithin, row_line, rows_of};
@@ -111,24 +110,8 @@ fn push_names(
         ++ flat_map row_line (rows_of tallies.now.entries)) }
 {
     for index in 0..tallies.len() {
-        push_name(alloc, text, tallies, index)?;
+        let (_, named) = tallies.get_index(index).unwrap();
+        push_name_line(alloc, text, named.name.as_str(), named.tally)?;
     }
     Ok(())
-}
-
-// Puts the line of the name at this place.
-#[tactic(auto, using(crate::proofs::RowLines::line_here))]
-fn push_name(
-    alloc: Global,
-    text: &mut String,
-    tallies: &IndexMap<usize, NamedTally>,
-    index: usize,
-) -> Result<(), Memory>
-    requires within { AllByRecursion IsRowWithin (rows_of tallies.now.entries) }
-    requires index { index < index_map_len tallies.now }
-    ensures { OnOk result (string_bytes text.new ≡ string_bytes text.old
-        ++ flat_map row_line (option_to_list (slice_get (rows_of tallies.now.entries) index))) }
-{
-    let (_, named) = tallies.get_index(index).unwrap();
-    push_name_line(alloc, text, named.name.as_str(), named.tally)
 }

@@ -1,5 +1,5 @@
 //! A tally adds up the seats of a name.
-ghost use Rattle.std.specs.Prelude.{◌≡◌, ◌==◌, ◌+◌, if◌then◌else◌};
+ghost use Rattle.std.specs.Prelude.{◌≡◌};
 ghost use Rattle.printed_report.specs.Report.{seated_in};
 ghost use Rattle.printed_report.specs.Tallies.{IsWithin, MOST_SEATS, no_tally as empty, with_seat as with_seat_said};
 
@@ -49,19 +49,11 @@ pub fn with_seat(tally: Tally, number: u64, play: &Play, seat: Seat) -> Tally
     Tally {
         started: tally.started + play.trace.setup.stacks.amounts[index],
         finished: tally.finished + play.trace.finish.amounts[index],
-        hands: more_hands(tally, number),
+        hands: if tally.last == number {
+            tally.hands
+        } else {
+            tally.hands + 1
+        },
         last: number,
-    }
-}
-
-// How many hands there are with the one that has this number.
-fn more_hands(tally: Tally, number: u64) -> u64
-    requires { IsWithin MOST_SEATS tally }
-    ensures { result ≡ (if tally.last == number then tally.hands else tally.hands + 1) }
-{
-    if tally.last == number {
-        tally.hands
-    } else {
-        tally.hands + 1
     }
 }

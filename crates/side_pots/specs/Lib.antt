@@ -1,2 +1,3 @@
--- The levels that are still to be cut.
+-- The levels that are still to be cut, and stakes.
 pub mod Levels
+pub mod Stakes

@@ -8,18 +8,19 @@ ghost use Rattle.chip_ledger.specs.SeatRow.{amount_of};
 ghost use Rattle.chip_ledger.specs.PotRow.{stakes_of};
 ghost use Rattle.chip_ledger.specs.Pots.{between, folded_above, joining};
 ghost use Rattle.side_pots.specs.Levels.{levels_above};
+ghost use Rattle.side_pots.specs.Stakes.{stakes_in};
 
 use crate::levels::next_level;
+use crate::stakes::Stakes;
 use chip_ledger::{LiveRow, Seat, SeatRow};
 
 /// The chips of a level's pot.
-pub fn layer_chips(left: &SeatRow, live: &LiveRow, below: u64, level: u64) -> u64
-    requires { live.now.seats ≡ left.now.seats }
-    ensures sum { let stakes = stakes_of left.now live.now in
-        result ≡ between stakes below level + joining stakes level (levels_above stakes level) }
+pub fn layer_chips(stakes: &Stakes<'_>, below: u64, level: u64) -> u64
+    ensures sum { result ≡ between (stakes_in stakes.now) below level
+        + joining (stakes_in stakes.now) level (levels_above (stakes_in stakes.now) level) }
     ensures bounded { result ≤ 20 * MOST_AMOUNT }
 {
-    chips_between(left, below, level) + joining_chips(left, live, level)
+    chips_between(stakes.chips, below, level) + joining_chips(stakes, level)
 }
 
 /// Every seat's chips above one level and up to another.
@@ -37,46 +38,47 @@ fn chips_between(left: &SeatRow, below: u64, level: u64) -> u64
 }
 
 /// The chips above a level that join its pot.
-fn joining_chips(left: &SeatRow, live: &LiveRow, level: u64) -> u64
-    requires { live.now.seats ≡ left.now.seats }
-    ensures sum { let stakes = stakes_of left.now live.now in
-        result ≡ joining stakes level (levels_above stakes level) }
+fn joining_chips(stakes: &Stakes<'_>, level: u64) -> u64
+    ensures sum { result
+        ≡ joining (stakes_in stakes.now) level (levels_above (stakes_in stakes.now) level) }
     ensures bounded { result ≤ 10 * MOST_AMOUNT }
 {
-    match next_level(left, live, level) {
+    match next_level(stakes, level) {
         Some(_) => 0,
-        None => folded_chips_above(left, live, level),
+        None => folded_chips_above(stakes, level),
     }
 }
 
 /// The chips of folded seats above a level.
 #[tactic(auto, using(chip_ledger::proofs::Stakes::folded_above_more))]
-fn folded_chips_above(left: &SeatRow, live: &LiveRow, level: u64) -> u64
-    requires { live.now.seats ≡ left.now.seats }
-    ensures sum { result ≡ folded_above (stakes_of left.now live.now) level }
+fn folded_chips_above(stakes: &Stakes<'_>, level: u64) -> u64
+    ensures sum { result ≡ folded_above (stakes_in stakes.now) level }
     ensures bounded { result ≤ 10 * MOST_AMOUNT }
 {
     let mut chips = 0;
-    for index in 0..left.seats {
+    for index in 0..stakes.chips.seats {
         let seat = Seat { number: index + 1 };
-        if !live.get(seat) {
-            chips += left.get(seat).saturating_sub(level);
+        if !stakes.live.get(seat) {
+            chips += stakes.chips.get(seat).saturating_sub(level);
         }
     }
     chips
 }
 
 /// The live seats that reach a level.
-pub fn reaching_row(left: &SeatRow, live: &LiveRow, level: u64) -> LiveRow
-    requires { live.now.seats ≡ left.now.seats }
-    ensures seats { result.seats ≡ left.now.seats }
-    ensures flags { (n : ℕ) → 1 ≤ n → n ≤ left.now.seats
-        → flag_of result n ≡ (flag_of live.now n && nat_le level (amount_of left.now n)) }
+pub fn reaching_row(stakes: &Stakes<'_>, level: u64) -> LiveRow
+    ensures seats { result.seats ≡ stakes.now.chips.now.seats }
+    ensures flags { (n : ℕ) → 1 ≤ n → n ≤ stakes.now.chips.now.seats
+        → flag_of result n
+        ≡ (flag_of stakes.now.live.now n && nat_le level (amount_of stakes.now.chips.now n)) }
 {
-    let mut row = LiveRow::new(left.seats);
-    for index in 0..left.seats {
+    let mut row = LiveRow::new(stakes.chips.seats);
+    for index in 0..stakes.chips.seats {
         let seat = Seat { number: index + 1 };
-        row.set(seat, live.get(seat) && level <= left.get(seat));
+        row.set(
+            seat,
+            stakes.live.get(seat) && level <= stakes.chips.get(seat),
+        );
     }
     row
 }

@@ -1,23 +1,23 @@
 //! The next level is the least of the live seats' chips above the last one.
 ghost use Rattle.std.specs.Prelude.{◌≡◌, min, slice_get};
 ghost use Rattle.std.specs.Option.{option_map_or};
-ghost use Rattle.chip_ledger.specs.PotRow.{stakes_of};
 ghost use Rattle.chip_ledger.specs.Pots.{is_reached_by_all};
 ghost use Rattle.side_pots.specs.Levels.{levels_above};
+ghost use Rattle.side_pots.specs.Stakes.{stakes_in};
 
-use chip_ledger::{LiveRow, Seat, SeatRow};
+use crate::stakes::Stakes;
+use chip_ledger::Seat;
 
 /// The next level above so many chips, if there is one.
 #[tactic(auto, using(chip_ledger::proofs::Stakes::first_level_more))]
-pub fn next_level(left: &SeatRow, live: &LiveRow, below: u64) -> Option<u64>
-    requires { live.now.seats ≡ left.now.seats }
-    ensures { result ≡ slice_get (levels_above (stakes_of left.now live.now) below) 0 }
+pub fn next_level(stakes: &Stakes<'_>, below: u64) -> Option<u64>
+    ensures { result ≡ slice_get (levels_above (stakes_in stakes.now) below) 0 }
 {
     let mut next = None;
-    for index in 0..left.seats {
+    for index in 0..stakes.chips.seats {
         let seat = Seat { number: index + 1 };
-        let chips = left.get(seat);
-        if live.get(seat) && below < chips {
+        let chips = stakes.chips.get(seat);
+        if stakes.live.get(seat) && below < chips {
             next = Some(lesser(chips, next));
         }
     }
@@ -35,13 +35,12 @@ fn lesser(chips: u64, next: Option<u64>) -> u64
 
 /// Whether every live seat has so many chips.
 #[tactic(auto, using(chip_ledger::proofs::Stakes::all_reach_more, chip_ledger::proofs::Stakes::all_reach_fails))]
-pub fn every_live_seat_reaches(left: &SeatRow, live: &LiveRow, level: u64) -> bool
-    requires { live.now.seats ≡ left.now.seats }
-    ensures { result ≡ is_reached_by_all (stakes_of left.now live.now) level }
+pub fn every_live_seat_reaches(stakes: &Stakes<'_>, level: u64) -> bool
+    ensures { result ≡ is_reached_by_all (stakes_in stakes.now) level }
 {
-    for index in 0..left.seats {
+    for index in 0..stakes.chips.seats {
         let seat = Seat { number: index + 1 };
-        if live.get(seat) && left.get(seat) < level {
+        if stakes.live.get(seat) && stakes.chips.get(seat) < level {
             return false;
         }
     }

@@ -13,9 +13,11 @@ mod laws;
 mod layers;
 mod levels;
 mod returns;
+mod stakes;
 
 use chip_ledger::{LiveRow, PotRow, SeatRow};
 pub use laws::levels_are_the_chips_of_live_seats;
+use stakes::Stakes;
 
 /// The pots of a hand, the lowest first, and what returns to each seat.
 ///
@@ -44,7 +46,7 @@ pub fn pots(puts: &SeatRow, dead: u64, live: &LiveRow) -> PotRow
         → flag_of higher.eligible n ≡ true → flag_of lower.eligible n ≡ true)
         (pots_in result) }
 {
-    let returned = returns::returned_row(puts, live);
+    let returned = returns::returned_row(&Stakes { chips: puts, live });
     let left = returns::left_row(puts, &returned);
-    cut::cut(&left, dead, live, returned)
+    cut::cut(&Stakes { chips: &left, live }, dead, returned)
 }

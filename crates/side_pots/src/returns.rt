@@ -4,36 +4,39 @@ ghost use Rattle.chip_ledger.specs.declared.rows.LiveRow.{LiveRow};
 ghost use Rattle.chip_ledger.specs.SeatRow.{amount_of};
 ghost use Rattle.chip_ledger.specs.PotRow.{stake_of, stakes_of};
 ghost use Rattle.chip_ledger.specs.Pots.{greatest_other, returned};
+ghost use Rattle.side_pots.specs.Stakes.{stakes_in};
 
-use chip_ledger::{LiveRow, Seat, SeatRow};
+use crate::stakes::Stakes;
+use chip_ledger::{Seat, SeatRow};
 
 /// What each seat gets back.
-pub fn returned_row(puts: &SeatRow, live: &LiveRow) -> SeatRow
-    requires { live.now.seats ≡ puts.now.seats }
-    ensures seats { result.seats ≡ puts.now.seats }
-    ensures amounts { (n : ℕ) → 1 ≤ n → n ≤ puts.now.seats
+pub fn returned_row(stakes: &Stakes<'_>) -> SeatRow
+    ensures seats { result.seats ≡ stakes.now.chips.now.seats }
+    ensures amounts { (n : ℕ) → 1 ≤ n → n ≤ stakes.now.chips.now.seats
         → amount_of result n
-        ≡ returned (stakes_of puts.now live.now) (stake_of puts.now live.now n) }
+        ≡ returned (stakes_in stakes.now) (stake_of stakes.now.chips.now stakes.now.live.now n) }
 {
-    let mut row = SeatRow::new(puts.seats);
-    for index in 0..puts.seats {
+    let mut row = SeatRow::new(stakes.chips.seats);
+    for index in 0..stakes.chips.seats {
         let seat = Seat { number: index + 1 };
-        row.set(seat, returned_to(puts, live, seat));
+        row.set(seat, returned_to(stakes, seat));
     }
     row
 }
 
 /// What the seat gets back.
-fn returned_to(puts: &SeatRow, live: &LiveRow, seat: Seat) -> u64
-    requires seats { live.now.seats ≡ puts.now.seats }
-    requires in_row { seat.number ≤ puts.now.seats }
+fn returned_to(stakes: &Stakes<'_>, seat: Seat) -> u64
+    requires in_row { seat.number ≤ stakes.now.chips.now.seats }
     ensures amount { result
-        ≡ returned (stakes_of puts.now live.now) (stake_of puts.now live.now seat.number) }
-    ensures within { result ≤ amount_of puts.now seat.number }
+        ≡ returned (stakes_in stakes.now)
+        (stake_of stakes.now.chips.now stakes.now.live.now seat.number) }
+    ensures within { result ≤ amount_of stakes.now.chips.now seat.number }
 {
-    if live.get(seat) {
-        puts.get(seat)
-            .saturating_sub(greatest_of_others(puts, seat))
+    if stakes.live.get(seat) {
+        stakes
+            .chips
+            .get(seat)
+            .saturating_sub(greatest_of_others(stakes.chips, seat))
     } else {
         0
     }

@@ -1,14 +1,17 @@
 -- The seats one after another.
-use Rattle.std.proofs.Common.{◌∙◌, ap, arith, find, sym}
-use Rattle.hand_canon.specs.Agreement.{value_compared, difference_said, is_different, row_compared}
+use Rattle.std.proofs.Common.{◌≡◌, ◌+◌, ◌∙◌, ap, arith, find, option_map, sym}
+use Rattle.std.proofs.lemmas.Grind.{common_steps}
+use Rattle.hand_canon.specs.Agreement.{value_compared, difference_of, difference_said, is_different, row_compared}
 use Rattle.hand_canon.proofs.Differences.{next_seat, this_seat}
 use Rattle.hand_canon.proofs.agreement.first_value.Goals as goal
 
 pub returns-then-is_some : goal.returns-then-is_some
 returns-then-is_some c =
-    this_seat difference_said (value_compared c.args.trace.now c.in-Some.row) c.loop-index.index c.args.trace.now.setup.stacks.seats c.differing_value-found.result _ c.loop-index-test.true c.differing_value-found.ensures (grind (arith, c.if-is_some.true, c.is_some.ensures)) c.loop-index.invariant
+    let told : option_map difference_said c.compare-found.result ≡ difference_of (value_compared c.args.trace.now c.in-Some.row (c.loop-index.index + 1)) = grind (arith, common_steps) in
+    this_seat difference_said (value_compared c.args.trace.now c.in-Some.row) c.loop-index.index c.args.trace.now.setup.stacks.seats c.compare-found.result _ c.loop-index-test.true told (grind (arith, c.if-is_some.true, c.is_some.ensures)) c.loop-index.invariant
     ∙ ap (λ row. find is_different (row_compared c.args.trace.now value_compared row)) (sym c.in-Some.is)
 
 pub loop-index-preserved : goal.loop-index-preserved
 loop-index-preserved c =
-    next_seat difference_said (value_compared c.args.trace.now c.in-Some.row) c.loop-index.index c.args.trace.now.setup.stacks.seats c.differing_value-found.result _ c.loop-index-test.true c.differing_value-found.ensures (grind (arith, c.if-is_some.false, c.is_some.ensures)) c.loop-index.invariant
+    let told : option_map difference_said c.compare-found.result ≡ difference_of (value_compared c.args.trace.now c.in-Some.row (c.loop-index.index + 1)) = grind (arith, common_steps) in
+    next_seat difference_said (value_compared c.args.trace.now c.in-Some.row) c.loop-index.index c.args.trace.now.setup.stacks.seats c.compare-found.result _ c.loop-index-test.true told (grind (arith, c.if-is_some.false, c.is_some.ensures)) c.loop-index.invariant

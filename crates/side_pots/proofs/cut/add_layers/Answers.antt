@@ -9,7 +9,7 @@ use Rattle.side_pots.proofs.cut.add_layers.Goals as goal
 
 pub loop-level-init : goal.loop-level-init
 loop-level-init c =
-    let short = length-levels_above c.args.left.now c.args.live.now in
+    let short = length-levels_above c.args.stakes.now.chips.now c.args.stakes.now.live.now in
     let room = c.requires.room in
     record {
       cut = refl;
@@ -21,15 +21,15 @@ loop-level-init c =
 
 pub loop-level-smaller : goal.loop-level-smaller
 loop-level-smaller c =
-    let stakes = stakes_of c.args.left.now c.args.live.now in
+    let stakes = stakes_of c.args.stakes.now.chips.now c.args.stakes.now.live.now in
     let shorter =
     ap length (levels_from_next stakes c.loop-level.below c.in-Some.level (sym c.in-Some.ensures)) in
     omega arith
 
 pub loop-level-preserved : goal.loop-level-preserved
 loop-level-preserved c =
-    let left = c.args.left.now in
-    let live = c.args.live.now in
+    let left = c.args.stakes.now.chips.now in
+    let live = c.args.stakes.now.live.now in
     let stakes = stakes_of left live in
     let below = c.loop-level.below in
     let level = c.in-Some.level in
@@ -60,7 +60,7 @@ loop-level-preserved c =
 
 pub returns-clause-pots : goal.returns-clause-pots
 returns-clause-pots c =
-    let stakes = stakes_of c.args.left.now c.args.live.now in
+    let stakes = stakes_of c.args.stakes.now.chips.now c.args.stakes.now.live.now in
     let before = map plain (pots_in c.args.row.now) in
     let last : slice_get (levels_above stakes c.loop-level.below) 0 ≡ None =
     sym c.next_level.ensures

@@ -7,4 +7,4 @@ use Rattle.side_pots.proofs.layers.folded_chips_above.Given as goal
 
 abbrev pub invariant-loop-index : goal.invariant-loop-index
 invariant-loop-index l =
-    (l.chips ≡ folded_above (stakes_upto l.left l.live l.index) l.level) × (l.chips ≤ l.index * MOST_AMOUNT)
+    (l.chips ≡ folded_above (stakes_upto l.stakes.chips.now l.stakes.live.now l.index) l.level) × (l.chips ≤ l.index * MOST_AMOUNT)

@@ -7,5 +7,5 @@ use Rattle.side_pots.proofs.returns.returned_row.Given as goal
 
 abbrev pub invariant-loop-index : goal.invariant-loop-index
 invariant-loop-index l =
-    (l.row.seats ≡ l.puts.seats)
-    × ((n : ℕ) → 1 ≤ n → n ≤ l.index → amount_of l.row n ≡ returned (stakes_of l.puts l.live) (stake_of l.puts l.live n))
+    (l.row.seats ≡ l.stakes.chips.now.seats)
+    × ((n : ℕ) → 1 ≤ n → n ≤ l.index → amount_of l.row n ≡ returned (stakes_of l.stakes.chips.now l.stakes.live.now) (stake_of l.stakes.chips.now l.stakes.live.now n))

@@ -3,7 +3,7 @@ use Rattle.std.specs.List.{flat_map}
 use Rattle.chip_ledger.specs.Seat.{seats_of}
 use Rattle.hand_canon.specs.RowTests.{discards_from}
 use Rattle.hand_canon.specs.SaidSoFar.{words_of}
-use Rattle.hand_canon.proofs.canonical.write_each_discard.Given as goal
+use Rattle.hand_canon.proofs.canonical.write_discards.Given as goal
 
 -- what the seats so far have to say is written
 abbrev pub invariant-loop-index : goal.invariant-loop-index

@@ -4,7 +4,7 @@ use Rattle.chip_ledger.specs.Seat.{seats_of}
 use Rattle.play_event.specs.SeatSlots.{slots_of_hand}
 use Rattle.canon_script.specs.CanonScript.{deal_said}
 use Rattle.hand_canon.specs.SaidSoFar.{words_of}
-use Rattle.hand_canon.proofs.canonical.write_each_deal.Given as goal
+use Rattle.hand_canon.proofs.canonical.write_deals.Given as goal
 
 -- the deals to the seats so far are written
 abbrev pub invariant-loop-index : goal.invariant-loop-index

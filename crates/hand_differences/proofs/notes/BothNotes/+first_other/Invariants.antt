@@ -1,6 +1,6 @@
 -- There are fewer notes left.
 use Rattle.std.proofs.Common.{length}
-use Rattle.hand_differences.proofs.notes.+first_other.Given as goal
+use Rattle.hand_differences.proofs.notes.BothNotes.+first_other.Given as goal
 
 abbrev pub decreases-first_other : goal.decreases-first_other
 decreases-first_other l = length l.names.now
