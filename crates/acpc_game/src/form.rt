@@ -1,15 +1,17 @@
 //! A line of a game file is a key alone, or a key, `=`, and numbers divided by spaces.
-ghost use Rattle.std.specs.Prelude.{◌≡◌, ◌∷◌, ◌-◌, length, slice_index, option_map, true, IfSome, if◌then◌else◌, Some, None};
+ghost use Rattle.std.specs.Prelude.{◌≡◌, [], ◌∷◌, ◌-◌, length, slice_index, option_map, true, IfSome, if◌then◌else◌, Some, None};
 ghost use Rattle.std.specs.List.{list_all};
 ghost use Rattle.acpc_text.specs.Parts.{parts_of};
 ghost use Rattle.first_fault.specs.Words.{is_space, words_of};
 ghost use Rattle.first_fault.specs.Digits.{are_digits as are_digits_said};
+ghost use Rattle.acpc_game.specs.Entries.{form_said};
 ghost use Rattle.acpc_game.specs.Keys.{has_count};
 ghost use Rattle.acpc_game.specs.Forms.{form_of, form_with as form_with_said, is_passed_over as is_passed_over_said, is_unused as is_unused_said, key_and_numbers, key_before as key_before_said, numbers_behind};
 
 use crate::key::{GameKey, is_word, key_named};
-use acpc_text::{cut_at, next_word};
-use first_fault::are_digits;
+use crate::key_line::KeyLine;
+use acpc_text::cut_at;
+use first_fault::{are_digits, next_word};
 
 /// Whether a line of a game file says nothing: it is empty or begins with `#`.
 pub fn is_passed_over(line: &[u8]) -> bool
@@ -21,30 +23,33 @@ pub fn is_passed_over(line: &[u8]) -> bool
 /// The key of a line, and the text of its numbers, where the line has the form of one. Sizes of
 /// raises of a game that has no limit have no text: their numbers are passed over.
 #[tactic(auto, unfolding(crate::specs::Forms::form_of))]
-pub fn read_form(no_limit: bool, line: &[u8]) -> Option<(GameKey, &[u8])>
-    ensures fits { IfSome result (λ found. (list_all are_digits_said (words_of found.1.now) ≡ true)
-        × (has_count found.0 (length (words_of found.1.now)) ≡ true)) }
-    ensures form { option_map (λ found. (found.0, words_of found.1.now)) result
-        ≡ form_of no_limit line.now }
+pub fn read_form(no_limit: bool, line: &[u8]) -> Option<KeyLine<'_>>
+    ensures { option_map form_said result ≡ form_of no_limit line.now }
 {
     if line == b"GAMEDEF".as_slice() {
-        Some((GameKey::Begin, &[]))
+        Some(alone(GameKey::Begin))
     } else if line == b"END GAMEDEF".as_slice() {
-        Some((GameKey::End, &[]))
+        Some(alone(GameKey::End))
     } else if is_word("limit", line) {
-        Some((GameKey::Limit, &[]))
+        Some(alone(GameKey::Limit))
     } else if is_word("nolimit", line) {
-        Some((GameKey::NoLimit, &[]))
+        Some(alone(GameKey::NoLimit))
     } else {
         read_numbered(no_limit, line)
     }
 }
 
+// A key that has no numbers.
+fn alone<'a>(key: GameKey) -> KeyLine<'a>
+    requires { has_count key 0 ≡ true }
+    ensures { form_said result ≡ (key, []) }
+{
+    KeyLine { key, numbers: &[] }
+}
+
 // A key, `=`, and numbers.
-fn read_numbered(no_limit: bool, line: &[u8]) -> Option<(GameKey, &[u8])>
-    ensures fits { IfSome result (λ found. (list_all are_digits_said (words_of found.1.now) ≡ true)
-        × (has_count found.0 (length (words_of found.1.now)) ≡ true)) }
-    ensures form { option_map (λ found. (found.0, words_of found.1.now)) result
+fn read_numbered(no_limit: bool, line: &[u8]) -> Option<KeyLine<'_>>
+    ensures { option_map form_said result
         ≡ key_and_numbers no_limit (parts_of 61 line.now) }
 {
     let (front, rest) = cut_at(line, b'=');
@@ -56,10 +61,8 @@ fn read_numbered(no_limit: bool, line: &[u8]) -> Option<(GameKey, &[u8])>
 
 // A key, and the numbers behind `=`, in which no second `=` stands.
 #[tactic(auto, using(crate::proofs::Forms::no_third_part))]
-fn read_behind<'a>(no_limit: bool, front: &[u8], rest: &'a [u8]) -> Option<(GameKey, &'a [u8])>
-    ensures fits { IfSome result (λ found. (list_all are_digits_said (words_of found.1.now) ≡ true)
-        × (has_count found.0 (length (words_of found.1.now)) ≡ true)) }
-    ensures form { option_map (λ found. (found.0, words_of found.1.now)) result
+fn read_behind<'a>(no_limit: bool, front: &[u8], rest: &'a [u8]) -> Option<KeyLine<'a>>
+    ensures { option_map form_said result
         ≡ key_and_numbers no_limit (front.now ∷ parts_of 61 rest.now) }
 {
     let (behind, more) = cut_at(rest, b'=');
@@ -96,10 +99,8 @@ fn begins_with_space(text: &[u8]) -> bool
 
 // The numbers behind `=`.
 #[tactic(auto, unfolding(crate::specs::Forms::numbers_behind))]
-fn numbers_of(no_limit: bool, key: GameKey, behind: &[u8]) -> Option<(GameKey, &[u8])>
-    ensures fits { IfSome result (λ found. (list_all are_digits_said (words_of found.1.now) ≡ true)
-        × (has_count found.0 (length (words_of found.1.now)) ≡ true)) }
-    ensures form { option_map (λ found. (found.0, words_of found.1.now)) result
+fn numbers_of(no_limit: bool, key: GameKey, behind: &[u8]) -> Option<KeyLine<'_>>
+    ensures { option_map form_said result
         ≡ numbers_behind no_limit key behind.now }
 {
     if ends_with_space(behind) {
@@ -112,23 +113,24 @@ fn numbers_of(no_limit: bool, key: GameKey, behind: &[u8]) -> Option<(GameKey, &
 // A key with so many numbers, which are as many as the key has; sizes of raises of a game without
 // limit are passed over.
 #[tactic(auto, unfolding(crate::specs::Forms::form_with))]
-fn form_with(no_limit: bool, key: GameKey, count: usize, behind: &[u8]) -> Option<(GameKey, &[u8])>
+fn form_with(no_limit: bool, key: GameKey, count: usize, behind: &[u8]) -> Option<KeyLine<'_>>
     requires digits { list_all are_digits_said (words_of behind.now) ≡ true }
     requires count { count ≡ length (words_of behind.now) }
-    ensures fits { IfSome result (λ found. (list_all are_digits_said (words_of found.1.now) ≡ true)
-        × (has_count found.0 (length (words_of found.1.now)) ≡ true)) }
-    ensures form { option_map (λ found. (found.0, words_of found.1.now)) result
+    ensures { option_map form_said result
         ≡ form_with_said no_limit key (words_of behind.now) }
 {
     if is_unused(no_limit, key) {
         return if count > 0 {
-            Some((GameKey::UnusedSizes, &[]))
+            Some(alone(GameKey::UnusedSizes))
         } else {
             None
         };
     }
     if key.has_count(count) {
-        Some((key, behind))
+        Some(KeyLine {
+            key,
+            numbers: behind,
+        })
     } else {
         None
     }

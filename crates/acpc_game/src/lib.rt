@@ -7,6 +7,7 @@ mod form;
 mod found;
 mod game;
 mod key;
+mod key_line;
 mod laws;
 mod lines;
 mod reading;

@@ -13,8 +13,8 @@ use crate::entry::Entry;
 use crate::form::{is_passed_over, read_form};
 use crate::found::has_key;
 use crate::key::{GameKey, is_word};
-use acpc_text::{AcpcFault, LineFault, LineFaultKind, fault_in_line, next_line, next_word};
-use first_fault::{Stop, read_digits};
+use acpc_text::{AcpcFault, LineFault, LineFaultKind, fault_in_line, next_line};
+use first_fault::{Stop, next_word, read_digits};
 use std::alloc::Global;
 
 /// The entries of a file, and how many lines it has.
@@ -77,14 +77,18 @@ fn take_line(
     if is_passed_over(text) {
         return Ok(());
     }
-    let Some((key, words)) = read_form(no_limit, text) else {
+    let Some(form) = read_form(no_limit, text) else {
         return Err(wrong(LineFaultKind::GameShape, line));
     };
-    if !may_stand(entries.as_slice(), key) {
+    if !may_stand(entries.as_slice(), form.key) {
         return Err(wrong(LineFaultKind::GameShape, line));
     }
-    let numbers = read_numbers(alloc, line, key.most(), words)?;
-    entries.push(Entry { key, line, numbers })?;
+    let numbers = read_numbers(alloc, line, form.key.most(), form.numbers)?;
+    entries.push(Entry {
+        key: form.key,
+        line,
+        numbers,
+    })?;
     Ok(())
 }
 

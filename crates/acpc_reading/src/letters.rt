@@ -54,83 +54,90 @@ fn read_letters(
     let mut rest = text;
     while let Some((letter, behind)) = cut_first(rest) {
         let (digits, after) = cut_digits(behind);
-        take_letter(no_limit, betting, place, letter, digits)?;
+        let next = Letter {
+            at: place,
+            letter,
+            digits,
+        };
+        take_letter(no_limit, betting, &next)?;
         place += 1 + digits.len() as u64;
         rest = after;
     }
     Ok(())
 }
 
-// A letter and its digits, at this byte.
+// A letter of the betting and the digits behind it, from this byte on.
+#[derive(Clone, Copy)]
+struct Letter<'a> {
+    at: u64,
+    letter: u8,
+    digits: &'a [u8],
+    ghost near: { at + 1 + length digits.now < 2 ^ 64 },
+    ghost all_digits: { list_all (λ b. is_digit b 10) digits.now ≡ true },
+}
+
+// A letter and its digits.
 #[tactic(auto, unfolding(crate::specs::Betting::letter_said))]
 fn take_letter(
     no_limit: bool,
     betting: &mut ReadBetting,
-    at: u64,
-    letter: u8,
-    digits: &[u8],
+    next: &Letter<'_>,
 ) -> Result<(), Stop<LineFault>>
-    requires few { at + 1 + length digits.now < 2 ^ 64 }
-    requires digits { list_all (λ b. is_digit b 10) digits.now ≡ true }
-    ensures ok { OnOk result (letter_said no_limit (bets_in betting.old) at (letter, digits.now)
-        ≡ Ok (bets_in betting.new)) }
-    ensures err { IfErr result (λ stop.
-        Fails stop (letter_said no_limit (bets_in betting.old) at (letter, digits.now))) }
+    ensures ok { OnOk result (letter_said no_limit (bets_in betting.old) next.now.at
+        (next.now.letter, next.now.digits.now) ≡ Ok (bets_in betting.new)) }
+    ensures err { IfErr result (λ stop. Fails stop (letter_said no_limit (bets_in betting.old)
+        next.now.at (next.now.letter, next.now.digits.now))) }
 {
-    if letter == b'f' {
-        return take_bare(betting, at, digits, BettingStep::Fold);
+    if next.letter == b'f' {
+        return take_bare(betting, next, BettingStep::Fold);
     }
-    if letter == b'c' {
-        return take_bare(betting, at, digits, BettingStep::Call);
+    if next.letter == b'c' {
+        return take_bare(betting, next, BettingStep::Call);
     }
-    if letter == b'r' {
+    if next.letter == b'r' {
         if no_limit {
-            return take_raise(betting, at, digits);
+            return take_raise(betting, next);
         }
-        return take_bare(betting, at, digits, BettingStep::Raise);
+        return take_bare(betting, next, BettingStep::Raise);
     }
-    if letter == b'/' {
-        return take_stroke(betting, at, digits);
+    if next.letter == b'/' {
+        return take_stroke(betting, next);
     }
-    Err(wrong(LineFaultKind::BadBetting, at))
+    Err(wrong(LineFaultKind::BadBetting, next.at))
 }
 
 // A letter that has no digits behind it.
 #[tactic(auto, unfolding(crate::specs::Betting::bare_said))]
 fn take_bare(
     betting: &mut ReadBetting,
-    at: u64,
-    digits: &[u8],
+    next: &Letter<'_>,
     step: BettingStep,
 ) -> Result<(), Stop<LineFault>>
-    requires { at + length digits.now < 2 ^ 64 }
-    ensures ok { OnOk result (bare_said (bets_in betting.old) at digits.now step
+    ensures ok { OnOk result (bare_said (bets_in betting.old) next.now.at next.now.digits.now step
         ≡ Ok (bets_in betting.new)) }
     ensures err { IfErr result (λ stop.
-        Fails stop (bare_said (bets_in betting.old) at digits.now step)) }
+        Fails stop (bare_said (bets_in betting.old) next.now.at next.now.digits.now step)) }
 {
-    if !digits.is_empty() {
-        return Err(wrong(LineFaultKind::BadBetting, at + 1));
+    if !next.digits.is_empty() {
+        return Err(wrong(LineFaultKind::BadBetting, next.at + 1));
     }
-    take_move(betting, at, step)
+    take_move(betting, next.at, step)
 }
 
 // A raise to the total that its digits say.
 #[tactic(auto, unfolding(crate::specs::Betting::raise_said, first_fault::specs::Digits::are_digits))]
-fn take_raise(betting: &mut ReadBetting, at: u64, digits: &[u8]) -> Result<(), Stop<LineFault>>
-    requires few { at + 1 + length digits.now < 2 ^ 64 }
-    requires digits { list_all (λ b. is_digit b 10) digits.now ≡ true }
-    ensures ok { OnOk result (raise_said (bets_in betting.old) at digits.now
+fn take_raise(betting: &mut ReadBetting, next: &Letter<'_>) -> Result<(), Stop<LineFault>>
+    ensures ok { OnOk result (raise_said (bets_in betting.old) next.now.at next.now.digits.now
         ≡ Ok (bets_in betting.new)) }
     ensures err { IfErr result (λ stop.
-        Fails stop (raise_said (bets_in betting.old) at digits.now)) }
+        Fails stop (raise_said (bets_in betting.old) next.now.at next.now.digits.now)) }
 {
-    if digits.is_empty() {
-        return Err(wrong(LineFaultKind::BadBetting, at + 1));
+    if next.digits.is_empty() {
+        return Err(wrong(LineFaultKind::BadBetting, next.at + 1));
     }
-    match read_digits(digits, MOST_CHIPS) {
-        Some(total) => take_move(betting, at, BettingStep::RaiseTo(total)),
-        None => Err(wrong(LineFaultKind::AmountLimit, at + 1)),
+    match read_digits(next.digits, MOST_CHIPS) {
+        Some(total) => take_move(betting, next.at, BettingStep::RaiseTo(total)),
+        None => Err(wrong(LineFaultKind::AmountLimit, next.at + 1)),
     }
 }
 
@@ -154,18 +161,17 @@ fn take_move(betting: &mut ReadBetting, at: u64, step: BettingStep) -> Result<()
 
 // A stroke, which begins the next of at most four rounds.
 #[tactic(auto, unfolding(crate::specs::Betting::stroke_said))]
-fn take_stroke(betting: &mut ReadBetting, at: u64, digits: &[u8]) -> Result<(), Stop<LineFault>>
-    requires { at + 1 + length digits.now < 2 ^ 64 }
-    ensures ok { OnOk result (stroke_said (bets_in betting.old) at digits.now
+fn take_stroke(betting: &mut ReadBetting, next: &Letter<'_>) -> Result<(), Stop<LineFault>>
+    ensures ok { OnOk result (stroke_said (bets_in betting.old) next.now.at next.now.digits.now
         ≡ Ok (bets_in betting.new)) }
     ensures err { IfErr result (λ stop.
-        Fails stop (stroke_said (bets_in betting.old) at digits.now)) }
+        Fails stop (stroke_said (bets_in betting.old) next.now.at next.now.digits.now)) }
 {
     if betting.round >= 4 {
-        return Err(wrong(LineFaultKind::BadBetting, at));
+        return Err(wrong(LineFaultKind::BadBetting, next.at));
     }
-    if !digits.is_empty() {
-        return Err(wrong(LineFaultKind::BadBetting, at + 1));
+    if !next.digits.is_empty() {
+        return Err(wrong(LineFaultKind::BadBetting, next.at + 1));
     }
     betting.steps.push(BettingStep::NextRound)?;
     betting.round += 1;

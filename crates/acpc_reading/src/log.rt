@@ -1,17 +1,15 @@
 //! A log is read line by line as the hands that it says, or its first fault is named.
-ghost use Rattle.std.specs.Prelude.{◌≡◌, ◌≤◌, ◌<◌, ◌^◌, map, sum_by, Ok, IfOk, IfErr, OnOk, length};
+ghost use Rattle.std.specs.Prelude.{◌≡◌, ℕ, ◌≤◌, ◌<◌, ◌^◌, map, sum_by, Ok, IfOk, IfErr, OnOk, length};
 ghost use Rattle.std.specs.List.{AllByRecursion};
 ghost use Rattle.first_fault.specs.declared.limits.TheConstants.{MOST_FILE_MOVES, MOST_HANDS};
 ghost use Rattle.first_fault.specs.Reading.{Fails, Gives};
 ghost use Rattle.acpc_text.specs.Faults.{Answers};
-ghost use Rattle.acpc_reading.specs.FieldsView.{HasRoom, fields_in};
-ghost use Rattle.acpc_reading.specs.Logs.{hand_of, hands_after_line, is_passed_over as is_passed_over_said, line_said, reading, with_hand};
+ghost use Rattle.acpc_reading.specs.Logs.{hands_after_line, is_passed_over as is_passed_over_said, line_said, reading, with_hand};
 ghost use Rattle.acpc_reading.specs.RecordView.{AreOfGame, IsOfGame, record_said};
 ghost use Rattle.hand_records.specs.Moves.{moves_of};
 
 use crate::betting::ReadBetting;
 use crate::cutting::cut_fields;
-use crate::fields::Fields;
 use crate::letters::{read_betting, wrong};
 use crate::names::{read_hand, read_names};
 use crate::record::record_of;
@@ -46,9 +44,7 @@ pub fn read(alloc: Global, game: &Game, bytes: &[u8]) -> Result<Records, AcpcFau
 #[tactic(auto, unfolding(crate::specs::Logs::reading))]
 fn read_lines(alloc: Global, game: &Game, bytes: &[u8]) -> Result<Records, Stop<AcpcFault>>
     ensures said { Gives (map record_said) result (reading game.now bytes.now) }
-    ensures each { IfOk result (AllByRecursion (IsOfGame game.now)) }
-    ensures few { IfOk result (λ records. length records ≤ MOST_HANDS) }
-    ensures moves { IfOk result (λ records. sum_by moves_of records ≤ MOST_FILE_MOVES) }
+    ensures kept { IfOk result (λ records. (moves : ℕ) × AreOfGame game.now records moves) }
 {
     let mut records = Records::new(alloc);
     records.make_room((bytes.len() / USUAL_LINE).min(MOST_HANDS));
@@ -106,8 +102,8 @@ fn is_passed_over(line: &[u8]) -> bool
     line.is_empty() || line[0] == b'#' || has_prefix(line, b"SCORE:")
 }
 
-// The hand of a line behind others.
-#[tactic(auto, unfolding(crate::specs::Logs::line_said))]
+// The hand of a line behind others. Its record is made where it is kept: it has a thousand bytes.
+#[tactic(auto, unfolding(crate::specs::Logs::line_said, crate::specs::Logs::hand_of))]
 fn read_line(
     alloc: Global,
     game: &Game,
@@ -129,29 +125,6 @@ fn read_line(
         return Err(wrong(LineFaultKind::LineShape, 1));
     }
     let fields = cut_fields(line)?;
-    read_hand_of(alloc, game, records, betting, &fields)
-}
-
-// The hand of some fields behind others. Its record is made where it is kept: it has a thousand
-// bytes.
-#[tactic(auto, unfolding(crate::specs::Logs::hand_of))]
-fn read_hand_of(
-    alloc: Global,
-    game: &Game,
-    records: &mut Records,
-    betting: &mut ReadBetting,
-    fields: &Fields<'_>,
-) -> Result<(), Stop<LineFault>>
-    requires room { HasRoom (fields_in fields.now) }
-    requires few { length records.old < MOST_HANDS }
-    requires kept { AreOfGame game.now records.old betting.old.file_moves }
-    ensures ok { OnOk result (with_hand (map record_said records.old)
-        (hand_of game.now (length records.old) betting.old.file_moves (fields_in fields.now))
-        ≡ Ok (map record_said records.new, betting.new.file_moves)) }
-    ensures err { IfErr result (λ stop. Fails stop
-        (hand_of game.now (length records.old) betting.old.file_moves (fields_in fields.now))) }
-    ensures kept { OnOk result (AreOfGame game.now records.new betting.new.file_moves) }
-{
     let players = game.stacks.seats;
     let hand_at = 1 + fields.state.len() as u64 + 1;
     let betting_at = hand_at + fields.hand.len() as u64 + 1;

@@ -1,15 +1,15 @@
 //! The names of the players and the number of the hand are read as notes.
-ghost use Rattle.std.specs.Prelude.{◌≡◌, ℕ, ◌≤◌, ◌<◌, ◌+◌, ◌-◌, ◌^◌, ◌==◌, ◌||◌, [], length, take, bytes_eq, slice_index_or, is_some, None, IfOk, IfSome};
+ghost use Rattle.std.specs.Prelude.{◌≡◌, ℕ, ◌≤◌, ◌<◌, ◌+◌, ◌-◌, ◌^◌, ◌==◌, ◌||◌, length, take, bytes_eq, slice_index_or, is_some, None, IfOk, IfSome};
 ghost use Rattle.std.specs.Str.{is_utf8};
 ghost use Rattle.first_fault.specs.Reading.{Gives};
-ghost use Rattle.acpc_text.specs.Parts.{parts_of};
 ghost use Rattle.hand_records.specs.AllowedNotes.{IsName, IsNoteText};
-ghost use Rattle.acpc_reading.specs.Names.{hand_said, name_said, names_after, names_said};
+ghost use Rattle.acpc_reading.specs.Names.{hand_said, name_said, names_said};
 ghost use Rattle.chip_ledger.specs.SeatsSaid.{default_name};
 
 use crate::letters::wrong;
 use crate::parts::next_part;
 use acpc_text::{LineFault, LineFaultKind, count_parts};
+use chip_ledger::Seat;
 use first_fault::{MOST_TEXT_BYTES, Quantity, Stop, Text, are_digits, read_digits};
 use std::alloc::Global;
 
@@ -65,31 +65,15 @@ pub fn read_names(
     if count_parts(text, b'|') != players as usize {
         return Err(wrong(LineFaultKind::SeatCount, at));
     }
-    fill_names(alloc, players, at, text)
-}
-
-// The names of as many players as there are parts.
-fn fill_names(
-    alloc: Global,
-    players: u8,
-    at: u64,
-    text: &[u8],
-) -> Result<[Option<Text>; 10], Stop<LineFault>>
-    requires few { players ≤ 10 }
-    requires same { length (parts_of 124 text.now) ≡ players }
-    requires near { at + length text.now < 2 ^ 64 - 1 }
-    ensures said { Gives (take players) result (names_after [] 1 at (parts_of 124 text.now)) }
-    ensures each { IfOk result (λ names. (seat : ℕ) → 1 ≤ seat → seat ≤ players
-        → IfSome (slice_index_or names (seat - 1) None) (IsName seat)) }
-    ensures no_more { IfOk result (λ names. (index : ℕ) → players ≤ index
-        → slice_index_or names index None ≡ None) }
-{
     let mut names = [None, None, None, None, None, None, None, None, None, None];
     let mut index = 0;
     let mut place = at;
     let mut rest = Some(text);
     while let Some((part, more)) = next_part(rest, b'|') {
-        let name = read_name(alloc, index as u8 + 1, place, part)?;
+        let seat = Seat {
+            number: index as u8 + 1,
+        };
+        let name = read_name(alloc, seat, place, part)?;
         names[index] = name;
         index += 1;
         place += part.len() as u64 + 1;
@@ -100,11 +84,14 @@ fn fill_names(
 
 // The name of a seat, which begins at this byte.
 #[tactic(auto, using(crate::proofs::UsualNames::usual_again), unfolding(crate::specs::Names::name_said))]
-fn read_name(alloc: Global, seat: u8, at: u64, name: &[u8]) -> Result<Option<Text>, Stop<LineFault>>
-    requires first { 1 ≤ seat }
-    requires last { seat ≤ 10 }
-    ensures said { Gives (λ name. name) result (name_said seat at name.now) }
-    ensures allowed { IfOk result (λ name. IfSome name (IsName seat)) }
+fn read_name(
+    alloc: Global,
+    seat: Seat,
+    at: u64,
+    name: &[u8],
+) -> Result<Option<Text>, Stop<LineFault>>
+    ensures said { Gives (λ name. name) result (name_said seat.number at name.now) }
+    ensures allowed { IfOk result (λ name. IfSome name (IsName seat.number)) }
 {
     if says_nothing(seat, name) {
         return Ok(None);
@@ -132,22 +119,18 @@ fn text_of(bytes: &[u8]) -> Option<&str>
 }
 
 // Whether the name is none, or that of the seat where none is said.
-fn says_nothing(seat: u8, name: &[u8]) -> bool
-    requires first { 1 ≤ seat }
-    requires last { seat ≤ 10 }
-    ensures { result ≡ (length name.now == 0 || bytes_eq name.now (default_name seat)) }
+fn says_nothing(seat: Seat, name: &[u8]) -> bool
+    ensures { result ≡ (length name.now == 0 || bytes_eq name.now (default_name seat.number)) }
 {
     name.is_empty() || is_default(seat, name)
 }
 
 // Whether the text is the name of the seat where none is said.
-fn is_default(seat: u8, name: &[u8]) -> bool
-    requires first { 1 ≤ seat }
-    requires last { seat ≤ 10 }
-    ensures { result ≡ bytes_eq name.now (default_name seat) }
+fn is_default(seat: Seat, name: &[u8]) -> bool
+    ensures { result ≡ bytes_eq name.now (default_name seat.number) }
 {
-    if seat < 10 {
-        name == [b'p', b'0' + seat].as_slice()
+    if seat.number < 10 {
+        name == [b'p', b'0' + seat.number].as_slice()
     } else {
         name == b"p10".as_slice()
     }

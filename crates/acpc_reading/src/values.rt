@@ -1,9 +1,9 @@
 //! What each seat won or lost is read as the line states it.
-ghost use Rattle.std.specs.Prelude.{◌≡◌, ◌≤◌, ◌<◌, ◌+◌, ◌-◌, ◌^◌, [], ◌∷◌, length, slice_set, IfOk};
+ghost use Rattle.std.specs.Prelude.{◌≡◌, ◌≤◌, ◌<◌, ◌+◌, ◌-◌, ◌^◌, ◌∷◌, length, slice_set, IfOk};
 ghost use Rattle.chip_ledger.specs.declared.rows.TheConstants.{MOST_AMOUNT};
 ghost use Rattle.first_fault.specs.Reading.{Gives};
 ghost use Rattle.acpc_text.specs.Parts.{parts_of};
-ghost use Rattle.acpc_reading.specs.Values.{are_zeros as are_zeros_said, signed as signed_said, unsigned_said, value_said, values_after, values_said, whole_said};
+ghost use Rattle.acpc_reading.specs.Values.{are_zeros as are_zeros_said, signed as signed_said, unsigned_said, value_said, values_said, whole_said};
 ghost use Rattle.acpc_reading.specs.Views.{nets_in};
 
 use crate::letters::wrong;
@@ -24,17 +24,6 @@ pub fn read_values(players: u8, at: u64, text: &[u8]) -> Result<NetRow, Stop<Lin
     if count_parts(text, b'|') != players as usize {
         return Err(wrong(LineFaultKind::SeatCount, at));
     }
-    fill_values(players, at, text)
-}
-
-// The values of as many players as there are parts.
-fn fill_values(players: u8, at: u64, text: &[u8]) -> Result<NetRow, Stop<LineFault>>
-    requires few { players ≤ 10 }
-    requires same { length (parts_of 124 text.now) ≡ players }
-    requires near { at + length text.now < 2 ^ 64 - 1 }
-    ensures said { Gives nets_in result (values_after [] at (parts_of 124 text.now)) }
-    ensures seats { IfOk result (λ row. row.seats ≡ players) }
-{
     let mut nets = [0; 10];
     let mut index = 0;
     let mut place = at;

@@ -23,11 +23,6 @@ pub record IsShort (trace : Trace) : Type 0 where
   pub dealt : (owner : Option ℕ) (street : ℕ)
       → length (dealt_slots (core_said trace).places owner street) ≤ 7
 
--- A trace is short, and has so many moves or more.
-pub record IsShortTo (trace : Trace) (count : ℕ) : Type 0 where
-  pub short : IsShort trace
-  pub there : count ≤ length trace.moves
-
 -- A number is the length of a text, which is at most so long.
 pub record IsLengthWithin (most : ℕ) (text : List ℕ) (number : ℕ) : Type 0 where
   pub value : number ≡ length text

@@ -1,12 +1,12 @@
 //! The bytes of the lines that a seat saw are counted, without memory.
-ghost use Rattle.std.specs.Prelude.{◌≡◌, ◌≤◌, ◌*◌, ◌++◌, ℕ, Some, None, decimal, length, map, take};
+ghost use Rattle.std.specs.Prelude.{◌≡◌, ◌≤◌, ◌*◌, ◌++◌, Some, None, decimal, length, map, take};
 ghost use Rattle.acpc_writing.specs.Betting.{betting_text, letter, letter_on, letters_on, round_text};
 ghost use Rattle.acpc_writing.specs.Cards.{board_text, cards_text, hole_text, holes_text};
 ghost use Rattle.acpc_writing.specs.Names.{hand_text};
 ghost use Rattle.acpc_writing.specs.Rounds.{has_board as has_board_said};
 ghost use Rattle.acpc_writing.specs.Seats.{bar_before};
 ghost use Rattle.acpc_writing.specs.Puts.{HaveFewChips};
-ghost use Rattle.acpc_view.specs.Lengths.{IsLengthWithin, IsShort, IsShortTo, hole_of, seen_by};
+ghost use Rattle.acpc_view.specs.Lengths.{IsLengthWithin, IsShort, hole_of, seen_by};
 ghost use Rattle.acpc_view.specs.View.{seen_text, view_line, views_text};
 ghost use Rattle.canon_script.specs.CanonScript.{dealt_slots, plain_move, plain_moves};
 ghost use Rattle.card_set.specs.Spelling.{spelling};
@@ -46,8 +46,13 @@ fn line_len(no_limit: bool, play: &Play, place: usize, viewer: Seat, count: usiz
     requires there { count ≤ length play.now.trace.moves }
     ensures { IsLengthWithin 400000 (view_line no_limit viewer.number place play.now count) result }
 {
+    let seen = Seen {
+        trace: &play.trace,
+        viewer,
+        count,
+    };
     // `MATCHSTATE`, three colons, the digit of the seat, and the end of the line.
-    15 + hand_len(place, &play.hand.notes.hand) + seen_len(no_limit, &play.trace, viewer, count)
+    15 + hand_len(place, &play.hand.notes.hand) + seen.seen_len(no_limit)
 }
 
 // The number of bytes of the number of a hand at a place of its file.
@@ -65,40 +70,121 @@ fn hand_len(place: usize, name: &Option<Text>) -> u64
     }
 }
 
-// The number of bytes of the betting and the cards that the seat saw.
-fn seen_len(no_limit: bool, trace: &Trace, viewer: Seat, count: usize) -> u64
-    requires { IsShortTo trace.now count }
-    ensures { IsLengthWithin 390000 (seen_text no_limit trace.now viewer.number count) result }
-{
-    betting_len(no_limit, trace, viewer, count) + 1 + cards_len(trace, viewer, count)
+// What a seat sees of a trace, where so many of its moves are made.
+#[derive(Clone, Copy)]
+struct Seen<'a> {
+    trace: &'a Trace,
+    viewer: Seat,
+    count: usize,
+    ghost short: { IsShort trace.now },
+    ghost there: { count ≤ length trace.now.moves },
 }
 
-// The number of bytes of the betting.
-fn betting_len(no_limit: bool, trace: &Trace, viewer: Seat, count: usize) -> u64
-    requires { IsShortTo trace.now count }
-    ensures { IsLengthWithin 360000 (betting_text no_limit trace.now.setup
-        (seen_by trace.now viewer.number count)
-        (plain_moves (map move_said (take count trace.now.moves)))) result }
-{
-    let made = &trace.moves.as_slice()[..count];
-    letters_len(no_limit, &trace.setup, made, 1)
-        + round_len(no_limit, trace, viewer, count, 2)
-        + round_len(no_limit, trace, viewer, count, 3)
-        + round_len(no_limit, trace, viewer, count, 4)
-}
+impl Seen<'_> {
+    // The number of bytes of the betting and the cards that the seat saw.
+    fn seen_len(&self, no_limit: bool) -> u64
+        ensures { IsLengthWithin 390000
+            (seen_text no_limit self.now.trace.now self.now.viewer.number self.now.count) result }
+    {
+        self.betting_len(no_limit) + 1 + self.cards_len()
+    }
 
-// The number of bytes of a further round, if it has begun.
-fn round_len(no_limit: bool, trace: &Trace, viewer: Seat, count: usize, street: u8) -> u64
-    requires { IsShortTo trace.now count }
-    ensures { IsLengthWithin 90000 (round_text no_limit trace.now.setup
-        (seen_by trace.now viewer.number count)
-        (plain_moves (map move_said (take count trace.now.moves))) street) result }
-{
-    let made = &trace.moves.as_slice()[..count];
-    if is_board_seen(trace, count, street) {
-        1 + letters_len(no_limit, &trace.setup, made, street)
-    } else {
-        0
+    // The number of bytes of the betting.
+    fn betting_len(&self, no_limit: bool) -> u64
+        ensures { IsLengthWithin 360000 (betting_text no_limit self.now.trace.now.setup
+            (seen_by self.now.trace.now self.now.viewer.number self.now.count)
+            (plain_moves (map move_said (take self.now.count self.now.trace.now.moves)))) result }
+    {
+        let made = &self.trace.moves.as_slice()[..self.count];
+        letters_len(no_limit, &self.trace.setup, made, 1)
+            + self.round_len(no_limit, 2)
+            + self.round_len(no_limit, 3)
+            + self.round_len(no_limit, 4)
+    }
+
+    // The number of bytes of a further round, if it has begun.
+    fn round_len(&self, no_limit: bool, street: u8) -> u64
+        ensures { IsLengthWithin 90000 (round_text no_limit self.now.trace.now.setup
+            (seen_by self.now.trace.now self.now.viewer.number self.now.count)
+            (plain_moves (map move_said (take self.now.count self.now.trace.now.moves))) street)
+            result }
+    {
+        let made = &self.trace.moves.as_slice()[..self.count];
+        if self.is_board_seen(street) {
+            1 + letters_len(no_limit, &self.trace.setup, made, street)
+        } else {
+            0
+        }
+    }
+
+    // The board of a street has begun, and is there.
+    fn is_board_seen(&self, street: u8) -> bool
+        ensures { result ≡ has_board_said
+            (seen_by self.now.trace.now self.now.viewer.number self.now.count) street }
+    {
+        has_begun(self.trace.moves.as_slice(), self.count, street)
+            && has_board(self.trace.places.as_slice(), street)
+    }
+
+    // The number of bytes of the cards.
+    fn cards_len(&self) -> u64
+        ensures { IsLengthWithin 200 (cards_text
+            (seen_by self.now.trace.now self.now.viewer.number self.now.count)
+            self.now.trace.now.setup.stacks.seats) result }
+    {
+        self.holes_len() + self.board_len(2) + self.board_len(3) + self.board_len(4)
+    }
+
+    // The number of bytes of the hole cards, with the bars between them.
+    fn holes_len(&self) -> u64
+        ensures { IsLengthWithin 150 (holes_text
+            (seen_by self.now.trace.now self.now.viewer.number self.now.count)
+            self.now.trace.now.setup.stacks.seats) result }
+    {
+        let mut all: u64 = 0;
+        for index in 0..self.trace.setup.stacks.seats {
+            let seat = Seat { number: index + 1 };
+            all += self.seat_len(seat);
+        }
+        all
+    }
+
+    // The number of bytes of the bar in front of a seat, and of its hole cards.
+    fn seat_len(&self, seat: Seat) -> u64
+        ensures { IsLengthWithin 15 (bar_before seat.number
+            ++ hole_text (seen_by self.now.trace.now self.now.viewer.number self.now.count)
+            seat.number) result }
+    {
+        if 1 < seat.number {
+            1 + self.hole_len(seat)
+        } else {
+            self.hole_len(seat)
+        }
+    }
+
+    // The number of bytes of the hole cards of a seat, if they are seen.
+    fn hole_len(&self, seat: Seat) -> u64
+        ensures { IsLengthWithin 14
+            (hole_text (seen_by self.now.trace.now self.now.viewer.number self.now.count)
+            seat.number) result }
+    {
+        if sees_seat_of(self.trace, self.viewer, self.count, seat) {
+            known_len(self.trace.places.as_slice(), seat)
+        } else {
+            0
+        }
+    }
+
+    // The number of bytes of the board of a further round, if it is seen.
+    fn board_len(&self, street: u8) -> u64
+        ensures { IsLengthWithin 15 (board_text
+            (seen_by self.now.trace.now self.now.viewer.number self.now.count) street) result }
+    {
+        if self.is_board_seen(street) {
+            1 + dealt_len(self.trace.places.as_slice(), None, street)
+        } else {
+            0
+        }
     }
 }
 
@@ -161,65 +247,6 @@ fn digits_len(number: u64) -> u64
     }
 }
 
-// The board of a street has begun, and is there.
-fn is_board_seen(trace: &Trace, count: usize, street: u8) -> bool
-    ensures { (viewer : ℕ) → result ≡ has_board_said (seen_by trace.now viewer count) street }
-{
-    has_begun(trace.moves.as_slice(), count, street) && has_board(trace.places.as_slice(), street)
-}
-
-// The number of bytes of the cards.
-fn cards_len(trace: &Trace, viewer: Seat, count: usize) -> u64
-    requires { IsShort trace.now }
-    ensures { IsLengthWithin 200 (cards_text (seen_by trace.now viewer.number count)
-        trace.now.setup.stacks.seats) result }
-{
-    holes_len(trace, viewer, count)
-        + board_len(trace, viewer, count, 2)
-        + board_len(trace, viewer, count, 3)
-        + board_len(trace, viewer, count, 4)
-}
-
-// The number of bytes of the hole cards, with the bars between them.
-fn holes_len(trace: &Trace, viewer: Seat, count: usize) -> u64
-    requires { IsShort trace.now }
-    ensures { IsLengthWithin 150 (holes_text (seen_by trace.now viewer.number count)
-        trace.now.setup.stacks.seats) result }
-{
-    let mut all: u64 = 0;
-    for index in 0..trace.setup.stacks.seats {
-        let seat = Seat { number: index + 1 };
-        all += seat_len(trace, viewer, count, seat);
-    }
-    all
-}
-
-// The number of bytes of the bar in front of a seat, and of its hole cards.
-fn seat_len(trace: &Trace, viewer: Seat, count: usize, seat: Seat) -> u64
-    requires { IsShort trace.now }
-    ensures { IsLengthWithin 15 (bar_before seat.number
-        ++ hole_text (seen_by trace.now viewer.number count) seat.number) result }
-{
-    if 1 < seat.number {
-        1 + hole_len(trace, viewer, count, seat)
-    } else {
-        hole_len(trace, viewer, count, seat)
-    }
-}
-
-// The number of bytes of the hole cards of a seat, if they are seen.
-fn hole_len(trace: &Trace, viewer: Seat, count: usize, seat: Seat) -> u64
-    requires { IsShort trace.now }
-    ensures { IsLengthWithin 14
-        (hole_text (seen_by trace.now viewer.number count) seat.number) result }
-{
-    if sees_seat_of(trace, viewer, count, seat) {
-        known_len(trace.places.as_slice(), seat)
-    } else {
-        0
-    }
-}
-
 // The number of bytes of the hole cards of a seat, if they are known.
 fn known_len(places: &[Place], seat: Seat) -> u64
     requires { length (dealt_slots (map place_said places.now) (Some seat.number) 1) ≤ 7 }
@@ -230,18 +257,6 @@ fn known_len(places: &[Place], seat: Seat) -> u64
         0
     } else {
         dealt_len(places, Some(seat), 1)
-    }
-}
-
-// The number of bytes of the board of a further round, if it is seen.
-fn board_len(trace: &Trace, viewer: Seat, count: usize, street: u8) -> u64
-    requires { IsShort trace.now }
-    ensures { IsLengthWithin 15 (board_text (seen_by trace.now viewer.number count) street) result }
-{
-    if is_board_seen(trace, count, street) {
-        1 + dealt_len(trace.places.as_slice(), None, street)
-    } else {
-        0
     }
 }
 

@@ -1,5 +1,5 @@
 //! A play is written as its one line.
-ghost use Rattle.std.specs.Prelude.{◌≡◌, ◌++◌, IfOk, OnErr, OnOk};
+ghost use Rattle.std.specs.Prelude.{◌≡◌, ◌++◌, OnErr, OnOk};
 ghost use Rattle.hand_canon.specs.Sound.{IsSound};
 ghost use Rattle.acpc_writing.specs.Line.{end_text, head_text, line_text, play_text};
 ghost use Rattle.acpc_writing.specs.Puts.{HaveFewChips};
@@ -15,6 +15,7 @@ use std::alloc::{AllocError, Global};
 
 /// Puts the line of the play at a place of its file, from 0, behind those of the plays before it,
 /// whole or not at all. Raises have their totals where the game has no limit.
+#[tactic(auto, unfolding(crate::specs::Line::line_text))]
 pub fn push_line(
     alloc: Global,
     out: &mut Vec<u8>,
@@ -28,22 +29,6 @@ pub fn push_line(
     ensures texts { OnOk result (HasTexts play.now) }
     ensures unchanged { OnErr result (out.new.items ≡ out.old.items) }
 {
-    let line = make_line(alloc, no_limit, place, play)?;
-    out.extend_from_slice(line.as_slice())
-}
-
-// The line of the play at a place of its file, from 0.
-#[tactic(auto, unfolding(crate::specs::Line::line_text))]
-fn make_line(
-    alloc: Global,
-    no_limit: bool,
-    place: usize,
-    play: &Play,
-) -> Result<Vec<u8>, AllocError>
-    requires { IsSound play.now }
-    ensures written { IfOk result (λ line. line.items ≡ line_text no_limit place play.now) }
-    ensures texts { OnOk result (HasTexts play.now) }
-{
     let mut line = Vec::new(alloc);
     push_head(alloc, &mut line, place, &play.hand.notes.hand)?;
     line.extend_from_slice(b":")?;
@@ -51,7 +36,7 @@ fn make_line(
     line.extend_from_slice(b":")?;
     push_end(alloc, &mut line, &play.trace, &play.hand.notes)?;
     line.extend_from_slice(b"\n")?;
-    Ok(line)
+    out.extend_from_slice(line.as_slice())
 }
 
 // `STATE` and the number of the hand at a place of its file, from 0.

@@ -13,7 +13,7 @@ use crate::line::push_line;
 use crate::spelled::find_refusal;
 use acpc_game::Game;
 use hand_records::{Keep, Play, WriteRefusal};
-use std::alloc::{AllocError, Global};
+use std::alloc::Global;
 
 /// The lines of some plays, one a play. Nothing is written where the logs of the game do not spell
 /// one of them.
@@ -38,21 +38,9 @@ pub fn write(
     if let Some(refusal) = find_refusal(game, plays, keep) {
         return Err(refusal);
     }
-    match spell(alloc, game.no_limit, plays) {
-        Ok(bytes) => Ok(bytes),
-        Err(_) => Err(WriteRefusal::Memory),
-    }
-}
-
-// The lines of some plays.
-fn spell(alloc: Global, no_limit: bool, plays: &[Play]) -> Result<Vec<u8>, AllocError>
-    requires { AllByRecursion IsSound plays.now }
-    ensures written { IfOk result (λ bytes. bytes.items ≡ log_text no_limit plays.now) }
-    ensures texts { OnOk result (AllByRecursion HasTexts plays.now) }
-{
     let mut out = Vec::new(alloc);
     for (place, play) in plays.iter().enumerate() {
-        push_line(alloc, &mut out, no_limit, place, play)?;
+        push_line(alloc, &mut out, game.no_limit, place, play)?;
     }
     Ok(out)
 }

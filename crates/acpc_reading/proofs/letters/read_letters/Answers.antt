@@ -6,8 +6,8 @@ use Rattle.acpc_reading.specs.Views.{bets_in}
 use Rattle.acpc_reading.proofs.EachLetter.{goes_on, ends, is_done}
 use Rattle.acpc_reading.proofs.letters.read_letters.Goals as goal
 
-pub take_letter-requires-clause-few : goal.take_letter-requires-clause-few
-take_letter-requires-clause-few c = omega (arith, ap length c.in-Some.ensures, c.cut_digits.ensures.len, c.loop-letter.invariant.place_is, c.requires.few)
+pub invariant_of-next-clause-near : goal.invariant_of-next-clause-near
+invariant_of-next-clause-near c = omega (arith, ap length c.in-Some.ensures, c.cut_digits.ensures.len, c.loop-letter.invariant.place_is, c.requires.few)
 
 pub returns-in_err-take_letter-clause-err : goal.returns-in_err-take_letter-clause-err
 returns-in_err-take_letter-clause-err c =

@@ -28,3 +28,6 @@ loop-line-preserved c =
 pub returns-clause-said : goal.returns-clause-said
 unfolding reading
 returns-clause-said c = ap (λ read. read >>= λ hands. Ok hands.0) (lines_done c.args.game.now (map record_said c.loop-line.records, c.loop-line.betting.file_moves) (c.loop-line.count + 1) (lines_of c.loop-line.rest.now) (hands_after c.args.game.now ([], 0) 1 (lines_of c.args.bytes.now)) c.in_default.ensures.lines c.loop-line.invariant.read)
+
+pub returns-clause-kept : goal.returns-clause-kept
+returns-clause-kept c = (c.loop-line.betting.file_moves, c.loop-line.invariant.kept)
