@@ -1,16 +1,15 @@
 -- The notes that the fields of a hand say, examined in this order. A note that equals its default
 -- is none.
-use Rattle.std.specs.Prelude.{ℕ, ◌==◌, Bool, true, nat_le, ◌&&◌, if◌then◌else◌, List, [], length, take, replicate, Option, Some, None, option_map, Result, Ok}
+use Rattle.std.specs.Prelude.{◌≡◌, ℕ, ◌-◌, ◌≤◌, ◌==◌, Bool, true, nat_le, ◌&&◌, if◌then◌else◌, List, [], take, replicate, slice_index_or, Option, Some, None, IfSome, option_map, Result, Ok}
 use Rattle.std.specs.Fmt.{decimal, signed_decimal}
 use Rattle.toml.specs.Data.{Data, string, integer, datetime, Members}
 use Rattle.toml_datetime.specs.declared.datetime.Date.{Date}
 use Rattle.toml_datetime.specs.declared.datetime.Offset.{Offset}
 use Rattle.toml_datetime.specs.declared.datetime.Time.{Time}
-use Rattle.first_fault.specs.declared.limits.TheConstants.{MOST_TEXT_BYTES}
 use Rattle.first_fault.specs.declared.limits.Quantity.TheVariants as quantities
 use Rattle.hand_records.specs.declared.notes.Clock.{Clock}
-use Rattle.hand_records.specs.declared.notes.Notes.{Notes}
-use Rattle.hand_records.specs.AllowedNotes.{days_in_month, noted, unless_usual}
+use Rattle.hand_records.specs.AllowedNotes.{IsName, days_in_month, noted_or, unless_usual}
+use Rattle.hand_records.specs.SaidNotes.{SaidNotes}
 use Rattle.first_fault.specs.Reading.{◌>>=◌, each_from, read_if, or_none}
 use Rattle.phh_fields.specs.declared.fault.FieldKey.TheVariants as keys
 use Rattle.phh_fields.specs.declared.fault.FieldFaultKind.TheVariants as whats
@@ -28,23 +27,6 @@ pub record PlainSeating : Type 0 where
   pub seats : Option (List ℕ)
   pub seat_count : Option ℕ
 
--- where a hand was played
-pub record PlainLabels : Type 0 where
-  pub hand : Option (List ℕ)
-  pub table : Option (List ℕ)
-  pub venue : Option (List ℕ)
-  pub currency : Option (List ℕ)
-
--- what is said of where a hand was played
-abbrev pub plain_labels : Labels → PlainLabels
-plain_labels labels =
-    record {
-      hand = labels.hand;
-      table = labels.table;
-      venue = labels.venue;
-      currency = labels.currency;
-    }
-
 -- who sits where at a table with so many seats
 abbrev pub plain_seating : ℕ → Seating → PlainSeating
 plain_seating count seating =
@@ -54,42 +36,16 @@ plain_seating count seating =
       seat_count = seating.seat_count;
     }
 
--- the notes of a hand with plain lists
-pub record PlainNotes : Type 0 where
-  pub seating : PlainSeating
-  pub labels : PlainLabels
-  pub day : PartialDate
-  pub time : Option Clock
-  pub zone : Option (List ℕ)
-
--- the notes of a hand with so many seats
-abbrev pub plain_notes : ℕ → Notes → PlainNotes
-plain_notes count notes =
-    record {
-      seating =
-          record {
-            names = take count notes.names;
-            seats = option_map (take count) notes.seats;
-            seat_count = notes.seat_count;
-          };
-      labels =
-          record {
-            hand = notes.hand;
-            table = notes.table;
-            venue = notes.venue;
-            currency = notes.currency;
-          };
-      day = record { year = notes.year; month = notes.month; day = notes.day };
-      time = notes.time;
-      zone = notes.zone;
-    }
+-- the names of the players of so many seats, and none behind them
+pub record AreNames (count : ℕ) (names : List (Option (List ℕ))) : Type 0 where
+  pub each : (seat : ℕ) → 1 ≤ seat → seat ≤ count
+      → IfSome (slice_index_or names (seat - 1) None) (IsName seat)
+  pub no_more : (index : ℕ) → count ≤ index → slice_index_or names index None ≡ None
 
 -- the text of a note with this default; it is of at most 255 bytes
 unfoldable pub note_said : List ℕ → FieldPlace → List ℕ → Result (Option (List ℕ)) FieldFault
 note_said default place text =
-    if nat_le (length text) MOST_TEXT_BYTES
-    then Ok (noted default text)
-    else wrong (whats.TooMany quantities.TextBytes) place
+    noted_or (record { what = whats.TooMany quantities.TextBytes; place = place }) default text
 
 -- a text with this default
 unfoldable pub text_note_said : List ℕ → FieldPlace → Data → Result (Option (List ℕ)) FieldFault
@@ -136,7 +92,7 @@ seating_said count members = do
   Ok (record { names = names; seats = seats; seat_count = seat_count })
 
 -- where the hand was played; place is the hand's place in its file, from 0
-unfoldable pub labels_said : ℕ → Members → Result PlainLabels FieldFault
+unfoldable pub labels_said : ℕ → Members → Result Labels FieldFault
 labels_said place members = do
   hand ← or_none (label_said (decimal place) (at_key keys.Hand)) (field keys.Hand members)
   table ← or_none (label_said [] (at_key keys.Table)) (field keys.Table members)
@@ -198,12 +154,31 @@ unfoldable pub time_said : Data → Result Clock FieldFault
 time_said (datetime said) = clock_said (time_alone said.date said.time said.offset)
 time_said _ = wrong whats.WrongType (at_key keys.Time)
 
+-- the notes of their parts
+abbrev pub notes_from : PlainSeating → Labels → PartialDate → Option Clock → Option (List ℕ)
+    → SaidNotes
+notes_from seating labels date time zone =
+    record {
+      names = seating.names;
+      seats = seating.seats;
+      seat_count = seating.seat_count;
+      hand = labels.hand;
+      table = labels.table;
+      venue = labels.venue;
+      currency = labels.currency;
+      year = date.year;
+      month = date.month;
+      day = date.day;
+      time = time;
+      zone = zone;
+    }
+
 -- the notes
-unfoldable pub notes_said : ℕ → ℕ → Members → Result PlainNotes FieldFault
+unfoldable pub notes_said : ℕ → ℕ → Members → Result SaidNotes FieldFault
 notes_said place count members = do
   seating ← seating_said count members
   labels ← labels_said place members
   day ← day_said members
   time ← read_if time_said (field keys.Time members)
   zone ← or_none (text_note_said [] (at_key keys.TimeZone)) (field keys.TimeZone members)
-  Ok (record { seating = seating; labels = labels; day = day; time = time; zone = zone })
+  Ok (notes_from seating labels day time zone)

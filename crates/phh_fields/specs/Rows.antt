@@ -1,8 +1,9 @@
 -- Lists of amounts: one for each seat, or one for each pot.
-use Rattle.std.specs.Prelude.{ℕ, ◌-◌, nat_le, ◌&&◌, min, max, if◌then◌else◌, List, [], ◌∷◌, ◌++◌, length, replicate, slice_index, Result, Ok}
+use Rattle.std.specs.Prelude.{◌≡◌, ℕ, ◌-◌, ◌≤◌, nat_le, ◌&&◌, min, max, if◌then◌else◌, List, [], ◌∷◌, ◌++◌, length, replicate, slice_index, Result, Ok}
 use Rattle.toml.specs.Data.{Data}
 use Rattle.chip_ledger.specs.declared.numbers.TheConstants.{MOST_CHIPS}
 use Rattle.chip_ledger.specs.declared.rows.TheConstants.{MOST_AMOUNT}
+use Rattle.chip_ledger.specs.declared.rows.SeatRow.{SeatRow}
 use Rattle.first_fault.specs.Reading.{◌>>=◌, each_from}
 use Rattle.phh_fields.specs.declared.fault.FieldKey.{FieldKey}
 use Rattle.phh_fields.specs.declared.fault.FieldKey.TheVariants as keys
@@ -31,6 +32,11 @@ stacks_said most_seats value = do
 -- the ante of a seat with this stack, held as the lesser of what is named and the stack
 unfoldable pub ante_said : ℕ → FieldPlace → Data → Result ℕ FieldFault
 ante_said stack place value = amount_said 0 MOST_CHIPS place value >>= λ ante. Ok (min ante stack)
+
+-- the antes of seats with these stacks, none above its stack
+pub record AreHeld (stacks antes : SeatRow) : Type 0 where
+  pub seats : antes.seats ≡ stacks.seats
+  pub each : (k : ℕ) → slice_index antes.amounts k ≤ slice_index stacks.amounts k
 
 -- the antes of seats with these stacks
 abbrev pub antes_from : List ℕ → List Data → Result (List ℕ) FieldFault

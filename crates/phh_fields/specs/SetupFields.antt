@@ -5,47 +5,19 @@ use Rattle.std.specs.Option.{option_map_or}
 use Rattle.toml.specs.Data.{Data, Members}
 use Rattle.chip_ledger.specs.declared.numbers.TheConstants.{MOST_CHIPS}
 use Rattle.play_event.specs.declared.code.Code.{Code}
-use Rattle.play_event.specs.declared.setup.Setup.{Setup}
 use Rattle.play_event.specs.Code.{code_text}
 use Rattle.play_event.specs.Games.{game_of, all_games}
 use Rattle.play_event.specs.Streets.{limit_of, is_stud}
 use Rattle.play_event.specs.ValidSetup.{is_fixed}
 use Rattle.first_fault.specs.Reading.{◌>>=◌, read_if}
+use Rattle.hand_records.specs.declared.sizes.Sizes.{Sizes}
+use Rattle.hand_records.specs.PlainHands.{PlainSetup}
 use Rattle.phh_fields.specs.declared.fault.FieldKey.{FieldKey}
 use Rattle.phh_fields.specs.declared.fault.FieldKey.TheVariants as keys
 use Rattle.phh_fields.specs.declared.fault.FieldFaultKind.TheVariants as whats
 use Rattle.phh_fields.specs.declared.fault.FieldFault.{FieldFault}
-use Rattle.phh_fields.specs.declared.sizes.Sizes.{Sizes}
 use Rattle.phh_fields.specs.Fields.{at_key, or_wrong, field, needed, text_said, flag_said, amount_said}
 use Rattle.phh_fields.specs.Rows.{row_said, stacks_said, antes_said, posted}
-use Rattle.chip_ledger.specs.SeatRow.{amounts_in}
-
--- a setup with plain lists, but for its rakes
-pub record PlainSetup : Type 0 where
-  pub code : Code
-  pub stacks : List ℕ
-  pub antes : List ℕ
-  pub dead_antes : Bool
-  pub blinds : List ℕ
-  pub sizes : Sizes
-
--- a setup as plain values
-abbrev pub plain_setup : Setup → PlainSetup
-plain_setup setup =
-    record {
-      code = setup.code;
-      stacks = amounts_in setup.stacks;
-      antes = amounts_in setup.antes;
-      dead_antes = setup.dead_antes;
-      blinds = amounts_in setup.blinds;
-      sizes =
-          record {
-            bring_in = setup.bring_in;
-            small_bet = setup.small_bet;
-            big_bet = setup.big_bet;
-            min_bet = setup.min_bet;
-          };
-    }
 
 -- the game whose code the text is, if it is one of the eleven
 unfoldable pub game_named : List ℕ → Option Code

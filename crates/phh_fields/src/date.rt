@@ -5,7 +5,7 @@ ghost use Rattle.hand_records.specs.AllowedNotes.{IsTime, IsWithin};
 ghost use Rattle.first_fault.specs.Reading.{Gives, read_if};
 ghost use Rattle.phh_fields.specs.declared.fault.FieldKey.TheVariants as keys;
 ghost use Rattle.phh_fields.specs.Fields.{at_key, field as field_said, number_said};
-ghost use Rattle.phh_fields.specs.NoteFields.{clock_of as clock_of_said, clock_said, day_said, is_clock as is_clock_said, is_in_calendar as is_in_calendar_said, time_alone as time_alone_said, time_said};
+ghost use Rattle.phh_fields.specs.NoteFields.{clock_of as clock_of_said, day_said, is_clock as is_clock_said, is_in_calendar as is_in_calendar_said, time_alone as time_alone_said, time_said};
 
 use crate::fault::{FieldFault, FieldFaultKind, FieldKey, FieldPlace};
 use crate::values::{field, read_number, wrong};
@@ -100,38 +100,23 @@ pub fn read_time_at(table: &Table) -> Result<Option<Clock>, Stop<FieldFault>>
 }
 
 // The time of the day.
-#[tactic(auto, unfolding(crate::specs::NoteFields::time_said))]
+#[tactic(auto, unfolding(crate::specs::NoteFields::time_said, crate::specs::NoteFields::clock_said))]
 fn read_time(value: &Value) -> Result<Clock, Stop<FieldFault>>
     ensures said { Gives (λ clock. clock) result (time_said (view value.now)) }
     ensures allowed { IfOk result IsTime }
 {
-    match value {
-        Value::Datetime(said) => read_clock(time_alone(said)),
-        _ => Err(wrong(
-            FieldFaultKind::WrongType,
-            FieldPlace::at_key(FieldKey::Time),
-        )),
-    }
-}
-
-// The time of a day that a local time says.
-#[tactic(auto, unfolding(crate::specs::NoteFields::clock_said))]
-fn read_clock(time: Option<Time>) -> Result<Clock, Stop<FieldFault>>
-    ensures said { Gives (λ clock. clock) result (clock_said time) }
-    ensures allowed { IfOk result IsTime }
-{
-    let place = FieldPlace::at_key(FieldKey::Time);
-    match time {
-        None => Err(wrong(FieldFaultKind::WrongType, place)),
-        Some(time) => {
+    if let Value::Datetime(said) = value {
+        if let Some(time) = time_alone(said) {
             let clock = clock_of(time);
             if is_clock(clock) {
-                Ok(clock)
-            } else {
-                Err(wrong(FieldFaultKind::WrongType, place))
+                return Ok(clock);
             }
         }
     }
+    Err(wrong(
+        FieldFaultKind::WrongType,
+        FieldPlace::at_key(FieldKey::Time),
+    ))
 }
 
 // A time of a day; a second or a fraction that is not said is 0.

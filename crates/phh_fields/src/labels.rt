@@ -6,7 +6,7 @@ ghost use Rattle.hand_records.specs.AllowedNotes.{IsNoteText};
 ghost use Rattle.first_fault.specs.Reading.{Gives, or_none};
 ghost use Rattle.phh_fields.specs.declared.fault.FieldKey.TheVariants as keys;
 ghost use Rattle.phh_fields.specs.Fields.{at_key, field as field_said};
-ghost use Rattle.phh_fields.specs.NoteFields.{label_said, labels_said, plain_labels, text_note_said};
+ghost use Rattle.phh_fields.specs.NoteFields.{label_said, labels_said, text_note_said};
 
 use crate::fault::{FieldFault, FieldKey, FieldPlace};
 use crate::texts::{read_label, read_text_note};
@@ -27,7 +27,7 @@ pub struct Labels {
 /// The labels of the hand at this place of its file, from 0.
 #[tactic(auto, unfolding(crate::specs::NoteFields::labels_said))]
 pub fn read_labels(alloc: Global, table: &Table, place: u32) -> Result<Labels, Stop<FieldFault>>
-    ensures said { Gives plain_labels result (labels_said place (table_view table.now)) }
+    ensures said { Gives (λ labels. labels) result (labels_said place (table_view table.now)) }
     ensures hand { IfOk result (λ labels. IfSome labels.hand IsNoteText) }
     ensures table { IfOk result (λ labels. IfSome labels.table IsNoteText) }
     ensures venue { IfOk result (λ labels. IfSome labels.venue IsNoteText) }

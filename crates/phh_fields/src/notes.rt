@@ -3,7 +3,8 @@ ghost use Rattle.std.specs.Prelude.{◌≤◌, IfOk};
 ghost use Rattle.toml.specs.View.{table_view};
 ghost use Rattle.hand_records.specs.AllowedNotes.{AreAllowed};
 ghost use Rattle.first_fault.specs.Reading.{Gives};
-ghost use Rattle.phh_fields.specs.NoteFields.{notes_said, plain_notes};
+ghost use Rattle.hand_records.specs.SaidNotes.{plain_notes};
+ghost use Rattle.phh_fields.specs.NoteFields.{notes_said};
 
 use crate::date::{PartialDate, read_day, read_time_at};
 use crate::fault::{FieldFault, FieldKey};

@@ -6,7 +6,7 @@ ghost use Rattle.chip_ledger.specs.RakeRow.{rake_of};
 ghost use Rattle.play_event.specs.ValidSetup.{IsSize};
 ghost use Rattle.first_fault.specs.Reading.{Gives};
 ghost use Rattle.phh_fields.specs.declared.fault.FieldKey.TheVariants as keys;
-ghost use Rattle.phh_fields.specs.Rows.{amounts_said, antes_from, ante_said, antes_said, posted as posted_said, rakes_from, rakes_said, row_said, stacks_said};
+ghost use Rattle.phh_fields.specs.Rows.{AreHeld, amounts_said, antes_from, ante_said, antes_said, posted as posted_said, rakes_said, row_said, stacks_said};
 ghost use Rattle.chip_ledger.specs.SeatRow.{amounts_in};
 
 use crate::fault::{FieldFault, FieldFaultKind, FieldKey, FieldPlace};
@@ -86,9 +86,7 @@ fn read_amounts(
 pub fn read_antes(value: &Value, stacks: &SeatRow) -> Result<SeatRow, Stop<FieldFault>>
     ensures amounts { Gives amounts_in result
         (antes_said (amounts_in stacks.now) (view value.now)) }
-    ensures seats { IfOk result (λ row. row.seats ≡ stacks.now.seats) }
-    ensures held { IfOk result (λ row. (k : ℕ)
-        → slice_index row.amounts k ≤ slice_index stacks.now.amounts k) }
+    ensures held { IfOk result (AreHeld stacks.now) }
 {
     let values = read_items(value, stacks.seats, FieldKey::Antes)?;
     fill_antes(values, stacks)
@@ -99,9 +97,7 @@ fn fill_antes(values: &[Value], stacks: &SeatRow) -> Result<SeatRow, Stop<FieldF
     requires { length values.now ≡ stacks.now.seats }
     ensures amounts { Gives amounts_in result
         (antes_from stacks.now.amounts (map view values.now)) }
-    ensures seats { IfOk result (λ row. row.seats ≡ stacks.now.seats) }
-    ensures held { IfOk result (λ row. (k : ℕ)
-        → slice_index row.amounts k ≤ slice_index stacks.now.amounts k) }
+    ensures held { IfOk result (AreHeld stacks.now) }
 {
     let mut amounts = [0; 10];
     for (index, value) in values.iter().enumerate() {
@@ -143,7 +139,7 @@ pub fn posted(mut blinds: SeatRow) -> SeatRow
 }
 
 /// The rakes of eleven pots at most.
-#[tactic(auto, unfolding(crate::specs::Rows::rakes_said))]
+#[tactic(auto, unfolding(crate::specs::Rows::rakes_said, crate::specs::Rows::rakes_from))]
 pub fn read_rakes(value: &Value) -> Result<RakeRow, Stop<FieldFault>>
     ensures said { Gives (λ row. row.rakes) result (rakes_said (view value.now)) }
     ensures most { IfOk result (λ row. (pot : ℕ) → rake_of row pot ≤ MOST_AMOUNT) }
@@ -153,21 +149,11 @@ pub fn read_rakes(value: &Value) -> Result<RakeRow, Stop<FieldFault>>
     if !has_count(values, 0, 11) {
         return Err(wrong(FieldFaultKind::ListLength, place));
     }
-    fill_rakes(values)
-}
-
-// The rakes of eleven pots at most, each of up to the greatest amount.
-#[tactic(auto, using(crate::proofs::Zeros::with_zeros), unfolding(crate::specs::Rows::rakes_from))]
-fn fill_rakes(values: &[Value]) -> Result<RakeRow, Stop<FieldFault>>
-    requires { length values.now ≤ 11 }
-    ensures said { Gives (λ row. row.rakes) result (rakes_from (map view values.now)) }
-    ensures most { IfOk result (λ row. (pot : ℕ) → rake_of row pot ≤ MOST_AMOUNT) }
-{
     let rakes = read_each_rake(values)?;
     Ok(RakeRow { rakes })
 }
 
-// The same, and zeros behind them.
+// The rakes of eleven pots at most, each of up to the greatest amount, and zeros behind them.
 fn read_each_rake(values: &[Value]) -> Result<[u64; 11], Stop<FieldFault>>
     requires { length values.now ≤ 11 }
     ensures amounts { Gives (λ rakes. take (length values.now) rakes) result

@@ -6,7 +6,7 @@ ghost use Rattle.hand_records.specs.AllowedNotes.{AreSeatNumbers, IsName, IsSeat
 ghost use Rattle.first_fault.specs.Reading.{Gives, or_none};
 ghost use Rattle.phh_fields.specs.declared.fault.FieldKey.TheVariants as keys;
 ghost use Rattle.phh_fields.specs.Fields.{at_item, field as field_said};
-ghost use Rattle.phh_fields.specs.NoteFields.{names_from, names_said, numbers_from, plain_seating, seat_count_said, seating_said, seats_said, text_note_said};
+ghost use Rattle.phh_fields.specs.NoteFields.{AreNames, names_from, names_said, numbers_from, plain_seating, seat_count_said, seating_said, seats_said, text_note_said};
 ghost use Rattle.chip_ledger.specs.SeatsSaid.{default_name};
 
 use crate::fault::{FieldFault, FieldKey, FieldPlace};
@@ -32,16 +32,13 @@ const USUAL: [u8; 10] = [1, 2, 3, 4, 5, 6, 7, 8, 9, 10];
 pub fn read_seating(alloc: Global, table: &Table, seats: u8) -> Result<Seating, Stop<FieldFault>>
     requires { seats ≤ 10 }
     ensures said { Gives (plain_seating seats) result (seating_said seats (table_view table.now)) }
-    ensures each { IfOk result (λ seating. (seat : ℕ) → 1 ≤ seat → seat ≤ seats
-        → IfSome (slice_index_or seating.names (seat - 1) None) (IsName seat)) }
-    ensures no_more { IfOk result (λ seating. (index : ℕ) → seats ≤ index
-        → slice_index_or seating.names index None ≡ None) }
+    ensures names { IfOk result (λ seating. AreNames seats seating.names) }
     ensures seats { IfOk result (λ seating. IfSome seating.seats (AreSeatNumbers seats)) }
     ensures seat_count { IfOk result (λ seating. IfSome seating.seat_count (IsSeatCount seats)) }
 {
     let names = read_names(alloc, table, seats)?;
-    let numbers = read_seats_at(table, seats)?;
-    let seat_count = read_seat_count_at(table, seats)?;
+    let numbers = read_seats(table, seats)?;
+    let seat_count = read_seat_count(table, seats)?;
     Ok(Seating {
         names,
         seats: numbers,
@@ -59,13 +56,10 @@ fn read_names(
     requires { seats ≤ 10 }
     ensures said { Gives (take seats) result
         (names_said seats (field_said keys.Players (table_view table.now))) }
-    ensures each { IfOk result (λ names. (seat : ℕ) → 1 ≤ seat → seat ≤ seats
-        → IfSome (slice_index_or names (seat - 1) None) (IsName seat)) }
-    ensures no_more { IfOk result (λ names. (index : ℕ) → seats ≤ index
-        → slice_index_or names index None ≡ None) }
+    ensures allowed { IfOk result (AreNames seats) }
 {
     match field(table, FieldKey::Players) {
-        None => Ok(no_names(seats)),
+        None => Ok(no_names()),
         Some(value) => {
             let values = read_items(value, seats, FieldKey::Players)?;
             fill_names(alloc, values)
@@ -78,23 +72,19 @@ fn fill_names(alloc: Global, values: &[Value]) -> Result<[Option<Text>; 10], Sto
     requires { length values.now ≤ 10 }
     ensures said { Gives (take (length values.now)) result
         (names_from (map view values.now)) }
-    ensures each { IfOk result (λ names. (seat : ℕ) → 1 ≤ seat → seat ≤ length values.now
-        → IfSome (slice_index_or names (seat - 1) None) (IsName seat)) }
-    ensures no_more { IfOk result (λ names. (index : ℕ) → length values.now ≤ index
-        → slice_index_or names index None ≡ None) }
+    ensures allowed { IfOk result (AreNames (length values.now)) }
 {
-    let mut names = no_names(10);
+    let mut names = no_names();
     for (index, value) in values.iter().enumerate() {
         names[index] = read_name(alloc, value, index as u8 + 1)?;
     }
     Ok(names)
 }
 
-// No names, of which the first are those of so many seats.
-fn no_names(seats: u8) -> [Option<Text>; 10]
-    requires { seats ≤ 10 }
+// No names: the first of them are no names of so many seats.
+fn no_names() -> [Option<Text>; 10]
     ensures none { (index : ℕ) → slice_index_or result index None ≡ None }
-    ensures seats { take seats result ≡ replicate seats None }
+    ensures first { (seats : ℕ) → seats ≤ 10 → take seats result ≡ replicate seats None }
     ensures ten { length result ≡ 10 }
 {
     [None, None, None, None, None, None, None, None, None, None]
@@ -114,26 +104,17 @@ fn read_name(alloc: Global, value: &Value, seat: u8) -> Result<Option<Text>, Sto
     read_text_note(alloc, value, usual.as_str(), place)
 }
 
-// The numbers of the seats, if they are said.
-fn read_seats_at(table: &Table, seats: u8) -> Result<Option<[u8; 10]>, Stop<FieldFault>>
+// The numbers of the seats, if they are said and are not the usual ones.
+#[tactic(auto, unfolding(crate::specs::NoteFields::seats_said))]
+fn read_seats(table: &Table, seats: u8) -> Result<Option<[u8; 10]>, Stop<FieldFault>>
     requires { seats ≤ 10 }
     ensures said { Gives (option_map (take seats)) result
         (or_none (seats_said seats) (field_said keys.Seats (table_view table.now))) }
     ensures allowed { IfOk result (λ numbers. IfSome numbers (AreSeatNumbers seats)) }
 {
-    match field(table, FieldKey::Seats) {
-        Some(value) => read_seats(value, seats),
-        None => Ok(None),
-    }
-}
-
-// The numbers of so many seats, unless they are the usual ones.
-#[tactic(auto, unfolding(crate::specs::NoteFields::seats_said))]
-fn read_seats(value: &Value, seats: u8) -> Result<Option<[u8; 10]>, Stop<FieldFault>>
-    requires { seats ≤ 10 }
-    ensures said { Gives (option_map (take seats)) result (seats_said seats (view value.now)) }
-    ensures allowed { IfOk result (λ numbers. IfSome numbers (AreSeatNumbers seats)) }
-{
+    let Some(value) = field(table, FieldKey::Seats) else {
+        return Ok(None);
+    };
     let values = read_items(value, seats, FieldKey::Seats)?;
     let numbers = fill_numbers(values)?;
     if are_usual(numbers, seats) {
@@ -174,24 +155,16 @@ fn are_usual(numbers: [u8; 10], seats: u8) -> bool
     said == usual
 }
 
-// How many seats the table has, if that is said.
-fn read_seat_count_at(table: &Table, seats: u8) -> Result<Option<u8>, Stop<FieldFault>>
+// How many seats the table has, if that is said and it has others than those of the hand.
+#[tactic(auto, unfolding(crate::specs::NoteFields::seat_count_said))]
+fn read_seat_count(table: &Table, seats: u8) -> Result<Option<u8>, Stop<FieldFault>>
     ensures said { Gives (λ count. count) result
         (or_none (seat_count_said seats) (field_said keys.SeatCount (table_view table.now))) }
     ensures allowed { IfOk result (λ count. IfSome count (IsSeatCount seats)) }
 {
-    match field(table, FieldKey::SeatCount) {
-        Some(value) => read_seat_count(value, seats),
-        None => Ok(None),
-    }
-}
-
-// How many seats the table has.
-#[tactic(auto, unfolding(crate::specs::NoteFields::seat_count_said))]
-fn read_seat_count(value: &Value, seats: u8) -> Result<Option<u8>, Stop<FieldFault>>
-    ensures said { Gives (λ count. count) result (seat_count_said seats (view value.now)) }
-    ensures allowed { IfOk result (λ count. IfSome count (IsSeatCount seats)) }
-{
+    let Some(value) = field(table, FieldKey::SeatCount) else {
+        return Ok(None);
+    };
     let count = read_number(value, 1, 255, FieldPlace::at_key(FieldKey::SeatCount))? as u8;
     if count == seats {
         Ok(None)

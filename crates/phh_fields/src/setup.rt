@@ -9,14 +9,16 @@ ghost use Rattle.play_event.specs.Streets.{is_stud as is_stud_said};
 ghost use Rattle.play_event.specs.ValidSetup.{IsValid};
 ghost use Rattle.first_fault.specs.Reading.{Gives};
 ghost use Rattle.chip_ledger.specs.SeatRow.{amounts_in};
-ghost use Rattle.phh_fields.specs.SetupFields.{are_dead as are_dead_said, blinds_said, game_named, plain_setup, setup_said, trimming_said, variant_said};
+ghost use Rattle.hand_records.specs.PlainHands.{plain_setup};
+ghost use Rattle.phh_fields.specs.SetupFields.{are_dead as are_dead_said, blinds_said, game_named, setup_said, trimming_said, variant_said};
 
 use crate::fault::{FieldFault, FieldFaultKind, FieldKey, FieldPlace};
 use crate::rows::{posted, read_antes, read_row, read_stacks};
-use crate::sizes::{Sizes, is_stud, most_seats, read_sizes};
+use crate::sizes::{is_stud, most_seats, read_sizes};
 use crate::values::{field, needed, read_flag, read_text, wrong};
 use chip_ledger::{MOST_CHIPS, RakeRow, SeatRow};
 use first_fault::Stop;
+use hand_records::Sizes;
 use play_event::{Code, Setup};
 use toml::{Table, Value};
 

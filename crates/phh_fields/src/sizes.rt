@@ -11,17 +11,9 @@ use crate::fault::{FieldFault, FieldKey, FieldPlace};
 use crate::values::{needed, read_amount};
 use chip_ledger::MOST_CHIPS;
 use first_fault::Stop;
+use hand_records::Sizes;
 use play_event::Code;
 use toml::Table;
-
-/// The sizes of bets, in chips. A size that the game does not use is 0.
-#[derive(Clone, Copy, Debug, PartialEq, Eq)]
-pub struct Sizes {
-    pub bring_in: u64,
-    pub small_bet: u64,
-    pub big_bet: u64,
-    pub min_bet: u64,
-}
 
 /// The most seats of the game.
 pub fn most_seats(code: Code) -> u8

@@ -7,7 +7,8 @@ ghost use Rattle.phh_fields.specs.NoteFields.{label_said, note_said, text_note_s
 
 use crate::fault::{FieldFault, FieldFaultKind, FieldPlace};
 use crate::values::{read_text, wrong};
-use first_fault::{MOST_TEXT_BYTES, Quantity, Stop, Text};
+use first_fault::{Quantity, Stop, Text};
+use hand_records::keep_text;
 use std::alloc::Global;
 use toml::Value;
 
@@ -24,7 +25,7 @@ pub fn read_text_note(
     ensures allowed { IfOk result (λ note. IfSome note (λ text.
         IsNoteText text × (text ≢ default.now))) }
 {
-    keep_text(alloc, read_text(value, place)?, default, place)
+    note_of(alloc, read_text(value, place)?, default, place)
 }
 
 /// The same, where a whole number may stand for its decimal text.
@@ -40,10 +41,10 @@ pub fn read_label(
         IsNoteText text × (text ≢ default.now))) }
 {
     match value {
-        Value::String(text) => keep_text(alloc, text.as_str(), default, place),
+        Value::String(text) => note_of(alloc, text.as_str(), default, place),
         Value::Integer(number) => {
             let text = number.to_string(alloc)?;
-            keep_text(alloc, text.as_str(), default, place)
+            note_of(alloc, text.as_str(), default, place)
         }
         _ => Err(wrong(FieldFaultKind::WrongType, place)),
     }
@@ -51,7 +52,7 @@ pub fn read_label(
 
 // A copy of the text, or nothing where it says no note.
 #[tactic(auto, unfolding(crate::specs::NoteFields::note_said))]
-fn keep_text(
+fn note_of(
     alloc: Global,
     text: &str,
     default: &str,
@@ -61,12 +62,7 @@ fn keep_text(
     ensures allowed { IfOk result (λ note. IfSome note (λ text.
         IsNoteText text × (text ≢ default.now))) }
 {
-    if text.len() > MOST_TEXT_BYTES {
-        let quantity = Quantity::TextBytes;
-        return Err(wrong(FieldFaultKind::TooMany { quantity }, place));
-    }
-    if text.is_empty() || text == default {
-        return Ok(None);
-    }
-    Ok(Some(Text::new(alloc, text)?))
+    let quantity = Quantity::TextBytes;
+    let what = FieldFaultKind::TooMany { quantity };
+    keep_text(alloc, text, default, FieldFault { what, place })
 }

@@ -14,7 +14,7 @@ use Rattle.phh_fields.specs.declared.fault.FieldKey.{FieldKey}
 use Rattle.phh_fields.specs.declared.fault.FieldKey.TheVariants as keys
 use Rattle.phh_fields.specs.Fields.{at_key, field, key_text, list_said, needed}
 use Rattle.phh_fields.specs.Rows.{rakes_from, rakes_said, row_said}
-use Rattle.phh_fields.specs.NoteFields.{day_said, labels_said, notes_said, seating_said}
+use Rattle.phh_fields.specs.NoteFields.{PlainSeating, day_said, labels_said, notes_said, seating_said}
 use Rattle.phh_reading.specs.Events.{counts_after}
 use Rattle.phh_reading.specs.Hand.{hand_said, rakes_at}
 use Rattle.phh_writing.specs.Document.{hand_table}
@@ -22,7 +22,7 @@ use Rattle.phh_writing.specs.HandFields.{hand_field, hand_fields, label, local_t
 use Rattle.phh_writing.proofs.Puts.{field_at}
 use Rattle.phh_fields.proofs.Zeros.{with_zeros}
 use Rattle.phh_format.proofs.Readable.{IsReadable}
-use Rattle.phh_format.specs.Again.{hand_again, notes_again}
+use Rattle.phh_format.specs.Again.{hand_again}
 use Rattle.phh_format.proofs.RowsAgain.{amount_count, amounts_again, each_amount, list_again, listed_again, number_data, row_again}
 use Rattle.phh_format.proofs.SetupAgain.{at, field_alone, setup_again}
 use Rattle.phh_format.proofs.NotesAgain.{calendar_again, name_again, said_again, table_again, text_note_again, time_again}
@@ -31,13 +31,17 @@ use Rattle.phh_format.proofs.EventsAgain.{HaveRoom, counts_with, events_again}
 use Rattle.list_laws.proofs.Entries.{cut_zeros, each_taken}
 use Rattle.list_laws.proofs.Any.{zero_from_none_taken}
 use Rattle.chip_ledger.specs.SeatRow.{amounts_in}
-use Rattle.hand_records.specs.SaidNotes.{kept_label}
+use Rattle.hand_records.specs.SaidNotes.{SaidNotes, kept_label, said_notes}
 use Rattle.hand_records.specs.AllowedNotes.{IsWithin}
 
 all_zero : (all : List ℕ) → length all ≡ 11 → ((k : ℕ) → get_or all k 0 ≡ 0) → all ≡ replicate 11 0
 all_zero all eleven none =
     let left : length all - 0 ≡ 11 = omega (arith, eleven) in
     cut_zeros all 0 (omega arith) (λ k _. none k) ∙ ap (λ (n : ℕ). replicate n 0) left
+
+-- who sits where, as notes say it
+abbrev seating_of : SaidNotes → PlainSeating
+seating_of notes = record { names = notes.names; seats = notes.seats; seat_count = notes.seat_count }
 
 -- the rakes that are said, or none
 abbrev rakes_found : Option Data → Result (List ℕ) FieldFault
@@ -108,7 +112,7 @@ module _ (place : ℕ) (play : Play) (is : IsReadable play) where
         text_note_again (at_key keys.Currency) notes.currency is.notes.currency,
       ) refl
 
-  seating_again : seating_said seats members ≡ Ok ((notes_again place seats play.hand.notes).seating)
+  seating_again : seating_said seats members ≡ Ok (seating_of (said_notes place seats play.hand.notes))
   unfolding seating_said
   seating_again =
       let notes = play.hand.notes in
@@ -124,7 +128,7 @@ module _ (place : ℕ) (play : Play) (is : IsReadable play) where
         seat_count_again seats notes.seat_count is.notes.seat_count,
       ) refl
 
-  notes_read : notes_said place seats members ≡ Ok (notes_again place seats play.hand.notes)
+  notes_read : notes_said place seats members ≡ Ok (said_notes place seats play.hand.notes)
   unfolding notes_said
   notes_read =
       let notes = play.hand.notes in

@@ -9,8 +9,7 @@ use Rattle.canon_laws.specs.Confluence.{HasTraceOf}
 use Rattle.chip_ledger.specs.Seat.{seats_of}
 use Rattle.chip_ledger.specs.SeatsSaid.{default_name}
 use Rattle.first_fault.specs.declared.limits.TheConstants.{MOST_FILE_MOVES, MOST_HANDS}
-use Rattle.phh_reading.proofs.SamePlay.{setup_same}
-use Rattle.hand_records.specs.SaidNotes.{SaidNotes, kept_label, name_said, notes_of, said_notes}
+use Rattle.hand_canon.proofs.SamePlay.{setup_same}
 use Rattle.hand_canon.specs.Sound.{IsSound}
 use Rattle.hand_records.specs.SoundRecord.{script_said}
 use Rattle.hand_records.specs.AllowedNotes.{name_written}
@@ -19,10 +18,8 @@ use Rattle.hand_records.specs.declared.trace.Play.{Play}
 use Rattle.hand_records.specs.declared.trace.Trace.{Trace}
 use Rattle.hand_records.specs.declared.writing.Unspelled.TheVariants as unspellables
 use Rattle.list_laws.proofs.NumbersOfRange.{map_agree}
-use Rattle.phh_fields.specs.NoteFields.{PlainNotes}
 use Rattle.phh_format.proofs.SoundPlays.{same_script, sound_again}
 use Rattle.phh_format.specs.Again.{hand_again, hands_again}
-use Rattle.phh_reading.specs.Hand.{PlainHand}
 use Rattle.phh_reading.specs.Reading.{reading}
 use Rattle.phh_writing.specs.Document.{document, hand_table, numbered_hands, Spells}
 use Rattle.phh_writing.specs.HandFields.{hand_field, label, names_field, note_fields, numbers, script_of, setup_fields, trace_fields}
@@ -37,6 +34,8 @@ use Rattle.phh_format.specs.SameTables.{AreSameTable}
 use Rattle.hand_canon.proofs.UnusualNumbers.{unusual}
 use Rattle.hand_records.specs.Moves.{moves_played}
 use Rattle.phh_format.proofs.ReadBack.{said_from}
+use Rattle.hand_records.specs.PlainHands.{PlainHand}
+use Rattle.hand_records.specs.SaidNotes.{SaidNotes, kept_label, name_said, notes_of, said_notes}
 
 -- ---- what is written of notes
 
@@ -135,24 +134,6 @@ own_words play sound =
     subst (HasTraceOf play.hand.setup play.hand.rules (script_said play.hand)) (same_script play sound)
     (confluent play.hand.setup play.hand.rules (script_said play.hand) sound.legal.played)
 
--- what is read of notes, as they are said
-abbrev from_plain : PlainNotes → SaidNotes
-from_plain n =
-    record {
-      names = n.seating.names;
-      seats = n.seating.seats;
-      seat_count = n.seating.seat_count;
-      hand = n.labels.hand;
-      table = n.labels.table;
-      venue = n.labels.venue;
-      currency = n.labels.currency;
-      year = n.day.year;
-      month = n.day.month;
-      day = n.day.day;
-      time = n.time;
-      zone = n.zone;
-    }
-
 -- plays that are read as one hand are the same
 hand_same : (place : ℕ) (play other : Play) → IsSound play → IsSound other → hand_again place play ≡ hand_again place other → AreSameHand kept_in_phh place play other
 hand_same place play other sound too same =
@@ -162,7 +143,7 @@ hand_same place play other sound too same =
     sym (said_from 1 (script_of play.trace)) ∙ ap (λ (hand : PlainHand). map (λ (event : Numbered). event.1) hand.script) same ∙ said_from 1 (script_of other.trace) in
     record {
       trace = one_trace play other play.hand.rules other.hand.rules (script_of play.trace) (script_of other.trace) sound too (own_words play sound) (own_words other too) setups_are words;
-      notes = ap (λ (hand : PlainHand). from_plain hand.notes) same;
+      notes = ap (λ (hand : PlainHand). hand.notes) same;
     }
 
 hands_same : (place : ℕ) (plays others : List Play) → AllByRecursion IsSound plays → AllByRecursion IsSound others → hands_again place plays ≡ hands_again place others → AllPaired (AreSameHand kept_in_phh) place plays others

@@ -30,25 +30,23 @@ use Rattle.hand_canon.specs.LegalHand.{IsLegalHand}
 use Rattle.hand_canon.specs.Sound.{IsSound}
 use Rattle.hand_canon.specs.WholeTrace.{HasShares, IsTraceOf}
 use Rattle.trace_laws.proofs.SameShares.{legal_hand, same_trace}
-use Rattle.phh_fields.specs.NoteFields.{PlainNotes, plain_notes}
-use Rattle.phh_fields.specs.SetupFields.{PlainSetup}
-use Rattle.phh_reading.specs.Hand.{PlainHand, PlainStated, plain}
 use Rattle.phh_reading.specs.Reading.{reading}
-use Rattle.phh_reading.proofs.SamePlay.{same_setup, same_stated}
+use Rattle.hand_canon.proofs.SamePlay.{same_setup, same_stated}
 use Rattle.phh_writing.specs.Document.{Spells}
 use Rattle.phh_writing.specs.HandFields.{script_of}
 use Rattle.phh_writing.specs.Spelled.{unspelled}
-use Rattle.phh_format.specs.Again.{hand_again, hands_again, notes_again, numbered_from}
+use Rattle.phh_format.specs.Again.{hand_again, hands_again, numbered_from}
 use Rattle.hand_canon.specs.ReadAgain.{AreAgain, IsAgain}
 use Rattle.phh_format.specs.KeptNotes.{kept_in_phh}
 use Rattle.phh_format.proofs.KeptAgain.{keeps_said}
-use Rattle.hand_records.specs.SaidNotes.{KeepsNotes}
 use Rattle.phh_format.proofs.RowsAgain.{amount_count}
 use Rattle.phh_format.proofs.SoundPlays.{same_script, sound_again}
 use Rattle.hand_records.specs.Moves.{moves_played}
 use Rattle.hand_records.proofs.Refusals.{none_refused}
 use Rattle.play_event.proofs.ScriptLaws.{said_numbered}
 use Rattle.hand_records.specs.WriteRefusals.{refusal_from, first_refusal}
+use Rattle.hand_records.specs.PlainHands.{PlainHand, PlainSetup, PlainStated, plain}
+use Rattle.hand_records.specs.SaidNotes.{KeepsNotes, SaidNotes, notes_of, plain_notes}
 
 -- a play that the format spells has no closed raise
 spelled_open : (play : Play) → unspelled play ≡ None → list_any (λ move. move.closed) (core_said play.trace).moves ≡ false
@@ -139,7 +137,7 @@ module _ (place : ℕ) (play : Play) (hand : Record) (same : plain hand ≡ hand
       ∙ ap (λ (read : PlainHand). length read.setup.stacks) same
       ∙ amount_count play.trace.setup.stacks
 
-  plain_by : PlainSetup → List ℕ → PlainStated → PlainNotes → PlainHand
+  plain_by : PlainSetup → List ℕ → PlainStated → SaidNotes → PlainHand
   plain_by setup rakes stated notes =
       record { setup = setup; rakes = rakes; rules = hand.rules; script = map numbered hand.script; stated = stated; notes = notes }
 
@@ -180,7 +178,7 @@ is_again place play hand sound spelled same =
       same_setup = setups;
       notes =
           keeps_said place play.trace.setup.stacks.seats play.hand.notes hand.notes
-          (subst (λ (s : Setup). plain_notes s.stacks.seats hand.notes ≡ notes_again place play.trace.setup.stacks.seats play.hand.notes) setups
+          (subst (λ (s : Setup). plain_notes s.stacks.seats hand.notes ≡ notes_of place play) setups
           (ap (λ (read : PlainHand). read.notes) same));
     }
 

@@ -16,7 +16,7 @@ use Rattle.phh_fields.specs.declared.fault.FieldKey.{FieldKey}
 use Rattle.phh_fields.specs.declared.fault.FieldKey.TheVariants as keys
 use Rattle.phh_fields.specs.Fields.{at_item, at_key, field, flag_said, key_text, needed, text_said}
 use Rattle.phh_fields.specs.Rows.{ante_said, antes_said, posted, stacks_said}
-use Rattle.phh_fields.specs.SetupFields.{are_dead, blinds_said, plain_setup, setup_said, size_said, sizes_said, trimming_said, variant_said}
+use Rattle.phh_fields.specs.SetupFields.{are_dead, blinds_said, setup_said, size_said, sizes_said, trimming_said, variant_said}
 use Rattle.phh_writing.specs.Document.{hand_table}
 use Rattle.phh_writing.specs.HandFields.{blinds_written, hand_fields, numbers, size_field}
 use Rattle.phh_writing.proofs.Puts.{field_at, get_member-table_of, or_later}
@@ -25,6 +25,7 @@ use Rattle.phh_fields.proofs.Games.{own_code}
 use Rattle.list_laws.proofs.Entries.{less_taken, taken_zeros}
 use Rattle.list_laws.proofs.NumbersOfRange.{any_taken}
 use Rattle.hand_records.specs.AllowedNotes.{IsWithin}
+use Rattle.hand_records.specs.PlainHands.{plain_setup}
 
 -- an ante that is no more than the stack stands as it is
 ante_again : (stack ante n : ℕ) → ante ≤ stack → ante ≤ MOST_CHIPS → ante_said stack (at_item keys.Antes n) (integer (pos ante)) ≡ Ok ante

@@ -6,9 +6,9 @@ use Rattle.toml.specs.Data.{Data, Members}
 use Rattle.chip_ledger.specs.declared.rows.TheConstants.{MOST_AMOUNT}
 use Rattle.phh_fields.specs.declared.fault.FieldKey.TheVariants as keys
 use Rattle.phh_fields.specs.Fields.{at_key, field, list_said, needed}
-use Rattle.phh_fields.specs.NoteFields.{PlainNotes, notes_said}
+use Rattle.phh_fields.specs.NoteFields.{notes_said}
 use Rattle.phh_fields.specs.Rows.{row_said}
-use Rattle.phh_fields.specs.SetupFields.{PlainSetup, setup_said}
+use Rattle.phh_fields.specs.SetupFields.{setup_said}
 use Rattle.phh_reading.specs.Events.{counts_after, events_said}
 use Rattle.phh_reading.specs.declared.events.EventCounts.{EventCounts}
 use Rattle.play_event.specs.Said.{Numbered}
@@ -24,7 +24,7 @@ use Rattle.hand_records.specs.declared.writing.Unspelled.{Unspelled}
 use Rattle.hand_records.specs.declared.writing.Unspelled.TheVariants as facts
 use Rattle.hand_canon.specs.Judged.{IsTraceOfLegal}
 use Rattle.canon_ranges.proofs.SuitedRules.{suits_own}
-use Rattle.phh_reading.specs.Hand.{PlainHand, finish_stated, hand_said, plain, rakes_at}
+use Rattle.phh_reading.specs.Hand.{finish_stated, hand_said, rakes_at}
 use Rattle.phh_reading.specs.Reading.{Wrong, at_variant, document_of, document_said, hands_of, hands_said, in_hand, numbered_hand, reading, records_said, spelled_fault, those_said}
 use Rattle.phh_reading.specs.declared.fault.PhhHandFault.{PhhHandFault}
 use Rattle.phh_fields.specs.declared.fault.FieldFault.{FieldFault}
@@ -35,6 +35,8 @@ use Rattle.first_fault.specs.declared.limits.TheConstants.{MOST_HANDS}
 use Rattle.phh_writing.specs.Spelled.{unspelled}
 use Rattle.hand_canon.specs.Sharp.{IsOther}
 use Rattle.first_fault.proofs.Thread.{bound}
+use Rattle.hand_records.specs.PlainHands.{PlainHand, PlainSetup, plain}
+use Rattle.hand_records.specs.SaidNotes.{SaidNotes}
 
 -- a hand under the rules of hand histories
 abbrev IsRuled : PlainHand → Type 0
@@ -45,7 +47,7 @@ AreRuled found = AllByRecursion IsRuled found.0
 
 module _ (file_moves place : ℕ) (members : Members) where
   -- what is read behind each field, in order
-  abbrev after_notes : PlainSetup → List Numbered × EventCounts → Option (List ℕ) → List ℕ → PlainNotes → Result (PlainHand × ℕ) FieldFault
+  abbrev after_notes : PlainSetup → List Numbered × EventCounts → Option (List ℕ) → List ℕ → SaidNotes → Result (PlainHand × ℕ) FieldFault
   after_notes setup events finish rakes notes =
       Ok (record { setup = setup; rakes = rakes; rules = history_rules; script = events.0; stated = finish_stated finish; notes = notes }, events.1.file_moves)
 

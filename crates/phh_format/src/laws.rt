@@ -6,7 +6,6 @@ ghost use Rattle.hand_records.specs.declared.record.Record.{Record};
 ghost use Rattle.hand_records.specs.declared.trace.Play.{Play};
 ghost use Rattle.hand_records.specs.declared.writing.Unspelled.{Unspelled};
 ghost use Rattle.hand_canon.specs.Sound.{IsSound};
-ghost use Rattle.phh_reading.specs.Hand.{plain};
 ghost use Rattle.phh_reading.specs.Reading.{reading};
 ghost use Rattle.phh_writing.specs.Document.{Spells};
 ghost use Rattle.phh_writing.specs.Spelled.{unspelled};
@@ -17,6 +16,7 @@ ghost use Rattle.hand_records.specs.SaidNotes.{KeepsNotes};
 ghost use Rattle.phh_format.specs.KeptNotes.{kept_in_phh};
 ghost use Rattle.hand_canon.specs.Sharp.{IsOther};
 ghost use Rattle.hand_records.specs.WriteRefusals.{first_refusal};
+ghost use Rattle.hand_records.specs.PlainHands.{plain};
 
 /// Bytes that spell sound plays, no more of them and of their moves than a file may have, read as
 /// the hands of these plays: with their setups, rakes and finishing stacks, their canonical

@@ -5,8 +5,7 @@ ghost use Rattle.toml.specs.View.{table_view};
 ghost use Rattle.hand_canon.specs.Sound.{IsSound};
 ghost use Rattle.first_fault.specs.declared.limits.TheConstants.{MOST_HANDS};
 ghost use Rattle.hand_records.specs.declared.writing.WriteRefusal.TheVariants as refusals;
-ghost use Rattle.phh_writing.specs.Members.{table_of};
-ghost use Rattle.phh_writing.specs.Document.{Spells, document, hand_table, numbered_hands};
+ghost use Rattle.phh_writing.specs.Document.{Spells, document, hand_table};
 ghost use Rattle.phh_writing.specs.Spelled.{unspelled};
 ghost use Rattle.hand_records.specs.WriteRefusals.{first_refusal};
 
@@ -36,31 +35,20 @@ pub fn write(alloc: Global, plays: &[Play], keep: Keep) -> Result<Vec<u8>, Write
     if let Some(refusal) = find_refusal(plays, keep) {
         return Err(refusal);
     }
-    match spell(alloc, plays) {
-        Ok(bytes) => Ok(bytes),
-        Err(Memory) => Err(WriteRefusal::Memory),
-    }
-}
-
-// The bytes of the document of some plays.
-fn spell(alloc: Global, plays: &[Play]) -> Result<Vec<u8>, Memory>
-    requires few { length plays.now ≤ MOST_HANDS }
-    requires sound { AllByRecursion IsSound plays.now }
-    ensures written { IfOk result (λ bytes. Spells plays.now bytes.items) }
-    ensures nothing { plays.now ≡ [] → IfOk result (λ bytes. bytes.items ≡ []) }
-{
     if plays.is_empty() {
         return Ok(Vec::new(alloc));
     }
-    let table = make_document(alloc, plays)?;
+    let Ok(table) = make_document(alloc, plays) else {
+        return Err(WriteRefusal::Memory);
+    };
     match toml::table_to_string(alloc, &table) {
         Ok(text) => Ok(text.into_bytes()),
         Err(Error::DateInvalid) => unreachable!(),
-        Err(_) => Err(Memory),
+        Err(_) => Err(WriteRefusal::Memory),
     }
 }
 
-// The document of some plays.
+// The document of some plays. The tables of several hands are put in from the last to the first.
 fn make_document(alloc: Global, plays: &[Play]) -> Result<Table, Memory>
     requires few { length plays.now ≤ MOST_HANDS }
     requires sound { AllByRecursion IsSound plays.now }
@@ -69,15 +57,6 @@ fn make_document(alloc: Global, plays: &[Play]) -> Result<Table, Memory>
     if let [play] = plays {
         return make_hand(alloc, 0, play);
     }
-    make_hands(alloc, plays)
-}
-
-// The tables of hands under their numbers. They are put in from the last to the first.
-fn make_hands(alloc: Global, plays: &[Play]) -> Result<Table, Memory>
-    requires few { length plays.now ≤ MOST_HANDS }
-    requires sound { AllByRecursion IsSound plays.now }
-    ensures { IfOk result (λ table. table_view table ≡ table_of (numbered_hands 0 plays.now)) }
-{
     let mut table = Table::new(alloc);
     let mut left = plays.len();
     while left > 0 {

@@ -1,5 +1,5 @@
 //! A value is put into a table under its key.
-ghost use Rattle.std.specs.Prelude.{ℕ, ◌≡◌, ◌≤◌, ◌<◌, ◌^◌, pos, length, map, take, slice_index, string_bytes, IfOk, OnOk};
+ghost use Rattle.std.specs.Prelude.{ℕ, ◌≡◌, ◌≤◌, ◌<◌, ◌^◌, pos, length, take, slice_index, string_bytes, OnOk};
 ghost use Rattle.toml.specs.Data.{integer, string};
 ghost use Rattle.toml.specs.View.{table_view, view};
 ghost use Rattle.chip_ledger.specs.declared.rows.TheConstants.{MOST_AMOUNT};
@@ -64,22 +64,11 @@ pub fn put_amounts(
     ensures { OnOk result (table_view table.new
         ≡ put_said key.now (numbers (take count amounts.now)) (table_view table.old)) }
 {
-    let values = list_of(alloc, amounts, count)?;
-    put(alloc, table, key, Value::Array(values))
-}
-
-// The first so many of some amounts, as values.
-fn list_of(alloc: Global, amounts: &[u64], count: usize) -> Result<Vec<Value>, Memory>
-    requires within { count ≤ length amounts.now }
-    requires bounded { (k : ℕ) → slice_index amounts.now k ≤ MOST_AMOUNT }
-    ensures { IfOk result (λ values. map view values.items
-        ≡ map (λ amount. integer (pos amount)) (take count amounts.now)) }
-{
     let mut values = Vec::new(alloc);
     for index in 0..count {
         values.push(number(amounts[index]))?;
     }
-    Ok(values)
+    put(alloc, table, key, Value::Array(values))
 }
 
 /// A whole number as a value.

@@ -1,8 +1,7 @@
 //! What was played in a hand, and what it comes to, are put into its table.
-ghost use Rattle.std.specs.Prelude.{◌≡◌, codes, map, nat_lt, true, IfOk, OnOk};
+ghost use Rattle.std.specs.Prelude.{◌≡◌, codes, map, nat_lt, true, OnOk};
 ghost use Rattle.std.specs.List.{list_all, list_any};
-ghost use Rattle.toml.specs.Data.{string};
-ghost use Rattle.toml.specs.View.{table_view, view};
+ghost use Rattle.toml.specs.View.{table_view};
 ghost use Rattle.play_event.specs.Said.{said_of};
 ghost use Rattle.play_event.specs.ValidSetup.{IsValid};
 ghost use Rattle.canon_script.specs.Tidy.{IsTidy};
@@ -68,21 +67,11 @@ fn put_actions(alloc: Global, table: &mut Table, script: &Script) -> Result<(), 
     ensures { OnOk result (table_view table.new ≡ put_said (codes "actions")
         (texts (map text_said (map said_of script.now))) (table_view table.old)) }
 {
-    let actions = texts_of(alloc, script)?;
-    put(alloc, table, "actions", Value::Array(actions))
-}
-
-// The texts of a script, as values.
-fn texts_of(alloc: Global, script: &Script) -> Result<Vec<Value>, Memory>
-    requires { list_all has_words (map said_of script.now) ≡ true }
-    ensures { IfOk result (λ values. map view values.items
-        ≡ map string (map text_said (map said_of script.now))) }
-{
     let mut values = Vec::new(alloc);
     let mut cursor = script.cursor();
     while let Some(event) = cursor.next() {
         let text = event_text(alloc, event.kind)?;
         values.push(Value::String(text))?;
     }
-    Ok(values)
+    put(alloc, table, "actions", Value::Array(values))
 }

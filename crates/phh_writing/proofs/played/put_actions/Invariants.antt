@@ -4,7 +4,7 @@ use Rattle.toml.specs.Data.{string}
 use Rattle.toml.specs.View.{view}
 use Rattle.play_event.specs.Said.{said_of}
 use Rattle.phh_actions.specs.Written.{event_text, has_words}
-use Rattle.phh_writing.proofs.played.texts_of.Given as goal
+use Rattle.phh_writing.proofs.played.put_actions.Given as goal
 
 -- the texts of the events that are left complete the list, and each of these events has words
 abbrev pub invariant-loop-event : goal.invariant-loop-event

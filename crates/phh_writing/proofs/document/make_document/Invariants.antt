@@ -2,7 +2,7 @@ use Rattle.std.proofs.Common.{◌≡◌, ◌≤◌, drop, length}
 use Rattle.toml.specs.View.{table_view}
 use Rattle.phh_writing.specs.Members.{table_of}
 use Rattle.phh_writing.specs.Document.{numbered_hands}
-use Rattle.phh_writing.proofs.document.make_hands.Given as goal
+use Rattle.phh_writing.proofs.document.make_document.Given as goal
 
 -- the hands from a place on are in the table
 abbrev pub invariant-loop-left : goal.invariant-loop-left
