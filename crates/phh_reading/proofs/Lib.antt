@@ -3,4 +3,3 @@ pub mod NumberOrder
 pub mod Placing
 pub mod Counting
 pub mod Documents
-pub mod SamePlay

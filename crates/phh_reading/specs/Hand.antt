@@ -1,56 +1,17 @@
 -- A hand: its fields are examined in this order.
-use Rattle.std.specs.Prelude.{ℕ, List, map, length, replicate, Option, Some, None, option_map, Result, Ok}
+use Rattle.std.specs.Prelude.{ℕ, List, length, replicate, Option, Some, None, Result, Ok}
 use Rattle.toml.specs.Data.{Members}
 use Rattle.chip_ledger.specs.declared.rows.TheConstants.{MOST_AMOUNT}
-use Rattle.hand_records.specs.declared.record.Record.{Record}
-use Rattle.hand_records.specs.declared.record.NetRow.{NetRow}
-use Rattle.chip_ledger.specs.declared.rows.SeatRow.{SeatRow}
-use Rattle.play_event.specs.declared.setup.Rules.{Rules}
+use Rattle.hand_records.specs.PlainHands.{PlainHand, PlainStated}
 use Rattle.play_event.specs.HistoryRules.{history_rules}
-use Rattle.play_event.specs.Said.{Numbered, numbered}
 use Rattle.first_fault.specs.Reading.{◌>>=◌, read_if}
 use Rattle.phh_fields.specs.declared.fault.FieldKey.TheVariants as keys
 use Rattle.phh_fields.specs.declared.fault.FieldFault.{FieldFault}
 use Rattle.phh_fields.specs.Fields.{at_key, field, needed, list_said}
 use Rattle.phh_fields.specs.Rows.{row_said, rakes_said}
-use Rattle.phh_fields.specs.SetupFields.{PlainSetup, plain_setup, setup_said}
-use Rattle.phh_fields.specs.NoteFields.{PlainNotes, plain_notes, notes_said}
+use Rattle.phh_fields.specs.SetupFields.{setup_said}
+use Rattle.phh_fields.specs.NoteFields.{notes_said}
 use Rattle.phh_reading.specs.Events.{counts_after, events_said}
-use Rattle.chip_ledger.specs.SeatRow.{amounts_in}
-
--- what is stated of a hand's end
-pub record PlainStated : Type 0 where
-  pub finish : Option (List ℕ)
-  pub wins : Option SeatRow
-  pub pot_total : Option ℕ
-  pub values : Option NetRow
-
--- a hand with plain lists
-pub record PlainHand : Type 0 where
-  pub setup : PlainSetup
-  pub rakes : List ℕ
-  pub rules : Rules
-  pub script : List Numbered
-  pub stated : PlainStated
-  pub notes : PlainNotes
-
--- what a record says
-abbrev pub plain : Record → PlainHand
-plain hand =
-    record {
-      setup = plain_setup hand.setup;
-      rakes = hand.setup.rakes.rakes;
-      rules = hand.rules;
-      script = map numbered hand.script;
-      stated =
-          record {
-            finish = option_map amounts_in hand.stated.finish;
-            wins = hand.stated.wins;
-            pot_total = hand.stated.pot_total;
-            values = hand.stated.values;
-          };
-      notes = plain_notes hand.setup.stacks.seats hand.notes;
-    }
 
 -- finishing stacks are all that is stated
 abbrev pub finish_stated : Option (List ℕ) → PlainStated

@@ -15,8 +15,9 @@ use Rattle.phh_fields.specs.Fields.{at_key, field, place_text}
 use Rattle.phh_reading.specs.declared.fault.PhhHandFault.{PhhHandFault}
 use Rattle.phh_reading.specs.declared.fault.PhhFault.{PhhFault}
 use Rattle.phh_reading.specs.declared.fault.PhhFault.TheVariants as faults
-use Rattle.phh_reading.specs.Hand.{PlainHand, plain, hand_said}
+use Rattle.phh_reading.specs.Hand.{hand_said}
 use Rattle.phh_reading.specs.Order.{are_hands, in_order}
+use Rattle.hand_records.specs.PlainHands.{PlainHand, plain}
 
 -- a fault of the hand with this number
 abbrev pub in_hand : {A : Type 0} → ℕ → Result A FieldFault → Result A PhhHandFault

@@ -1,16 +1,14 @@
 //! The hands of a document are read in order: one where it has a variant, else those under its
 //! numbers.
-ghost use Rattle.std.specs.Prelude.{◌≡◌, ◌≤◌, ◌+◌, map, sum_by, length, [], ◌∷◌, IfOk};
-ghost use Rattle.std.specs.List.{AllByRecursion};
+ghost use Rattle.std.specs.Prelude.{◌≡◌, ◌≤◌, map, [], ◌∷◌, IfOk};
 ghost use Rattle.toml.specs.View.{table_view};
 ghost use Rattle.first_fault.specs.declared.limits.TheConstants.{MOST_FILE_MOVES, MOST_HANDS};
 ghost use Rattle.first_fault.specs.Reading.{Gives};
 ghost use Rattle.phh_fields.specs.declared.fault.FieldKey.TheVariants as keys;
 ghost use Rattle.phh_fields.specs.Fields.{at_key};
-ghost use Rattle.phh_reading.specs.Hand.{plain};
 ghost use Rattle.phh_reading.specs.Reading.{hands_of, hands_said, numbered_hand, records_said, those_said};
-ghost use Rattle.hand_records.specs.Histories.{IsHistory};
-ghost use Rattle.hand_records.specs.Moves.{moves_of};
+ghost use Rattle.hand_records.specs.Histories.{AreHistories, IsNextHand};
+ghost use Rattle.hand_records.specs.PlainHands.{plain};
 
 use crate::fault::PhhHandFault;
 use crate::hand::read_hand;
@@ -26,9 +24,7 @@ use toml::Table;
 #[tactic(auto, unfolding(crate::specs::Reading::hands_of))]
 pub fn read_hands(alloc: Global, table: &Table) -> Result<Records, Stop<PhhHandFault>>
     ensures said { Gives (map plain) result (those_said (hands_of (table_view table.now))) }
-    ensures sound { IfOk result (AllByRecursion IsHistory) }
-    ensures few { IfOk result (λ records. length records ≤ MOST_HANDS) }
-    ensures moves { IfOk result (λ records. sum_by moves_of records ≤ MOST_FILE_MOVES) }
+    ensures hands { IfOk result AreHistories }
 {
     if field(table, FieldKey::Variant).is_some() {
         return read_records(alloc, &[table]);
@@ -44,9 +40,7 @@ pub fn read_hands(alloc: Global, table: &Table) -> Result<Records, Stop<PhhHandF
 fn read_records(alloc: Global, tables: &[&Table]) -> Result<Records, Stop<PhhHandFault>>
     ensures said { Gives (map plain) result
         (records_said (map (λ hand. table_view hand.now) tables.now)) }
-    ensures sound { IfOk result (AllByRecursion IsHistory) }
-    ensures few { IfOk result (λ records. length records ≤ MOST_HANDS) }
-    ensures moves { IfOk result (λ records. sum_by moves_of records ≤ MOST_FILE_MOVES) }
+    ensures hands { IfOk result AreHistories }
 {
     let (records, _moves) = read_tables(alloc, tables)?;
     Ok(records)
@@ -56,9 +50,7 @@ fn read_records(alloc: Global, tables: &[&Table]) -> Result<Records, Stop<PhhHan
 fn read_tables(alloc: Global, tables: &[&Table]) -> Result<(Records, usize), Stop<PhhHandFault>>
     ensures said { Gives (λ found. (map plain found.0, found.1)) result
         (hands_said (map (λ hand. table_view hand.now) tables.now)) }
-    ensures sound { IfOk result (λ found. AllByRecursion IsHistory found.0) }
-    ensures few { IfOk result (λ found. length found.0 ≤ MOST_HANDS) }
-    ensures moves { IfOk result (λ found. sum_by moves_of found.0 ≤ MOST_FILE_MOVES) }
+    ensures hands { IfOk result (λ found. AreHistories found.0) }
 {
     let mut records = Records::new(alloc);
     records.make_room(tables.len());
@@ -83,9 +75,7 @@ fn read_numbered(
     requires few { file_moves ≤ MOST_FILE_MOVES }
     ensures said { Gives (λ found. (plain found.0 ∷ [], found.1)) result
         (numbered_hand file_moves number (table_view table.now)) }
-    ensures sound { IfOk result (λ found. IsHistory found.0) }
-    ensures moves { IfOk result (λ found. found.1 ≡ file_moves + moves_of found.0) }
-    ensures few { IfOk result (λ found. found.1 ≤ MOST_FILE_MOVES) }
+    ensures next { IfOk result (IsNextHand file_moves) }
     ensures number { IfOk result (λ found. number ≤ MOST_HANDS) }
 {
     if number as usize > MOST_HANDS {

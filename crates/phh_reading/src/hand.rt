@@ -10,9 +10,10 @@ ghost use Rattle.phh_fields.specs.declared.fault.FieldKey.TheVariants as keys;
 ghost use Rattle.phh_fields.specs.Fields.{field as field_said};
 ghost use Rattle.phh_fields.specs.Rows.{row_said};
 ghost use Rattle.chip_ledger.specs.SeatRow.{amounts_in};
-ghost use Rattle.phh_reading.specs.Hand.{hand_said, plain, rakes_at};
+ghost use Rattle.phh_reading.specs.Hand.{hand_said, rakes_at};
 ghost use Rattle.hand_records.specs.Histories.{IsHistory};
 ghost use Rattle.hand_records.specs.Moves.{moves_of};
+ghost use Rattle.hand_records.specs.PlainHands.{plain};
 
 use crate::events::read_events;
 use chip_ledger::{MOST_AMOUNT, RakeRow, SeatRow};

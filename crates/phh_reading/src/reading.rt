@@ -5,11 +5,12 @@ ghost use Rattle.toml.specs.View.{table_view};
 ghost use Rattle.first_fault.specs.declared.limits.TheConstants.{MOST_FILE_MOVES, MOST_HANDS};
 ghost use Rattle.phh_fields.specs.Fields.{place_text as place_text_said};
 ghost use Rattle.phh_reading.specs.Reading.{InHand, Reads, document_said, reading, wrong_of};
-ghost use Rattle.hand_records.specs.Histories.{IsHistory};
+ghost use Rattle.hand_records.specs.Histories.{AreHistories, IsHistory};
 ghost use Rattle.hand_records.specs.Moves.{moves_of};
 
 use crate::fault::{PhhFault, PhhHandFault};
 use crate::file::read_hands;
+use crate::tree_size::is_bearable;
 use card_set::Memory;
 use first_fault::{Stop, Text};
 use hand_records::Records;
@@ -26,6 +27,9 @@ pub fn read(alloc: Global, bytes: &[u8]) -> Result<Records, PhhFault>
     ensures few { IfOk result (λ records. length records ≤ MOST_HANDS) }
     ensures moves { IfOk result (λ records. sum_by moves_of records ≤ MOST_FILE_MOVES) }
 {
+    if !is_bearable(bytes) {
+        return Err(PhhFault::Memory);
+    }
     match toml::table_from_slice(alloc, bytes) {
         Ok(table) => read_document(alloc, &table),
         Err(error) => {
@@ -41,9 +45,7 @@ pub fn read(alloc: Global, bytes: &[u8]) -> Result<Records, PhhFault>
 // The records that a document says.
 fn read_document(alloc: Global, table: &Table) -> Result<Records, PhhFault>
     ensures reads { Reads result (document_said (Some (table_view table.now))) }
-    ensures sound { IfOk result (AllByRecursion IsHistory) }
-    ensures few { IfOk result (λ records. length records ≤ MOST_HANDS) }
-    ensures moves { IfOk result (λ records. sum_by moves_of records ≤ MOST_FILE_MOVES) }
+    ensures hands { IfOk result AreHistories }
 {
     match read_hands(alloc, table) {
         Ok(records) => Ok(records),

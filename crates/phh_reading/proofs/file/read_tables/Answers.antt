@@ -4,12 +4,12 @@ use Rattle.std.proofs.lemmas.List.Sums.{sum_by_push}
 use Rattle.std.proofs.lemmas.Result.{err_from_is_err_and}
 use Rattle.toml.specs.View.{table_view}
 use Rattle.first_fault.proofs.Thread.{threads_on, thread_ends, thread_done}
-use Rattle.phh_reading.specs.Hand.{plain}
 use Rattle.phh_reading.specs.Reading.{hands_said, numbered_hand}
 use Rattle.phh_reading.proofs.file.read_tables.Goals as goal
 use Rattle.list_laws.proofs.Entries.{all_push}
 use Rattle.hand_records.specs.Histories.{IsHistory}
 use Rattle.hand_records.specs.Moves.{moves_of}
+use Rattle.hand_records.specs.PlainHands.{plain}
 
 pub returns-in_err-record-clause-said : goal.returns-in_err-record-clause-said
 returns-in_err-record-clause-said c =
@@ -26,9 +26,9 @@ loop-index-preserved c =
     record {
       count = ap length pushed ∙ omega (arith, inv.count, length-append l.records (record_read ∷ []));
       few = c.in_ok-record.ensures.number;
-      moves = ap (sum_by moves_of) pushed ∙ omega (arith, sum_by_push moves_of l.records record_read, inv.moves, c.in_ok-record.ensures.moves);
-      limit = c.in_ok-record.ensures.few;
-      sound = rw pushed (all_push IsHistory l.records record_read inv.sound c.in_ok-record.ensures.sound);
+      moves = ap (sum_by moves_of) pushed ∙ omega (arith, sum_by_push moves_of l.records record_read, inv.moves, c.in_ok-record.ensures.next.moves);
+      limit = c.in_ok-record.ensures.next.few;
+      sound = rw pushed (all_push IsHistory l.records record_read inv.sound c.in_ok-record.ensures.next.sound);
       read = rw (pushed, map_push plain l.records record_read) (threads_on (λ hand. table_view hand.now) numbered_hand (map plain l.records) l.file_moves c.in_ok-record.moves c.args.tables.now l.index c.index-tables-index.result (plain record_read ∷ []) (hands_said (map (λ hand. table_view hand.now) c.args.tables.now)) c.loop-index-test.true (sym c.index-tables-index.is) c.in_ok-record.ensures.said inv.read);
     }
 
