@@ -2,7 +2,7 @@
 use Rattle.std.proofs.Common.{Option, Some, None, IfSome}
 use Rattle.std.specs.Prelude.{option_map}
 use Rattle.hand_records.specs.AllowedNotes.{IsDayOf, IsTime, IsWithin}
-use Rattle.ohh_facts.specs.declared.moment.Moment.{Moment}
+use Rattle.hand_records.specs.declared.notes.Moment.{Moment}
 use Rattle.ohh_facts.specs.MomentRanges.{IsMoment}
 
 pub year_within : (moment : Option Moment) → IfSome moment IsMoment → IfSome (option_map (λ moment. moment.day.year) moment) (IsWithin 1 9999)

@@ -1,7 +1,7 @@
 -- The ranges of a moment.
 use Rattle.hand_records.specs.AllowedNotes.{IsDayOf, IsTime, IsWithin}
-use Rattle.ohh_facts.specs.declared.moment.CivilDate.{CivilDate}
-use Rattle.ohh_facts.specs.declared.moment.Moment.{Moment}
+use Rattle.hand_records.specs.declared.notes.CivilDate.{CivilDate}
+use Rattle.hand_records.specs.declared.notes.Moment.{Moment}
 
 -- a day of the calendar
 pub record IsDay (day : CivilDate) : Type 0 where

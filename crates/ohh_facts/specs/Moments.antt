@@ -8,8 +8,8 @@ use Rattle.hand_records.specs.declared.notes.Clock.{Clock}
 use Rattle.hand_records.specs.AllowedNotes.{days_in_month}
 use Rattle.first_fault.specs.Digits.{are_digits}
 use Rattle.first_fault.specs.Reading.{◌>>=◌}
-use Rattle.ohh_facts.specs.declared.moment.CivilDate.{CivilDate}
-use Rattle.ohh_facts.specs.declared.moment.Moment.{Moment}
+use Rattle.hand_records.specs.declared.notes.CivilDate.{CivilDate}
+use Rattle.hand_records.specs.declared.notes.Moment.{Moment}
 use Rattle.ohh_members.specs.declared.fault.MemberFaultKind.TheVariants as whats
 use Rattle.ohh_members.specs.declared.fault.Path.TheVariants as paths
 use Rattle.ohh_members.specs.declared.fault.MemberFault.{MemberFault}

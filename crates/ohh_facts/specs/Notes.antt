@@ -1,30 +1,25 @@
 -- The notes of a hand, examined in this order. A note that equals its default is none.
-use Rattle.std.specs.Prelude.{ℕ, ◌+◌, ◌==◌, if◌then◌else◌, List, [], ◌∷◌, codes, length, map, take, Option, Some, None, option_map, option_and_then, nat_le, Result, Ok}
+use Rattle.std.specs.Prelude.{ℕ, ◌+◌, ◌==◌, if◌then◌else◌, List, [], ◌∷◌, codes, length, map, Option, Some, None, option_map, option_and_then, Result, Ok}
 use Rattle.std.specs.Fmt.{decimal, signed_decimal}
 use Rattle.serde_json.specs.Data.{Data, string}
-use Rattle.first_fault.specs.declared.limits.TheConstants.{MOST_TEXT_BYTES}
 use Rattle.first_fault.specs.declared.limits.Quantity.TheVariants as quantities
-use Rattle.hand_records.specs.declared.notes.Clock.{Clock}
-use Rattle.hand_records.specs.declared.notes.Notes.{Notes}
-use Rattle.hand_records.specs.AllowedNotes.{noted, unless_usual}
+use Rattle.hand_records.specs.AllowedNotes.{noted, noted_or, unless_usual}
+use Rattle.hand_records.specs.SaidNotes.{SaidNotes}
 use Rattle.first_fault.specs.Reading.{◌>>=◌, read_if, or_none}
 use Rattle.ohh_members.specs.declared.fault.MemberFaultKind.TheVariants as whats
 use Rattle.ohh_members.specs.declared.fault.Path.{Path}
 use Rattle.ohh_members.specs.declared.fault.Path.TheVariants as paths
 use Rattle.ohh_members.specs.declared.fault.MemberFault.{MemberFault}
 use Rattle.ohh_facts.specs.declared.labels.Labels.{Labels}
-use Rattle.ohh_facts.specs.declared.moment.Moment.{Moment}
 use Rattle.ohh_facts.specs.Moments.{moment_said}
 use Rattle.ohh_members.specs.Players.{PlainPlayer}
-use Rattle.ohh_members.specs.Values.{wrong, field, integer_said, number_said, text_said}
+use Rattle.ohh_members.specs.Values.{field, integer_said, number_said, text_said}
 use Rattle.chip_ledger.specs.SeatsSaid.{default_name}
 
 -- the text of a note with this default; it is of at most 255 bytes
 unfoldable pub note_said : List ℕ → Path → List ℕ → Result (Option (List ℕ)) MemberFault
 note_said default path text =
-    if nat_le (length text) MOST_TEXT_BYTES
-    then Ok (noted default text)
-    else wrong (whats.TooMany quantities.TextBytes) path
+    noted_or (record { what = whats.TooMany quantities.TextBytes; path = path }) default text
 
 -- a text with this default
 unfoldable pub text_note_said : List ℕ → Path → Data → Result (Option (List ℕ)) MemberFault
@@ -42,29 +37,8 @@ seat_count_said count value =
     number_said 1 255 paths.TableSize value
     >>= λ number. Ok (if number == count then None else Some number)
 
--- where and when a hand was played
-pub record PlainLabels : Type 0 where
-  pub hand : Option (List ℕ)
-  pub table : Option (List ℕ)
-  pub seat_count : Option ℕ
-  pub moment : Option Moment
-  pub currency : Option (List ℕ)
-  pub venue : Option (List ℕ)
-
--- what labels say
-abbrev pub plain_labels : Labels → PlainLabels
-plain_labels labels =
-    record {
-      hand = labels.hand;
-      table = labels.table;
-      seat_count = labels.seat_count;
-      moment = labels.moment;
-      currency = labels.currency;
-      venue = labels.venue;
-    }
-
 -- the labels of a hand with so many seats, at this place of its file, from 0
-unfoldable pub labels_said : ℕ → ℕ → Data → Result PlainLabels MemberFault
+unfoldable pub labels_said : ℕ → ℕ → Data → Result Labels MemberFault
 labels_said place count ohh = do
   hand ← or_none (label_said (decimal place) paths.GameNumber) (field paths.GameNumber ohh)
   table ← or_none (text_note_said [] paths.TableName) (field paths.TableName ohh)
@@ -82,39 +56,6 @@ labels_said place count ohh = do
         venue = venue;
       })
 
--- the notes of a hand with plain lists
-pub record PlainNotes : Type 0 where
-  pub names : List (Option (List ℕ))
-  pub seats : Option (List ℕ)
-  pub seat_count : Option ℕ
-  pub hand : Option (List ℕ)
-  pub table : Option (List ℕ)
-  pub venue : Option (List ℕ)
-  pub currency : Option (List ℕ)
-  pub year : Option ℕ
-  pub month : Option ℕ
-  pub day : Option ℕ
-  pub time : Option Clock
-  pub zone : Option (List ℕ)
-
--- the notes of a hand with so many seats
-abbrev pub plain_notes : ℕ → Notes → PlainNotes
-plain_notes count notes =
-    record {
-      names = take count notes.names;
-      seats = option_map (take count) notes.seats;
-      seat_count = notes.seat_count;
-      hand = notes.hand;
-      table = notes.table;
-      venue = notes.venue;
-      currency = notes.currency;
-      year = notes.year;
-      month = notes.month;
-      day = notes.day;
-      time = notes.time;
-      zone = notes.zone;
-    }
-
 -- the names of players, of whom the first has this seat in the hand
 abbrev pub names_from : ℕ → List PlainPlayer → List (Option (List ℕ))
 names_from seat [] = []
@@ -122,7 +63,7 @@ names_from seat (player ∷ rest) =
     option_and_then (noted (default_name seat)) player.name ∷ names_from (seat + 1) rest
 
 -- the notes that players and labels make; a moment is one of universal time
-abbrev pub notes_of : List PlainPlayer → PlainLabels → PlainNotes
+abbrev pub notes_of : List PlainPlayer → Labels → SaidNotes
 notes_of players labels =
     record {
       names = names_from 1 players;
@@ -140,6 +81,6 @@ notes_of players labels =
     }
 
 -- the notes
-unfoldable pub notes_said : ℕ → List PlainPlayer → Data → Result PlainNotes MemberFault
+unfoldable pub notes_said : ℕ → List PlainPlayer → Data → Result SaidNotes MemberFault
 notes_said place players ohh =
     labels_said place (length players) ohh >>= λ labels. Ok (notes_of players labels)

@@ -7,12 +7,13 @@ ghost use Rattle.ohh_members.specs.declared.fault.Path.TheVariants as paths;
 ghost use Rattle.ohh_facts.specs.LabelRanges.{AreLabels};
 ghost use Rattle.ohh_facts.specs.MomentRanges.{IsMoment};
 ghost use Rattle.ohh_facts.specs.Moments.{moment_said};
-ghost use Rattle.ohh_facts.specs.Notes.{labels_said, plain_labels, seat_count_said};
+ghost use Rattle.ohh_facts.specs.Notes.{labels_said, seat_count_said};
 ghost use Rattle.ohh_members.specs.Values.{field as field_said};
 
-use crate::moment::{Moment, read_moment};
+use crate::moment::read_moment;
 use crate::texts::{label_at, text_at};
 use first_fault::{Stop, Text};
+use hand_records::Moment;
 use ohh_members::fault::{MemberFault, Path};
 use ohh_members::values::{field, read_number};
 use serde_json::Value;
@@ -37,7 +38,7 @@ pub fn read_labels(
     place: u32,
     seats: u8,
 ) -> Result<Labels, Stop<MemberFault>>
-    ensures said { Gives plain_labels result (labels_said place seats (view ohh.now)) }
+    ensures said { Gives (λ labels. labels) result (labels_said place seats (view ohh.now)) }
     ensures fit { IfOk result (AreLabels seats) }
 {
     let usual = place.to_string(alloc)?;

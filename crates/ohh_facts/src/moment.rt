@@ -8,25 +8,10 @@ ghost use Rattle.ohh_facts.specs.MomentRanges.{IsDay, IsMoment};
 ghost use Rattle.ohh_facts.specs.Moments.{clock_said, day_said, digits_in_front as digits_in_front_said, digits_said, fraction_of, fraction_said, has_point as has_point_said, has_signs as has_signs_said, is_universal as is_universal_said, moment_in, moment_said, nine_of, part as part_said, parts_said, zoned};
 
 use first_fault::{Stop, are_digits, read_digits};
-use hand_records::{Clock, has_day};
+use hand_records::{CivilDate, Clock, Moment, has_day};
 use ohh_members::fault::{MemberFault, MemberFaultKind, Path};
 use ohh_members::values::{read_text, wrong};
 use serde_json::Value;
-
-/// A day of the calendar.
-#[derive(Clone, Copy, Debug, PartialEq, Eq)]
-pub struct CivilDate {
-    pub year: u16,
-    pub month: u8,
-    pub day: u8,
-}
-
-/// A moment in universal time.
-#[derive(Clone, Copy, Debug, PartialEq, Eq)]
-pub struct Moment {
-    pub day: CivilDate,
-    pub time: Clock,
-}
 
 /// The moment at which a hand began.
 pub fn read_moment(value: &Value) -> Result<Moment, Stop<MemberFault>>

@@ -5,17 +5,16 @@ ghost use Rattle.serde_json.specs.View.{view};
 ghost use Rattle.hand_records.specs.AllowedNotes.{AreAllowed, AreSeatNumbers, IsName, IsNoteText, IsWithin, unless_usual as unless_usual_said};
 ghost use Rattle.first_fault.specs.Reading.{Gives};
 ghost use Rattle.ohh_facts.specs.LabelRanges.{AreLabels};
-ghost use Rattle.ohh_facts.specs.Notes.{names_from, notes_of as notes_of_said, notes_said, plain_labels, plain_notes};
+ghost use Rattle.ohh_facts.specs.Notes.{names_from, notes_of as notes_of_said, notes_said};
 ghost use Rattle.hand_records.specs.AllowedNotes.{noted};
+ghost use Rattle.hand_records.specs.SaidNotes.{plain_notes};
 ghost use Rattle.ohh_members.specs.Players.{plain_player};
 ghost use Rattle.chip_ledger.specs.SeatsSaid.{default_name};
 
 use crate::labels::{Labels, read_labels};
-use crate::moment::Moment;
-use crate::texts::keep_short;
 use card_set::Memory;
 use first_fault::{Stop, Text};
-use hand_records::{Clock, Notes};
+use hand_records::{Clock, Moment, Notes, keep_short};
 use ohh_members::fault::MemberFault;
 use ohh_members::player::Player;
 use serde_json::Value;
@@ -47,7 +46,7 @@ fn notes_of(alloc: Global, players: &[Player], labels: Labels) -> Result<Notes, 
     requires few { length players.now ≤ 10 }
     requires fit { AreLabels (length players.now) labels }
     ensures said { IfOk result (λ notes. plain_notes (length players.now) notes
-        ≡ notes_of_said (map plain_player players.now) (plain_labels labels)) }
+        ≡ notes_of_said (map plain_player players.now) labels) }
     ensures allowed { IfOk result (AreAllowed (length players.now)) }
 {
     let names = names_of(alloc, players)?;

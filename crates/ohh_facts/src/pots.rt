@@ -8,7 +8,7 @@ ghost use Rattle.chip_ledger.specs.declared.rows.TheConstants.{MOST_AMOUNT};
 ghost use Rattle.first_fault.specs.Reading.{Gives, read_if};
 ghost use Rattle.ohh_facts.specs.PotSums.{plain_listed_pot};
 ghost use Rattle.ohh_facts.specs.Won.{plain_win};
-ghost use Rattle.ohh_facts.specs.Pots.{IsPaid, amount_said, listed_paid, no_pots, plain_found, plain_paid, pot_added, pots_said, rake_said, summed, win_added, win_said, wins_said};
+ghost use Rattle.ohh_facts.specs.Pots.{IsPaid, amount_said, no_pots, plain_found, plain_paid, pot_added, pots_said, rake_said, summed, win_added, win_said, wins_said};
 ghost use Rattle.ohh_members.specs.Values.{added_from, field as field_said, number_said};
 
 use crate::listed_pot::ListedPot;
@@ -22,7 +22,7 @@ use serde_json::Value;
 use std::alloc::Global;
 
 /// What is stated of the pots of a hand, where the ids are those of its players by their seats.
-#[tactic(auto, unfolding(crate::specs::Pots::pots_said))]
+#[tactic(auto, unfolding(crate::specs::Pots::pots_said, crate::specs::Pots::listed_paid))]
 pub fn read_pots(alloc: Global, ids: &[i128], ohh: &Value) -> Result<Paid, Stop<MemberFault>>
     requires some { 2 ≤ length ids.now }
     requires few { length ids.now ≤ 10 }
@@ -30,22 +30,13 @@ pub fn read_pots(alloc: Global, ids: &[i128], ohh: &Value) -> Result<Paid, Stop<
     ensures fits { IfOk result (IsPaid (length ids.now)) }
 {
     match field(ohh, Path::Pots) {
-        Some(value) => read_listed(alloc, ids, value),
+        Some(value) => {
+            let values = read_list(value, Path::Pots)?;
+            let found = add_pots(alloc, ids, values)?;
+            Ok(found.paid())
+        }
         None => Ok(Paid::none()),
     }
-}
-
-// What a list of pots states.
-#[tactic(auto, unfolding(crate::specs::Pots::listed_paid))]
-fn read_listed(alloc: Global, ids: &[i128], value: &Value) -> Result<Paid, Stop<MemberFault>>
-    requires some { 2 ≤ length ids.now }
-    requires few { length ids.now ≤ 10 }
-    ensures said { Gives plain_paid result (listed_paid ids.now (view value.now)) }
-    ensures fits { IfOk result (IsPaid (length ids.now)) }
-{
-    let values = read_list(value, Path::Pots)?;
-    let found = add_pots(alloc, ids, values)?;
-    Ok(found.paid())
 }
 
 // The pots of a list, and what is won of them.
@@ -160,20 +151,9 @@ fn read_wins(ids: &[i128], index: u64, won: Won, pot: &Value) -> Result<Won, Sto
         member: PotMember::PlayerWins,
     };
     let values = read_list(needed(pot, path)?, path)?;
-    add_wins(ids, index, won, values)
-}
-
-// What is won of the pot with this index, after what was won before.
-fn add_wins(ids: &[i128], pot: u64, won: Won, values: &[Value]) -> Result<Won, Stop<MemberFault>>
-    requires ids { length ids.now ≡ won.sums.seats }
-    ensures said { Gives (λ after. map plain_win after.list.items) result
-        (added_from (win_added ids.now pot) (map plain_win won.list.items) 0
-        (map view values.now)) }
-    ensures seats { IfOk result (λ after. after.sums.seats ≡ won.sums.seats) }
-{
     let mut after = won;
-    for (index, value) in values.iter().enumerate() {
-        after = add_win(ids, pot, after, index as u64, value)?;
+    for (place, value) in values.iter().enumerate() {
+        after = add_win(ids, index, after, place as u64, value)?;
     }
     Ok(after)
 }

@@ -1,32 +1,17 @@
 //! The text of a note is kept where it is not empty and not the default of the note.
-ghost use Rattle.std.specs.Prelude.{◌≡◌, ◌≢◌, ◌≤◌, [], length, IfOk, IfSome};
+ghost use Rattle.std.specs.Prelude.{[], IfOk, IfSome};
 ghost use Rattle.serde_json.specs.View.{view};
 ghost use Rattle.hand_records.specs.AllowedNotes.{IsNoteText};
-ghost use Rattle.first_fault.specs.declared.limits.TheConstants.{MOST_TEXT_BYTES};
 ghost use Rattle.first_fault.specs.Reading.{Gives, or_none};
 ghost use Rattle.ohh_facts.specs.Notes.{label_said, note_said, text_note_said};
-ghost use Rattle.hand_records.specs.AllowedNotes.{noted};
 ghost use Rattle.ohh_members.specs.Values.{field as field_said};
 
-use card_set::Memory;
-use first_fault::{MOST_TEXT_BYTES, Quantity, Stop, Text};
+use first_fault::{Quantity, Stop, Text};
+use hand_records::keep_text;
 use ohh_members::fault::{MemberFault, MemberFaultKind, Path};
-use ohh_members::values::{field, read_integer, read_text, wrong};
+use ohh_members::values::{field, read_integer, read_text};
 use serde_json::Value;
 use std::alloc::Global;
-
-/// A copy of a text of at most 255 bytes, or nothing where it says no note.
-pub fn keep_short(alloc: Global, text: &str, default: &str) -> Result<Option<Text>, Memory>
-    requires { length text.now ≤ MOST_TEXT_BYTES }
-    ensures said { IfOk result (λ note. note ≡ noted default.now text.now) }
-    ensures allowed { IfOk result (λ note. IfSome note (λ text.
-        IsNoteText text × (text ≢ default.now))) }
-{
-    if text.is_empty() || text == default {
-        return Ok(None);
-    }
-    Ok(Some(Text::new(alloc, text)?))
-}
 
 /// The text of a member, if there is one that is not empty.
 pub fn text_at(alloc: Global, ohh: &Value, path: Path) -> Result<Option<Text>, Stop<MemberFault>>
@@ -52,7 +37,7 @@ fn read_text_note(
         (text_note_said default.now path (view value.now)) }
     ensures allowed { IfOk result (λ note. IfSome note IsNoteText) }
 {
-    keep_text(alloc, read_text(value, path)?, default, path)
+    note_of(alloc, read_text(value, path)?, default, path)
 }
 
 /// The label of a member, with this default, if there is one.
@@ -84,18 +69,18 @@ fn read_label(
     ensures allowed { IfOk result (λ note. IfSome note IsNoteText) }
 {
     match value {
-        Value::String(text) => keep_text(alloc, text.as_str(), default, path),
+        Value::String(text) => note_of(alloc, text.as_str(), default, path),
         _ => {
             let number = read_integer(value, path)?;
             let text = number.to_string(alloc)?;
-            keep_text(alloc, text.as_str(), default, path)
+            note_of(alloc, text.as_str(), default, path)
         }
     }
 }
 
 // A copy of the text, or nothing where it says no note.
 #[tactic(auto, unfolding(crate::specs::Notes::note_said))]
-fn keep_text(
+fn note_of(
     alloc: Global,
     text: &str,
     default: &str,
@@ -104,12 +89,7 @@ fn keep_text(
     ensures said { Gives (λ note. note) result (note_said default.now path text.now) }
     ensures allowed { IfOk result (λ note. IfSome note IsNoteText) }
 {
-    if text.len() > MOST_TEXT_BYTES {
-        let quantity = Quantity::TextBytes;
-        return Err(wrong(MemberFaultKind::TooMany { quantity }, path));
-    }
-    if text.is_empty() || text == default {
-        return Ok(None);
-    }
-    Ok(Some(Text::new(alloc, text)?))
+    let quantity = Quantity::TextBytes;
+    let what = MemberFaultKind::TooMany { quantity };
+    keep_text(alloc, text, default, MemberFault { what, path })
 }

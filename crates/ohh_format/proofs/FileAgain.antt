@@ -10,7 +10,6 @@ use Rattle.hand_records.specs.declared.trace.Play.{Play}
 use Rattle.ohh_members.specs.declared.dialect.Dialect.{Dialect}
 use Rattle.ohh_writing.specs.Lines.{AreRead, IsTextOf, Spells, hand_text}
 use Rattle.ohh_writing.specs.Tree.{hand_tree}
-use Rattle.ohh_reading.specs.Hand.{PlainHand}
 use Rattle.ohh_reading.specs.Reading.{found_said, hands_said, numbered_hand, reading, told, tree_of, tree_said}
 use Rattle.ohh_reading.specs.Blocks.{blocks_of}
 use Rattle.ohh_reading.specs.declared.fault.OhhHandFault.{OhhHandFault}
@@ -19,6 +18,7 @@ use Rattle.ohh_format.specs.Again.{hand_again, hands_again}
 use Rattle.ohh_format.proofs.BlocksAgain.{blocks_again, texts}
 use Rattle.ohh_format.proofs.HandAgain.{IsReadable, counted, hand_read, hand_steps}
 use Rattle.hand_records.specs.Plays.{moves_written}
+use Rattle.hand_records.specs.PlainHands.{PlainHand}
 
 -- the text of a hand is its tree
 text_again : (dialect : Dialect) (place : ℕ) (play : Play) → IsTextOf dialect place play → tree_of (hand_text dialect place play) ≡ Some (hand_tree dialect place play)

@@ -22,7 +22,7 @@ use Rattle.ohh_members.specs.declared.fault.Path.TheVariants as paths
 use Rattle.ohh_members.specs.Front.{PlainFront, front_said}
 use Rattle.ohh_members.specs.Players.{PlainPlayer, seated_said}
 use Rattle.ohh_members.specs.Values.{field, list_said, needed}
-use Rattle.ohh_writing.specs.declared.moment.Moment.{Moment}
+use Rattle.hand_records.specs.declared.notes.Moment.{Moment}
 use Rattle.ohh_writing.specs.Moment.{moment_of}
 use Rattle.ohh_writing.specs.Rounds.{hand_rounds}
 use Rattle.ohh_writing.specs.Seating.{is_circular, number_among, numbers_spelled}

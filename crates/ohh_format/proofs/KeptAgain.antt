@@ -1,13 +1,12 @@
 -- What is read again of notes is what has a spelling.
 use Rattle.std.proofs.Common.{◌≡◌, ℕ, ◌-◌, Bool, true, false, cond, bytes_eq, List, take, Option, Some, None, option_and_then, refl, sym, ap, ◌∙◌}
 use Rattle.std.specs.List.{range_with_len}
-use Rattle.hand_records.specs.SaidNotes.{KeepsNotes, SaidNotes, kept_label, name_said, numbers_said, said_notes}
 use Rattle.hand_records.specs.declared.notes.Notes.{Notes}
-use Rattle.ohh_facts.specs.Notes.{PlainNotes, plain_notes}
 use Rattle.ohh_format.specs.Again.{notes_again}
 use Rattle.ohh_writing.specs.Seating.{is_circular, numbers_spelled}
 use Rattle.hand_records.proofs.NoteLaws.{label_twice, names_along, notes_same, numbers_again}
 use Rattle.ohh_format.specs.KeptNotes.{kept_in_ohh, numbers_round}
+use Rattle.hand_records.specs.SaidNotes.{KeepsNotes, SaidNotes, kept_label, name_said, numbers_said, plain_notes, said_notes}
 
 -- numbers that are spelled, and are said
 numbers_kept : (count : ℕ) (said : Option (List ℕ)) → numbers_said count (numbers_spelled count said) ≡ option_and_then numbers_round (numbers_said count said)
@@ -21,28 +20,10 @@ numbers_kept count (Some numbers) = by_tests (bytes_eq (take count numbers) (ran
     by_tests false true is goes = ap (λ (b : Bool). cond b None (Some (take count numbers))) is ∙ sym (ap (λ (b : Bool). cond b (Some (take count numbers)) None) goes)
     by_tests false false is goes = sym (ap (λ (b : Bool). cond b (Some (take count numbers)) None) goes)
 
--- what is read of notes, as they are said
-abbrev pub from_plain : PlainNotes → SaidNotes
-from_plain n =
-    record {
-      names = n.names;
-      seats = n.seats;
-      seat_count = n.seat_count;
-      hand = n.hand;
-      table = n.table;
-      venue = n.venue;
-      currency = n.currency;
-      year = n.year;
-      month = n.month;
-      day = n.day;
-      time = n.time;
-      zone = n.zone;
-    }
-
 -- what is read again are the kept notes
-pub read_kept : (place count : ℕ) (notes : Notes) → from_plain (notes_again place count notes) ≡ kept_in_ohh (said_notes place count notes)
+pub read_kept : (place count : ℕ) (notes : Notes) → notes_again place count notes ≡ kept_in_ohh (said_notes place count notes)
 read_kept place count notes =
-    notes_same (from_plain (notes_again place count notes)) (kept_in_ohh (said_notes place count notes)) (record {
+    notes_same (notes_again place count notes) (kept_in_ohh (said_notes place count notes)) (record {
       names = refl;
       seats = numbers_kept count notes.seats;
       seat_count = refl;
@@ -61,18 +42,18 @@ read_kept place count notes =
 pub keeps_said : (place count : ℕ) (notes again : Notes) → plain_notes count again ≡ notes_again place count notes
     → KeepsNotes kept_in_ohh place count notes again
 keeps_said place count notes again same =
-    notes_same (said_notes place count again) (from_plain (notes_again place count notes)) (record {
-      names = names_along count again.names (name_said notes.names) (ap (λ (n : PlainNotes). n.names) same);
-      seats = numbers_again count again.seats (numbers_spelled count notes.seats) (ap (λ (n : PlainNotes). n.seats) same);
-      seat_count = ap (λ (n : PlainNotes). n.seat_count) same;
-      hand = ap (λ (n : PlainNotes). kept_label place n.hand) same ∙ label_twice place notes.hand;
-      table = ap (λ (n : PlainNotes). n.table) same;
-      venue = ap (λ (n : PlainNotes). n.venue) same;
-      currency = ap (λ (n : PlainNotes). n.currency) same;
-      year = ap (λ (n : PlainNotes). n.year) same;
-      month = ap (λ (n : PlainNotes). n.month) same;
-      day = ap (λ (n : PlainNotes). n.day) same;
-      time = ap (λ (n : PlainNotes). n.time) same;
-      zone = ap (λ (n : PlainNotes). n.zone) same;
+    notes_same (said_notes place count again) (notes_again place count notes) (record {
+      names = names_along count again.names (name_said notes.names) (ap (λ (n : SaidNotes). n.names) same);
+      seats = numbers_again count again.seats (numbers_spelled count notes.seats) (ap (λ (n : SaidNotes). n.seats) same);
+      seat_count = ap (λ (n : SaidNotes). n.seat_count) same;
+      hand = ap (λ (n : SaidNotes). kept_label place n.hand) same ∙ label_twice place notes.hand;
+      table = ap (λ (n : SaidNotes). n.table) same;
+      venue = ap (λ (n : SaidNotes). n.venue) same;
+      currency = ap (λ (n : SaidNotes). n.currency) same;
+      year = ap (λ (n : SaidNotes). n.year) same;
+      month = ap (λ (n : SaidNotes). n.month) same;
+      day = ap (λ (n : SaidNotes). n.day) same;
+      time = ap (λ (n : SaidNotes). n.time) same;
+      zone = ap (λ (n : SaidNotes). n.zone) same;
     })
     ∙ read_kept place count notes

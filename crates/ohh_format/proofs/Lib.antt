@@ -31,7 +31,6 @@ pub mod SoundPlays
 pub mod WordEvents
 pub mod WordScript
 pub mod WordPlays
-pub mod SameSetups
 pub mod StatedAgrees
 pub mod KeptAgain
 pub mod ReadBack

@@ -8,10 +8,10 @@ use Rattle.std.proofs.lemmas.Grind.{pow_more}
 use Rattle.std.proofs.lemmas.List.{append-nil, length-append}
 use Rattle.std.proofs.lemmas.List.Folds.{list_all-append}
 use Rattle.first_fault.specs.Digits.{are_digits}
-use Rattle.hand_records.specs.AllowedNotes.{IsDayOf, IsTime, IsWithin, days_in_month}
-use Rattle.ohh_facts.specs.declared.moment.Moment as read
+use Rattle.hand_records.specs.AllowedNotes.{days_in_month}
+use Rattle.ohh_facts.specs.MomentRanges.{IsMoment}
 use Rattle.ohh_facts.specs.Moments.{clock_said, day_said, digits_in_front, digits_said, fraction_of, fraction_said, moment_in, nine_of, parts_said, zoned}
-use Rattle.ohh_writing.specs.declared.moment.Moment.{Moment}
+use Rattle.hand_records.specs.declared.notes.Moment.{Moment}
 use Rattle.ohh_writing.specs.Moment.{by_digits, moment_text}
 use Rattle.list_laws.proofs.Digits.{digit_good, digit_is, value_more}
 use Rattle.list_laws.proofs.Lists.{take_front}
@@ -74,30 +74,20 @@ fraction_again nano few false is = nine_again nano few
 
 -- ---- the whole text
 
--- a moment of the calendar
-pub record IsGood (moment : Moment) : Type 0 where
-  pub year : IsWithin 1 9999 moment.year
-  pub month : IsWithin 1 12 moment.month
-  pub day : IsWithin 1 31 moment.day
-  pub date : IsDayOf moment.year moment.month moment.day
-  pub time : IsTime moment.time
-
--- the moment as it is read
-abbrev pub moment_read : Moment → read.Moment
-moment_read moment = record { day = record { year = moment.year; month = moment.month; day = moment.day }; time = moment.time }
-
-module _ (moment : Moment) (is : IsGood moment) where
+module _ (moment : Moment) (is : IsMoment moment) where
   abbrev text : List ℕ
   text = moment_text moment
 
-  day_again : day_said text ≡ Ok (record { year = moment.year; month = moment.month; day = moment.day })
+  day_again : day_said text ≡ Ok moment.day
   unfolding day_said
   day_again =
+      let day = moment.day in
+      let of = is.day in
       rw (
-        digits_again 1 9999 4 moment.year (omega arith) (omega (arith, is.year.1)) is.year.0 is.year.1,
-        digits_again 1 12 2 moment.month (omega arith) (omega (arith, is.month.1)) is.month.0 is.month.1,
-        digits_again 1 31 2 moment.day (omega arith) (omega (arith, is.day.1)) is.day.0 is.day.1,
-        le-leb moment.day (days_in_month moment.year moment.month) is.date,
+        digits_again 1 9999 4 day.year (omega arith) (omega (arith, of.year.1)) of.year.0 of.year.1,
+        digits_again 1 12 2 day.month (omega arith) (omega (arith, of.month.1)) of.month.0 of.month.1,
+        digits_again 1 31 2 day.day (omega arith) (omega (arith, of.day_of_month.1)) of.day_of_month.0 of.day_of_month.1,
+        le-leb day.day (days_in_month day.year day.month) of.date,
       ) refl
 
   clock_again : clock_said moment.time.nano text ≡ Ok moment.time
@@ -112,7 +102,7 @@ module _ (moment : Moment) (is : IsGood moment) where
   behind_again : fraction_said (drop 19 text) ≡ Ok moment.time.nano
   behind_again = fraction_again moment.time.nano is.time.nano (moment.time.nano == 0) refl
 
-  pub moment_again : moment_in text ≡ Ok (moment_read moment)
+  pub moment_again : moment_in text ≡ Ok moment
   unfolding moment_in parts_said
   moment_again =
       let long : nat_le 19 (length text) ≡ true = le-leb 19 (length text) (omega arith) in

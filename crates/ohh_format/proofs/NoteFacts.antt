@@ -16,7 +16,7 @@ use Rattle.ohh_format.proofs.SoundPlays.{fact_holds}
 use Rattle.ohh_writing.specs.Moment.{moment_of, moment_said}
 use Rattle.ohh_writing.specs.Seating.{is_circular, numbers_spelled}
 use Rattle.ohh_writing.specs.Spelled.{Tried, first_unspelled, has_spelled_numbers, is_spelled_date, kept_facts, note_facts, trace_facts, unspelled}
-use Rattle.ohh_writing.specs.declared.moment.Moment.{Moment}
+use Rattle.hand_records.specs.declared.notes.Moment.{Moment}
 use Rattle.hand_records.proofs.NoteLaws.{AreUnusual, notes_same, unusual_said}
 use Rattle.hand_records.specs.SaidNotes.{SaidNotes, notes_of, numbers_said, said_notes}
 use Rattle.hand_records.specs.SameHands.{AreSameHand}
@@ -113,21 +113,21 @@ kept_round (Some numbers) kept = by_test (is_circular numbers) kept
 
 -- what is said of a moment
 record HasParts (moment : Moment) (y m d : Option ℕ) (t : Option Clock) (z : Option (List ℕ)) : Type 0 where
-  year : y ≡ Some moment.year
-  month : m ≡ Some moment.month
-  day : d ≡ Some moment.day
+  year : y ≡ Some moment.day.year
+  month : m ≡ Some moment.day.month
+  day : d ≡ Some moment.day.day
   time : t ≡ Some moment.time
   zone : z ≡ Some (codes "UTC")
 
 moment_parts : (y m d : Option ℕ) (t : Option Clock) (z : Option (List ℕ)) (moment : Moment) → moment_said y m d t z ≡ Some moment → HasParts moment y m d t z
 moment_parts (Some y) (Some m) (Some d) (Some t) (Some z) moment same = by_test (bytes_eq z (codes "UTC")) refl same
   where
-    by_test : (utc : Bool) → bytes_eq z (codes "UTC") ≡ utc → ◌≡◌ {A = Option Moment} (cond utc (Some (record { year = y; month = m; day = d; time = t })) None) (Some moment) → HasParts moment (Some y) (Some m) (Some d) (Some t) (Some z)
+    by_test : (utc : Bool) → bytes_eq z (codes "UTC") ≡ utc → ◌≡◌ {A = Option Moment} (cond utc (Some (record { day = record { year = y; month = m; day = d }; time = t })) None) (Some moment) → HasParts moment (Some y) (Some m) (Some d) (Some t) (Some z)
     by_test true is one =
         record {
-          year = ap (option_map (λ (found : Moment). found.year)) one;
-          month = ap (option_map (λ (found : Moment). found.month)) one;
-          day = ap (option_map (λ (found : Moment). found.day)) one;
+          year = ap (option_map (λ (found : Moment). found.day.year)) one;
+          month = ap (option_map (λ (found : Moment). found.day.month)) one;
+          day = ap (option_map (λ (found : Moment). found.day.day)) one;
           time = ap (option_map (λ (found : Moment). found.time)) one;
           zone = ap (λ (zone : List ℕ). Some zone) ((bytes_eq-Decides z (codes "UTC")).0 is);
         }
@@ -158,9 +158,9 @@ module _ (place count : ℕ) (a : Notes) (are_unusual : AreUnusual count a.seats
         table = refl;
         venue = refl;
         currency = refl;
-        year = part_kept (λ m. m.year) a.year (moment_of a) are.year (λ m same. (parts m same).year);
-        month = part_kept (λ m. m.month) a.month (moment_of a) are.month (λ m same. (parts m same).month);
-        day = part_kept (λ m. m.day) a.day (moment_of a) are.day (λ m same. (parts m same).day);
+        year = part_kept (λ m. m.day.year) a.year (moment_of a) are.year (λ m same. (parts m same).year);
+        month = part_kept (λ m. m.day.month) a.month (moment_of a) are.month (λ m same. (parts m same).month);
+        day = part_kept (λ m. m.day.day) a.day (moment_of a) are.day (λ m same. (parts m same).day);
         time = part_kept (λ m. m.time) a.time (moment_of a) are.time (λ m same. (parts m same).time);
         zone = part_kept (λ m. codes "UTC") a.zone (moment_of a) are.zone (λ m same. (parts m same).zone);
       })
@@ -170,9 +170,9 @@ module _ (place count : ℕ) (a : Notes) (are_unusual : AreUnusual count a.seats
       record {
         seats = numbers_round_said count a.seats are_unusual ∙ kept_round (numbers_said count a.seats) (ap (λ (n : SaidNotes). n.seats) kept);
         zone = kept_part (λ m. codes "UTC") a.zone (moment_of a) (ap (λ (n : SaidNotes). n.zone) kept);
-        year = kept_part (λ m. m.year) a.year (moment_of a) (ap (λ (n : SaidNotes). n.year) kept);
-        month = kept_part (λ m. m.month) a.month (moment_of a) (ap (λ (n : SaidNotes). n.month) kept);
-        day = kept_part (λ m. m.day) a.day (moment_of a) (ap (λ (n : SaidNotes). n.day) kept);
+        year = kept_part (λ m. m.day.year) a.year (moment_of a) (ap (λ (n : SaidNotes). n.year) kept);
+        month = kept_part (λ m. m.day.month) a.month (moment_of a) (ap (λ (n : SaidNotes). n.month) kept);
+        day = kept_part (λ m. m.day.day) a.day (moment_of a) (ap (λ (n : SaidNotes). n.day) kept);
         time = kept_part (λ m. m.time) a.time (moment_of a) (ap (λ (n : SaidNotes). n.time) kept);
       }
 

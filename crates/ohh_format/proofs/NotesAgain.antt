@@ -7,7 +7,6 @@ use Rattle.std.proofs.lemmas.List.{length-take-le}
 use Rattle.std.proofs.lemmas.Option.{same_Some}
 use Rattle.std.proofs.lemmas.Slice.Eq.{bytes_eq-Decides}
 use Rattle.serde_json.specs.Data.{Data, string}
-use Rattle.chip_ledger.specs.Seat.{seats_of}
 use Rattle.chip_ledger.specs.declared.rows.SeatRow.{SeatRow}
 use Rattle.first_fault.specs.Reading.{read_if, or_none}
 use Rattle.first_fault.specs.declared.limits.TheConstants.{MOST_HANDS, MOST_TEXT_BYTES}
@@ -19,22 +18,22 @@ use Rattle.ohh_members.specs.declared.fault.Path.{Path}
 use Rattle.ohh_members.specs.declared.fault.Path.TheVariants as paths
 use Rattle.ohh_members.specs.Players.{PlainPlayer}
 use Rattle.ohh_members.specs.Values.{field, number_said, text_said}
-use Rattle.ohh_facts.specs.declared.moment.Moment as read
+use Rattle.ohh_facts.specs.MomentRanges.{IsMoment}
 use Rattle.ohh_facts.specs.Moments as moments
-use Rattle.ohh_facts.specs.Notes.{PlainNotes, label_said, labels_said, names_from, note_said, notes_said, seat_count_said, text_note_said}
-use Rattle.ohh_writing.specs.declared.moment.Moment.{Moment}
+use Rattle.ohh_facts.specs.Notes.{label_said, labels_said, names_from, note_said, notes_said, seat_count_said, text_note_said}
+use Rattle.hand_records.specs.declared.notes.Moment.{Moment}
 use Rattle.ohh_writing.specs.Moment.{moment_of, moment_said, moment_text}
 use Rattle.ohh_writing.specs.Seating.{number_among, numbers_spelled}
 use Rattle.ohh_writing.specs.Tree.{whole}
 use Rattle.ohh_format.specs.Again.{notes_again}
-use Rattle.ohh_format.proofs.MomentAgain.{IsGood, moment_again, moment_read}
+use Rattle.ohh_format.proofs.MomentAgain.{moment_again}
 use Rattle.ohh_format.proofs.SeatingAgain.{players_from}
 use Rattle.list_laws.proofs.Bytes.{same_bytes}
 use Rattle.list_laws.proofs.Entries.{zero_taken_at}
 use Rattle.list_laws.proofs.Options.{from_none_some, none_anyway}
-use Rattle.hand_records.specs.SaidNotes.{kept_label}
 use Rattle.hand_records.proofs.NoteTexts.{not_empty, noted_again}
 use Rattle.chip_ledger.specs.SeatsSaid.{default_name}
+use Rattle.hand_records.specs.SaidNotes.{kept_label}
 
 -- ---- texts
 
@@ -75,7 +74,7 @@ count_again count (Some number) some few is = rw (le-leb 1 number is.range.0, le
 
 -- a moment that is said of allowed notes is one of the calendar
 moment_good : (year month day : Option ℕ) (time : Option Clock) (area : Option (List ℕ)) (moment : Moment) → moment_said year month day time area ≡ Some moment
-    → IfSome year (IsWithin 1 9999) → IfSome month (IsWithin 1 12) → IfSome day (IsWithin 1 31) → IfSome year (λ year. IfSome month (λ month. IfSome day (IsDayOf year month))) → IfSome time IsTime → IsGood moment
+    → IfSome year (IsWithin 1 9999) → IfSome month (IsWithin 1 12) → IfSome day (IsWithin 1 31) → IfSome year (λ year. IfSome month (λ month. IfSome day (IsDayOf year month))) → IfSome time IsTime → IsMoment moment
 moment_good None month day time area moment is a b c d e = from_none_some is
 moment_good (Some year) None day time area moment is a b c d e = from_none_some is
 moment_good (Some year) (Some month) None time area moment is a b c d e = from_none_some is
@@ -83,22 +82,22 @@ moment_good (Some year) (Some month) (Some day) None area moment is a b c d e = 
 moment_good (Some year) (Some month) (Some day) (Some time) None moment is a b c d e = from_none_some is
 moment_good (Some year) (Some month) (Some day) (Some time) (Some area) moment is a b c d e = by_area (bytes_eq area (codes "UTC")) is
   where
-    by_area : (utc : Bool) → cond utc (Some (record { year = year; month = month; day = day; time = time })) None ≡ Some moment → IsGood moment
+    by_area : (utc : Bool) → cond utc (Some (record { day = record { year = year; month = month; day = day }; time = time })) None ≡ Some moment → IsMoment moment
     by_area false is = from_none_some is
     by_area true is =
-        let same : ◌≡◌ {A = Moment} (record { year = year; month = month; day = day; time = time }) moment = same_Some (record { year = year; month = month; day = day; time = time }) moment is in
-        subst IsGood same (record { year = a; month = b; day = c; date = d; time = e })
+        let same : ◌≡◌ {A = Moment} (record { day = record { year = year; month = month; day = day }; time = time }) moment = same_Some (record { day = record { year = year; month = month; day = day }; time = time }) moment is in
+        subst IsMoment same (record { day = record { year = a; month = b; day_of_month = c; date = d }; time = e })
 
 -- the moment that is written, if one is
 abbrev pub date_written : Notes → Option Data
 date_written notes = option_map (λ moment. string (moment_text moment)) (moment_of notes)
 
-date_again : (said : Option Moment) → IfSome said IsGood → read_if moments.moment_said (option_map (λ moment. string (moment_text moment)) said) ≡ Ok (option_map moment_read said)
+date_again : (said : Option Moment) → IfSome said IsMoment → read_if moments.moment_said (option_map (λ moment. string (moment_text moment)) said) ≡ Ok said
 unfolding text_said
 date_again None is = refl
 date_again (Some moment) is = rw (moment_again moment is) refl
 
-good_moment : (count : ℕ) (notes : Notes) → AreAllowed count notes → (said : Option Moment) → moment_of notes ≡ said → IfSome said IsGood
+good_moment : (count : ℕ) (notes : Notes) → AreAllowed count notes → (said : Option Moment) → moment_of notes ≡ said → IfSome said IsMoment
 good_moment count notes are None is = tt
 good_moment count notes are (Some moment) is = moment_good notes.year notes.month notes.day notes.time notes.zone moment is are.year are.month are.day are.date are.time
 
@@ -118,7 +117,7 @@ module _ (place count : ℕ) (stacks : SeatRow) (notes : Notes) (ohh : Data) (fe
   numbers = numbers_spelled count notes.seats
 
   labels_again : labels_said place count ohh
-      ≡ Ok (record { hand = kept_label place notes.hand; table = notes.table; seat_count = notes.seat_count; moment = option_map moment_read (moment_of notes); currency = notes.currency; venue = notes.venue })
+      ≡ Ok (record { hand = kept_label place notes.hand; table = notes.table; seat_count = notes.seat_count; moment = moment_of notes; currency = notes.currency; venue = notes.venue })
   unfolding labels_said
   labels_again =
       rw (
@@ -183,27 +182,4 @@ module _ (place count : ℕ) (stacks : SeatRow) (notes : Notes) (ohh : Data) (fe
       → notes_said place (players_from count stacks notes numbers 1 count) ohh ≡ Ok (notes_again place count notes)
   unfolding notes_said
   notes_read long many at counted =
-      rw (counted ∙ at, labels_again, names_again 1 count (omega arith) (omega arith), seats_again numbers long) (by_moment (moment_of notes))
-    where
-      found : Option ℕ → Option ℕ → Option ℕ → Option Clock → Option (List ℕ) → Result PlainNotes MemberFault
-      found year month day time zone =
-          Ok (record {
-            names = map (λ seat. get_or notes.names (seat - 1) None) (seats_of count);
-            seats = option_and_then (λ all. unless_usual count (take count all)) numbers;
-            seat_count = notes.seat_count;
-            hand = kept_label place notes.hand;
-            table = notes.table;
-            venue = notes.venue;
-            currency = notes.currency;
-            year = year;
-            month = month;
-            day = day;
-            time = time;
-            zone = zone;
-          })
-
-      by_moment : (said : Option Moment)
-          → found (option_map (λ (m : read.Moment). m.day.year) (option_map moment_read said)) (option_map (λ (m : read.Moment). m.day.month) (option_map moment_read said)) (option_map (λ (m : read.Moment). m.day.day) (option_map moment_read said)) (option_map (λ (m : read.Moment). m.time) (option_map moment_read said)) (option_map (λ (m : read.Moment). codes "UTC") (option_map moment_read said))
-          ≡ found (option_map (λ (m : Moment). m.year) said) (option_map (λ (m : Moment). m.month) said) (option_map (λ (m : Moment). m.day) said) (option_map (λ (m : Moment). m.time) said) (option_map (λ (m : Moment). codes "UTC") said)
-      by_moment None = refl
-      by_moment (Some moment) = refl
+      rw (counted ∙ at, labels_again, names_again 1 count (omega arith) (omega arith), seats_again numbers long) refl

@@ -17,7 +17,7 @@ use Rattle.hand_records.specs.declared.trace.Trace.{Trace}
 use Rattle.hand_records.specs.declared.writing.Keep.{Keep}
 use Rattle.list_laws.proofs.NumbersOfRange.{map_agree}
 use Rattle.ohh_format.proofs.ReadBack.{events_said, play_again}
-use Rattle.ohh_format.proofs.SameSetups.{setups_same}
+use Rattle.hand_canon.proofs.SamePlay.{setup_same}
 use Rattle.ohh_format.proofs.SoundPlays.{sound_again}
 use Rattle.ohh_format.specs.Again.{hand_again, hands_again, script_again}
 use Rattle.ohh_format.specs.KeptNotes.{kept_in_ohh, moment_in_notes, numbers_round}
@@ -27,9 +27,8 @@ use Rattle.ohh_writing.specs.Moment.{moment_of, moment_said}
 use Rattle.ohh_writing.specs.Seating.{is_circular, number_among, numbers_spelled}
 use Rattle.ohh_writing.specs.Spelled.{unspelled}
 use Rattle.ohh_writing.specs.Tree.{hand_members, hand_tree, player_tree}
-use Rattle.ohh_writing.specs.declared.moment.Moment.{Moment}
+use Rattle.hand_records.specs.declared.notes.Moment.{Moment}
 use Rattle.ohh_members.specs.declared.dialect.Dialect.{Dialect}
-use Rattle.ohh_reading.specs.Hand.{PlainHand}
 use Rattle.ohh_reading.specs.Reading.{reading}
 use Rattle.play_event.specs.HistoryRules.{history_rules}
 use Rattle.play_event.specs.Said.{Numbered}
@@ -39,7 +38,8 @@ use Rattle.hand_records.specs.SameHands.{AllPaired, AreSameHand, AreSameHands}
 use Rattle.hand_canon.proofs.UnusualNumbers.{unusual}
 use Rattle.first_fault.specs.declared.limits.TheConstants.{MOST_FILE_MOVES, MOST_HANDS}
 use Rattle.hand_records.specs.Moves.{moves_played}
-use Rattle.ohh_format.proofs.KeptAgain.{from_plain, read_kept}
+use Rattle.ohh_format.proofs.KeptAgain.{read_kept}
+use Rattle.hand_records.specs.PlainHands.{PlainHand}
 
 -- ---- numbers and moments that are kept
 
@@ -53,7 +53,7 @@ round_twice (Some numbers) = by_test (is_circular numbers) refl
 
 -- a moment is told by its parts
 pub moment_again : (moment : Option Moment)
-    → moment_said (option_map (λ m. m.year) moment) (option_map (λ m. m.month) moment) (option_map (λ m. m.day) moment) (option_map (λ m. m.time) moment) (option_map (λ m. codes "UTC") moment) ≡ moment
+    → moment_said (option_map (λ m. m.day.year) moment) (option_map (λ m. m.day.month) moment) (option_map (λ m. m.day.day) moment) (option_map (λ m. m.time) moment) (option_map (λ m. codes "UTC") moment) ≡ moment
 moment_again None = refl
 moment_again (Some moment) = refl
 
@@ -73,9 +73,9 @@ kept_again notes =
       table = refl;
       venue = refl;
       currency = refl;
-      year = ap (option_map (λ m. m.year)) moment;
-      month = ap (option_map (λ m. m.month)) moment;
-      day = ap (option_map (λ m. m.day)) moment;
+      year = ap (option_map (λ m. m.day.year)) moment;
+      month = ap (option_map (λ m. m.day.month)) moment;
+      day = ap (option_map (λ m. m.day.day)) moment;
       time = ap (option_map (λ m. m.time)) moment;
       zone = ap (option_map (λ m. codes "UTC")) moment;
     })
@@ -176,7 +176,7 @@ one_spelling dialect plays others bytes too sound other_sound spell spell_too al
 hand_same : (dialect : Dialect) (keep : Keep) (place : ℕ) (play other : Play) → IsSound play → IsSound other → unspelled keep play ≡ None → unspelled keep other ≡ None
     → hand_again dialect place play ≡ hand_again dialect place other → AreSameHand kept_in_ohh place play other
 hand_same dialect keep place play other sound too none none_too same =
-    let setups : play.trace.setup ≡ other.trace.setup = setups_same play.trace.setup other.trace.setup (ap (λ (hand : PlainHand). hand.setup) same) in
+    let setups : play.trace.setup ≡ other.trace.setup = setup_same play.trace.setup other.trace.setup (ap (λ (hand : PlainHand). hand.setup) same) (ap (λ (hand : PlainHand). hand.rakes) same) in
     let words : script_again dialect play.trace ≡ script_again dialect other.trace =
     sym (events_said (length (posts play.trace.setup) + 1) (script_again dialect play.trace))
     ∙ ap (λ (hand : PlainHand). map (λ (event : Numbered). event.1) hand.script) same
@@ -186,7 +186,7 @@ hand_same dialect keep place play other sound too none none_too same =
           (play_again dialect keep play sound none) (play_again dialect keep other too none_too) setups words;
       notes =
           sym (read_kept place play.trace.setup.stacks.seats play.hand.notes)
-          ∙ ap (λ (hand : PlainHand). from_plain hand.notes) same
+          ∙ ap (λ (hand : PlainHand). hand.notes) same
           ∙ read_kept place other.trace.setup.stacks.seats other.hand.notes;
     }
 

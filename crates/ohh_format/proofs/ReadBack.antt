@@ -24,20 +24,17 @@ use Rattle.hand_canon.specs.LegalHand.{IsLegalHand, IsShareable}
 use Rattle.hand_canon.specs.Sound.{IsSound}
 use Rattle.hand_canon.specs.WholeTrace.{IsTraceOf}
 use Rattle.ohh_members.specs.declared.dialect.Dialect.{Dialect}
-use Rattle.ohh_facts.specs.Notes.{plain_notes}
 use Rattle.ohh_writing.specs.Games.{is_spelled_game}
 use Rattle.ohh_writing.specs.Lines.{Spells}
 use Rattle.ohh_writing.specs.Spelled.{first_unspelled, has_closed, has_spelled_antes, has_spelled_blinds, has_spelled_sizes, kept_facts, trace_facts, unspelled}
-use Rattle.ohh_reading.specs.Hand.{PlainHand, plain}
 use Rattle.ohh_reading.specs.Reading.{reading}
 use Rattle.ohh_format.specs.Again.{hand_again, hands_again, is_told, notes_again, numbered_from, script_again}
 use Rattle.hand_canon.specs.ReadAgain.{AreAgain, IsAgain}
 use Rattle.ohh_format.specs.KeptNotes.{kept_in_ohh}
 use Rattle.ohh_format.proofs.KeptAgain.{keeps_said}
-use Rattle.hand_records.specs.SaidNotes.{KeepsNotes}
 use Rattle.ohh_format.proofs.FlopGames.{flop_game}
 use Rattle.ohh_format.proofs.FrontAgain.{no_stud}
-use Rattle.ohh_format.proofs.SameSetups.{setups_same}
+use Rattle.hand_canon.proofs.SamePlay.{setup_same}
 use Rattle.ohh_format.proofs.SoundPlays.{fact_holds, sound_again, spelled_setup}
 use Rattle.ohh_format.proofs.StatedAgrees.{stated_agrees}
 use Rattle.ohh_format.proofs.WordPlays.{words_of, words_played}
@@ -47,6 +44,8 @@ use Rattle.hand_records.proofs.Refusals.{both_none, none_refused}
 use Rattle.play_event.proofs.ScriptLaws.{said_numbered}
 use Rattle.hand_records.specs.WriteRefusals.{refusal_from, first_refusal}
 use Rattle.hand_canon.proofs.SameTraces.{whole_same}
+use Rattle.hand_records.specs.PlainHands.{PlainHand, plain}
+use Rattle.hand_records.specs.SaidNotes.{KeepsNotes, plain_notes}
 
 -- a play that the format spells has no closed raise
 spelled_open : (keep : Keep) (play : Play) → unspelled keep play ≡ None → list_any (λ move. move.closed) (core_said play.trace).moves ≡ false
@@ -108,7 +107,7 @@ is_again : (dialect : Dialect) (keep : Keep) (place : ℕ) (play : Play) (hand :
 is_again dialect keep place play hand sound none same =
     let base = play.hand.setup in
     let words = script_again dialect play.trace in
-    let setup : hand.setup ≡ play.trace.setup = setups_same hand.setup play.trace.setup (ap (λ (read : PlainHand). read.setup) same) in
+    let setup : hand.setup ≡ play.trace.setup = setup_same hand.setup play.trace.setup (ap (λ (read : PlainHand). read.setup) same) (ap (λ (read : PlainHand). read.rakes) same) in
     let there : base ≡ hand.setup = sym (setup ∙ sound.trace.same_setup) in
     let script : words ≡ script_said hand = sym (script_is dialect place play hand same) in
     let rules : history_rules ≡ hand.rules = sym (ap (λ (read : PlainHand). read.rules) same) in

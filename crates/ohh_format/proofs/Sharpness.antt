@@ -20,13 +20,13 @@ use Rattle.hand_records.specs.declared.writing.Unspelled.TheVariants as facts
 use Rattle.ohh_members.specs.declared.dialect.Dialect.{Dialect}
 use Rattle.ohh_writing.specs.Games.{is_spelled_game}
 use Rattle.ohh_writing.specs.Spelled.{Tried, first_unspelled, has_closed, has_spelled_antes, has_spelled_blinds, has_spelled_sizes, kept_facts, note_facts, trace_facts, unspelled}
-use Rattle.ohh_reading.specs.Hand.{plain}
 use Rattle.ohh_reading.specs.Reading.{reading}
 use Rattle.ohh_format.specs.Sharp.{is_sharp}
 use Rattle.ohh_format.proofs.ToldHands.{IsToldHand, reading_told}
 use Rattle.ohh_format.proofs.ToldSetups.{antes_spelled, blinds_spelled, sizes_spelled}
 use Rattle.hand_canon.specs.Sharp.{IsOther}
 use Rattle.hand_records.specs.WriteRefusals.{or_behind}
+use Rattle.hand_records.specs.PlainHands.{plain}
 
 -- no raise of a legal hand is closed under the rules of hand histories
 none_closed : (trace : Trace) (hand : Record) → hand.rules ≡ history_rules → IsTraceOfLegal hand trace → has_closed trace ≡ false

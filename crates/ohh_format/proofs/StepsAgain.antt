@@ -31,7 +31,7 @@ use Rattle.ohh_rounds.specs.Actions.{at_action, called, chips_said, dealt_cards,
 use Rattle.ohh_rounds.specs.Rounds.{action_added, added_from}
 use Rattle.ohh_rounds.specs.Setting.{PlainSetting}
 use Rattle.ohh_rounds.specs.Steps.{PlainDeed, PlainStep, Posted, Dealt, Happened, dealt_to, has_folded, is_action, moves_in, next_number, others_in}
-use Rattle.ohh_rounds.specs.Words.{word_named}
+use Rattle.ohh_members.specs.Words.{word_named}
 use Rattle.ohh_format.proofs.CardLists.{card_texts, cards_again, few_again, slots_again}
 use Rattle.ohh_format.proofs.Deeds.{Deed, Bets, Calls, Checks, Deals, Folds, Mucks, Posts, Raises, Shows, action_of}
 use Rattle.first_fault.specs.Numbers.{kept_number}

@@ -38,12 +38,13 @@ use Rattle.ohh_rounds.specs.Play.{PlainPlay, at_posts, posts_in, rounds_said, sc
 use Rattle.ohh_rounds.specs.Setting.{PlainSetting}
 use Rattle.ohh_rounds.specs.Steps.{PlainStep, moves_in}
 use Rattle.ohh_reading.specs.Blocks.{blocks_of}
-use Rattle.ohh_reading.specs.Hand.{PlainHand, PlainSetup, hand_said, setting_of}
+use Rattle.ohh_reading.specs.Hand.{hand_said, setting_of}
 use Rattle.ohh_reading.specs.Reading.{found_said, hands_said, in_hand, numbered_hand, object_of, of_hand, past_hands, reading, told, tree_of, tree_said}
 use Rattle.ohh_reading.specs.Sizes.{sizes_of}
 use Rattle.ohh_reading.specs.declared.fault.OhhHandFault.{OhhHandFault}
 use Rattle.ohh_reading.specs.declared.fault.HandFaultKind.TheVariants as wrongness
 use Rattle.first_fault.proofs.Thread.{bound}
+use Rattle.hand_records.specs.PlainHands.{PlainHand, PlainSetup}
 
 -- the same, by what holds of what comes first
 bound_by : {A B F : Type 0} (P : A → Type 0) (Q : B → Type 0) (first : Result A F) (next : A → Result B F) → IfOk first P → ((a : A) → P a → IfOk (next a) Q) → IfOk (first >>= next) Q
@@ -145,6 +146,10 @@ play_told setting ohh = bound (λ (play : PlainPlay). HasPosts setting.table pla
 
 -- ---- the hand
 
+-- the antes and the blinds of a setup
+abbrev pub stakes_in : PlainSetup → PlainAntesAndBlinds
+stakes_in setup = record { antes = setup.antes; dead_antes = setup.dead_antes; blinds = setup.blinds }
+
 -- a setup is told by blinds as they are named, and by posts
 pub record IsToldSetup (setup : PlainSetup) : Type 0 where
   pub table : PlainNamedBlinds
@@ -153,7 +158,7 @@ pub record IsToldSetup (setup : PlainSetup) : Type 0 where
   pub order : table.small_blind ≤ table.big_blind
   pub stacks : setup.stacks ≡ table.stacks
   pub sizes : setup.sizes ≡ sizes_of setup.code table.big_blind
-  pub stakes : HasPosts table setup.stakes
+  pub stakes : HasPosts table (stakes_in setup)
 
 pub record IsToldHand (hand : PlainHand) : Type 0 where
   pub rules : hand.rules ≡ history_rules

@@ -21,14 +21,13 @@ use Rattle.hand_records.specs.declared.trace.Play.{Play}
 use Rattle.hand_records.specs.declared.trace.Trace.{Trace}
 use Rattle.ohh_members.specs.declared.dialect.Dialect.{Dialect}
 use Rattle.ohh_members.specs.declared.dialect.Dialect.TheVariants as dialects
-use Rattle.ohh_facts.specs.Notes.{PlainNotes}
 use Rattle.ohh_writing.specs.Actions.{has_known, posts}
 use Rattle.ohh_writing.specs.Moment.{moment_of}
 use Rattle.ohh_writing.specs.Seating.{numbers_spelled}
-use Rattle.ohh_reading.specs.Hand.{PlainHand, plain_setup}
 use Rattle.first_fault.specs.Numbers.{kept_number}
-use Rattle.hand_records.specs.SaidNotes.{kept_label}
 use Rattle.hand_records.specs.AllowedNotes.{unless_usual}
+use Rattle.hand_records.specs.PlainHands.{PlainHand, plain_setup}
+use Rattle.hand_records.specs.SaidNotes.{SaidNotes, kept_label}
 
 -- ---- moves
 
@@ -99,7 +98,7 @@ numbered_from n (event ∷ rest) =
 
 -- The kept notes of so many seats, at a place of the file: numbers of seats that go round the
 -- table, and a moment of which all is said, in the zone UTC.
-abbrev pub notes_again : ℕ → ℕ → Notes → PlainNotes
+abbrev pub notes_again : ℕ → ℕ → Notes → SaidNotes
 notes_again place count notes =
     record {
       names = map (λ seat. slice_index_or notes.names (seat - 1) None) (seats_of count);
@@ -111,9 +110,9 @@ notes_again place count notes =
       table = notes.table;
       venue = notes.venue;
       currency = notes.currency;
-      year = option_map (λ moment. moment.year) (moment_of notes);
-      month = option_map (λ moment. moment.month) (moment_of notes);
-      day = option_map (λ moment. moment.day) (moment_of notes);
+      year = option_map (λ moment. moment.day.year) (moment_of notes);
+      month = option_map (λ moment. moment.day.month) (moment_of notes);
+      day = option_map (λ moment. moment.day.day) (moment_of notes);
       time = option_map (λ moment. moment.time) (moment_of notes);
       zone = option_map (λ moment. codes "UTC") (moment_of notes);
     }
@@ -126,6 +125,7 @@ abbrev pub hand_again : Dialect → ℕ → Play → PlainHand
 hand_again dialect place play =
     record {
       setup = plain_setup play.trace.setup;
+      rakes = play.trace.setup.rakes.rakes;
       rules = history_rules;
       script =
           numbered_from (length (posts play.trace.setup) + 1) (script_again dialect play.trace);

@@ -3,7 +3,7 @@
 use Rattle.std.specs.Prelude.{ℕ, List, if◌then◌else◌, Option, Some, None, option_and_then, option_map, codes}
 use Rattle.ohh_writing.specs.Moment.{moment_said}
 use Rattle.ohh_writing.specs.Seating.{is_circular}
-use Rattle.ohh_writing.specs.declared.moment.Moment.{Moment}
+use Rattle.hand_records.specs.declared.notes.Moment.{Moment}
 use Rattle.hand_records.specs.SaidNotes.{SaidNotes}
 
 -- numbers of seats that go round
@@ -25,9 +25,9 @@ kept_in_ohh notes =
       table = notes.table;
       venue = notes.venue;
       currency = notes.currency;
-      year = option_map (λ moment. moment.year) (moment_in_notes notes);
-      month = option_map (λ moment. moment.month) (moment_in_notes notes);
-      day = option_map (λ moment. moment.day) (moment_in_notes notes);
+      year = option_map (λ moment. moment.day.year) (moment_in_notes notes);
+      month = option_map (λ moment. moment.day.month) (moment_in_notes notes);
+      day = option_map (λ moment. moment.day.day) (moment_in_notes notes);
       time = option_map (λ moment. moment.time) (moment_in_notes notes);
       zone = option_map (λ moment. codes "UTC") (moment_in_notes notes);
     }

@@ -10,7 +10,6 @@ ghost use Rattle.hand_records.specs.declared.writing.Unspelled.{Unspelled};
 ghost use Rattle.ohh_members.specs.declared.dialect.Dialect.{Dialect};
 ghost use Rattle.ohh_writing.specs.Lines.{Spells};
 ghost use Rattle.ohh_writing.specs.Spelled.{unspelled};
-ghost use Rattle.ohh_reading.specs.Hand.{plain};
 ghost use Rattle.ohh_reading.specs.Reading.{reading};
 ghost use Rattle.ohh_format.specs.Again.{hands_again};
 ghost use Rattle.hand_records.specs.Moves.{moves_played};
@@ -20,6 +19,7 @@ ghost use Rattle.ohh_format.specs.KeptNotes.{kept_in_ohh};
 ghost use Rattle.ohh_format.specs.Sharp.{is_sharp};
 ghost use Rattle.hand_canon.specs.Sharp.{IsOther};
 ghost use Rattle.hand_records.specs.WriteRefusals.{first_refusal};
+ghost use Rattle.hand_records.specs.PlainHands.{plain};
 
 /// Bytes that spell sound plays in a dialect, no more of them and of their moves than a file may
 /// have, each of which the format spells, read in the same dialect as the hands of these plays:

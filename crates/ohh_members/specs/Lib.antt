@@ -6,3 +6,4 @@ pub mod Players
 pub mod Blinds
 pub mod Front
 pub mod Streets
+pub mod Words

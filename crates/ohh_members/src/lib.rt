@@ -13,5 +13,6 @@ pub mod rows;
 pub mod seating;
 pub mod street;
 pub mod values;
+pub mod words;
 
 pub use dialect::Dialect;

@@ -25,9 +25,9 @@ use Rattle.ohh_posts.specs.declared.post.ActionPlace.{ActionPlace}
 use Rattle.ohh_posts.specs.declared.post.PostKind.{PostKind}
 use Rattle.ohh_posts.specs.declared.post.PostKind.TheVariants as kinds
 use Rattle.ohh_posts.specs.NamedBlinds.{seat_count}
-use Rattle.ohh_rounds.specs.declared.words.Word.{Word}
-use Rattle.ohh_rounds.specs.declared.words.Word.TheVariants as words
-use Rattle.ohh_rounds.specs.Words.{is_deal, word_named}
+use Rattle.ohh_members.specs.declared.words.Word.{Word}
+use Rattle.ohh_members.specs.declared.words.Word.TheVariants as words
+use Rattle.ohh_members.specs.Words.{is_deal, word_named}
 use Rattle.ohh_rounds.specs.Steps.{PlainDeed, PlainStep, Posted, Dealt, Happened, Passed, dealt_to, has_folded, moves_in, next_number, others_in}
 use Rattle.ohh_rounds.specs.Setting.{PlainSetting}
 

@@ -1,5 +1,5 @@
 -- What is kept of a seat while steps are told.
-use Rattle.std.specs.Prelude.{◌≡◌, ℕ, ◌-◌, ◌≤◌, List, Some, slice_get}
+use Rattle.std.specs.Prelude.{◌≡◌, ℕ, ◌-◌, ◌≤◌, List, length, Some, slice_get}
 use Rattle.card_set.specs.Row.{slots_of}
 use Rattle.ohh_rounds.specs.declared.seat_told.SeatTold.{SeatTold}
 use Rattle.ohh_rounds.specs.Steps.{PlainStep, dealt_to, first_deal, has_folded}
@@ -10,8 +10,8 @@ pub record IsToldOf (seat : ℕ) (steps : List PlainStep) (kept : SeatTold) : Ty
   pub cards : slots_of kept.cards ≡ dealt_to seat steps
   pub first_deal : kept.first_deal ≡ first_deal seat steps
 
--- what is kept of each seat is what the steps tell of it
-abbrev pub AreTold : List PlainStep → List SeatTold → Type 0
-AreTold steps seats =
-    (seat : ℕ) → 1 ≤ seat → seat ≤ 10 → (kept : SeatTold) → slice_get seats (seat - 1) ≡ Some kept
-    → IsToldOf seat steps kept
+-- what is kept of ten seats is what the steps tell of each
+pub record AreTold (steps : List PlainStep) (seats : List SeatTold) : Type 0 where
+  pub ten : length seats ≡ 10
+  pub each : (seat : ℕ) → 1 ≤ seat → seat ≤ 10 → (kept : SeatTold)
+      → slice_get seats (seat - 1) ≡ Some kept → IsToldOf seat steps kept

@@ -1,6 +1,5 @@
--- What the rounds of a hand say: words, streets, what was told so far, actions, rounds, and the
--- play of them.
-pub mod Words
+-- What the rounds of a hand say: streets, what was told so far, actions, rounds, and the play of
+-- them.
 pub mod Streets
 pub mod Steps
 pub mod Kept

@@ -14,10 +14,10 @@ pub record PlainSetting : Type 0 where
   pub file_moves : ℕ
 
 -- the same with plain numbers and lists
-abbrev pub plain_setting : List ℤ → Setting → PlainSetting
-plain_setting ids setting =
+abbrev pub plain_setting : Setting → PlainSetting
+plain_setting setting =
     record {
-      ids = ids;
+      ids = setting.ids.now;
       table = plain_named_blinds setting.table;
       hole_cards = setting.hole_cards;
       dialect = setting.dialect;

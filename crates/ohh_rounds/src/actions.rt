@@ -1,16 +1,15 @@
 //! An action of a round is read: its word, its player, and then its amount or its cards.
-ghost use Rattle.std.specs.Prelude.{◌≡◌, ◌≤◌, List, [], IfOk, length, map};
+ghost use Rattle.std.specs.Prelude.{◌≡◌, IfOk, map};
 ghost use Rattle.serde_json.specs.View.{view};
 ghost use Rattle.play_event.specs.Said.{kind_said};
 ghost use Rattle.canon_script.specs.PlayedScript.{is_move as is_move_said};
 ghost use Rattle.first_fault.specs.Reading.{Gives};
-ghost use Rattle.ohh_rounds.specs.Actions.{at_action, called, chips_said, counted_said, dealt_cards, deed_counted, deed_said, event_counted, listed_cards, members_said, mucked, posted, raise_by, raised, seat_said, shown, step_said, word_said};
+ghost use Rattle.ohh_rounds.specs.Actions.{at_action, called, chips_said, counted_said, dealt_cards, deed_counted, deed_said, event_counted, mucked, posted, raise_by, raised, seat_said, shown, step_said, word_said};
 ghost use Rattle.ohh_rounds.specs.Setting.{plain_setting};
-ghost use Rattle.ohh_rounds.specs.Steps.{Dealt, HasRoom, IsWithin, LeavesFew, PlainStep, plain_deed, plain_step};
+ghost use Rattle.ohh_rounds.specs.Steps.{Happened, HasRoom, IsWithin, LeavesFew, plain_deed, plain_step};
 
 use crate::step::{Deed, RoundStep, is_move};
 use crate::told::Told;
-use crate::words::{Word, is_deal, word_named};
 use canon_script::{MOST_MOVES, MOST_OTHER_EVENTS};
 use card_set::SlotRow;
 use chip_ledger::{Chips, MOST_CHIPS, Seat};
@@ -21,6 +20,7 @@ use ohh_members::values::{
     field, needed, read_cards, read_few, read_number, read_object, read_player, read_slots,
     read_text, wrong,
 };
+use ohh_members::words::{Word, is_deal, word_named};
 use ohh_posts::{ActionPlace, Post, PostKind};
 use play_event::{Kind, Spelled};
 use serde_json::Value;
@@ -28,13 +28,11 @@ use serde_json::Value;
 /// An action after what was told.
 #[tactic(auto, unfolding(crate::specs::Actions::step_said))]
 pub fn read_step(
-    ids: &[i128],
     told: &Told,
     place: ActionPlace,
     value: &Value,
 ) -> Result<RoundStep, Stop<MemberFault>>
-    requires { length ids.now ≤ 10 }
-    ensures said { Gives plain_step result (step_said (plain_setting ids.now told.now.setting)
+    ensures said { Gives plain_step result (step_said (plain_setting told.now.setting)
         (map plain_step told.now.steps.items) place (view value.now)) }
     ensures few { IfOk result (λ step. LeavesFew (map plain_step told.now.steps.items)
         (plain_deed step.deed)) }
@@ -43,48 +41,26 @@ pub fn read_step(
         (plain_deed step.deed)) }
 {
     let action = read_object(value, path_of(place, ActionMember::Itself))?;
-    let deed = read_counted(ids, told, place, action)?;
+    let deed = read_counted(told, place, action)?;
     let number = told.next;
     Ok(RoundStep { number, deed })
 }
 
 // The members of an action that passes no limit.
-fn read_counted(
-    ids: &[i128],
-    told: &Told,
-    place: ActionPlace,
-    action: &Value,
-) -> Result<Deed, Stop<MemberFault>>
-    requires { length ids.now ≤ 10 }
-    ensures said { Gives plain_deed result (counted_said (plain_setting ids.now told.now.setting)
+#[tactic(auto, unfolding(crate::specs::Actions::members_said))]
+fn read_counted(told: &Told, place: ActionPlace, action: &Value) -> Result<Deed, Stop<MemberFault>>
+    ensures said { Gives plain_deed result (counted_said (plain_setting told.now.setting)
         (map plain_step told.now.steps.items) place (view action.now)) }
     ensures few { IfOk result (λ deed. LeavesFew (map plain_step told.now.steps.items)
         (plain_deed deed)) }
     ensures within { IfOk result (λ deed. IsWithin told.now.setting.table.stacks.seats
         told.now.setting.file_moves (map plain_step told.now.steps.items) (plain_deed deed)) }
 {
-    let deed = read_members(ids, told, place, action)?;
-    count_deed(ids, told, path_of(place, ActionMember::Itself), deed)?;
-    Ok(deed)
-}
-
-// The members of an action.
-#[tactic(auto, unfolding(crate::specs::Actions::members_said))]
-fn read_members(
-    ids: &[i128],
-    told: &Told,
-    place: ActionPlace,
-    action: &Value,
-) -> Result<Deed, Stop<MemberFault>>
-    requires { length ids.now ≤ 10 }
-    ensures said { Gives plain_deed result (members_said (plain_setting ids.now told.now.setting)
-        (map plain_step told.now.steps.items) place (view action.now)) }
-    ensures few { IfOk result (λ deed. LeavesFew (map plain_step told.now.steps.items)
-        (plain_deed deed)) }
-{
     let word = read_word(place, action)?;
-    let seat = read_seat(ids, told, place, action)?;
-    read_deed(ids, told, place, seat, action, word)
+    let seat = read_seat(told, place, action)?;
+    let deed = read_deed(told, place, seat, action, word)?;
+    count_deed(told, path_of(place, ActionMember::Itself), deed)?;
+    Ok(deed)
 }
 
 // The word of an action.
@@ -105,54 +81,48 @@ fn read_word(place: ActionPlace, action: &Value) -> Result<Word, Stop<MemberFaul
 
 // The seat of the action's player.
 #[tactic(auto, unfolding(crate::specs::Actions::seat_said))]
-fn read_seat(
-    ids: &[i128],
-    told: &Told,
-    place: ActionPlace,
-    action: &Value,
-) -> Result<Seat, Stop<MemberFault>>
-    requires { length ids.now ≤ 10 }
+fn read_seat(told: &Told, place: ActionPlace, action: &Value) -> Result<Seat, Stop<MemberFault>>
     ensures { Gives (λ seat. seat.number) result
-        (seat_said (plain_setting ids.now told.now.setting) place (view action.now)) }
+        (seat_said (plain_setting told.now.setting) place (view action.now)) }
 {
     let path = path_of(place, ActionMember::PlayerId);
-    read_player(needed(action, path)?, ids, path)
+    read_player(needed(action, path)?, told.setting.ids, path)
 }
 
 // What a word says of a player.
 #[tactic(auto, unfolding(crate::specs::Actions::deed_said))]
 fn read_deed(
-    ids: &[i128],
     told: &Told,
     place: ActionPlace,
     seat: Seat,
     action: &Value,
     word: Word,
 ) -> Result<Deed, Stop<MemberFault>>
-    ensures said { Gives plain_deed result (deed_said (plain_setting ids.now told.now.setting)
+    ensures said { Gives plain_deed result (deed_said (plain_setting told.now.setting)
         (map plain_step told.now.steps.items) place seat.number (view action.now) word) }
     ensures few { IfOk result (λ deed. LeavesFew (map plain_step told.now.steps.items)
         (plain_deed deed)) }
 {
     let actor = Some(seat);
-    match word {
-        Word::PostAnte => read_post(PostKind::Ante, told, place, seat, action),
-        Word::PostSmallBlind => read_post(PostKind::SmallBlind, told, place, seat, action),
-        Word::PostBigBlind => read_post(PostKind::BigBlind, told, place, seat, action),
-        Word::Straddle => read_post(PostKind::Straddle, told, place, seat, action),
-        Word::DealtCards => read_dealt(told, place, seat, action),
-        Word::Fold => Ok(Deed::Happened(Kind::Fold { actor })),
-        Word::Check => Ok(Deed::Happened(Kind::Call {
+    let deed = match word {
+        Word::PostAnte => read_post(PostKind::Ante, told, place, seat, action)?,
+        Word::PostSmallBlind => read_post(PostKind::SmallBlind, told, place, seat, action)?,
+        Word::PostBigBlind => read_post(PostKind::BigBlind, told, place, seat, action)?,
+        Word::Straddle => read_post(PostKind::Straddle, told, place, seat, action)?,
+        Word::DealtCards => read_dealt(told, place, seat, action)?,
+        Word::Fold => Deed::Happened(Kind::Fold { actor }),
+        Word::Check => Deed::Happened(Kind::Call {
             actor,
             stated: Some(0),
-        })),
-        Word::Call => read_call(place, seat, action),
-        Word::Bet => read_raise(Dialect::Added, place, seat, action),
-        Word::Raise => read_raise(told.setting.dialect, place, seat, action),
-        Word::ShowsCards => read_show(place, seat, action),
-        Word::MucksCards => Ok(muck(told, seat)),
-        Word::SitsDown | Word::StandsUp => Ok(Deed::Passed),
-    }
+        }),
+        Word::Call => Deed::Happened(read_call(place, seat, action)?),
+        Word::Bet => Deed::Happened(read_raise(Dialect::Added, place, seat, action)?),
+        Word::Raise => Deed::Happened(read_raise(told.setting.dialect, place, seat, action)?),
+        Word::ShowsCards => Deed::Happened(read_show(place, seat, action)?),
+        Word::MucksCards => muck(told, seat),
+        Word::SitsDown | Word::StandsUp => Deed::Passed,
+    };
+    Ok(deed)
 }
 
 // A post.
@@ -181,7 +151,7 @@ fn read_post(
 }
 
 // Hole cards, or none where they lack.
-#[tactic(auto, unfolding(crate::specs::Actions::dealt_cards))]
+#[tactic(auto, unfolding(crate::specs::Actions::dealt_cards, crate::specs::Actions::listed_cards, ohh_members::specs::Values::slots_said))]
 fn read_dealt(
     told: &Told,
     place: ActionPlace,
@@ -194,55 +164,30 @@ fn read_dealt(
         (plain_deed deed)) }
 {
     let path = path_of(place, ActionMember::Cards);
-    match field(action, path) {
-        Some(cards) => read_listed(told, path, seat, cards),
-        None => Ok(no_cards(told, seat)),
-    }
-}
-
-// Hole cards that are listed.
-#[tactic(auto, unfolding(crate::specs::Actions::listed_cards, ohh_members::specs::Values::slots_said))]
-fn read_listed(
-    told: &Told,
-    path: Path,
-    seat: Seat,
-    cards: &Value,
-) -> Result<Deed, Stop<MemberFault>>
-    ensures said { Gives plain_deed result
-        (listed_cards (map plain_step told.now.steps.items) path seat.number (view cards.now)) }
-    ensures few { IfOk result (λ deed. LeavesFew (map plain_step told.now.steps.items)
-        (plain_deed deed)) }
-{
-    let values = read_few(cards, path)?;
-    if told.cards_dealt(seat) + values.len() > 7 {
+    let dealt = told.cards_dealt(seat);
+    let Some(listed) = field(action, path) else {
+        let cards = SlotRow::new();
+        return Ok(Deed::Dealt { seat, cards });
+    };
+    let values = read_few(listed, path)?;
+    if dealt + values.len() > 7 {
         return Err(wrong(MemberFaultKind::WrongType, path));
     }
-    let cards = read_slots(cards, path)?;
+    let cards = read_slots(listed, path)?;
     Ok(Deed::Dealt { seat, cards })
-}
-
-// No hole cards.
-fn no_cards(told: &Told, seat: Seat) -> Deed
-    ensures said { plain_deed result ≡ Dealt seat.number [] }
-    ensures few { LeavesFew (map plain_step told.now.steps.items) (plain_deed result) }
-{
-    let cards = SlotRow::new();
-    let _most = told.cards_dealt(seat);
-    Deed::Dealt { seat, cards }
 }
 
 // A call that states the chips that it adds.
 #[tactic(auto, unfolding(crate::specs::Actions::called))]
-fn read_call(place: ActionPlace, seat: Seat, action: &Value) -> Result<Deed, Stop<MemberFault>>
-    ensures said { Gives plain_deed result (called place seat.number (view action.now)) }
-    ensures few { (earlier : List PlainStep)
-        → IfOk result (λ deed. LeavesFew earlier (plain_deed deed)) }
+fn read_call(place: ActionPlace, seat: Seat, action: &Value) -> Result<Kind, Stop<MemberFault>>
+    ensures { Gives (λ kind. Happened (kind_said kind)) result
+        (called place seat.number (view action.now)) }
 {
     let amount = read_chips(place, action)?;
-    Ok(Deed::Happened(Kind::Call {
+    Ok(Kind::Call {
         actor: Some(seat),
         stated: Some(amount.number),
-    }))
+    })
 }
 
 // A bet or a raise.
@@ -252,16 +197,15 @@ fn read_raise(
     place: ActionPlace,
     seat: Seat,
     action: &Value,
-) -> Result<Deed, Stop<MemberFault>>
-    ensures said { Gives plain_deed result (raised dialect place seat.number (view action.now)) }
-    ensures few { (earlier : List PlainStep)
-        → IfOk result (λ deed. LeavesFew earlier (plain_deed deed)) }
+) -> Result<Kind, Stop<MemberFault>>
+    ensures { Gives (λ kind. Happened (kind_said kind)) result
+        (raised dialect place seat.number (view action.now)) }
 {
     let amount = read_chips(place, action)?;
-    Ok(Deed::Happened(Kind::Raise {
+    Ok(Kind::Raise {
         actor: Some(seat),
         amount: raise_of(dialect, amount),
-    }))
+    })
 }
 
 // The amount of an action.
@@ -286,14 +230,13 @@ fn raise_of(dialect: Dialect, amount: Chips) -> Spelled
 
 // A show of cards.
 #[tactic(auto, unfolding(crate::specs::Actions::shown))]
-fn read_show(place: ActionPlace, seat: Seat, action: &Value) -> Result<Deed, Stop<MemberFault>>
-    ensures said { Gives plain_deed result (shown place seat.number (view action.now)) }
-    ensures few { (earlier : List PlainStep)
-        → IfOk result (λ deed. LeavesFew earlier (plain_deed deed)) }
+fn read_show(place: ActionPlace, seat: Seat, action: &Value) -> Result<Kind, Stop<MemberFault>>
+    ensures { Gives (λ kind. Happened (kind_said kind)) result
+        (shown place seat.number (view action.now)) }
 {
     let path = path_of(place, ActionMember::Cards);
     let cards = read_cards(needed(action, path)?, path)?;
-    Ok(Deed::Happened(Kind::Show { seat, cards }))
+    Ok(Kind::Show { seat, cards })
 }
 
 /// The path of a member of an action.
@@ -322,27 +265,22 @@ fn muck(told: &Told, seat: Seat) -> Deed
 }
 
 // What was done passes no limit.
-fn count_deed(ids: &[i128], told: &Told, path: Path, deed: Deed) -> Result<(), Stop<MemberFault>>
-    ensures said { Gives (λ x. x) result (deed_counted (plain_setting ids.now told.now.setting)
+fn count_deed(told: &Told, path: Path, deed: Deed) -> Result<(), Stop<MemberFault>>
+    ensures said { Gives (λ x. x) result (deed_counted (plain_setting told.now.setting)
         (map plain_step told.now.steps.items) path (plain_deed deed)) }
     ensures within { IfOk result (λ x. IsWithin told.now.setting.table.stacks.seats
         told.now.setting.file_moves (map plain_step told.now.steps.items) (plain_deed deed)) }
 {
     match deed {
-        Deed::Happened(kind) => count_event(ids, told, path, kind),
+        Deed::Happened(kind) => count_event(told, path, kind),
         Deed::Posted(_) | Deed::Dealt { .. } | Deed::Passed => Ok(()),
     }
 }
 
 /// An event passes no limit.
 #[tactic(auto, unfolding(crate::specs::Actions::event_counted))]
-pub fn count_event(
-    ids: &[i128],
-    told: &Told,
-    path: Path,
-    kind: Kind,
-) -> Result<(), Stop<MemberFault>>
-    ensures said { Gives (λ x. x) result (event_counted (plain_setting ids.now told.now.setting)
+pub fn count_event(told: &Told, path: Path, kind: Kind) -> Result<(), Stop<MemberFault>>
+    ensures said { Gives (λ x. x) result (event_counted (plain_setting told.now.setting)
         (map plain_step told.now.steps.items) path (kind_said kind)) }
     ensures room { IfOk result (λ x. HasRoom told.now.setting.table.stacks.seats
         told.now.setting.file_moves (is_move_said (kind_said kind))

@@ -15,10 +15,8 @@ use play_event::Kind;
 /// What is told of each seat, with one step more.
 pub fn seats_after(seats: [SeatTold; 10], step: RoundStep, steps: &[RoundStep]) -> [SeatTold; 10]
     requires told { AreTold (map plain_step steps.now) seats }
-    requires ten { length seats ≡ 10 }
     requires few { LeavesFew (map plain_step steps.now) (plain_deed step.deed) }
-    ensures told { AreTold (map plain_step steps.now ++ plain_step step ∷ []) result }
-    ensures ten { length result ≡ 10 }
+    ensures { AreTold (map plain_step steps.now ++ plain_step step ∷ []) result }
 {
     match step.deed {
         Deed::Posted(_) => seats,
@@ -40,11 +38,9 @@ fn after_deal(
     steps: &[RoundStep],
 ) -> [SeatTold; 10]
     requires told { AreTold (map plain_step steps.now) seats }
-    requires ten { length seats ≡ 10 }
     requires few { LeavesFew (map plain_step steps.now) (Dealt seat.number (slots_of cards)) }
-    ensures told { AreTold (map plain_step steps.now
+    ensures { AreTold (map plain_step steps.now
         ++ record { number = number; deed = Dealt seat.number (slots_of cards) } ∷ []) result }
-    ensures ten { length result ≡ 10 }
 {
     let index = seat.number as usize - 1;
     let told = seats[index];
@@ -96,10 +92,8 @@ fn after_fold(
     steps: &[RoundStep],
 ) -> [SeatTold; 10]
     requires told { AreTold (map plain_step steps.now) seats }
-    requires ten { length seats ≡ 10 }
     requires folds { IsFoldBy seat.number (plain_deed step.deed) }
-    ensures told { AreTold (map plain_step steps.now ++ plain_step step ∷ []) result }
-    ensures ten { length result ≡ 10 }
+    ensures { AreTold (map plain_step steps.now ++ plain_step step ∷ []) result }
 {
     let index = seat.number as usize - 1;
     seats[index] = with_fold(seats[index]);

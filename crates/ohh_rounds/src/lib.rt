@@ -11,7 +11,6 @@ mod setting;
 mod step;
 mod street;
 mod told;
-mod words;
 
 pub use play::{RoundsPlay, read_rounds};
 pub use setting::Setting;

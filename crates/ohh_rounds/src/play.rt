@@ -42,17 +42,15 @@ pub struct RoundsPlay {
 }
 
 /// What the rounds of a hand say, whose object this is: its posts are checked, and its script is
-/// put together. The ids are those of the players by seat, the first seat's first.
+/// put together.
 #[tactic(auto, unfolding(crate::specs::Play::rounds_said))]
 pub fn read_rounds(
     alloc: Global,
-    ids: &[i128],
     setting: &Setting,
     ohh: &Value,
 ) -> Result<RoundsPlay, Stop<MemberFault>>
-    requires { length ids.now ≤ 10 }
     ensures said { Gives plain_play result
-        (rounds_said (plain_setting ids.now setting.now) (view ohh.now)) }
+        (rounds_said (plain_setting setting.now) (view ohh.now)) }
     ensures stakes { IfOk result (λ play.
         AreAntesAndBlindsFor setting.now.table.stacks play.stakes) }
     ensures within { IfOk result (λ play. IsWithinLimits (map said_of play.script)) }
@@ -60,7 +58,7 @@ pub fn read_rounds(
         ≡ setting.now.file_moves + count_by is_move (map said_of play.script)) }
     ensures few { IfOk result (λ play. play.file_moves ≤ MOST_FILE_MOVES) }
 {
-    let told = read_told(alloc, ids, setting, ohh)?;
+    let told = read_told(alloc, setting, ohh)?;
     let stakes = read_stakes(alloc, &setting.table, told.steps.as_slice())?;
     let script = script_of(alloc, &told)?;
     Ok(RoundsPlay {

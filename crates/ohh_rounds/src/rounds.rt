@@ -1,9 +1,9 @@
 //! The rounds are read, each with its street, its cards and its actions.
-ghost use Rattle.std.specs.Prelude.{◌≡◌, ◌≤◌, Some, None, IfOk, length, map};
+ghost use Rattle.std.specs.Prelude.{◌≡◌, Some, IfOk, map};
 ghost use Rattle.serde_json.specs.View.{view};
 ghost use Rattle.card_set.specs.Row.{cards_of};
 ghost use Rattle.first_fault.specs.Reading.{Gives};
-ghost use Rattle.ohh_rounds.specs.Rounds.{actions_added, actions_said, at_round, board_dealt, board_said, each_told, no_cards, opening_said, round_said, rounds_listed, steps_said, street_said};
+ghost use Rattle.ohh_rounds.specs.Rounds.{actions_said, at_round, board_dealt, board_said, no_cards, opening_said, round_said, rounds_listed, steps_said, street_said};
 ghost use Rattle.ohh_rounds.specs.Setting.{plain_setting};
 ghost use Rattle.ohh_rounds.specs.Steps.{plain_step};
 
@@ -24,19 +24,23 @@ use std::alloc::Global;
 
 /// What the rounds of the object tell.
 #[tactic(auto, unfolding(crate::specs::Rounds::steps_said))]
-pub fn read_told(
+pub fn read_told<'a>(
     alloc: Global,
-    ids: &[i128],
-    setting: &Setting,
+    setting: &Setting<'a>,
     ohh: &Value,
-) -> Result<Told, Stop<MemberFault>>
-    requires { length ids.now ≤ 10 }
+) -> Result<Told<'a>, Stop<MemberFault>>
     ensures said { Gives (λ told. map plain_step told.steps.items) result
-        (steps_said (plain_setting ids.now setting.now) (view ohh.now)) }
+        (steps_said (plain_setting setting.now) (view ohh.now)) }
     ensures setting { IfOk result (λ told. told.setting ≡ setting.now) }
 {
     let values = read_listed(ohh)?;
-    read_each(alloc, ids, setting, values)
+    let mut told = Told::none(alloc, setting);
+    let mut last = None;
+    for (index, value) in values.iter().enumerate() {
+        let street = read_round(&mut told, last, index as u64, value)?;
+        last = Some(street);
+    }
+    Ok(told)
 }
 
 // The rounds, one at least.
@@ -51,65 +55,41 @@ fn read_listed(ohh: &Value) -> Result<&[Value], Stop<MemberFault>>
     Ok(values)
 }
 
-// What a list of rounds tells.
-fn read_each(
-    alloc: Global,
-    ids: &[i128],
-    setting: &Setting,
-    values: &[Value],
-) -> Result<Told, Stop<MemberFault>>
-    requires { length ids.now ≤ 10 }
-    ensures said { Gives (λ told. map plain_step told.steps.items) result
-        (each_told (plain_setting ids.now setting.now) (map view values.now)) }
-    ensures setting { IfOk result (λ told. told.setting ≡ setting.now) }
-{
-    let mut told = Told::none(alloc, *setting);
-    let mut last = None;
-    for (index, value) in values.iter().enumerate() {
-        let street = read_round(ids, &mut told, last, index as u64, value)?;
-        last = Some(street);
-    }
-    Ok(told)
-}
-
 // One more round is told.
 #[tactic(auto, unfolding(crate::specs::Rounds::round_said))]
 fn read_round(
-    ids: &[i128],
     told: &mut Told,
     last: Option<StreetName>,
     index: u64,
     value: &Value,
 ) -> Result<StreetName, Stop<MemberFault>>
-    requires { length ids.now ≤ 10 }
     ensures said { Gives (λ street. (Some street, map plain_step told.new.steps.items)) result
-        (round_said (plain_setting ids.now told.old.setting)
+        (round_said (plain_setting told.old.setting)
         (last, map plain_step told.old.steps.items) index (view value.now)) }
     ensures setting { told.new.setting ≡ told.old.setting }
 {
     let round = read_object(value, path_of(index, RoundMember::Itself))?;
-    let street = read_opening(ids, told, last, index, round)?;
-    read_listed_actions(ids, told, index, round)?;
+    let street = read_opening(told, last, index, round)?;
+    read_actions(told, index, round)?;
     Ok(street)
 }
 
 // The street and the cards of a round.
 #[tactic(auto, unfolding(crate::specs::Rounds::opening_said))]
 fn read_opening(
-    ids: &[i128],
     told: &mut Told,
     last: Option<StreetName>,
     index: u64,
     round: &Value,
 ) -> Result<StreetName, Stop<MemberFault>>
     ensures said { Gives (λ street. (street, map plain_step told.new.steps.items)) result
-        (opening_said (plain_setting ids.now told.old.setting)
+        (opening_said (plain_setting told.old.setting)
         (last, map plain_step told.old.steps.items) index (view round.now)) }
     ensures setting { told.new.setting ≡ told.old.setting }
 {
     let street = read_street(last, index, round)?;
     let cards = read_board(street, index, round)?;
-    deal_board(ids, told, index, cards)?;
+    deal_board(told, index, cards)?;
     Ok(street)
 }
 
@@ -160,14 +140,9 @@ fn read_no_cards(cards: &Value, path: Path) -> Result<CardRow, Stop<MemberFault>
 
 // A deal to the board is told, where there are cards.
 #[tactic(auto, unfolding(crate::specs::Rounds::board_dealt))]
-fn deal_board(
-    ids: &[i128],
-    told: &mut Told,
-    index: u64,
-    cards: CardRow,
-) -> Result<(), Stop<MemberFault>>
+fn deal_board(told: &mut Told, index: u64, cards: CardRow) -> Result<(), Stop<MemberFault>>
     ensures said { Gives (λ x. map plain_step told.new.steps.items) result
-        (board_dealt (plain_setting ids.now told.old.setting)
+        (board_dealt (plain_setting told.old.setting)
         (map plain_step told.old.steps.items) index (cards_of cards)) }
     ensures setting { told.new.setting ≡ told.old.setting }
 {
@@ -175,30 +150,12 @@ fn deal_board(
         return Ok(());
     }
     let kind = Kind::Board { cards };
-    count_event(ids, told, path_of(index, RoundMember::Cards), kind)?;
+    count_event(told, path_of(index, RoundMember::Cards), kind)?;
     told.push(RoundStep {
         number: 0,
         deed: Deed::Happened(kind),
     })?;
     Ok(())
-}
-
-// The actions that a round lists are told.
-fn read_listed_actions(
-    ids: &[i128],
-    told: &mut Told,
-    index: u64,
-    round: &Value,
-) -> Result<(), Stop<MemberFault>>
-    requires { length ids.now ≤ 10 }
-    ensures said { Gives (λ x. map plain_step told.new.steps.items) result
-        (actions_said (plain_setting ids.now told.old.setting) index
-        (map plain_step told.old.steps.items) (view round.now)) }
-    ensures setting { told.new.setting ≡ told.old.setting }
-{
-    let path = path_of(index, RoundMember::Actions);
-    let values = read_list(needed(round, path)?, path)?;
-    read_actions(ids, told, index, values)
 }
 
 // The path of a member of a round.
@@ -208,25 +165,21 @@ fn path_of(index: u64, member: RoundMember) -> Path
     Path::Round { index, member }
 }
 
-// The actions of a round are told.
-fn read_actions(
-    ids: &[i128],
-    told: &mut Told,
-    round: u64,
-    values: &[Value],
-) -> Result<(), Stop<MemberFault>>
-    requires { length ids.now ≤ 10 }
+// The actions that a round lists are told.
+fn read_actions(told: &mut Told, index: u64, round: &Value) -> Result<(), Stop<MemberFault>>
     ensures said { Gives (λ x. map plain_step told.new.steps.items) result
-        (actions_added (plain_setting ids.now told.old.setting) round
-        (map plain_step told.old.steps.items) (map view values.now)) }
+        (actions_said (plain_setting told.old.setting) index
+        (map plain_step told.old.steps.items) (view round.now)) }
     ensures setting { told.new.setting ≡ told.old.setting }
 {
-    for (index, value) in values.iter().enumerate() {
+    let path = path_of(index, RoundMember::Actions);
+    let values = read_list(needed(round, path)?, path)?;
+    for (action, value) in values.iter().enumerate() {
         let place = ActionPlace {
-            round,
-            action: index as u64,
+            round: index,
+            action: action as u64,
         };
-        let step = read_step(ids, told, place, value)?;
+        let step = read_step(told, place, value)?;
         told.push(step)?;
     }
     Ok(())

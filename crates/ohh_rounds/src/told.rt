@@ -15,8 +15,8 @@ use std::alloc::Global;
 
 /// The steps so far, and what they tell of each seat.
 #[derive(Debug, Drop)]
-pub struct Told {
-    pub setting: Setting,
+pub struct Told<'a> {
+    pub setting: Setting<'a>,
     pub steps: Vec<RoundStep>,
     /// The number of the next action.
     pub next: u32,
@@ -25,7 +25,6 @@ pub struct Told {
     pub other_events: usize,
     /// What is told of each seat, the first seat at index 0.
     pub seats: [SeatTold; 10],
-    pub ghost ten: { length seats ≡ 10 },
     pub ghost next_is: { next ≡ next_number (map plain_step steps.items) },
     pub ghost moves_are: { moves ≡ moves_in (map plain_step steps.items) },
     pub ghost others_are: { other_events ≡ others_in (map plain_step steps.items) },
@@ -35,14 +34,14 @@ pub struct Told {
     pub ghost few_others: { setting.table.stacks.seats + other_events ≤ MOST_OTHER_EVENTS },
 }
 
-impl Told {
+impl<'a> Told<'a> {
     ghost use Rattle.std.specs.Prelude.{◌∷◌, ◌++◌, [], OnOk};
     ghost use Rattle.ohh_rounds.specs.Steps.{IsWithin, LeavesFew, dealt_to, has_folded, plain_deed};
 
     /// Nothing is told yet.
-    pub fn none(alloc: Global, setting: Setting) -> Self
+    pub fn none(alloc: Global, setting: &Setting<'a>) -> Self
         ensures steps { result.steps.items ≡ [] }
-        ensures setting { result.setting ≡ setting }
+        ensures setting { result.setting ≡ setting.now }
     {
         let nothing = SeatTold {
             folded: false,
@@ -50,7 +49,7 @@ impl Told {
             first_deal: None,
         };
         Told {
-            setting,
+            setting: *setting,
             steps: Vec::new(alloc),
             next: 1,
             moves: 0,

@@ -22,7 +22,7 @@ use Rattle.ohh_members.specs.declared.dialect.Dialect.{Dialect}
 use Rattle.ohh_writing.specs.declared.action.Round.{Round}
 use Rattle.ohh_members.specs.declared.street.StreetName.{StreetName}
 use Rattle.ohh_members.specs.declared.street.StreetName.TheVariants as streets
-use Rattle.ohh_writing.specs.declared.action.Word.TheVariants as words
+use Rattle.ohh_members.specs.declared.words.Word.TheVariants as words
 use Rattle.ohh_writing.specs.Actions.{PlainAction, act_written, action_said, alone, ante_post, big_blind_seat, blind_post, deal_written, deals, has_known, move_written, moves_written, posts, showing, showings, small_blind_seat, straddle_post, with_cards, with_chips}
 use Rattle.ohh_writing.specs.Rounds.{PlainRound, board_round, board_round_on, round, first_actions, hand_rounds, moves_on, round_said, showdown_round}
 use Rattle.list_laws.proofs.Lists.{either_few, one_at_most, where_few}

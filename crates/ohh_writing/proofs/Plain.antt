@@ -15,8 +15,8 @@ use Rattle.hand_records.specs.declared.notes.Notes.{Notes}
 use Rattle.hand_records.specs.declared.trace.Play.{Play}
 use Rattle.hand_records.specs.declared.trace.Trace.{Trace}
 use Rattle.ohh_members.specs.declared.dialect.Dialect.{Dialect}
-use Rattle.ohh_writing.specs.declared.action.Word.{Word}
-use Rattle.ohh_writing.specs.declared.moment.Moment.{Moment}
+use Rattle.ohh_members.specs.declared.words.Word.{Word}
+use Rattle.hand_records.specs.declared.notes.Moment.{Moment}
 use Rattle.ohh_writing.specs.Actions.{PlainAction, PlainDetail, Nothing, Chips, Cards}
 use Rattle.ohh_writing.specs.Moment.{moment_of}
 use Rattle.ohh_writing.specs.Rounds.{PlainRound, hand_rounds}

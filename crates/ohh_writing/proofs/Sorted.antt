@@ -6,7 +6,7 @@ use Rattle.play_event.specs.declared.setup.Setup.{Setup}
 use Rattle.hand_records.specs.declared.notes.Notes.{Notes}
 use Rattle.hand_records.specs.declared.trace.Trace.{Trace}
 use Rattle.ohh_members.specs.declared.dialect.Dialect.{Dialect}
-use Rattle.ohh_writing.specs.declared.moment.Moment.{Moment}
+use Rattle.hand_records.specs.declared.notes.Moment.{Moment}
 use Rattle.ohh_writing.specs.Actions.{PlainDetail, Nothing, Chips, Cards, small_blind_seat}
 use Rattle.ohh_writing.specs.Games.{game_word}
 use Rattle.ohh_writing.specs.Moment.{moment_of}

@@ -20,8 +20,8 @@ use Rattle.ohh_members.specs.declared.dialect.Dialect.TheVariants as dialects
 use Rattle.ohh_writing.specs.declared.action.Action.{Action}
 use Rattle.ohh_writing.specs.declared.action.Detail.{Detail}
 use Rattle.ohh_writing.specs.declared.action.Detail.TheVariants as details
-use Rattle.ohh_writing.specs.declared.action.Word.{Word}
-use Rattle.ohh_writing.specs.declared.action.Word.TheVariants as words
+use Rattle.ohh_members.specs.declared.words.Word.{Word}
+use Rattle.ohh_members.specs.declared.words.Word.TheVariants as words
 use Rattle.chip_ledger.specs.Seat.{big_blind_of, small_blind_of}
 
 -- what an action tells beside its word and its player: nothing, chips and whether the seat has none

@@ -2,13 +2,13 @@
 use Rattle.std.specs.Prelude.{ℕ, zero, suc, ◌+◌, ◌/◌, ◌%◌, ◌==◌, bytes_eq, if◌then◌else◌, List, [], ◌∷◌, ◌++◌, codes, Option, Some, None}
 use Rattle.hand_records.specs.declared.notes.Clock.{Clock}
 use Rattle.hand_records.specs.declared.notes.Notes.{Notes}
-use Rattle.ohh_writing.specs.declared.moment.Moment.{Moment}
+use Rattle.hand_records.specs.declared.notes.Moment.{Moment}
 
 -- the moment, where the zone is UTC
 abbrev pub moment_in : ℕ → ℕ → ℕ → Clock → List ℕ → Option Moment
 moment_in year month day time zone =
     if bytes_eq zone (codes "UTC")
-    then Some (record { year = year; month = month; day = day; time = time })
+    then Some (record { day = record { year = year; month = month; day = day }; time = time })
     else None
 
 -- the moment, where all five are said and the zone is UTC
@@ -42,6 +42,6 @@ time_text time =
 -- a moment, YYYY-MM-DDThh:mm:ssZ
 abbrev pub moment_text : Moment → List ℕ
 moment_text moment =
-    by_digits 4 moment.year
-    ++ (codes "-" ++ (by_digits 2 moment.month ++ (codes "-" ++ (by_digits 2 moment.day
+    by_digits 4 moment.day.year
+    ++ (codes "-" ++ (by_digits 2 moment.day.month ++ (codes "-" ++ (by_digits 2 moment.day.day
     ++ (codes "T" ++ (time_text moment.time ++ codes "Z"))))))

@@ -19,17 +19,16 @@ use Rattle.hand_records.specs.declared.notes.Notes.{Notes}
 use Rattle.hand_records.specs.declared.trace.Play.{Play}
 use Rattle.hand_records.specs.declared.trace.Trace.{Trace}
 use Rattle.ohh_members.specs.declared.dialect.Dialect.{Dialect}
-use Rattle.ohh_writing.specs.declared.action.Word.{Word}
-use Rattle.ohh_writing.specs.declared.action.Word.TheVariants as words
 use Rattle.ohh_writing.specs.Actions.{PlainAction, PlainDetail, Nothing, Chips, Cards, small_blind_seat}
 use Rattle.ohh_writing.specs.Games.{bet_word, game_word}
-use Rattle.ohh_writing.specs.declared.moment.Moment.{Moment}
+use Rattle.hand_records.specs.declared.notes.Moment.{Moment}
 use Rattle.ohh_writing.specs.Moment.{moment_of, moment_text}
 use Rattle.ohh_writing.specs.Rounds.{PlainRound, hand_rounds}
 use Rattle.ohh_writing.specs.Seating.{number_among, numbers_spelled}
 use Rattle.ohh_writing.specs.Spelled.{big_blind, greatest_ante}
 use Rattle.hand_records.specs.AllowedNotes.{name_written}
 use Rattle.ohh_members.specs.Streets.{street_name}
+use Rattle.ohh_members.specs.Words.{word_text}
 
 -- a whole number
 abbrev pub whole : ℕ → Data
@@ -40,21 +39,6 @@ abbrev pub list : List Data → Data
 list items = array (items_of items)
 
 -- ---- rounds
-
--- how a word of an action is spelled
-abbrev pub word_text : Word → List ℕ
-word_text words.PostAnte = codes "Post Ante"
-word_text words.PostSmallBlind = codes "Post SB"
-word_text words.PostBigBlind = codes "Post BB"
-word_text words.Straddle = codes "Straddle"
-word_text words.DealtCards = codes "Dealt Cards"
-word_text words.Fold = codes "Fold"
-word_text words.Check = codes "Check"
-word_text words.Call = codes "Call"
-word_text words.Bet = codes "Bet"
-word_text words.Raise = codes "Raise"
-word_text words.ShowsCards = codes "Shows Cards"
-word_text words.MucksCards = codes "Mucks Cards"
 
 -- a list of cards
 abbrev pub cards_tree : List Slot → Data

@@ -1,23 +1,7 @@
 //! A hand is written as rounds of actions: each has a word, a player, and what it tells besides.
 use card_set::SlotRow;
 use ohh_members::street::StreetName;
-
-/// What an action says that its player does.
-#[derive(Clone, Copy)]
-pub enum Word {
-    PostAnte,
-    PostSmallBlind,
-    PostBigBlind,
-    Straddle,
-    DealtCards,
-    Fold,
-    Check,
-    Call,
-    Bet,
-    Raise,
-    ShowsCards,
-    MucksCards,
-}
+use ohh_members::words::Word;
 
 /// What an action tells beside its word and its player.
 #[derive(Clone, Copy)]
@@ -28,7 +12,8 @@ pub enum Detail {
     Cards(SlotRow),
 }
 
-/// An action. Its player is the number of a seat.
+/// An action. Its player is the number of a seat. Its word is one of those that plays have: in them
+/// nobody sits down or stands up.
 #[derive(Clone, Copy)]
 pub struct Action {
     pub word: Word,

@@ -76,7 +76,7 @@ fn put_setup(alloc: Global, ohh: &mut Map<String, Value>, setup: &Setup) -> Resu
         (put_said (codes "game_type") (string (game_said setup.now.code))
         (members_view ohh.old.entries)))))) }
 {
-    let small_blind = amount_at(&setup.blinds, small_blind_seat(setup));
+    let small_blind = amount_at(&setup.blinds, small_blind_seat(setup).number);
     put_text(alloc, ohh, "game_type", game_word(setup.code))?;
     put_value(alloc, ohh, "bet_limit", limit_value(alloc, setup)?)?;
     put_number(alloc, ohh, "ante_amount", greatest_ante(setup))?;

@@ -3,17 +3,8 @@ ghost use Rattle.std.specs.Prelude.{◌≡◌, ◌++◌, string_bytes, IfOk, OnO
 ghost use Rattle.ohh_writing.specs.Moment.{by_digits, fraction_text, moment_in as moment_in_said, moment_of as moment_said, moment_text as text_said, time_text};
 
 use card_set::Memory;
-use hand_records::{Clock, Notes};
+use hand_records::{CivilDate, Clock, Moment, Notes};
 use std::alloc::Global;
-
-/// A date, and a time of that day.
-#[derive(Clone, Copy)]
-pub struct Moment {
-    pub year: u16,
-    pub month: u8,
-    pub day: u8,
-    pub time: Clock,
-}
 
 /// The moment that the notes say, where all of it is said and its zone is UTC.
 pub fn moment_of(notes: &Notes) -> Option<Moment>
@@ -34,12 +25,8 @@ fn moment_in(year: u16, month: u8, day: u8, time: Clock, zone: &str) -> Option<M
     ensures { result ≡ moment_in_said year month day time zone.now }
 {
     if zone == "UTC" {
-        Some(Moment {
-            year,
-            month,
-            day,
-            time,
-        })
+        let day = CivilDate { year, month, day };
+        Some(Moment { day, time })
     } else {
         None
     }
@@ -50,11 +37,11 @@ pub fn moment_text(alloc: Global, moment: Moment) -> Result<String, Memory>
     ensures { IfOk result (λ text. string_bytes text ≡ text_said moment) }
 {
     let mut text = String::new(alloc);
-    push_digits(&mut text, 4, u32::from(moment.year))?;
+    push_digits(&mut text, 4, u32::from(moment.day.year))?;
     text.push_str("-")?;
-    push_digits(&mut text, 2, u32::from(moment.month))?;
+    push_digits(&mut text, 2, u32::from(moment.day.month))?;
     text.push_str("-")?;
-    push_digits(&mut text, 2, u32::from(moment.day))?;
+    push_digits(&mut text, 2, u32::from(moment.day.day))?;
     text.push_str("T")?;
     push_time(&mut text, moment.time)?;
     text.push_str("Z")?;

@@ -4,10 +4,12 @@ ghost use Rattle.play_event.specs.Chips.{chips_left};
 ghost use Rattle.play_event.specs.Played.{move_said};
 ghost use Rattle.ohh_writing.specs.Actions.{act_written, action_said, alone, call_written, moves_written, raise_amount as raise_amount_said, raise_written};
 
-use crate::action::{Action, Detail, Word};
+use crate::action::{Action, Detail};
 use crate::posts::{chips_action, left_after_posts};
 use card_set::Memory;
+use chip_ledger::Seat;
 use ohh_members::Dialect;
+use ohh_members::words::Word;
 use play_event::{Act, Move, Setup};
 
 /// Puts the moves of a street behind other actions.
@@ -39,7 +41,7 @@ fn stacks_after_posts(setup: &Setup) -> [u64; 10]
 {
     let mut left = [0; 10];
     for index in 0..10_u8 {
-        left[index as usize] = left_after_posts(setup, index + 1);
+        left[index as usize] = left_after_posts(setup, Seat { number: index + 1 });
     }
     left
 }

@@ -6,9 +6,10 @@ ghost use Rattle.play_event.specs.Chips.{blind_posted, posted};
 ghost use Rattle.play_event.specs.Seats.{all_seats};
 ghost use Rattle.ohh_writing.specs.Actions.{action_said, ante_post, big_blind_seat as big_blind_seat_said, blind_post, posts, small_blind_seat as small_blind_seat_said, straddle_post, with_chips};
 
-use crate::action::{Action, Detail, Word};
+use crate::action::{Action, Detail};
 use card_set::Memory;
-use chip_ledger::SeatRow;
+use chip_ledger::{Seat, SeatRow};
+use ohh_members::words::Word;
 use play_event::Setup;
 
 /// Puts the posts of a hand behind other actions.
@@ -29,43 +30,39 @@ fn push_antes(actions: &mut Vec<Action>, setup: &Setup) -> Result<(), Memory>
         ++ flat_map (ante_post setup.now) (all_seats setup.now)) }
 {
     for index in 0..setup.stacks.seats {
-        push_ante(actions, setup, index + 1)?;
+        push_ante(actions, setup, Seat { number: index + 1 })?;
     }
     Ok(())
 }
 
 // Puts the ante of a seat behind other actions, where it posts one.
-fn push_ante(actions: &mut Vec<Action>, setup: &Setup, seat: u8) -> Result<(), Memory>
-    requires first { 1 ≤ seat }
-    requires last { seat ≤ 10 }
+fn push_ante(actions: &mut Vec<Action>, setup: &Setup, seat: Seat) -> Result<(), Memory>
     ensures { OnOk result (map action_said actions.new.items
-        ≡ map action_said actions.old.items ++ ante_post setup.now seat) }
+        ≡ map action_said actions.old.items ++ ante_post setup.now seat.number) }
 {
-    let ante = amount_at(&setup.antes, seat);
+    let ante = amount_at(&setup.antes, seat.number);
     if ante == 0 {
         return Ok(());
     }
-    let left = amount_at(&setup.stacks, seat).saturating_sub(ante);
-    actions.push(chips_action(Word::PostAnte, seat, ante, left))?;
+    let left = amount_at(&setup.stacks, seat.number).saturating_sub(ante);
+    actions.push(chips_action(Word::PostAnte, seat.number, ante, left))?;
     Ok(())
 }
 
 /// The seat of the small blind.
-pub fn small_blind_seat(setup: &Setup) -> u8
-    ensures seat { result ≡ small_blind_seat_said setup.now }
-    ensures first { 1 ≤ result }
-    ensures last { result ≤ 2 }
+pub fn small_blind_seat(setup: &Setup) -> Seat
+    ensures { result.number ≡ small_blind_seat_said setup.now }
 {
-    if setup.stacks.seats == 2 { 2 } else { 1 }
+    let number = if setup.stacks.seats == 2 { 2 } else { 1 };
+    Seat { number }
 }
 
 /// The seat of the big blind.
-pub fn big_blind_seat(setup: &Setup) -> u8
-    ensures seat { result ≡ big_blind_seat_said setup.now }
-    ensures first { 1 ≤ result }
-    ensures last { result ≤ 2 }
+pub fn big_blind_seat(setup: &Setup) -> Seat
+    ensures { result.number ≡ big_blind_seat_said setup.now }
 {
-    if setup.stacks.seats == 2 { 1 } else { 2 }
+    let number = if setup.stacks.seats == 2 { 1 } else { 2 };
+    Seat { number }
 }
 
 // Puts the straddles behind other actions, from the third seat upward.
@@ -75,19 +72,17 @@ fn push_straddles(actions: &mut Vec<Action>, setup: &Setup) -> Result<(), Memory
         ++ flat_map (straddle_post setup.now) (all_seats setup.now)) }
 {
     for index in 0..setup.stacks.seats {
-        push_straddle(actions, setup, index + 1)?;
+        push_straddle(actions, setup, Seat { number: index + 1 })?;
     }
     Ok(())
 }
 
 // Puts the straddle of a seat behind other actions, where it posts one.
-fn push_straddle(actions: &mut Vec<Action>, setup: &Setup, seat: u8) -> Result<(), Memory>
-    requires first { 1 ≤ seat }
-    requires last { seat ≤ 10 }
+fn push_straddle(actions: &mut Vec<Action>, setup: &Setup, seat: Seat) -> Result<(), Memory>
     ensures { OnOk result (map action_said actions.new.items
-        ≡ map action_said actions.old.items ++ straddle_post setup.now seat) }
+        ≡ map action_said actions.old.items ++ straddle_post setup.now seat.number) }
 {
-    if seat <= 2 || amount_at(&setup.blinds, seat) == 0 {
+    if seat.number <= 2 || amount_at(&setup.blinds, seat.number) == 0 {
         return Ok(());
     }
     actions.push(blind_action(setup, Word::Straddle, seat))?;
@@ -95,13 +90,11 @@ fn push_straddle(actions: &mut Vec<Action>, setup: &Setup, seat: u8) -> Result<(
 }
 
 // A blind or straddle.
-fn blind_action(setup: &Setup, word: Word, seat: u8) -> Action
-    requires first { 1 ≤ seat }
-    requires last { seat ≤ 10 }
-    ensures { action_said result ≡ blind_post setup.now word seat }
+fn blind_action(setup: &Setup, word: Word, seat: Seat) -> Action
+    ensures { action_said result ≡ blind_post setup.now word seat.number }
 {
     let amount = posted_blind(setup, seat);
-    chips_action(word, seat, amount, left_after_posts(setup, seat))
+    chips_action(word, seat.number, amount, left_after_posts(setup, seat))
 }
 
 /// An action that puts chips and leaves so many.
@@ -117,23 +110,26 @@ pub fn chips_action(word: Word, player: u8, amount: u64, left: u64) -> Action
 }
 
 /// The chips that a seat has left when it has posted its ante and its blind.
-pub fn left_after_posts(setup: &Setup, seat: u8) -> u64
-    requires first { 1 ≤ seat }
-    requires last { seat ≤ 10 }
-    ensures { result ≡ amount_of setup.now.stacks seat - posted setup.now seat }
+pub fn left_after_posts(setup: &Setup, seat: Seat) -> u64
+    ensures { result ≡ amount_of setup.now.stacks seat.number
+        - posted setup.now seat.number }
 {
-    let left = amount_at(&setup.stacks, seat).saturating_sub(amount_at(&setup.antes, seat));
+    let left = amount_at(&setup.stacks, seat.number).saturating_sub(amount_at(
+        &setup.antes,
+        seat.number,
+    ));
     left.saturating_sub(posted_blind(setup, seat))
 }
 
 // The blind that a seat posts: as much of it as the stack has after the ante.
-fn posted_blind(setup: &Setup, seat: u8) -> u64
-    requires first { 1 ≤ seat }
-    requires last { seat ≤ 10 }
-    ensures { result ≡ blind_posted setup.now seat }
+fn posted_blind(setup: &Setup, seat: Seat) -> u64
+    ensures { result ≡ blind_posted setup.now seat.number }
 {
-    let left = amount_at(&setup.stacks, seat).saturating_sub(amount_at(&setup.antes, seat));
-    amount_at(&setup.blinds, seat).min(left)
+    let left = amount_at(&setup.stacks, seat.number).saturating_sub(amount_at(
+        &setup.antes,
+        seat.number,
+    ));
+    amount_at(&setup.blinds, seat.number).min(left)
 }
 
 /// The amount of a seat in a row.

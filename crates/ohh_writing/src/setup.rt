@@ -24,7 +24,7 @@ pub fn has_spelled_sizes(setup: &Setup) -> bool
 pub fn big_blind(setup: &Setup) -> u64
     ensures { result ≡ big_blind_said setup.now }
 {
-    amount_at(&setup.blinds, big_blind_seat(setup))
+    amount_at(&setup.blinds, big_blind_seat(setup).number)
 }
 
 /// Whether the antes are those of all seats where they are not dead, and else those of some.

@@ -5,13 +5,14 @@ ghost use Rattle.card_set.specs.Row.{slots_of};
 ghost use Rattle.canon_script.specs.Tidy.{HasTidyCards};
 ghost use Rattle.hand_records.specs.TraceRows.{core_said};
 ghost use Rattle.ohh_writing.specs.Actions.{action_said, alone, deal_written, deals, showing, showings, with_cards};
-ghost use Rattle.ohh_writing.specs.declared.action.Word.TheVariants as words;
+ghost use Rattle.ohh_members.specs.declared.words.Word.TheVariants as words;
 
-use crate::action::{Action, Detail, Word};
+use crate::action::{Action, Detail};
 use crate::cards::{dealt_cards, has_known, held_cards};
 use card_set::{Memory, SlotRow};
 use chip_ledger::Seat;
 use hand_records::Trace;
+use ohh_members::words::Word;
 
 /// Puts the deals to the seats behind other actions, from p1 upward.
 pub fn push_deals(actions: &mut Vec<Action>, trace: &Trace) -> Result<(), Memory>

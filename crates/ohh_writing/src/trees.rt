@@ -5,9 +5,9 @@ ghost use Rattle.serde_json.specs.View.{view, members_view};
 ghost use Rattle.card_set.specs.Spelling.{slot_spelling};
 ghost use Rattle.ohh_writing.specs.Actions.{action_said, detail_said};
 ghost use Rattle.ohh_writing.specs.Rounds.{round_said};
-ghost use Rattle.ohh_writing.specs.Tree.{action_tree, action_trees, cards_tree, list, round_tree, round_trees, whole, with_detail, word_text as word_said};
+ghost use Rattle.ohh_writing.specs.Tree.{action_tree, action_trees, cards_tree, list, round_tree, round_trees, whole, with_detail};
 
-use crate::action::{Action, Detail, Round, Word};
+use crate::action::{Action, Detail, Round};
 use crate::members::{put_number, put_text, put_value};
 use card_set::{Memory, Slot, slot_text};
 use ohh_members::street::name_of;
@@ -87,31 +87,11 @@ fn action_value(alloc: Global, number: u64, action: Action) -> Result<Value, Mem
     ensures { IfOk result (λ value. view value ≡ action_tree number (action_said action)) }
 {
     let mut members = Map::new(alloc);
-    put_text(alloc, &mut members, "action", word_text(action.word))?;
+    put_text(alloc, &mut members, "action", action.word.text())?;
     put_number(alloc, &mut members, "action_number", number)?;
     put_detail(alloc, &mut members, action.detail)?;
     put_number(alloc, &mut members, "player_id", action.player as u64)?;
     Ok(Value::Object(members))
-}
-
-// How the word of an action is spelled.
-fn word_text(word: Word) -> &'static str
-    ensures { result.now ≡ word_said word }
-{
-    match word {
-        Word::PostAnte => "Post Ante",
-        Word::PostSmallBlind => "Post SB",
-        Word::PostBigBlind => "Post BB",
-        Word::Straddle => "Straddle",
-        Word::DealtCards => "Dealt Cards",
-        Word::Fold => "Fold",
-        Word::Check => "Check",
-        Word::Call => "Call",
-        Word::Bet => "Bet",
-        Word::Raise => "Raise",
-        Word::ShowsCards => "Shows Cards",
-        Word::MucksCards => "Mucks Cards",
-    }
 }
 
 // Puts what an action tells beside its word and its player.

@@ -13,7 +13,6 @@ invariant_of-self c =
     let told = c.args.self.now in
     let same = c.in_err-push.ensures.items in
     record {
-      ten = told.ten;
       next_is = rw same told.next_is;
       moves_are = rw same told.moves_are;
       others_are = rw same told.others_are;
@@ -34,11 +33,10 @@ invariant_of-self-2 c =
     let moves = count_by-push (λ x. is_move_deed x.deed) steps (plain_step step) in
     let others = count_by-push (λ x. is_other_deed x.deed) steps (plain_step step) in
     record {
-      ten = c.seats_after-seats.ensures.ten;
       next_is = rw items (omega (arith, actions, told.next_is, c.next_after-self.ensures));
       moves_are = rw items (omega (arith, moves, told.moves_are, c.moves_of.ensures));
       others_are = rw items (omega (arith, others, told.others_are, c.others_of.ensures));
-      seats_are = rw (items, sym c.as_slice.ensures.value) c.seats_after-seats.ensures.told;
+      seats_are = rw (items, sym c.as_slice.ensures.value) c.seats_after-seats.ensures;
       few_moves = omega (arith, few.moves_few, c.moves_of.ensures);
       few_file_moves = omega (arith, few.file_few, c.moves_of.ensures);
       few_others = omega (arith, few.others_few, c.others_of.ensures);

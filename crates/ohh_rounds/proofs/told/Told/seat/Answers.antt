@@ -10,4 +10,4 @@ returns c =
     let told = c.args.self.now in
     let seat = c.args.seat in
     subst (λ (kept : SeatTold). IsToldOf seat.number (map plain_step told.steps.items) kept) c.index-self-seat.is
-    (told.seats_are seat.number seat.first seat.last c.index-self-seat.result (at_index told.seats (seat.number - 1) c.index-self-seat.result (omega (arith, told.ten, seat.first, seat.last)) c.index-self-seat.is))
+    (told.seats_are.each seat.number seat.first seat.last c.index-self-seat.result (at_index told.seats (seat.number - 1) c.index-self-seat.result (omega (arith, told.seats_are.ten, seat.first, seat.last)) c.index-self-seat.is))

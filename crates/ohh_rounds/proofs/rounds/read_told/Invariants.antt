@@ -3,11 +3,11 @@ use Rattle.serde_json.specs.View.{view}
 use Rattle.ohh_rounds.specs.Rounds.{added_from, round_said}
 use Rattle.ohh_rounds.specs.Setting.{plain_setting}
 use Rattle.ohh_rounds.specs.Steps.{plain_step}
-use Rattle.ohh_rounds.proofs.rounds.read_each.Given as goal
+use Rattle.ohh_rounds.proofs.rounds.read_told.Given as goal
 
 -- what is told so far, and the rounds that are left, tell all of them
 abbrev pub invariant-loop-index : goal.invariant-loop-index
 invariant-loop-index l = record {
   setting : l.told.setting ≡ l.setting;
-  read : added_from (round_said (plain_setting l.ids l.setting)) (l.last, map plain_step l.told.steps.items) l.index (map view (drop l.index l.values)) ≡ added_from (round_said (plain_setting l.ids l.setting)) (None, []) 0 (map view l.values);
+  read : added_from (round_said (plain_setting l.setting)) (l.last, map plain_step l.told.steps.items) l.index (map view (drop l.index l.values)) ≡ added_from (round_said (plain_setting l.setting)) (None, []) 0 (map view l.values);
 }

@@ -1,6 +1,6 @@
 //! The words that say what a player did.
 ghost use Rattle.std.specs.Prelude.{◌≡◌};
-ghost use Rattle.ohh_rounds.specs.Words.{is_deal as is_deal_said, word_named as word_said};
+ghost use Rattle.ohh_members.specs.Words.{is_deal as is_deal_said, word_named as word_said, word_text};
 
 /// What a player did, by its word.
 #[derive(Clone, Copy, Debug, PartialEq, Eq)]
@@ -21,7 +21,31 @@ pub enum Word {
     StandsUp,
 }
 
-/// The word that a text is, if it is one that is read.
+impl Word {
+    /// The word as it is spelled.
+    pub fn text(self) -> &'static str
+        ensures { result.now ≡ word_text self }
+    {
+        match self {
+            Word::PostAnte => "Post Ante",
+            Word::PostSmallBlind => "Post SB",
+            Word::PostBigBlind => "Post BB",
+            Word::Straddle => "Straddle",
+            Word::DealtCards => "Dealt Cards",
+            Word::Fold => "Fold",
+            Word::Check => "Check",
+            Word::Call => "Call",
+            Word::Bet => "Bet",
+            Word::Raise => "Raise",
+            Word::ShowsCards => "Shows Cards",
+            Word::MucksCards => "Mucks Cards",
+            Word::SitsDown => "Sits Down",
+            Word::StandsUp => "Stands Up",
+        }
+    }
+}
+
+/// The word that a text is, if it is one.
 #[tactic(auto, unfolding(crate::specs::Words::word_named))]
 pub fn word_named(text: &str) -> Option<Word>
     ensures { result ≡ word_said text.now }

@@ -1,7 +1,24 @@
 -- The words that say what a player did.
 use Rattle.std.specs.Prelude.{ℕ, Bool, true, false, bytes_eq, if◌then◌else◌, List, codes, Option, Some, None}
-use Rattle.ohh_rounds.specs.declared.words.Word.{Word}
-use Rattle.ohh_rounds.specs.declared.words.Word.TheVariants as words
+use Rattle.ohh_members.specs.declared.words.Word.{Word}
+use Rattle.ohh_members.specs.declared.words.Word.TheVariants as words
+
+-- how the words are spelled
+abbrev pub word_text : Word → List ℕ
+word_text words.PostAnte = codes "Post Ante"
+word_text words.PostSmallBlind = codes "Post SB"
+word_text words.PostBigBlind = codes "Post BB"
+word_text words.Straddle = codes "Straddle"
+word_text words.DealtCards = codes "Dealt Cards"
+word_text words.Fold = codes "Fold"
+word_text words.Check = codes "Check"
+word_text words.Call = codes "Call"
+word_text words.Bet = codes "Bet"
+word_text words.Raise = codes "Raise"
+word_text words.ShowsCards = codes "Shows Cards"
+word_text words.MucksCards = codes "Mucks Cards"
+word_text words.SitsDown = codes "Sits Down"
+word_text words.StandsUp = codes "Stands Up"
 
 -- the word that a text is
 unfoldable pub word_named : List ℕ → Option Word
