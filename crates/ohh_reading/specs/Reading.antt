@@ -20,7 +20,8 @@ use Rattle.ohh_reading.specs.declared.fault.HandFaultKind.TheVariants as wrongne
 use Rattle.ohh_reading.specs.declared.fault.OhhFault.{OhhFault}
 use Rattle.ohh_reading.specs.declared.fault.OhhFault.TheVariants as faults
 use Rattle.ohh_reading.specs.Blocks.{blocks_of}
-use Rattle.ohh_reading.specs.Hand.{PlainHand, plain, hand_said}
+use Rattle.ohh_reading.specs.Hand.{hand_said}
+use Rattle.hand_records.specs.PlainHands.{PlainHand, plain}
 
 -- the object of the hand in a tree
 abbrev pub object_of : Option Data → Result Data MemberFault

@@ -1,20 +1,19 @@
 //! The blocks of a file are read as its hands, in order.
-ghost use Rattle.std.specs.Prelude.{◌≡◌, ◌≤◌, ◌+◌, [], ◌∷◌, Some, option_map, length, map, sum_by, IfOk};
-ghost use Rattle.std.specs.List.{AllByRecursion};
+ghost use Rattle.std.specs.Prelude.{◌≡◌, ◌≤◌, [], ◌∷◌, Some, option_map, map, IfOk};
 ghost use Rattle.serde_json.specs.View.{view};
 ghost use Rattle.first_fault.specs.declared.limits.TheConstants.{MOST_FILE_MOVES, MOST_HANDS};
 ghost use Rattle.first_fault.specs.Reading.{Gives};
 ghost use Rattle.ohh_members.specs.declared.fault.Path.TheVariants as paths;
 ghost use Rattle.ohh_members.specs.Values.{field as field_said};
-ghost use Rattle.ohh_reading.specs.Hand.{plain};
 ghost use Rattle.ohh_reading.specs.Blocks.{blocks_of};
-ghost use Rattle.ohh_reading.specs.Reading.{found_said, hands_said, numbered_hand, object_of, tree_of, tree_said};
-ghost use Rattle.hand_records.specs.Histories.{IsHistory};
-ghost use Rattle.hand_records.specs.Moves.{moves_of};
+ghost use Rattle.ohh_reading.specs.Reading.{hands_said, numbered_hand, object_of, tree_of, tree_said};
+ghost use Rattle.hand_records.specs.Histories.{AreHistories, IsNextHand};
+ghost use Rattle.hand_records.specs.PlainHands.{plain};
 
 use crate::blocks::cut_blocks;
 use crate::fault::{HandFaultKind, OhhHandFault};
 use crate::hand::read_hand;
+use crate::tree_size::is_bearable;
 use card_set::Memory;
 use first_fault::{MOST_HANDS, Quantity, Stop};
 use hand_records::{Record, Records};
@@ -32,9 +31,7 @@ pub fn read_file(
 ) -> Result<(Records, usize), Stop<OhhHandFault>>
     ensures said { Gives (λ found. (map plain found.0, found.1)) result
         (hands_said dialect (blocks_of bytes.now)) }
-    ensures sound { IfOk result (λ found. AllByRecursion IsHistory found.0) }
-    ensures few { IfOk result (λ found. length found.0 ≤ MOST_HANDS) }
-    ensures moves { IfOk result (λ found. sum_by moves_of found.0 ≤ MOST_FILE_MOVES) }
+    ensures hands { IfOk result (λ found. AreHistories found.0) }
 {
     let blocks = cut_blocks(alloc, bytes)?;
     let found = read_blocks(alloc, dialect, blocks.as_slice())?;
@@ -49,9 +46,7 @@ fn read_blocks(
 ) -> Result<(Records, usize), Stop<OhhHandFault>>
     ensures said { Gives (λ found. (map plain found.0, found.1)) result
         (hands_said dialect (map (λ block. block.items) blocks.now)) }
-    ensures sound { IfOk result (λ found. AllByRecursion IsHistory found.0) }
-    ensures few { IfOk result (λ found. length found.0 ≤ MOST_HANDS) }
-    ensures moves { IfOk result (λ found. sum_by moves_of found.0 ≤ MOST_FILE_MOVES) }
+    ensures hands { IfOk result (λ found. AreHistories found.0) }
 {
     let mut records = Records::new(alloc);
     records.make_room(blocks.len());
@@ -66,7 +61,7 @@ fn read_blocks(
 }
 
 // The hand with this number, from 1, after so many moves of the file.
-#[tactic(auto, unfolding(crate::specs::Reading::numbered_hand))]
+#[tactic(auto, unfolding(crate::specs::Reading::numbered_hand, crate::specs::Reading::found_said))]
 fn read_numbered(
     alloc: Global,
     dialect: Dialect,
@@ -78,49 +73,30 @@ fn read_numbered(
     requires few { file_moves ≤ MOST_FILE_MOVES }
     ensures said { Gives (λ found. (plain found.0 ∷ [], found.1)) result
         (numbered_hand dialect file_moves number block.now) }
-    ensures sound { IfOk result (λ found. IsHistory found.0) }
-    ensures moves { IfOk result (λ found. found.1 ≡ file_moves + moves_of found.0) }
-    ensures few { IfOk result (λ found. found.1 ≤ MOST_FILE_MOVES) }
+    ensures next { IfOk result (IsNextHand file_moves) }
     ensures number { IfOk result (λ found. number ≤ MOST_HANDS) }
 {
     if number as usize > MOST_HANDS {
         let quantity = Quantity::Hands;
-        let fault = MemberFault {
-            what: MemberFaultKind::TooMany { quantity },
-            path: Path::Ohh,
-        };
-        return Err(Stop::At(OhhHandFault {
-            hand: number,
-            what: HandFaultKind::Member(fault),
-        }));
+        let what = MemberFaultKind::TooMany { quantity };
+        let path = Path::Ohh;
+        return Err(in_hand(number, HandFaultKind::Member(MemberFault { what, path })));
     }
-    read_block(alloc, dialect, block, number, file_moves)
+    let Some(tree) = parse(alloc, block)? else {
+        return Err(in_hand(number, HandFaultKind::Text));
+    };
+    match read_tree(alloc, dialect, &tree, number - 1, file_moves) {
+        Ok(found) => Ok(found),
+        Err(Stop::Memory) => Err(Stop::Memory),
+        Err(Stop::At(fault)) => Err(in_hand(number, HandFaultKind::Member(fault))),
+    }
 }
 
-// The hand of a block.
-#[tactic(auto, unfolding(crate::specs::Reading::found_said))]
-fn read_block(
-    alloc: Global,
-    dialect: Dialect,
-    block: &[u8],
-    number: u32,
-    file_moves: usize,
-) -> Result<(Record, usize), Stop<OhhHandFault>>
-    requires first { 1 ≤ number }
-    requires few { file_moves ≤ MOST_FILE_MOVES }
-    ensures said { Gives (λ found. (plain found.0, found.1)) result
-        (found_said dialect file_moves number (tree_of block.now)) }
-    ensures sound { IfOk result (λ found. IsHistory found.0) }
-    ensures moves { IfOk result (λ found. found.1 ≡ file_moves + moves_of found.0) }
-    ensures few { IfOk result (λ found. found.1 ≤ MOST_FILE_MOVES) }
+// What is wrong with the hand that has this number.
+fn in_hand(hand: u32, what: HandFaultKind) -> Stop<OhhHandFault>
+    ensures { result ≡ Stop.At (record { hand = hand; what = what }) }
 {
-    match parse(alloc, block)? {
-        Some(tree) => read_found(alloc, dialect, &tree, number, file_moves),
-        None => Err(Stop::At(OhhHandFault {
-            hand: number,
-            what: HandFaultKind::Text,
-        })),
-    }
+    Stop::At(OhhHandFault { hand, what })
 }
 
 // The tree that a block is, or nothing where it is none.
@@ -128,6 +104,9 @@ fn read_block(
 fn parse(alloc: Global, block: &[u8]) -> Result<Option<Value>, Memory>
     ensures { IfOk result (λ tree. option_map view tree ≡ tree_of block.now) }
 {
+    if !is_bearable(block) {
+        return Err(Memory);
+    }
     match Value::from_slice(alloc, block) {
         Ok(tree) => Ok(Some(tree)),
         Err(error) => {
@@ -137,33 +116,6 @@ fn parse(alloc: Global, block: &[u8]) -> Result<Option<Value>, Memory>
                 Ok(None)
             }
         }
-    }
-}
-
-// The same, of the hand with this number, from 1.
-#[tactic(auto, unfolding(crate::specs::Reading::found_said))]
-fn read_found(
-    alloc: Global,
-    dialect: Dialect,
-    tree: &Value,
-    number: u32,
-    file_moves: usize,
-) -> Result<(Record, usize), Stop<OhhHandFault>>
-    requires first { 1 ≤ number }
-    requires few { file_moves ≤ MOST_FILE_MOVES }
-    ensures said { Gives (λ found. (plain found.0, found.1)) result
-        (found_said dialect file_moves number (Some (view tree.now))) }
-    ensures sound { IfOk result (λ found. IsHistory found.0) }
-    ensures moves { IfOk result (λ found. found.1 ≡ file_moves + moves_of found.0) }
-    ensures few { IfOk result (λ found. found.1 ≤ MOST_FILE_MOVES) }
-{
-    match read_tree(alloc, dialect, tree, number - 1, file_moves) {
-        Ok(found) => Ok(found),
-        Err(Stop::Memory) => Err(Stop::Memory),
-        Err(Stop::At(fault)) => Err(Stop::At(OhhHandFault {
-            hand: number,
-            what: HandFaultKind::Member(fault),
-        })),
     }
 }
 
@@ -179,9 +131,7 @@ fn read_tree(
     requires { file_moves ≤ MOST_FILE_MOVES }
     ensures said { Gives (λ found. (plain found.0, found.1)) result
         (tree_said dialect file_moves place (view tree.now)) }
-    ensures sound { IfOk result (λ found. IsHistory found.0) }
-    ensures moves { IfOk result (λ found. found.1 ≡ file_moves + moves_of found.0) }
-    ensures few { IfOk result (λ found. found.1 ≤ MOST_FILE_MOVES) }
+    ensures next { IfOk result (IsNextHand file_moves) }
 {
     let ohh = object_in(tree)?;
     read_hand(alloc, dialect, ohh, place, file_moves)

@@ -3,9 +3,10 @@ ghost use Rattle.std.specs.Prelude.{◌≡◌, ◌≤◌, ◌+◌, IfOk};
 ghost use Rattle.serde_json.specs.View.{view};
 ghost use Rattle.first_fault.specs.declared.limits.TheConstants.{MOST_FILE_MOVES};
 ghost use Rattle.first_fault.specs.Reading.{Gives};
-ghost use Rattle.ohh_reading.specs.Hand.{hand_said, plain};
+ghost use Rattle.ohh_reading.specs.Hand.{hand_said};
 ghost use Rattle.hand_records.specs.Histories.{IsHistory};
 ghost use Rattle.hand_records.specs.Moves.{moves_of};
+ghost use Rattle.hand_records.specs.PlainHands.{plain};
 
 use crate::parts::{ids_in, notes_in, read_paid, stacks_in};
 use crate::play::read_play;

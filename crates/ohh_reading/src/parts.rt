@@ -4,11 +4,12 @@ ghost use Rattle.serde_json.specs.View.{view};
 ghost use Rattle.hand_records.specs.AllowedNotes.{AreAllowed};
 ghost use Rattle.play_event.specs.ValidSetup.{IsSize};
 ghost use Rattle.first_fault.specs.Reading.{Gives};
-ghost use Rattle.ohh_facts.specs.Notes.{notes_said, plain_notes};
+ghost use Rattle.ohh_facts.specs.Notes.{notes_said};
 ghost use Rattle.ohh_facts.specs.Pots.{IsPaid, plain_paid, pots_said};
 ghost use Rattle.ohh_members.specs.Front.{IsFront, ids_of as ids_of_said, stacks_of};
 ghost use Rattle.chip_ledger.specs.SeatRow.{amounts_in};
 ghost use Rattle.ohh_members.specs.Players.{plain_player};
+ghost use Rattle.hand_records.specs.SaidNotes.{plain_notes};
 
 use card_set::Memory;
 use chip_ledger::SeatRow;

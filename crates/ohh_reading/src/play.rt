@@ -47,6 +47,7 @@ pub fn read_play(
     ensures few { IfOk result (λ play. play.file_moves ≤ MOST_FILE_MOVES) }
 {
     let setting = Setting {
+        ids: ids.as_slice(),
         table: NamedBlinds {
             stacks,
             small_blind: front.blinds.small,
@@ -56,5 +57,5 @@ pub fn read_play(
         dialect,
         file_moves,
     };
-    read_rounds(alloc, ids, &setting, ohh)
+    read_rounds(alloc, &setting, ohh)
 }

@@ -4,15 +4,16 @@ ghost use Rattle.canon_script.specs.PlayedScript.{IsWithinLimits};
 ghost use Rattle.hand_records.specs.AllowedNotes.{AreAllowed};
 ghost use Rattle.play_event.specs.Said.{said_of};
 ghost use Rattle.play_event.specs.ValidSetup.{IsSize};
-ghost use Rattle.ohh_facts.specs.Notes.{plain_notes};
 ghost use Rattle.ohh_facts.specs.Pots.{IsPaid, plain_paid};
 ghost use Rattle.ohh_members.specs.Front.{IsFront, plain_front, stacks_of};
 ghost use Rattle.chip_ledger.specs.SeatRow.{amounts_in};
 ghost use Rattle.ohh_members.specs.Players.{plain_player};
 ghost use Rattle.ohh_posts.specs.AntesAndBlinds.{AreAntesAndBlindsFor};
 ghost use Rattle.ohh_rounds.specs.Play.{plain_play};
-ghost use Rattle.ohh_reading.specs.Hand.{hand_of, plain};
+ghost use Rattle.ohh_reading.specs.Hand.{hand_of};
 ghost use Rattle.hand_records.specs.Histories.{IsHistory};
+ghost use Rattle.hand_records.specs.PlainHands.{plain};
+ghost use Rattle.hand_records.specs.SaidNotes.{plain_notes};
 
 use crate::sizes::sizes_of;
 use chip_ledger::SeatRow;

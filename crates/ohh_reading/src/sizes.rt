@@ -6,17 +6,9 @@ ghost use Rattle.play_event.specs.ValidSetup.{IsSizeWhere};
 ghost use Rattle.ohh_members.specs.Blinds.{is_fixed_game as is_fixed_game_said};
 ghost use Rattle.ohh_reading.specs.Sizes.{sizes_of as sizes_of_said};
 
+use hand_records::Sizes;
 use ohh_members::blinds::is_fixed_game;
 use play_event::Code;
-
-/// The sizes of bets, in chips. A size that the game does not use is 0.
-#[derive(Clone, Copy, Debug, PartialEq, Eq)]
-pub struct Sizes {
-    pub bring_in: u64,
-    pub small_bet: u64,
-    pub big_bet: u64,
-    pub min_bet: u64,
-}
 
 /// How many hole cards the game deals to a seat.
 pub fn hole_cards(code: Code) -> u8

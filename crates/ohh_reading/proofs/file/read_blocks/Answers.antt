@@ -4,11 +4,11 @@ use Rattle.std.proofs.lemmas.List.Sums.{sum_by_push}
 use Rattle.std.proofs.lemmas.Result.{err_from_is_err_and}
 use Rattle.list_laws.proofs.Entries.{all_push}
 use Rattle.first_fault.proofs.Thread.{threads_on, thread_ends, thread_done}
-use Rattle.ohh_reading.specs.Hand.{plain}
 use Rattle.ohh_reading.specs.Reading.{hands_said, numbered_hand}
 use Rattle.ohh_reading.proofs.file.read_blocks.Goals as goal
 use Rattle.hand_records.specs.Histories.{IsHistory}
 use Rattle.hand_records.specs.Moves.{moves_of}
+use Rattle.hand_records.specs.PlainHands.{plain}
 
 pub returns-in_err-record-clause-said : goal.returns-in_err-record-clause-said
 returns-in_err-record-clause-said c =
@@ -25,9 +25,9 @@ loop-index-preserved c =
     record {
       count = ap length pushed ∙ omega (arith, inv.count, length-append l.records (record_read ∷ []));
       few = c.in_ok-record.ensures.number;
-      moves = ap (sum_by moves_of) pushed ∙ omega (arith, sum_by_push moves_of l.records record_read, inv.moves, c.in_ok-record.ensures.moves);
-      limit = c.in_ok-record.ensures.few;
-      sound = rw pushed (all_push IsHistory l.records record_read inv.sound c.in_ok-record.ensures.sound);
+      moves = ap (sum_by moves_of) pushed ∙ omega (arith, sum_by_push moves_of l.records record_read, inv.moves, c.in_ok-record.ensures.next.moves);
+      limit = c.in_ok-record.ensures.next.few;
+      sound = rw pushed (all_push IsHistory l.records record_read inv.sound c.in_ok-record.ensures.next.sound);
       read = rw (pushed, map_push plain l.records record_read) (threads_on (λ block. block.items) (numbered_hand c.args.dialect) (map plain l.records) l.file_moves c.in_ok-record.moves c.args.blocks.now l.index c.index-blocks-index.result (plain record_read ∷ []) (hands_said c.args.dialect (map (λ block. block.items) c.args.blocks.now)) c.loop-index-test.true (sym c.index-blocks-index.is) (rw (← c.deref.ensures.value) c.in_ok-record.ensures.said) inv.read);
     }
 

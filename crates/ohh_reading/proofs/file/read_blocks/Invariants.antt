@@ -3,11 +3,11 @@ use Rattle.std.specs.List.{AllByRecursion}
 use Rattle.first_fault.specs.declared.limits.TheConstants.{MOST_FILE_MOVES, MOST_HANDS}
 use Rattle.first_fault.specs.Reading.{thread_from}
 use Rattle.first_fault.proofs.Thread.{behind}
-use Rattle.ohh_reading.specs.Hand.{plain}
 use Rattle.ohh_reading.specs.Reading.{hands_said, numbered_hand}
 use Rattle.ohh_reading.proofs.file.read_blocks.Given as goal
 use Rattle.hand_records.specs.Histories.{IsHistory}
 use Rattle.hand_records.specs.Moves.{moves_of}
+use Rattle.hand_records.specs.PlainHands.{plain}
 
 -- the hands so far and those of the blocks that are left are all of them
 abbrev pub invariant-loop-index : goal.invariant-loop-index
