@@ -4,13 +4,14 @@ use Rattle.std.specs.List.{AllByRecursion}
 use Rattle.acpc_game.specs.declared.game.Game.{Game}
 use Rattle.acpc_writing.specs.Line.{log_text}
 use Rattle.acpc_writing.specs.Texts.{HasTexts}
-use Rattle.acpc_reading.specs.Logs.{HandSaid, reading}
+use Rattle.acpc_reading.specs.Logs.{reading}
 use Rattle.acpc_reading.specs.RecordView.{IsOfGame, record_said}
 use Rattle.acpc_text.specs.declared.fault.AcpcFault.{AcpcFault}
 use Rattle.acpc_text.specs.declared.fault.AcpcFault.TheVariants as faults
 use Rattle.first_fault.specs.declared.limits.TheConstants.{MOST_FILE_MOVES, MOST_HANDS}
 use Rattle.hand_records.specs.declared.record.Record.{Record}
 use Rattle.hand_records.specs.declared.trace.Play.{Play}
+use Rattle.convert_core.specs.Readings.{GivesHands}
 use Rattle.convert_core.specs.declared.format_fault.FormatFault.{FormatFault}
 use Rattle.convert_core.specs.declared.format_fault.FormatFault.TheVariants as formats
 use Rattle.hand_records.specs.Moves.{moves_of}
@@ -24,10 +25,8 @@ pub record Say (game : Game) (bytes : List ℕ) (records : List Record) : Type 0
   pub few_moves : sum_by moves_of records ≤ MOST_FILE_MOVES
 
 -- bytes read as so many hands under a game
-pub record ReadAsHands (game : Game) (bytes : List ℕ) (count : ℕ) : Type 0 where
-  pub hands : List HandSaid
-  pub reads : reading game bytes ≡ Ok hands
-  pub counted : length hands ≡ count
+abbrev pub ReadAsHands : Game → List ℕ → ℕ → Type 0
+ReadAsHands game bytes count = GivesHands (reading game bytes) count
 
 -- bytes have this first fault, which is not want of memory
 pub record Have (game : Game) (bytes : List ℕ) (fault : AcpcFault) : Type 0 where

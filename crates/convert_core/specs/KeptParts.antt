@@ -12,7 +12,7 @@ use Rattle.list_laws.proofs.Options.{from_none_some}
 use Rattle.ohh_format.specs.KeptNotes.{kept_in_ohh, moment_in_notes, numbers_round}
 use Rattle.ohh_writing.specs.Moment.{moment_said}
 use Rattle.ohh_writing.specs.Seating.{is_circular}
-use Rattle.ohh_writing.specs.declared.moment.Moment.{Moment}
+use Rattle.hand_records.specs.declared.notes.Moment.{Moment}
 use Rattle.phh_format.specs.KeptNotes.{kept_in_phh}
 use Rattle.convert_core.specs.NoteParts.{ArePartOf, AreSaidThere, IsSaidThere}
 
@@ -76,9 +76,9 @@ numbers_part (Some numbers) = said_if (is_circular numbers) numbers
 -- the parts of a moment are said in the notes
 record AreMomentOf (moment : Option Moment) (y m d : Option ℕ) (t : Option Clock)
     (z : Option (List ℕ)) : Type 0 where
-  year : IsSaidThere (option_map (λ (found : Moment). found.year) moment) y
-  month : IsSaidThere (option_map (λ (found : Moment). found.month) moment) m
-  day : IsSaidThere (option_map (λ (found : Moment). found.day) moment) d
+  year : IsSaidThere (option_map (λ (found : Moment). found.day.year) moment) y
+  month : IsSaidThere (option_map (λ (found : Moment). found.day.month) moment) m
+  day : IsSaidThere (option_map (λ (found : Moment). found.day.day) moment) d
   time : IsSaidThere (option_map (λ (found : Moment). found.time) moment) t
   zone : IsSaidThere (option_map (λ (found : Moment). codes "UTC") moment) z
 
@@ -87,7 +87,8 @@ moment_part : (y m d : Option ℕ) (t : Option Clock) (z : Option (List ℕ))
 moment_part (Some y) (Some m) (Some d) (Some t) (Some z) = by_test (bytes_eq z (codes "UTC")) refl
   where
     by_test : (utc : Bool) → bytes_eq z (codes "UTC") ≡ utc
-        → AreMomentOf (cond utc (Some (record { year = y; month = m; day = d; time = t })) None)
+        → AreMomentOf (cond utc (Some
+        (record { day = record { year = y; month = m; day = d }; time = t })) None)
         (Some y) (Some m) (Some d) (Some t) (Some z)
     by_test true is =
         record {
@@ -156,13 +157,13 @@ most_in_ohh part notes of_it same =
       venue = of_it.venue;
       currency = of_it.currency;
       year =
-          part_there (λ m. m.year) part.year mine other there
+          part_there (λ m. m.day.year) part.year mine other there
           (ap (λ (n : SaidNotes). n.year) same);
       month =
-          part_there (λ m. m.month) part.month mine other there
+          part_there (λ m. m.day.month) part.month mine other there
           (ap (λ (n : SaidNotes). n.month) same);
       day =
-          part_there (λ m. m.day) part.day mine other there
+          part_there (λ m. m.day.day) part.day mine other there
           (ap (λ (n : SaidNotes). n.day) same);
       time =
           part_there (λ m. m.time) part.time mine other there

@@ -5,9 +5,12 @@ pub mod Faults
 pub mod Records
 pub mod ReadBack
 pub mod ReadOrFail
+pub mod Readings
+pub mod OneReading
 pub mod NoteParts
 pub mod SameRecords
 pub mod SameParts
+pub mod PlainAlike
 pub mod Conversion
 pub mod Verdicts
 pub mod Taking

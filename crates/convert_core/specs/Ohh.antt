@@ -6,13 +6,14 @@ use Rattle.hand_records.specs.declared.record.Record.{Record}
 use Rattle.hand_records.specs.declared.trace.Play.{Play}
 use Rattle.ohh_writing.specs.Lines.{Spells}
 use Rattle.ohh_members.specs.declared.dialect.Dialect.{Dialect}
-use Rattle.ohh_reading.specs.Hand.{PlainHand, plain}
 use Rattle.ohh_reading.specs.Reading.{Wrong, reading, wrong_of}
 use Rattle.ohh_reading.specs.declared.fault.OhhFault.{OhhFault}
+use Rattle.convert_core.specs.Readings.{GivesHands}
 use Rattle.convert_core.specs.declared.format_fault.FormatFault.{FormatFault}
 use Rattle.convert_core.specs.declared.format_fault.FormatFault.TheVariants as formats
 use Rattle.hand_records.specs.Histories.{IsHistory}
 use Rattle.hand_records.specs.Moves.{moves_of}
+use Rattle.hand_records.specs.PlainHands.{PlainHand, plain}
 
 -- bytes say these records in a dialect: they are what the bytes read as, each as a reader gives it,
 -- and no more than a file may have
@@ -23,10 +24,8 @@ pub record Say (dialect : Dialect) (bytes : List ℕ) (records : List Record) : 
   pub few_moves : sum_by moves_of records ≤ MOST_FILE_MOVES
 
 -- bytes read as so many hands in a dialect
-pub record ReadAsHands (dialect : Dialect) (bytes : List ℕ) (count : ℕ) : Type 0 where
-  pub hands : List PlainHand
-  pub reads : reading dialect bytes ≡ Ok hands
-  pub counted : length hands ≡ count
+abbrev pub ReadAsHands : Dialect → List ℕ → ℕ → Type 0
+ReadAsHands dialect bytes count = GivesHands (reading dialect bytes) count
 
 -- bytes have this first fault
 pub record Have (dialect : Dialect) (bytes : List ℕ) (fault : OhhFault) : Type 0 where

@@ -20,7 +20,6 @@ use Rattle.ohh_format.proofs.Sharpness.{sharpness}
 use Rattle.ohh_format.proofs.SoundPlays.{sound_again}
 use Rattle.ohh_writing.specs.Spelled as facts
 use Rattle.ohh_members.specs.declared.dialect.Dialect.{Dialect}
-use Rattle.ohh_reading.specs.Hand.{plain}
 use Rattle.ohh_reading.specs.Reading.{reading}
 use Rattle.convert_core.specs.ReadBack.{ReadBack}
 use Rattle.convert_core.specs.Records.{AreFew, AreOfFile}
@@ -30,6 +29,7 @@ use Rattle.convert_core.specs.declared.format_fault.FormatFault.{FormatFault}
 use Rattle.hand_canon.specs.Sharp.{IsOther, is_sharp}
 use Rattle.hand_records.specs.WriteRefusals.{first_refusal}
 use Rattle.convert_core.specs.UnderRules.{each_under}
+use Rattle.hand_records.specs.PlainHands.{plain}
 
 -- what bytes say is what a reader gives of a file
 pub reads_file : (dialect : Dialect) (bytes : List ℕ) (hands : List Record)

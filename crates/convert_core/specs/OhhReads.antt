@@ -1,6 +1,6 @@
 -- Bytes read as hands of Open Hand History in a dialect, or they have one fault, and not both.
 -- This is a proof: no reader needs it.
-use Rattle.std.proofs.Common.{◌≡◌, ℕ, suc, ◌+◌, false, List, [], ◌∷◌, length, map, Some, Result, Ok, Err, inl, inr, refl, sym, ap, ◌∙◌}
+use Rattle.std.proofs.Common.{◌≡◌, ℕ, suc, ◌+◌, false, List, [], ◌∷◌, length, map, Some, Ok, Err, refl, ap}
 use Rattle.std.proofs.lemmas.List.{length-map}
 use Rattle.std.proofs.lemmas.Option.{same_Some}
 use Rattle.hand_records.specs.declared.record.Record.{Record}
@@ -9,15 +9,17 @@ use Rattle.ohh_format.specs.Again.{hands_again}
 use Rattle.ohh_members.specs.declared.dialect.Dialect.{Dialect}
 use Rattle.ohh_members.specs.declared.fault.MemberFaultKind.{MemberFaultKind}
 use Rattle.ohh_members.specs.declared.fault.MemberFaultKind.TheVariants as whats
-use Rattle.ohh_reading.specs.Hand.{PlainHand, plain}
 use Rattle.ohh_reading.specs.Reading.{InHand, NoText, Wrong, reading, wrong_of}
 use Rattle.ohh_reading.specs.declared.fault.OhhFault.{OhhFault}
 use Rattle.ohh_reading.specs.declared.fault.OhhFault.TheVariants as faults
 use Rattle.convert_core.specs.Faults.{is_want_in_ohh}
 use Rattle.convert_core.specs.Ohh.{HaveFault, ReadAsHands, Say}
+use Rattle.convert_core.specs.OneReading.{HasFaultsOf}
+use Rattle.convert_core.specs.OneReading as readings
 use Rattle.convert_core.specs.ReadOrFail.{ReadOrFail}
 use Rattle.convert_core.specs.declared.format_fault.FormatFault.{FormatFault}
 use Rattle.convert_core.specs.declared.format_fault.FormatFault.TheVariants as formats
+use Rattle.hand_records.specs.PlainHands.{PlainHand, plain}
 
 -- records that bytes say are as many as the hands that they read as
 pub say_as_many : (dialect : Dialect) (bytes : List ℕ) (records : List Record)
@@ -66,17 +68,8 @@ fault_of (InHand hand path what) = at_member hand path what
 
 member_told : (hand : ℕ) (path : List ℕ) (what : MemberFaultKind)
     → wrong_of (at_member hand path what) ≡ Some (InHand hand path what)
-member_told hand path whats.MissingMember = refl
-member_told hand path whats.WrongType = refl
-member_told hand path whats.AmountNotWhole = refl
-member_told hand path whats.AmountLimit = refl
-member_told hand path whats.UnsupportedGame = refl
-member_told hand path whats.BadPlayer = refl
-member_told hand path whats.UnsupportedAction = refl
-member_told hand path whats.BadStreet = refl
-member_told hand path whats.BadPost = refl
-member_told hand path whats.RakePlace = refl
 member_told hand path (whats.TooMany quantity) = refl
+member_told hand path what = refl
 
 fault_told : (wrong : Wrong) → wrong_of (fault_of wrong) ≡ Some wrong
 fault_told (NoText hand) = refl
@@ -85,73 +78,38 @@ fault_told (InHand hand path what) = member_told hand path what
 -- a fault with this wrong is that one
 told_fault : (fault : OhhFault) (wrong : Wrong) → wrong_of fault ≡ Some wrong
     → fault ≡ fault_of wrong
-told_fault (faults.Text hand) wrong told = ap fault_of (same_Some _ wrong told)
-told_fault (faults.MissingMember hand path) wrong told = ap fault_of (same_Some _ wrong told)
-told_fault (faults.WrongType hand path) wrong told = ap fault_of (same_Some _ wrong told)
-told_fault (faults.AmountNotWhole hand path) wrong told = ap fault_of (same_Some _ wrong told)
-told_fault (faults.AmountLimit hand path) wrong told = ap fault_of (same_Some _ wrong told)
-told_fault (faults.UnsupportedGame hand path) wrong told = ap fault_of (same_Some _ wrong told)
-told_fault (faults.BadPlayer hand path) wrong told = ap fault_of (same_Some _ wrong told)
-told_fault (faults.UnsupportedAction hand path) wrong told = ap fault_of (same_Some _ wrong told)
-told_fault (faults.BadStreet hand path) wrong told = ap fault_of (same_Some _ wrong told)
-told_fault (faults.BadPost hand path) wrong told = ap fault_of (same_Some _ wrong told)
-told_fault (faults.RakePlace hand path) wrong told = ap fault_of (same_Some _ wrong told)
-told_fault (faults.TooMany hand path quantity) wrong told = ap fault_of (same_Some _ wrong told)
 told_fault faults.Memory wrong told = absurd (cc (told))
+told_fault fault wrong told = ap fault_of (same_Some _ wrong told)
 
 -- what says what is wrong is no want of memory
-no_want : (fault : OhhFault) (wrong : Wrong) → wrong_of fault ≡ Some wrong
-    → is_want_in_ohh fault ≡ false
-no_want (faults.Text hand) wrong told = refl
-no_want (faults.MissingMember hand path) wrong told = refl
-no_want (faults.WrongType hand path) wrong told = refl
-no_want (faults.AmountNotWhole hand path) wrong told = refl
-no_want (faults.AmountLimit hand path) wrong told = refl
-no_want (faults.UnsupportedGame hand path) wrong told = refl
-no_want (faults.BadPlayer hand path) wrong told = refl
-no_want (faults.UnsupportedAction hand path) wrong told = refl
-no_want (faults.BadStreet hand path) wrong told = refl
-no_want (faults.BadPost hand path) wrong told = refl
-no_want (faults.RakePlace hand path) wrong told = refl
-no_want (faults.TooMany hand path quantity) wrong told = refl
-no_want faults.Memory wrong told = absurd (cc (told))
+no_want : (wrong : Wrong) → is_want_in_ohh (fault_of wrong) ≡ false
+no_want (NoText hand) = refl
+no_want (InHand hand path (whats.TooMany quantity)) = refl
+no_want (InHand hand path what) = refl
 
 module _ (dialect : Dialect) (bytes : List ℕ) where
+  -- a fault of bytes is that of what is wrong
+  one_fault : (fault : FormatFault) → HaveFault dialect bytes fault
+      → (wrong : Wrong)
+      × ((reading dialect bytes ≡ Err wrong) × (fault ≡ formats.Ohh (fault_of wrong)))
+  one_fault (formats.Phh fault) have = absurd have
+  one_fault (formats.Ohh fault) have =
+      (have.wrong, (have.reads, ap formats.Ohh (told_fault fault have.wrong have.told)))
+  one_fault (formats.Acpc fault) have = absurd have
+
+  faults_of : HasFaultsOf (reading dialect bytes) (λ wrong. formats.Ohh (fault_of wrong))
+      (HaveFault dialect bytes)
+  faults_of =
+      record {
+        told = λ wrong read. no_want wrong;
+        have = λ wrong read. record { wrong = wrong; told = fault_told wrong; reads = read };
+        one = one_fault;
+      }
+
   -- what is read has no fault
   pub none_of_read : (hands : List PlainHand) (fault : FormatFault)
       → reading dialect bytes ≡ Ok hands → HaveFault dialect bytes fault → ⊥
-  none_of_read hands (formats.Phh fault) read have = have
-  none_of_read hands (formats.Ohh fault) read have = (let had = have.reads in cc)
-  none_of_read hands (formats.Acpc fault) read have = have
-
-  -- bytes have one fault
-  one_fault : (wrong : Wrong) (other : FormatFault) → reading dialect bytes ≡ Err wrong
-      → HaveFault dialect bytes other → other ≡ formats.Ohh (fault_of wrong)
-  one_fault wrong (formats.Phh fault) read have = absurd have
-  one_fault wrong (formats.Ohh fault) read have =
-      let same : Err have.wrong ≡ Err wrong = sym have.reads ∙ read in
-      ap formats.Ohh (told_fault fault wrong (have.told ∙ ap (λ (w : Wrong). Some w) (cc (same))))
-  one_fault wrong (formats.Acpc fault) read have = absurd have
+  none_of_read = readings.none_of_read (reading dialect bytes) _ (HaveFault dialect bytes) faults_of
 
   pub read_or_fail : ReadOrFail (ReadAsHands dialect bytes) (HaveFault dialect bytes)
-  read_or_fail = by_reading (reading dialect bytes) refl
-    where
-      by_reading : (found : Result (List PlainHand) Wrong) → reading dialect bytes ≡ found
-          → ReadOrFail (ReadAsHands dialect bytes) (HaveFault dialect bytes)
-      by_reading (Ok hands) read =
-          inl (record {
-            count = length hands;
-            read = record { hands = hands; reads = read; counted = refl };
-            one = λ other is.
-                (let same : Ok is.hands ≡ Ok hands = sym is.reads ∙ read in
-                sym is.counted ∙ ap (λ (l : List PlainHand). length l) (cc (same)));
-            no_fault = λ fault have. none_of_read hands fault read have;
-          })
-      by_reading (Err wrong) read =
-          inr (record {
-            fault = formats.Ohh (fault_of wrong);
-            told = no_want (fault_of wrong) wrong (fault_told wrong);
-            have = record { wrong = wrong; told = fault_told wrong; reads = read };
-            one = λ other have. one_fault wrong other read have;
-            unread = λ count is. (let reads = is.reads in cc);
-          })
+  read_or_fail = readings.read_or_fail (reading dialect bytes) _ (HaveFault dialect bytes) faults_of

@@ -4,14 +4,15 @@ use Rattle.std.specs.List.{AllByRecursion}
 use Rattle.first_fault.specs.declared.limits.TheConstants.{MOST_FILE_MOVES, MOST_HANDS}
 use Rattle.hand_records.specs.declared.record.Record.{Record}
 use Rattle.hand_records.specs.declared.trace.Play.{Play}
-use Rattle.phh_reading.specs.Hand.{PlainHand, plain}
 use Rattle.phh_reading.specs.Reading.{Wrong, reading, wrong_of}
 use Rattle.phh_reading.specs.declared.fault.PhhFault.{PhhFault}
 use Rattle.phh_writing.specs.Document as written
+use Rattle.convert_core.specs.Readings.{GivesHands}
 use Rattle.convert_core.specs.declared.format_fault.FormatFault.{FormatFault}
 use Rattle.convert_core.specs.declared.format_fault.FormatFault.TheVariants as formats
 use Rattle.hand_records.specs.Histories.{IsHistory}
 use Rattle.hand_records.specs.Moves.{moves_of}
+use Rattle.hand_records.specs.PlainHands.{PlainHand, plain}
 
 -- bytes say these records: they are what the bytes read as, each as a reader gives it, and no more
 -- than a file may have
@@ -22,10 +23,8 @@ pub record Say (bytes : List ℕ) (records : List Record) : Type 0 where
   pub few_moves : sum_by moves_of records ≤ MOST_FILE_MOVES
 
 -- bytes read as so many hands
-pub record ReadAsHands (bytes : List ℕ) (count : ℕ) : Type 0 where
-  pub hands : List PlainHand
-  pub reads : reading bytes ≡ Ok hands
-  pub counted : length hands ≡ count
+abbrev pub ReadAsHands : List ℕ → ℕ → Type 0
+ReadAsHands bytes count = GivesHands (reading bytes) count
 
 -- bytes have this first fault
 pub record Have (bytes : List ℕ) (fault : PhhFault) : Type 0 where

@@ -16,7 +16,6 @@ use Rattle.hand_records.specs.SameHands.{AreSameHands}
 use Rattle.phh_format.proofs.ReadBack.{read_back}
 use Rattle.phh_format.proofs.Sharpness.{unspelled_unsaid}
 use Rattle.phh_format.proofs.SoundPlays.{sound_again}
-use Rattle.phh_reading.specs.Hand.{plain}
 use Rattle.phh_reading.specs.Reading.{reading}
 use Rattle.phh_writing.specs.Spelled as facts
 use Rattle.convert_core.specs.Phh.{HaveFault, ReadAsHands, Say, Spell}
@@ -27,6 +26,7 @@ use Rattle.convert_core.specs.declared.format_fault.FormatFault.{FormatFault}
 use Rattle.hand_canon.specs.Sharp.{IsOther, is_sharp}
 use Rattle.hand_records.specs.WriteRefusals.{first_refusal}
 use Rattle.convert_core.specs.UnderRules.{each_under}
+use Rattle.hand_records.specs.PlainHands.{plain}
 
 -- what bytes say is what a reader gives of a file
 pub reads_file : (bytes : List ℕ) (hands : List Record) → Say bytes hands

@@ -4,9 +4,9 @@ use Rattle.std.proofs.Common.{◌≡◌, ℕ, ◌≤◌, inl, inr, List, map, ta
 use Rattle.std.proofs.lemmas.Bool.{cases_lt}
 use Rattle.std.proofs.lemmas.List.{get_or-take}
 use Rattle.hand_records.specs.declared.record.Record.{Record}
-use Rattle.phh_reading.specs.Hand.{plain}
-use Rattle.phh_reading.proofs.SamePlay.{same_script}
+use Rattle.hand_canon.proofs.SamePlay.{same_script}
 use Rattle.play_event.specs.Said.{Numbered, numbered}
+use Rattle.hand_records.specs.PlainHands.{plain}
 
 -- scripts with the same events are one, as in the hands of histories
 pub one_script : (a b : Record) → map numbered a.script ≡ map numbered b.script
