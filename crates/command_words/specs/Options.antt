@@ -95,6 +95,17 @@ with_other options name value =
     then Some (record options { other_notation = Some value })
     else None
 
+-- the options with one more of a seat or of a place in a hand, which stands once
+abbrev pub with_place : Options → List ℕ → List ℕ → Option Options
+with_place options name value =
+    if is_new name (codes "seat") options.seat then Some (record options { seat = Some value })
+    else if is_new name (codes "hand") options.hand then Some (record options { hand = Some value })
+    else if is_new name (codes "after") options.after
+    then Some (record options { after = Some value })
+    else if is_new name (codes "street") options.street
+    then Some (record options { street = Some value })
+    else None
+
 -- the options with one more of this name and value; each stands once
 abbrev pub with_new : Options → List ℕ → List ℕ → Option Options
 with_new options name value =
@@ -104,13 +115,7 @@ with_new options name value =
     else if is_new name (codes "seed") options.seed then Some (record options { seed = Some value })
     else if is_new name (codes "hands") options.hands
     then Some (record options { hands = Some value })
-    else if is_new name (codes "seat") options.seat then Some (record options { seat = Some value })
-    else if is_new name (codes "hand") options.hand then Some (record options { hand = Some value })
-    else if is_new name (codes "after") options.after
-    then Some (record options { after = Some value })
-    else if is_new name (codes "street") options.street
-    then Some (record options { street = Some value })
-    else None
+    else with_place options name value
 
 -- the same, where the value is one: none begins with a hyphen
 abbrev pub with_option : Options → List ℕ → List ℕ → Option Options

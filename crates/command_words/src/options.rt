@@ -2,7 +2,7 @@
 ghost use Rattle.std.specs.Prelude.{◌≡◌, option_map, map, string_bytes};
 ghost use Rattle.clap.specs.Lexer.{long_of, name_and_value, strip_byte};
 ghost use Rattle.command_words.specs.Requests.{options_in};
-ghost use Rattle.command_words.specs.Options.{is_flag as is_flag_said, is_of_other as is_of_other_said, no_options, options_said, with_flag as with_flag_said, with_new as with_new_said, with_option as with_option_said, with_other as with_other_said};
+ghost use Rattle.command_words.specs.Options.{is_flag as is_flag_said, is_of_other as is_of_other_said, no_options, options_said, with_flag as with_flag_said, with_new as with_new_said, with_option as with_option_said, with_other as with_other_said, with_place as with_place_said};
 
 /// The values of the options that are given.
 #[derive(Clone, Copy, Debug, PartialEq, Eq)]
@@ -130,28 +130,39 @@ fn with_new<'a>(options: Options<'a>, name: &str, value: &'a str) -> Option<Opti
     ensures { option_map options_in result
         ≡ with_new_said (options_in options.entry) name.now value.now }
 {
-    let value = Some(value);
+    let given = Some(value);
     match name {
         "from" if options.from.is_none() => Some(Options {
-            from: value,
+            from: given,
             ..options
         }),
         "to" if options.to.is_none() => Some(Options {
-            to: value,
+            to: given,
             ..options
         }),
         "game" if options.game.is_none() => Some(Options {
-            game: value,
+            game: given,
             ..options
         }),
         "seed" if options.seed.is_none() => Some(Options {
-            seed: value,
+            seed: given,
             ..options
         }),
         "hands" if options.hands.is_none() => Some(Options {
-            hands: value,
+            hands: given,
             ..options
         }),
+        _ => with_place(options, name, value),
+    }
+}
+
+// The options with one more of a seat or of a place in a hand that does not stand yet.
+fn with_place<'a>(options: Options<'a>, name: &str, value: &'a str) -> Option<Options<'a>>
+    ensures { option_map options_in result
+        ≡ with_place_said (options_in options.entry) name.now value.now }
+{
+    let value = Some(value);
+    match name {
         "seat" if options.seat.is_none() => Some(Options {
             seat: value,
             ..options
