@@ -30,7 +30,7 @@ use Rattle.poker_cli.specs.declared.answer.Answer as made
 use Rattle.poker_cli.specs.declared.no_answer.NoAnswer.{NoAnswer}
 use Rattle.poker_cli.specs.declared.games.Lack.{Lack}
 use Rattle.poker_cli.specs.declared.games.Lack.TheVariants as lacks
-use Rattle.poker_cli.specs.Run.{AsksForFile, Ends, EndsLeaving, IsFileMissing, IsGameMissing, IsOfInput, IsOwn, LacksFile, MayEnd, OfBytes, ReadsHands, ReadsNothing, Sinks, TellsLine, Writes, WhereTold, line_of}
+use Rattle.poker_cli.specs.Run.{AsksForFile, Ends, EndsLeaving, IsFileMissing, IsGameMissing, IsOwn, LacksFile, MayEnd, OfBytes, ReadsHands, Sinks, TellsLine, Writes, WhereTold, line_of}
 use Rattle.poker_cli.specs.declared.status.Status.{Status}
 use Rattle.poker_cli.specs.declared.status.Status.TheVariants as statuses
 use Rattle.poker_cli.specs.declared.task.Format.{Format}
@@ -314,41 +314,6 @@ told_alone answer statuses.Memory held same own undone = absurd own
 told_alone answer statuses.ShelfFault held same own undone = absurd own
 told_alone answer statuses.GameMissing held same own undone = absurd own
 told_alone answer statuses.FileMissing held same own undone = absurd own
-
--- the status of an answer to what was read is its own, and comes behind the reading
-pub own_of_input : (status : Status) → IsOfInput status → IsOwn status
-own_of_input statuses.Done of = tt
-own_of_input statuses.Refused of = tt
-own_of_input statuses.BadInput of = tt
-own_of_input statuses.Limit of = tt
-own_of_input statuses.Unspelled of = tt
-own_of_input statuses.NoSuch of = tt
-own_of_input statuses.Differs of = tt
-own_of_input statuses.Usage of = absurd of
-own_of_input statuses.ReadFault of = absurd of
-own_of_input statuses.WriteFault of = absurd of
-own_of_input statuses.Memory of = absurd of
-own_of_input statuses.ShelfFault of = absurd of
-own_of_input statuses.GameMissing of = absurd of
-own_of_input statuses.FileMissing of = absurd of
-own_of_input statuses.BadGame of = absurd of
-
-pub read_of_input : (status : Status) → IsOfInput status → ReadsNothing status → ⊥
-read_of_input statuses.Done of nothing = nothing
-read_of_input statuses.Refused of nothing = nothing
-read_of_input statuses.BadInput of nothing = nothing
-read_of_input statuses.Limit of nothing = nothing
-read_of_input statuses.Unspelled of nothing = nothing
-read_of_input statuses.NoSuch of nothing = nothing
-read_of_input statuses.Differs of nothing = nothing
-read_of_input statuses.Usage of nothing = of
-read_of_input statuses.ReadFault of nothing = of
-read_of_input statuses.WriteFault of nothing = of
-read_of_input statuses.Memory of nothing = of
-read_of_input statuses.ShelfFault of nothing = of
-read_of_input statuses.GameMissing of nothing = of
-read_of_input statuses.FileMissing of nothing = of
-read_of_input statuses.BadGame of nothing = of
 
 -- where logs are under a game, the answer is by the game that its file gives
 pub game_reply : (told : Option Files) (left : Option (List ℕ)) (name : List ℕ) (logs : Logs) (game : Game) (result : Result made.Answer NoAnswer)

@@ -1,4 +1,5 @@
 -- How a run ends with the answer to its input, why an input has one answer, and what a conversion ends with.
+mod OwnStatus
 mod Answering
 mod AlikeGames
 mod LawfulFormats
@@ -20,3 +21,4 @@ mod LegalReplies
 mod EqualAnswers
 mod ReadHands
 mod Replying
+mod Replied

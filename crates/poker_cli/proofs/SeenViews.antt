@@ -1,18 +1,11 @@
 -- What a seat saw of one more hand.
-use Rattle.std.proofs.Common.{◌≡◌, ◌⊎◌, ◌≤◌, ◌<◌, ◌+◌, Bool, true, false, ℕ, List, [], ◌∷◌, ◌++◌, length, append_assoc, append-nil, length-append, inl, inr, refl, sym, ap, ◌∙◌, arith, true≢false}
+use Rattle.std.proofs.Common.{◌≡◌, ◌⊎◌, ◌≤◌, ◌<◌, ◌+◌, Bool, true, false, ℕ, List, [], ◌∷◌, ◌++◌, length, append_assoc, append-nil, length-append, inl, inr, sym, ap, ◌∙◌, arith, true≢false}
 use Rattle.acpc_game.specs.declared.game.Game.{Game}
 use Rattle.acpc_view.specs.View.{views_text}
 use Rattle.chip_ledger.specs.declared.numbers.Seat.{Seat}
-use Rattle.convert_core.proofs.Taken.{all_counted, legal_more}
-use Rattle.convert_core.specs.Verdicts.{AreLegalUnless, Legal, Verdict, legal_plays}
 use Rattle.hand_records.specs.declared.trace.Play.{Play}
 use Rattle.poker_cli.specs.Replies.{each_view, most_view_bytes}
 use Rattle.poker_cli.specs.Seen.{AreSeen}
-
--- there are no plays before the first hand
-pub no_plays : [] ≡ legal_plays []
-unfolding legal_plays
-no_plays = refl
 
 module _ (game : Game) (seat : Seat) where
   -- the lines of one more hand are behind the others
@@ -29,30 +22,28 @@ module _ (game : Game) (seat : Seat) where
       ∙ sym (append_assoc (views_text game.no_limit seat.number place first) (each_view game seat (place + 1) rest)
       (views_text game.no_limit seat.number (place + length (first ∷ rest)) play))
 
-  module _ (place : ℕ) (before : List Verdict) (play : Play) (counted : length before ≡ place) (legal : AreLegalUnless false before) where
+  module _ (place : ℕ) (before : List Play) (play : Play) (counted : length before ≡ place) where
     abbrev old : List ℕ
-    old = each_view game seat 0 (legal_plays before)
+    old = each_view game seat 0 before
 
     abbrev new : List ℕ
-    new = each_view game seat 0 (legal_plays (before ++ Legal play ∷ []))
+    new = each_view game seat 0 (before ++ play ∷ [])
 
     abbrev its : List ℕ
     its = views_text game.no_limit seat.number place play
 
-    -- those of one more legal hand
+    -- those of one more hand
     now : new ≡ old ++ its
     now =
-        let here : 0 + length (legal_plays before) ≡ place = omega (arith, counted, all_counted before (legal refl)) in
-        ap (each_view game seat 0) (legal_more before play)
-        ∙ each_more 0 (legal_plays before) play
-        ∙ ap (λ (n : ℕ). old ++ views_text game.no_limit seat.number n play) here
+        let here : 0 + length before ≡ place = omega (arith, counted) in
+        each_more 0 before play ∙ ap (λ (n : ℕ). old ++ views_text game.no_limit seat.number n play) here
 
     long : length new ≡ length old + length its
     long = ap length now ∙ length-append old its
 
     -- what is not kept stays so
-    pub not_kept_more : (kept : Bool) (lines : List ℕ) → kept ≡ false → AreSeen game seat kept lines (legal_plays before)
-        → AreSeen game seat kept lines (legal_plays (before ++ Legal play ∷ []))
+    pub not_kept_more : (kept : Bool) (lines : List ℕ) → kept ≡ false → AreSeen game seat kept lines before
+        → AreSeen game seat kept lines (before ++ play ∷ [])
     not_kept_more kept lines not seen = record {
       all = λ is. absurd (true≢false (sym is ∙ not));
       few = λ is. absurd (true≢false (sym is ∙ not));
@@ -64,9 +55,9 @@ module _ (game : Game) (seat : Seat) where
         longer (inr many) = inr (omega (arith, many, long))
 
     -- lines that become too many are dropped
-    pub dropped_more : (kept : Bool) (lines left : List ℕ) → kept ≡ true → AreSeen game seat kept lines (legal_plays before)
+    pub dropped_more : (kept : Bool) (lines left : List ℕ) → kept ≡ true → AreSeen game seat kept lines before
         → most_view_bytes < length lines + length its
-        → AreSeen game seat false left (legal_plays (before ++ Legal play ∷ []))
+        → AreSeen game seat false left (before ++ play ∷ [])
     dropped_more kept lines left is seen many = record {
       all = λ not. absurd (true≢false (sym not));
       few = λ not. absurd (true≢false (sym not));
@@ -74,9 +65,9 @@ module _ (game : Game) (seat : Seat) where
     }
 
     -- and others are kept
-    pub kept_more : (kept : Bool) (lines more : List ℕ) → kept ≡ true → AreSeen game seat kept lines (legal_plays before)
+    pub kept_more : (kept : Bool) (lines more : List ℕ) → kept ≡ true → AreSeen game seat kept lines before
         → length lines + length its ≤ most_view_bytes → more ≡ lines ++ its
-        → AreSeen game seat kept more (legal_plays (before ++ Legal play ∷ []))
+        → AreSeen game seat kept more (before ++ play ∷ [])
     kept_more kept lines more is seen few put = record {
       all = λ same. put ∙ ap (λ (l : List ℕ). l ++ its) (seen.all is) ∙ sym now;
       few = λ same. omega (arith, few, long, ap length (seen.all is));
@@ -85,8 +76,8 @@ module _ (game : Game) (seat : Seat) where
 
 -- before the first hand
 pub none_seen : (game : Game) (seat : Seat) (kept : Bool) (lines : List ℕ) → (kept ≡ false → game.stacks.seats < seat.number) → lines ≡ []
-    → AreSeen game seat kept lines (legal_plays [])
-unfolding each_view legal_plays
+    → AreSeen game seat kept lines []
+unfolding each_view
 none_seen game seat kept lines none empty = record { all = λ is. empty; few = λ is. omega arith; not_kept = λ not. inl (none not) }
 
 -- lines of a seat that the game has, which are not kept, are too many

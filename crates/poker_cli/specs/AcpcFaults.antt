@@ -3,7 +3,7 @@ use Rattle.std.specs.Prelude.{ℕ, List, ◌++◌, codes}
 use Rattle.std.specs.Fmt.{decimal}
 use Rattle.acpc_text.specs.declared.fault.AcpcFault.{AcpcFault}
 use Rattle.acpc_text.specs.declared.fault.AcpcFault.TheVariants as faults
-use Rattle.poker_cli.specs.PhhFaults.{limit_line}
+use Rattle.poker_cli.specs.Limits.{limit_line}
 use Rattle.poker_cli.specs.declared.status.Status.{Status}
 use Rattle.poker_cli.specs.declared.status.Status.TheVariants as statuses
 

@@ -6,6 +6,7 @@ pub mod Replies
 pub mod Refusals
 pub mod Verdicts
 pub mod Printed
+pub mod Limits
 pub mod PhhFaults
 pub mod OhhFaults
 pub mod AcpcFaults
@@ -16,11 +17,13 @@ pub mod Ways
 pub mod Answer
 pub mod Asked
 pub mod Texts
+pub mod Played
 pub mod Seen
 pub mod OneAnswer
 pub mod Lacking
 pub mod Told
 pub mod Run
+pub mod Replied
 pub mod Headline
 pub mod ComparedRuns
 pub mod LegalInputs

@@ -1,10 +1,10 @@
 -- The line that is told where an input in Open Hand History does not read as hands.
-use Rattle.std.specs.Prelude.{ℕ, List, ◌++◌, codes}
+use Rattle.std.specs.Prelude.{ℕ, List, ◌++◌, codes, Option, Some, None}
 use Rattle.std.specs.Fmt.{decimal}
 use Rattle.ohh_members.specs.declared.fault.MemberFaultKind.{MemberFaultKind}
 use Rattle.ohh_members.specs.declared.fault.MemberFaultKind.TheVariants as whats
 use Rattle.ohh_reading.specs.Reading.{InHand, NoText, Wrong}
-use Rattle.poker_cli.specs.PhhFaults.{limit_line}
+use Rattle.poker_cli.specs.Limits.{limit_line}
 use Rattle.poker_cli.specs.declared.status.Status.{Status}
 use Rattle.poker_cli.specs.declared.status.Status.TheVariants as statuses
 
@@ -26,12 +26,17 @@ ohh_fault_text (whats.TooMany quantity) = codes "TooMany"
 abbrev pub no_text_line : ℕ → List ℕ
 no_text_line hand = codes "bad input: hand " ++ (decimal hand ++ codes ": Text\n")
 
--- the line of a fault at a member of a hand
-abbrev pub bad_member_line : ℕ → List ℕ → MemberFaultKind → List ℕ
-bad_member_line hand path what =
+-- what a fault is called, by what it says is wrong; want of memory says nothing
+abbrev pub fault_name : Option Wrong → List ℕ
+fault_name None = codes "Memory"
+fault_name (Some (NoText hand)) = codes "Text"
+fault_name (Some (InHand hand path what)) = ohh_fault_text what
+
+-- the line of a fault of this name at a member of a hand
+abbrev pub bad_member_line : ℕ → List ℕ → List ℕ → List ℕ
+bad_member_line hand path name =
     codes "bad input: hand "
-    ++ (decimal hand
-    ++ (codes ", " ++ (path ++ (codes ": " ++ (ohh_fault_text what ++ codes "\n")))))
+    ++ (decimal hand ++ (codes ", " ++ (path ++ (codes ": " ++ (name ++ codes "\n")))))
 
 -- the status of a fault: a limit that is passed, or else bad input
 abbrev pub ohh_status : Wrong → Status
@@ -43,4 +48,4 @@ ohh_status (InHand hand path what) = statuses.BadInput
 abbrev pub ohh_fault_line : Wrong → List ℕ
 ohh_fault_line (NoText hand) = no_text_line hand
 ohh_fault_line (InHand hand path (whats.TooMany quantity)) = limit_line quantity
-ohh_fault_line (InHand hand path what) = bad_member_line hand path what
+ohh_fault_line (InHand hand path what) = bad_member_line hand path (ohh_fault_text what)

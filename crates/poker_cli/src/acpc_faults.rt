@@ -3,11 +3,10 @@ ghost use Rattle.std.specs.Prelude.{◌≡◌, IfOk, Some, string_bytes};
 ghost use Rattle.convert_core.specs.declared.format_fault.FormatFault.TheVariants as formats;
 ghost use Rattle.poker_cli.specs.Answer as definition;
 ghost use Rattle.poker_cli.specs.AcpcFaults.{acpc_fault_text as fault_name_said, bad_acpc_line as bad_log_line_said, byte_of as byte_of_said, line_of as line_of_said};
-ghost use Rattle.poker_cli.specs.Run.{IsOfInput};
 ghost use Rattle.poker_cli.specs.Told.{answer_told};
 
 use crate::answer::{Answer, refusal};
-use crate::phh_faults::limit_line;
+use crate::limits::limit_line;
 use crate::status::Status;
 use acpc_text::AcpcFault;
 use card_set::Memory;
@@ -15,9 +14,8 @@ use std::alloc::Global;
 
 /// The answer to a log that does not read.
 pub fn answer_to_acpc_fault(alloc: Global, fault: &AcpcFault) -> Result<Answer, Memory>
-    ensures answer { IfOk result (λ answer.
+    ensures { IfOk result (λ answer.
         definition.to_fault (formats.Acpc fault.now) ≡ Some (answer_told answer)) }
-    ensures own { IfOk result (λ answer. IsOfInput answer.status) }
 {
     match *fault {
         AcpcFault::TooMany { quantity, .. } => {

@@ -1,17 +1,12 @@
 //! The answer to the bytes of an input, as they are read and what is made of their hands.
-ghost use Rattle.std.specs.Prelude.{◌≡◌, ◌≤◌, All, Some, length, IfOk, string_bytes};
-ghost use Rattle.command_words.specs.declared.command.Command.TheVariants as commands;
+ghost use Rattle.std.specs.Prelude.{◌≡◌, ◌≤◌, Some, length, IfOk, string_bytes};
 ghost use Rattle.command_words.specs.declared.task.Question.TheVariants as questions;
 ghost use Rattle.convert_core.specs.ReadBack.{ReadBack};
 ghost use Rattle.hand_records.specs.SaidNotes.{KeepsNotes};
 ghost use Rattle.hand_records.specs.SameHands.{kept_notes};
-ghost use Rattle.first_fault.specs.declared.limits.TheConstants.{MOST_HANDS};
-ghost use Rattle.hand_canon.specs.Sound.{IsSound};
-ghost use Rattle.hand_records.specs.SoundRecord.{IsSoundRecord};
 ghost use Rattle.poker_cli.specs.Answer as definition;
 ghost use Rattle.poker_cli.specs.Answer.{IsAnswer, IsAnswerOf, IsAnswerTo, IsConversion, IsJudgement, IsReply, IsToldOf, IsWritten, most_input};
 ghost use Rattle.poker_cli.specs.Asked.{IsAsked};
-ghost use Rattle.poker_cli.specs.Run.{IsOfInput};
 ghost use Rattle.poker_cli.specs.Told.{answer_told};
 
 use crate::acpc_faults::answer_to_acpc_fault;
@@ -48,9 +43,7 @@ pub const MOST_INPUT: usize = 16_777_216;
 /// The answer to bytes that are not too many, as they are read.
 pub fn answer_to(alloc: Global, task: Task, reader: &Format, bytes: &[u8]) -> Result<Answer, Memory>
     requires { length bytes.now ≤ most_input }
-    ensures answer { IfOk result (λ answer.
-        IsAnswer task reader.now bytes.now (answer_told answer)) }
-    ensures own { IfOk result (λ answer. IsOfInput answer.status) }
+    ensures { IfOk result (λ answer. IsAnswer task reader.now bytes.now (answer_told answer)) }
 {
     match reader {
         Format::Phh => answer_from(alloc, task, &Phh, bytes),
@@ -66,9 +59,8 @@ fn answer_from<N: Notation>(
     from: &N,
     bytes: &[u8],
 ) -> Result<Answer, Memory>
-    ensures answer { IfOk result (λ answer. IsAnswerOf task (N.Say from.now bytes.now)
+    ensures { IfOk result (λ answer. IsAnswerOf task (N.Say from.now bytes.now)
         (N.HaveFault from.now bytes.now) (answer_told answer)) }
-    ensures own { IfOk result (λ answer. IsOfInput answer.status) }
 {
     match task {
         Task::Ask(question) => answer_to_question(alloc, question, from, bytes),
@@ -85,9 +77,8 @@ fn answer_to_question<N: Notation>(
     from: &N,
     bytes: &[u8],
 ) -> Result<Answer, Memory>
-    ensures answer { IfOk result (λ answer. IsAnswerTo (N.Say from.now bytes.now)
+    ensures { IfOk result (λ answer. IsAnswerTo (N.Say from.now bytes.now)
         (N.HaveFault from.now bytes.now) (IsReply question) (answer_told answer)) }
-    ensures own { IfOk result (λ answer. IsOfInput answer.status) }
 {
     match question {
         Question::Show(command) => answer_with_text(alloc, command, from, bytes),
@@ -108,10 +99,9 @@ fn answer_with_text<N: Notation>(
     from: &N,
     bytes: &[u8],
 ) -> Result<Answer, Memory>
-    ensures answer { IfOk result (λ answer. IsAnswerTo (N.Say from.now bytes.now)
+    ensures { IfOk result (λ answer. IsAnswerTo (N.Say from.now bytes.now)
         (N.HaveFault from.now bytes.now) (IsReply (questions.Show command))
         (answer_told answer)) }
-    ensures own { IfOk result (λ answer. IsOfInput answer.status) }
 {
     match read_records(alloc, from, bytes) {
         Ok(records) => match command_text(alloc, command, records) {
@@ -129,9 +119,8 @@ fn answer_with_verdicts<N: Notation>(
     from: &N,
     bytes: &[u8],
 ) -> Result<Answer, Memory>
-    ensures answer { IfOk result (λ answer. IsJudgement (N.Say from.now bytes.now)
+    ensures { IfOk result (λ answer. IsJudgement (N.Say from.now bytes.now)
         (N.HaveFault from.now bytes.now) (answer_told answer)) }
-    ensures own { IfOk result (λ answer. IsOfInput answer.status) }
 {
     match read_records(alloc, from, bytes) {
         Ok(records) => {
@@ -149,9 +138,8 @@ fn answer_with_plays<N: Notation>(
     from: &N,
     bytes: &[u8],
 ) -> Result<Answer, Memory>
-    ensures answer { IfOk result (λ answer. IsAnswerTo (N.Say from.now bytes.now)
+    ensures { IfOk result (λ answer. IsAnswerTo (N.Say from.now bytes.now)
         (N.HaveFault from.now bytes.now) (IsAsked asked) (answer_told answer)) }
-    ensures own { IfOk result (λ answer. IsOfInput answer.status) }
 {
     match plays(alloc, from, bytes) {
         Ok(plays) => answer_to_plays(alloc, asked, &plays),
@@ -167,9 +155,8 @@ fn answer_with_hands<N: Notation>(
     keep: Keep,
     bytes: &[u8],
 ) -> Result<Answer, Memory>
-    ensures answer { IfOk result (λ answer. IsAnswerTo (N.Say from.now bytes.now)
+    ensures { IfOk result (λ answer. IsAnswerTo (N.Say from.now bytes.now)
         (N.HaveFault from.now bytes.now) (IsConversion to.now keep) (answer_told answer)) }
-    ensures own { IfOk result (λ answer. IsOfInput answer.status) }
 {
     match to {
         Format::Phh => answer_with_conversion(alloc, from, &Phh, keep, bytes),
@@ -190,13 +177,12 @@ fn answer_with_conversion<N: Notation, M: Notation>(
     keep: Keep,
     bytes: &[u8],
 ) -> Result<Answer, Memory>
-    ensures answer { IfOk result (λ answer. IsAnswerTo (N.Say from.now bytes.now)
+    ensures { IfOk result (λ answer. IsAnswerTo (N.Say from.now bytes.now)
         (N.HaveFault from.now bytes.now)
         (IsWritten (M.unspelled to.now keep) (M.Spell to.now) (λ plays output.
         ReadBack (M.Say to.now output) (M.ReadAsHands to.now output) (M.HaveFault to.now output)
         (KeepsNotes (kept_notes keep (M.kept to.now))) plays))
         (answer_told answer)) }
-    ensures own { IfOk result (λ answer. IsOfInput answer.status) }
 {
     match convert(alloc, from, to, keep, bytes) {
         Ok(output) => Ok(done(alloc, output)),
@@ -206,8 +192,7 @@ fn answer_with_conversion<N: Notation, M: Notation>(
 
 /// The answer to bytes that are not converted, or have no plays.
 pub fn answer_to_fault(alloc: Global, fault: &ConvertFault) -> Result<Answer, Memory>
-    ensures answer { IfOk result (λ answer. IsToldOf fault.now (answer_told answer)) }
-    ensures own { IfOk result (λ answer. IsOfInput answer.status) }
+    ensures { IfOk result (λ answer. IsToldOf fault.now (answer_told answer)) }
 {
     match fault {
         ConvertFault::Format(fault) => answer_to_unread(alloc, fault),
@@ -219,9 +204,7 @@ pub fn answer_to_fault(alloc: Global, fault: &ConvertFault) -> Result<Answer, Me
 
 // The answer to bytes that do not read as hands.
 fn answer_to_unread(alloc: Global, fault: &FormatFault) -> Result<Answer, Memory>
-    ensures answer { IfOk result (λ answer.
-        definition.to_fault fault.now ≡ Some (answer_told answer)) }
-    ensures own { IfOk result (λ answer. IsOfInput answer.status) }
+    ensures { IfOk result (λ answer. definition.to_fault fault.now ≡ Some (answer_told answer)) }
 {
     match fault {
         FormatFault::Phh(fault) => answer_to_phh_fault(alloc, fault),
@@ -232,9 +215,7 @@ fn answer_to_unread(alloc: Global, fault: &FormatFault) -> Result<Answer, Memory
 
 /// The answer where the hand with this number is refused.
 pub fn answer_to_refused(alloc: Global, hand: u32, why: &Refusal) -> Result<Answer, Memory>
-    ensures answer { IfOk result (λ answer.
-        answer_told answer ≡ definition.to_refusal hand why.now) }
-    ensures own { IfOk result (λ answer. answer.status ≡ Status.Refused) }
+    ensures { IfOk result (λ answer. answer_told answer ≡ definition.to_refusal hand why.now) }
 {
     let line = refused_line(alloc, hand, why)?;
     Ok(refusal(alloc, Status::Refused, line))
@@ -242,9 +223,7 @@ pub fn answer_to_refused(alloc: Global, hand: u32, why: &Refusal) -> Result<Answ
 
 /// The answer where a fact of the hand with this number has no spelling.
 pub fn answer_to_unspelled(alloc: Global, hand: u32, fact: Unspelled) -> Result<Answer, Memory>
-    ensures answer { IfOk result (λ answer.
-        answer_told answer ≡ definition.to_unspelled hand fact) }
-    ensures own { IfOk result (λ answer. answer.status ≡ Status.Unspelled) }
+    ensures { IfOk result (λ answer. answer_told answer ≡ definition.to_unspelled hand fact) }
 {
     let line = unspelled_line(alloc, hand, fact)?;
     Ok(refusal(alloc, Status::Unspelled, line))
@@ -252,8 +231,7 @@ pub fn answer_to_unspelled(alloc: Global, hand: u32, fact: Unspelled) -> Result<
 
 /// The answer to an input that is too long.
 pub fn answer_to_excess(alloc: Global) -> Result<Answer, Memory>
-    ensures answer { IfOk result (λ answer. answer_told answer ≡ definition.to_excess) }
-    ensures own { IfOk result (λ answer. IsOfInput answer.status) }
+    ensures { IfOk result (λ answer. answer_told answer ≡ definition.to_excess) }
 {
     let line = String::from_str(alloc, "limit: input bytes 16777216\n")?;
     Ok(refusal(alloc, Status::Limit, line))
@@ -261,16 +239,14 @@ pub fn answer_to_excess(alloc: Global) -> Result<Answer, Memory>
 
 /// An answer with a text for its output.
 pub fn done_with(alloc: Global, text: String) -> Answer
-    ensures answer { answer_told result ≡ definition.done (string_bytes text) }
-    ensures status { result.status ≡ Status.Done }
+    ensures { answer_told result ≡ definition.done (string_bytes text) }
 {
     done(alloc, text.into_bytes())
 }
 
 /// An answer with its output.
 pub fn done(alloc: Global, output: Vec<u8>) -> Answer
-    ensures answer { answer_told result ≡ definition.done output.items }
-    ensures status { result.status ≡ Status.Done }
+    ensures { answer_told result ≡ definition.done output.items }
 {
     Answer {
         status: Status::Done,
@@ -281,8 +257,7 @@ pub fn done(alloc: Global, output: Vec<u8>) -> Answer
 
 /// An answer without output.
 pub fn refusal(alloc: Global, status: Status, line: String) -> Answer
-    ensures answer { answer_told result ≡ definition.refusal status (string_bytes line) }
-    ensures status { result.status ≡ status }
+    ensures { answer_told result ≡ definition.refusal status (string_bytes line) }
 {
     Answer {
         status,

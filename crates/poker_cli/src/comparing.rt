@@ -7,7 +7,8 @@ ghost use Rattle.host_io.specs.Faults.{Rose};
 ghost use Rattle.poker_cli.specs.Answer as definition;
 ghost use Rattle.poker_cli.specs.Answer.{IsComparedIn, IsComparedTo, IsComparison, IsComparisonOf, most_input};
 ghost use Rattle.poker_cli.specs.Lacking.{AreOfLogs, AsksForGame, ComesFirst, HasNoFile, HasNoGameFor};
-ghost use Rattle.poker_cli.specs.Run.{Asks, IsFileMissing, IsGameMissing, IsNotThere, IsOfInput, IsOwn, LacksFile, OfBytes, ReadsNothing};
+ghost use Rattle.poker_cli.specs.Replied.{HasNoAnswer, Keeps};
+ghost use Rattle.poker_cli.specs.Run.{Asks, IsNotThere, LacksFile, OfBytes};
 ghost use Rattle.poker_cli.specs.Told.{answer_told};
 
 use crate::answer::{self, Answer, MOST_INPUT, refusal};
@@ -45,22 +46,13 @@ pub fn reply_to_comparison<S: Source, H: Shelf>(
     ensures answer { IfOk result (λ answer. IfSome (H.files shelf.old) (λ files.
         OfBytes (S.left input.old) (λ bytes.
         IsComparedIn files (sides_in sides.entry) name.now notes bytes (answer_told answer)))) }
-    ensures own { IfOk result (λ answer. IsOwn answer.status) }
-    ensures read_fault { IsErrOf result NoAnswer.ReadFault
-        → Rose (S.faults input.old) (S.faults input.new) }
-    ensures there { IsErrOf result NoAnswer.ReadFault
-        → LacksFile (Compare (sides_in sides.entry) name.now notes) (H.files shelf.old) → ⊥ }
-    ensures shelf_fault { IsErrOf result NoAnswer.ShelfFault
-        → Rose (H.faults shelf.old) (H.faults shelf.new) }
+    ensures none { IfErr result (λ why.
+        HasNoAnswer (Compare (sides_in sides.entry) name.now notes)
+        (S.left input.old) (H.files shelf.old) why) }
+    ensures kept { Keeps input.old input.new (S.faults input.old, S.faults input.new)
+        (H.faults shelf.old, H.faults shelf.new) result }
     ensures asks { Asks H.Asked (H.files shelf.old)
         (Compare (sides_in sides.entry) name.now notes) shelf.old shelf.new }
-    ensures unread { IfOk result (λ answer. ReadsNothing answer.status → input.new ≡ input.old) }
-    ensures missing { IsErrOf result NoAnswer.GameMissing → IfSome (H.files shelf.old) (λ files.
-        IsGameMissing (Compare (sides_in sides.entry) name.now notes) files) }
-    ensures file_missing { IsErrOf result NoAnswer.FileMissing
-        → IfSome (H.files shelf.old) (λ files.
-        IsFileMissing (Compare (sides_in sides.entry) name.now notes) files) }
-    ensures unasked { IfErr result (λ why. ComesFirst why → input.new ≡ input.old) }
     ensures without_file { LacksFile (Compare (sides_in sides.entry) name.now notes)
         (H.files shelf.old) → input.new ≡ input.old }
 {
@@ -114,19 +106,14 @@ fn reply_beside<S: Source, H: Shelf>(
     ensures answer { IfOk result (λ answer. IfSome (H.files shelf.old) (λ files.
         OfBytes (S.left input.old) (λ bytes.
         IsComparedTo by.now (files name.now) bytes (answer_told answer)))) }
-    ensures own { IfOk result (λ answer. IsOwn answer.status) }
-    ensures read_fault { IsErrOf result NoAnswer.ReadFault
-        → Rose (S.faults input.old) (S.faults input.new) }
+    ensures kept { Keeps input.old input.new (S.faults input.old, S.faults input.new)
+        (H.faults shelf.old, H.faults shelf.new) result }
     ensures there { IsErrOf result NoAnswer.ReadFault → IfSome (H.files shelf.old) (λ files.
         IsNotThere (files name.now) → ⊥) }
-    ensures shelf_fault { IsErrOf result NoAnswer.ShelfFault
-        → Rose (H.faults shelf.old) (H.faults shelf.new) }
     ensures asked { H.Asked shelf.old shelf.new name.now }
-    ensures unread { IfOk result (λ answer. ReadsNothing answer.status → input.new ≡ input.old) }
     ensures of_file { IfErr result (λ why. why ≡ NoAnswer.GameMissing → ⊥) }
     ensures missing { IsErrOf result NoAnswer.FileMissing →
         IfSome (H.files shelf.old) (λ files. files name.now ≡ None) }
-    ensures unasked { IfErr result (λ why. ComesFirst why → input.new ≡ input.old) }
     ensures without_file { IfSome (H.files shelf.old) (λ files.
         IsNotThere (files name.now) → input.new ≡ input.old) }
 {
@@ -163,8 +150,7 @@ fn fetch_file<H: Shelf>(alloc: Global, shelf: &mut H, name: &str) -> Result<Vec<
 
 // The answer where the other file is too long.
 fn answer_to_long_file(alloc: Global) -> Result<Answer, Memory>
-    ensures answer { IfOk result (λ answer. answer_told answer ≡ definition.to_file_excess) }
-    ensures own { IfOk result (λ answer. answer.status ≡ Status.Limit) }
+    ensures { IfOk result (λ answer. answer_told answer ≡ definition.to_file_excess) }
 {
     let line = String::from_str(alloc, "limit: file bytes 16777216\n")?;
     Ok(refusal(alloc, Status::Limit, line))
@@ -179,7 +165,6 @@ fn reply_to_both<S: Source>(
 ) -> Result<Answer, NoAnswer>
     ensures answer { IfOk result (λ answer. OfBytes (S.left input.old) (λ bytes.
         IsComparison by.now file.now bytes (answer_told answer))) }
-    ensures of_input { IfOk result (λ answer. IsOfInput answer.status) }
     ensures read_fault { IsErrOf result NoAnswer.ReadFault
         → Rose (S.faults input.old) (S.faults input.new) }
     ensures read_alone { IfErr result (λ why. ComesFirst why → ⊥) }

@@ -1,15 +1,13 @@
 //! The hands of an input are compared with those of another file, or what is wrong with either is
 //! told.
-ghost use Rattle.std.specs.Prelude.{◌≡◌, ◌≤◌, ◌+◌, All, length, option_map, IfErr, IfOk, string_bytes};
+ghost use Rattle.std.specs.Prelude.{◌≡◌, ◌≤◌, ◌+◌, All, length, option_map, IfErr, IfOk};
 ghost use Rattle.std.specs.List.{AllByRecursion};
 ghost use Rattle.convert_core.specs.Conversion.{IsPlaysRefusal, ReadAsPlays};
 ghost use Rattle.hand_canon.specs.Sound.{IsSound};
-ghost use Rattle.hand_differences.specs.FirstDifference.{difference_said};
 ghost use Rattle.poker_cli.specs.Answer as definition;
 ghost use Rattle.poker_cli.specs.Answer.{IsComparedWith, IsComparison, in_file as in_file_said, most_input};
 ghost use Rattle.poker_cli.specs.Compared.{compared, hand_difference_said, first_different as first_different_said, to_different as to_different_said, to_other_count as to_other_count_said, to_same as to_same_said};
 ghost use Rattle.poker_cli.specs.Inputs.{HaveFault, SayRecords};
-ghost use Rattle.poker_cli.specs.Run.{IsOfInput};
 ghost use Rattle.poker_cli.specs.Told.{answer_told};
 
 use crate::answer::{Answer, answer_to_fault, done_with, refusal};
@@ -80,9 +78,7 @@ pub fn answer_to_comparison(
     bytes: &[u8],
 ) -> Result<Answer, Memory>
     requires { length bytes.now ≤ most_input }
-    ensures answer { IfOk result (λ answer.
-        IsComparison by.now file.now bytes.now (answer_told answer)) }
-    ensures own { IfOk result (λ answer. IsOfInput answer.status) }
+    ensures { IfOk result (λ answer. IsComparison by.now file.now bytes.now (answer_told answer)) }
 {
     match plays_in(alloc, &by.from, bytes) {
         Ok(plays) => answer_beside(alloc, by, file, &plays),
@@ -98,9 +94,8 @@ fn answer_beside(
     plays: &[Play],
 ) -> Result<Answer, Memory>
     requires sound { All IsSound plays.now }
-    ensures answer { IfOk result (λ answer.
+    ensures { IfOk result (λ answer.
         IsComparedWith by.now.other by.now.notes file.now plays.now (answer_told answer)) }
-    ensures own { IfOk result (λ answer. IsOfInput answer.status) }
 {
     match plays_in(alloc, &by.other, file) {
         Ok(others) => answer_to_both(alloc, by.notes, plays, &others),
@@ -113,8 +108,7 @@ fn answer_beside(
 
 // An answer that tells what is wrong inside the other file.
 fn in_file(alloc: Global, answer: Answer) -> Result<Answer, Memory>
-    ensures answer { IfOk result (λ named. answer_told named ≡ in_file_said (answer_told answer)) }
-    ensures status { IfOk result (λ named. named.status ≡ answer.status) }
+    ensures { IfOk result (λ named. answer_told named ≡ in_file_said (answer_told answer)) }
 {
     let Answer {
         status,
@@ -154,9 +148,7 @@ fn answer_to_both(
 ) -> Result<Answer, Memory>
     requires sound { All IsSound plays.now }
     requires others_sound { All IsSound others.now }
-    ensures answer { IfOk result (λ answer.
-        answer_told answer ≡ compared notes plays.now others.now) }
-    ensures own { IfOk result (λ answer. IsOfInput answer.status) }
+    ensures { IfOk result (λ answer. answer_told answer ≡ compared notes plays.now others.now) }
 {
     match first_different(notes, plays, others) {
         Some(differs) => to_different(alloc, differs),
@@ -184,8 +176,7 @@ fn first_different(notes: bool, plays: &[Play], others: &[Play]) -> Option<HandD
 
 // All hands are the same, and these are so many.
 fn to_same(alloc: Global, hands: usize) -> Result<Answer, Memory>
-    ensures answer { IfOk result (λ answer. answer_told answer ≡ to_same_said hands) }
-    ensures own { IfOk result (λ answer. answer.status ≡ Status.Done) }
+    ensures { IfOk result (λ answer. answer_told answer ≡ to_same_said hands) }
 {
     let text = format!(in alloc; "same hands: {hands}\n")?;
     Ok(done_with(alloc, text))
@@ -193,9 +184,8 @@ fn to_same(alloc: Global, hands: usize) -> Result<Answer, Memory>
 
 // A hand differs.
 fn to_different(alloc: Global, differs: HandDifference) -> Result<Answer, Memory>
-    ensures answer { IfOk result (λ answer.
+    ensures { IfOk result (λ answer.
         answer_told answer ≡ to_different_said (hand_difference_said differs)) }
-    ensures own { IfOk result (λ answer. answer.status ≡ Status.Differs) }
 {
     let number = differs.number;
     let text = difference_text(alloc, differs.difference)?;
@@ -206,8 +196,7 @@ fn to_different(alloc: Global, differs: HandDifference) -> Result<Answer, Memory
 
 // There are so many hands in the input, and so many in the other file.
 fn to_other_count(alloc: Global, hands: usize, others: usize) -> Result<Answer, Memory>
-    ensures answer { IfOk result (λ answer. answer_told answer ≡ to_other_count_said hands others) }
-    ensures own { IfOk result (λ answer. answer.status ≡ Status.Differs) }
+    ensures { IfOk result (λ answer. answer_told answer ≡ to_other_count_said hands others) }
 {
     let line = format!(in alloc; "differs: hands {hands} and {others}\n")?;
     Ok(refusal(alloc, Status::Differs, line))

@@ -7,7 +7,8 @@ ghost use Rattle.host_io.specs.Faults.{Rose};
 ghost use Rattle.poker_cli.specs.Answer.{IsAnswerBy, IsAnswerIn, IsAnswerUnder};
 ghost use Rattle.poker_cli.specs.Headline.{AsksToConvert, Headline};
 ghost use Rattle.poker_cli.specs.Lacking.{ComesFirst};
-ghost use Rattle.poker_cli.specs.Run.{Asks, AsksForFile, AsksInTurn, EndsLeaving, GivesNone, IsFileMissing, IsGameMissing, IsOfInput, IsOwn, LacksFile, Leaves, MakesHands, MayEnd, OfBytes, ReadsHands, ReadsNothing, Tells, TellsLine, WhereTold, Writes, WritesNothing, change_of, line_of};
+ghost use Rattle.poker_cli.specs.Replied.{HasNoAnswer, Keeps};
+ghost use Rattle.poker_cli.specs.Run.{Asks, AsksInTurn, EndsLeaving, GivesNone, IsOwn, LacksFile, Leaves, MakesHands, MayEnd, OfBytes, Tells, TellsLine, WhereTold, Writes, WritesNothing, change_of, line_of};
 ghost use Rattle.poker_cli.specs.Told.{answer_told};
 ghost use Rattle.poker_cli.specs.declared.task.Format.{Format};
 
@@ -67,8 +68,7 @@ pub fn run<S: Source, H: Shelf, K: Sink, D: Sink>(
         (H.faults shelf.old, H.faults shelf.new)
         (change_of K.held K.faults out.old out.new)
         (change_of D.held D.faults diag.old diag.new) }
-    ensures leaves { Leaves result
-        input.old input.new out.old out.new diag.old diag.new }
+    ensures leaves { Leaves result input.old input.new out.old out.new diag.old diag.new }
 
     // Of the shelf no name is asked but those that the words give, and the input is read behind it.
     ensures asks { AsksInTurn H.Asked (H.files shelf.old)
@@ -110,10 +110,8 @@ fn run_request<S: Source, H: Shelf, K: Sink, D: Sink>(
         (H.faults shelf.old, H.faults shelf.new)
         (change_of K.held K.faults out.old out.new)
         (change_of D.held D.faults diag.old diag.new) }
-    ensures leaves { Leaves result
-        input.old input.new out.old out.new diag.old diag.new }
-    ensures asks { Asks H.Asked (H.files shelf.old) (request_in request.entry)
-        shelf.old shelf.new }
+    ensures leaves { Leaves result input.old input.new out.old out.new diag.old diag.new }
+    ensures asks { Asks H.Asked (H.files shelf.old) (request_in request.entry) shelf.old shelf.new }
     ensures without_file { LacksFile (request_in request.entry) (H.files shelf.old)
         → input.new ≡ input.old }
     ensures without_input { MakesHands (request_in request.entry) → input.new ≡ input.old }
@@ -154,25 +152,11 @@ fn reply<S: Source, H: Shelf>(
     ensures answer { IfOk result (λ answer.
         WhereTold (request_in request.entry) (S.left input.old) (H.files shelf.old) (λ files bytes.
         IsAnswerIn (request_in request.entry) files bytes (answer_told answer))) }
-    ensures own { IfOk result (λ answer. IsOwn answer.status) }
-    ensures read_fault { IsErrOf result NoAnswer.ReadFault
-        → Rose (S.faults input.old) (S.faults input.new) }
-    ensures reads { IsErrOf result NoAnswer.ReadFault → ReadsHands (request_in request.entry) }
-    ensures there { IsErrOf result NoAnswer.ReadFault
-        → LacksFile (request_in request.entry) (H.files shelf.old) → ⊥ }
-    ensures shelf_fault { IsErrOf result NoAnswer.ShelfFault
-        → Rose (H.faults shelf.old) (H.faults shelf.new) }
-    ensures asked { IsErrOf result NoAnswer.ShelfFault → AsksForFile (request_in request.entry) }
-    ensures asks { Asks H.Asked (H.files shelf.old) (request_in request.entry)
-        shelf.old shelf.new }
-    ensures unread { IfOk result (λ answer. ReadsNothing answer.status → input.new ≡ input.old) }
-    ensures missing { IsErrOf result NoAnswer.GameMissing →
-        WhereTold (request_in request.entry) (S.left input.old) (H.files shelf.old) (λ files bytes.
-        IsGameMissing (request_in request.entry) files) }
-    ensures file_missing { IsErrOf result NoAnswer.FileMissing →
-        WhereTold (request_in request.entry) (S.left input.old) (H.files shelf.old) (λ files bytes.
-        IsFileMissing (request_in request.entry) files) }
-    ensures unasked { IfErr result (λ why. ComesFirst why → input.new ≡ input.old) }
+    ensures none { IfErr result (λ why.
+        HasNoAnswer (request_in request.entry) (S.left input.old) (H.files shelf.old) why) }
+    ensures kept { Keeps input.old input.new (S.faults input.old, S.faults input.new)
+        (H.faults shelf.old, H.faults shelf.new) result }
+    ensures asks { Asks H.Asked (H.files shelf.old) (request_in request.entry) shelf.old shelf.new }
     ensures without_file { LacksFile (request_in request.entry) (H.files shelf.old)
         → input.new ≡ input.old }
     ensures without_input { MakesHands (request_in request.entry) → input.new ≡ input.old }
@@ -201,19 +185,11 @@ fn reply_under<S: Source, H: Shelf>(
     ensures answer { IfOk result (λ answer. IfSome (H.files shelf.old) (λ files.
         OfBytes (S.left input.old) (λ bytes.
         IsAnswerUnder (files name.now) logs bytes (answer_told answer)))) }
-    ensures own { IfOk result (λ answer. IsOwn answer.status) }
-    ensures read_fault { IsErrOf result NoAnswer.ReadFault
-        → Rose (S.faults input.old) (S.faults input.new) }
-    ensures there { IsErrOf result NoAnswer.ReadFault
-        → LacksFile (Under name.now logs) (H.files shelf.old) → ⊥ }
-    ensures shelf_fault { IsErrOf result NoAnswer.ShelfFault
-        → Rose (H.faults shelf.old) (H.faults shelf.new) }
+    ensures none { IfErr result (λ why.
+        HasNoAnswer (Under name.now logs) (S.left input.old) (H.files shelf.old) why) }
+    ensures kept { Keeps input.old input.new (S.faults input.old, S.faults input.new)
+        (H.faults shelf.old, H.faults shelf.new) result }
     ensures asked { H.Asked shelf.old shelf.new name.now }
-    ensures unread { IfOk result (λ answer. ReadsNothing answer.status → input.new ≡ input.old) }
-    ensures missing { IsErrOf result NoAnswer.GameMissing →
-        IfSome (H.files shelf.old) (λ files. files name.now ≡ None) }
-    ensures of_game { IfErr result (λ why. why ≡ NoAnswer.FileMissing → ⊥) }
-    ensures unasked { IfErr result (λ why. ComesFirst why → input.new ≡ input.old) }
     ensures without_game { IfSome (H.files shelf.old) (λ files.
         GivesNone (files name.now) → input.new ≡ input.old) }
 {
@@ -233,7 +209,6 @@ fn reply_under<S: Source, H: Shelf>(
 fn reply_with<S: Source>(alloc: Global, way: Way, input: &mut S) -> Result<Answer, NoAnswer>
     ensures answer { IfOk result (λ answer. OfBytes (S.left input.old) (λ bytes.
         IsAnswerBy way bytes (answer_told answer))) }
-    ensures of_input { IfOk result (λ answer. IsOfInput answer.status) }
     ensures read_fault { IsErrOf result NoAnswer.ReadFault
         → Rose (S.faults input.old) (S.faults input.new) }
     ensures read_alone { IfErr result (λ why. ComesFirst why → ⊥) }

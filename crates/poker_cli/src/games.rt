@@ -4,7 +4,6 @@ ghost use Rattle.host_io.specs.Faults.{Rose};
 ghost use Rattle.poker_cli.specs.Answer.{GivesGame};
 ghost use Rattle.poker_cli.specs.Lacking.{HasNoGame, IsLackTold};
 ghost use Rattle.poker_cli.specs.AcpcFaults.{bad_game_line as bad_game_line_said};
-ghost use Rattle.poker_cli.specs.Run.{IsOwn};
 ghost use Rattle.poker_cli.specs.Told.{answer_told};
 
 use crate::acpc_faults::{fault_name, line_of};
@@ -60,8 +59,7 @@ pub fn fetch_game<H: Shelf>(alloc: Global, shelf: &mut H, name: &str) -> Result<
 
 /// The answer where the file of a game lacks this.
 pub fn answer_to_lack(alloc: Global, lack: Lack) -> Result<Answer, Memory>
-    ensures answer { IfOk result (λ answer. IsLackTold lack (answer_told answer)) }
-    ensures own { IfOk result (λ answer. IsOwn answer.status) }
+    ensures { IfOk result (λ answer. IsLackTold lack (answer_told answer)) }
 {
     match lack {
         Lack::TooLong => {

@@ -1,84 +1,44 @@
 //! The line that is told where an input in Open Hand History does not read as hands.
 ghost use Rattle.std.specs.Prelude.{◌≡◌, IfOk, Some, string_bytes};
 ghost use Rattle.convert_core.specs.declared.format_fault.FormatFault.TheVariants as formats;
+ghost use Rattle.ohh_reading.specs.Reading.{wrong_of};
 ghost use Rattle.poker_cli.specs.Answer as definition;
-ghost use Rattle.poker_cli.specs.Run.{IsOfInput};
 ghost use Rattle.poker_cli.specs.Told.{answer_told};
-ghost use Rattle.poker_cli.specs.OhhFaults.{bad_member_line, no_text_line as no_text_line_said, ohh_fault_text};
+ghost use Rattle.poker_cli.specs.OhhFaults.{bad_member_line, fault_name as fault_name_said, no_text_line as no_text_line_said};
 
 use crate::answer::{Answer, refusal};
-use crate::phh_faults::limit_line;
+use crate::limits::limit_line;
 use crate::status::Status;
 use card_set::Memory;
 use first_fault::Text;
-use ohh_members::fault::MemberFaultKind;
 use ohh_reading::OhhFault;
 use std::alloc::Global;
 
 /// The answer to an input in Open Hand History that does not read as hands.
 pub fn answer_to_ohh_fault(alloc: Global, fault: &OhhFault) -> Result<Answer, Memory>
-    ensures answer { IfOk result (λ answer.
+    ensures { IfOk result (λ answer.
         definition.to_fault (formats.Ohh fault.now) ≡ Some (answer_told answer)) }
-    ensures own { IfOk result (λ answer. IsOfInput answer.status) }
 {
     match fault {
         OhhFault::Text { hand } => {
             let line = no_text_line(alloc, *hand)?;
             Ok(refusal(alloc, Status::BadInput, line))
         }
-        OhhFault::MissingMember { hand, path } => {
-            bad_member(alloc, *hand, path, MemberFaultKind::MissingMember)
-        }
-        OhhFault::WrongType { hand, path } => bad_member(
-            alloc,
-            *hand,
-            path,
-            MemberFaultKind::WrongType,
-        ),
-        OhhFault::AmountNotWhole { hand, path } => {
-            bad_member(alloc, *hand, path, MemberFaultKind::AmountNotWhole)
-        }
-        OhhFault::AmountLimit { hand, path } => bad_member(
-            alloc,
-            *hand,
-            path,
-            MemberFaultKind::AmountLimit,
-        ),
-        OhhFault::UnsupportedGame { hand, path } => {
-            bad_member(alloc, *hand, path, MemberFaultKind::UnsupportedGame)
-        }
-        OhhFault::BadPlayer { hand, path } => bad_member(
-            alloc,
-            *hand,
-            path,
-            MemberFaultKind::BadPlayer,
-        ),
-        OhhFault::UnsupportedAction { hand, path } => {
-            bad_member(alloc, *hand, path, MemberFaultKind::UnsupportedAction)
-        }
-        OhhFault::BadStreet { hand, path } => bad_member(
-            alloc,
-            *hand,
-            path,
-            MemberFaultKind::BadStreet,
-        ),
-        OhhFault::BadPost { hand, path } => bad_member(
-            alloc,
-            *hand,
-            path,
-            MemberFaultKind::BadPost,
-        ),
-        OhhFault::RakePlace { hand, path } => bad_member(
-            alloc,
-            *hand,
-            path,
-            MemberFaultKind::RakePlace,
-        ),
         OhhFault::TooMany { quantity, .. } => {
             let line = limit_line(alloc, *quantity)?;
             Ok(refusal(alloc, Status::Limit, line))
         }
         OhhFault::Memory => Err(Memory),
+        OhhFault::MissingMember { hand, path }
+        | OhhFault::WrongType { hand, path }
+        | OhhFault::AmountNotWhole { hand, path }
+        | OhhFault::AmountLimit { hand, path }
+        | OhhFault::UnsupportedGame { hand, path }
+        | OhhFault::BadPlayer { hand, path }
+        | OhhFault::UnsupportedAction { hand, path }
+        | OhhFault::BadStreet { hand, path }
+        | OhhFault::BadPost { hand, path }
+        | OhhFault::RakePlace { hand, path } => bad_member(alloc, *hand, path, fault_name(fault)),
     }
 }
 
@@ -89,38 +49,33 @@ fn no_text_line(alloc: Global, hand: u32) -> Result<String, Memory>
     Ok(format!(in alloc; "bad input: hand {hand}: Text\n")?)
 }
 
-// The answer to a fault at a member of a hand.
-fn bad_member(
-    alloc: Global,
-    hand: u32,
-    path: &Text,
-    what: MemberFaultKind,
-) -> Result<Answer, Memory>
-    ensures answer { IfOk result (λ answer. answer_told answer
-        ≡ definition.refusal Status.BadInput (bad_member_line hand path.now what)) }
-    ensures own { IfOk result (λ answer. answer.status ≡ Status.BadInput) }
+// The answer to a fault of this name at a member of a hand.
+fn bad_member(alloc: Global, hand: u32, path: &Text, name: &str) -> Result<Answer, Memory>
+    ensures { IfOk result (λ answer. answer_told answer
+        ≡ definition.refusal Status.BadInput (bad_member_line hand path.now name.now)) }
 {
     let path = path.as_str();
-    let what = what_text(what);
-    let line = format!(in alloc; "bad input: hand {hand}, {path}: {what}\n")?;
+    let line = format!(in alloc; "bad input: hand {hand}, {path}: {name}\n")?;
     Ok(refusal(alloc, Status::BadInput, line))
 }
 
 // What a fault is called.
-fn what_text(what: MemberFaultKind) -> &'static str
-    ensures { result.now ≡ ohh_fault_text what }
+fn fault_name(fault: &OhhFault) -> &'static str
+    ensures { result.now ≡ fault_name_said (wrong_of fault.now) }
 {
-    match what {
-        MemberFaultKind::MissingMember => "MissingMember",
-        MemberFaultKind::WrongType => "WrongType",
-        MemberFaultKind::AmountNotWhole => "AmountNotWhole",
-        MemberFaultKind::AmountLimit => "AmountLimit",
-        MemberFaultKind::UnsupportedGame => "UnsupportedGame",
-        MemberFaultKind::BadPlayer => "BadPlayer",
-        MemberFaultKind::UnsupportedAction => "UnsupportedAction",
-        MemberFaultKind::BadStreet => "BadStreet",
-        MemberFaultKind::BadPost => "BadPost",
-        MemberFaultKind::RakePlace => "RakePlace",
-        MemberFaultKind::TooMany { .. } => "TooMany",
+    match fault {
+        OhhFault::Text { .. } => "Text",
+        OhhFault::MissingMember { .. } => "MissingMember",
+        OhhFault::WrongType { .. } => "WrongType",
+        OhhFault::AmountNotWhole { .. } => "AmountNotWhole",
+        OhhFault::AmountLimit { .. } => "AmountLimit",
+        OhhFault::UnsupportedGame { .. } => "UnsupportedGame",
+        OhhFault::BadPlayer { .. } => "BadPlayer",
+        OhhFault::UnsupportedAction { .. } => "UnsupportedAction",
+        OhhFault::BadStreet { .. } => "BadStreet",
+        OhhFault::BadPost { .. } => "BadPost",
+        OhhFault::RakePlace { .. } => "RakePlace",
+        OhhFault::TooMany { .. } => "TooMany",
+        OhhFault::Memory => "Memory",
     }
 }

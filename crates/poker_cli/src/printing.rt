@@ -1,18 +1,18 @@
 //! Lines are printed of each hand, and a last line behind them.
-ghost use Rattle.std.specs.Prelude.{◌≡◌, ◌≤◌, ◌++◌, false, All, length, IfErr, IfOk, OnOk, string_bytes};
+ghost use Rattle.std.specs.Prelude.{◌≡◌, ◌≤◌, ◌++◌, All, length, IfErr, IfOk, OnOk, string_bytes};
 ghost use Rattle.convert_core.specs.Judged.{IsPlaysFaultOf};
-ghost use Rattle.convert_core.specs.Verdicts.{legal_plays};
 ghost use Rattle.first_fault.specs.declared.limits.TheConstants.{MOST_HANDS};
 ghost use Rattle.hand_canon.specs.Sound.{IsSound};
 ghost use Rattle.hand_records.specs.SoundRecord.{IsSoundRecord};
 ghost use Rattle.poker_cli.specs.Printed.{IsPrintOf, end_of, lines_of};
 ghost use Rattle.printed_hands.specs.Check.{each_hand};
 
+use crate::play_taker::{PlayTaker, take_plays};
 use card_set::Memory;
-use convert_core::{PlaysFault, Refusal, Taker, take_each};
+use convert_core::PlaysFault;
 use hand_records::{Play, Records};
 use printed_hands::{push_check_end, push_check_line, push_replay_lines};
-use std::alloc::{AllocError, Global};
+use std::alloc::Global;
 
 /// What is printed of each hand.
 #[derive(Clone, Copy, Debug, PartialEq, Eq)]
@@ -30,32 +30,13 @@ struct PrintedLines {
     text: String,
 }
 
-impl Taker for PrintedLines {
-    ghost GOES_ON = { false };
+impl PlayTaker for PrintedLines {
+    ghost TookPlays = { λ start it plays. (it.lines ≡ start.lines)
+        × (string_bytes it.text ≡ each_hand (lines_of it.lines) 1 plays) };
 
-    ghost KEEPS = { false };
-
-    ghost Took = { λ start it verdicts. (it.lines ≡ start.lines)
-        × (string_bytes it.text ≡ each_hand (lines_of it.lines) 1 (legal_plays verdicts)) };
-
-    fn goes_on(&self) -> bool {
-        false
-    }
-
-    fn keeps(&self) -> bool {
-        false
-    }
-
-    fn take(&mut self, alloc: Global, place: usize, play: &Play) -> Result<(), AllocError> {
+    fn take_play(&mut self, alloc: Global, place: usize, play: &Play) -> Result<(), Memory> {
         let number = place as u64 + 1;
-        match push_lines(alloc, &mut self.text, self.lines, number, play) {
-            Ok(()) => Ok(()),
-            Err(Memory) => Err(AllocError),
-        }
-    }
-
-    fn pass(&mut self, _: Global, _: usize, _: &Refusal) -> Result<(), AllocError> {
-        Ok(())
+        push_lines(alloc, &mut self.text, self.lines, number, play)
     }
 }
 
@@ -71,17 +52,16 @@ pub fn print_each(alloc: Global, lines: Lines, records: Records) -> Result<Strin
     ensures refused { IfErr result (IsPlaysFaultOf records) }
 {
     let hands = records.len();
-    let mut printed = PrintedLines {
+    let printed = PrintedLines {
         lines,
         text: String::new(alloc),
     };
-    match take_each(alloc, &mut printed, records) {
-        Ok(_) => {}
-        Err(fault) => return Err(fault),
-    }
-    match push_end(&mut printed.text, lines, hands) {
-        Ok(()) => Ok(printed.text),
-        Err(Memory) => Err(PlaysFault::Memory),
+    match take_plays(alloc, printed, records) {
+        Ok(mut printed) => match push_end(&mut printed.text, lines, hands) {
+            Ok(()) => Ok(printed.text),
+            Err(Memory) => Err(PlaysFault::Memory),
+        },
+        Err(fault) => Err(fault),
     }
 }
 

@@ -1,11 +1,10 @@
 //! What is asked of one hand of an input is answered from the plays of all hands.
-ghost use Rattle.std.specs.Prelude.{◌≡◌, ◌<◌, All, None, Some, length, IfOk, string_bytes};
+ghost use Rattle.std.specs.Prelude.{◌≡◌, ◌<◌, All, Some, IfOk};
 ghost use Rattle.hand_canon.specs.Sound.{IsSound};
 ghost use Rattle.poker_cli.specs.Answer.{IsGameReply};
 ghost use Rattle.poker_cli.specs.Asked.{IsAsked};
 ghost use Rattle.poker_cli.specs.Replies as replies;
 ghost use Rattle.poker_cli.specs.Replies.{AreOptionsAt, IsEquityAt};
-ghost use Rattle.poker_cli.specs.Run.{IsOfInput};
 ghost use Rattle.poker_cli.specs.Told.{answer_told};
 
 use crate::answer::{Answer, answer_to_unspelled, done, refusal};
@@ -32,8 +31,7 @@ pub enum PlayQuestion {
 /// The answer to what is asked of plays.
 pub fn answer_to_plays(alloc: Global, asked: PlayQuestion, plays: &[Play]) -> Result<Answer, Memory>
     requires sound { All IsSound plays.now }
-    ensures answer { IfOk result (λ answer. IsAsked asked plays.now (answer_told answer)) }
-    ensures own { IfOk result (λ answer. IsOfInput answer.status) }
+    ensures { IfOk result (λ answer. IsAsked asked plays.now (answer_told answer)) }
 {
     match asked {
         PlayQuestion::GameFile => answer_with_first_game(alloc, plays),
@@ -45,8 +43,7 @@ pub fn answer_to_plays(alloc: Global, asked: PlayQuestion, plays: &[Play]) -> Re
 // The answer with the game file of the first of plays.
 fn answer_with_first_game(alloc: Global, plays: &[Play]) -> Result<Answer, Memory>
     requires sound { All IsSound plays.now }
-    ensures answer { IfOk result (λ answer. IsGameReply plays.now (answer_told answer)) }
-    ensures own { IfOk result (λ answer. IsOfInput answer.status) }
+    ensures { IfOk result (λ answer. IsGameReply plays.now (answer_told answer)) }
 {
     let [play, ..] = plays else {
         return Ok(done(alloc, Vec::new(alloc)));
@@ -65,9 +62,7 @@ fn answer_with_options(
     events: u32,
 ) -> Result<Answer, Memory>
     requires sound { All IsSound plays.now }
-    ensures answer { IfOk result (λ answer.
-        AreOptionsAt hand events plays.now (answer_told answer)) }
-    ensures own { IfOk result (λ answer. IsOfInput answer.status) }
+    ensures { IfOk result (λ answer. AreOptionsAt hand events plays.now (answer_told answer)) }
 {
     let Some(play) = plays.get((hand as usize).saturating_sub(1)) else {
         return no_hand(alloc, hand, plays.len());
@@ -89,9 +84,7 @@ fn answer_with_equity(
     street: u8,
 ) -> Result<Answer, Memory>
     requires sound { All IsSound plays.now }
-    ensures answer { IfOk result (λ answer.
-        IsEquityAt hand street plays.now (answer_told answer)) }
-    ensures own { IfOk result (λ answer. IsOfInput answer.status) }
+    ensures { IfOk result (λ answer. IsEquityAt hand street plays.now (answer_told answer)) }
 {
     let Some(play) = plays.get((hand as usize).saturating_sub(1)) else {
         return no_hand(alloc, hand, plays.len());
@@ -108,8 +101,7 @@ fn answer_with_equity(
 
 // No hand has this number, of so many.
 fn no_hand(alloc: Global, hand: u32, hands: usize) -> Result<Answer, Memory>
-    ensures answer { IfOk result (λ answer. answer_told answer ≡ replies.no_hand hand hands) }
-    ensures own { IfOk result (λ answer. answer.status ≡ Status.NoSuch) }
+    ensures { IfOk result (λ answer. answer_told answer ≡ replies.no_hand hand hands) }
 {
     let line = format!(in alloc; "no such hand: {hand} of {hands}\n")?;
     Ok(refusal(alloc, Status::NoSuch, line))
@@ -117,9 +109,7 @@ fn no_hand(alloc: Global, hand: u32, hands: usize) -> Result<Answer, Memory>
 
 // The hand with this number has not so many events, but these.
 fn no_event(alloc: Global, hand: u32, events: u32, all: usize) -> Result<Answer, Memory>
-    ensures answer { IfOk result (λ answer.
-        answer_told answer ≡ replies.no_event hand events all) }
-    ensures own { IfOk result (λ answer. answer.status ≡ Status.NoSuch) }
+    ensures { IfOk result (λ answer. answer_told answer ≡ replies.no_event hand events all) }
 {
     let line = format!(in alloc; "no such event: hand {hand}: {events} of {all}\n")?;
     Ok(refusal(alloc, Status::NoSuch, line))
@@ -127,8 +117,7 @@ fn no_event(alloc: Global, hand: u32, events: u32, all: usize) -> Result<Answer,
 
 // The hand with this number has no board of this street.
 fn no_street(alloc: Global, hand: u32, street: u8) -> Result<Answer, Memory>
-    ensures answer { IfOk result (λ answer. answer_told answer ≡ replies.no_street hand street) }
-    ensures own { IfOk result (λ answer. answer.status ≡ Status.NoSuch) }
+    ensures { IfOk result (λ answer. answer_told answer ≡ replies.no_street hand street) }
 {
     let line = format!(in alloc; "no such street: hand {hand}: {street}\n")?;
     Ok(refusal(alloc, Status::NoSuch, line))
@@ -136,8 +125,7 @@ fn no_street(alloc: Global, hand: u32, street: u8) -> Result<Answer, Memory>
 
 // A seat of the hand with this number has a card that stayed unknown.
 fn no_cards(alloc: Global, hand: u32, seat: u8) -> Result<Answer, Memory>
-    ensures answer { IfOk result (λ answer. answer_told answer ≡ replies.no_cards hand seat) }
-    ensures own { IfOk result (λ answer. answer.status ≡ Status.NoSuch) }
+    ensures { IfOk result (λ answer. answer_told answer ≡ replies.no_cards hand seat) }
 {
     let line = format!(in alloc; "no such cards: hand {hand}: p{seat}\n")?;
     Ok(refusal(alloc, Status::NoSuch, line))

@@ -1,49 +1,24 @@
 //! A report takes each hand, and keeps the tallies of the names and the sums of the games.
-ghost use Rattle.std.specs.Prelude.{◌≤◌, false, All, length, IfErr, IfOk, string_bytes};
+ghost use Rattle.std.specs.Prelude.{◌≤◌, All, length, IfErr, IfOk, string_bytes};
 ghost use Rattle.command_words.specs.declared.command.Command.TheVariants as commands;
 ghost use Rattle.convert_core.specs.Judged.{IsPlaysFaultOf};
-ghost use Rattle.convert_core.specs.Verdicts.{legal_plays};
 ghost use Rattle.first_fault.specs.declared.limits.TheConstants.{MOST_HANDS};
 ghost use Rattle.hand_records.specs.SoundRecord.{IsSoundRecord};
 ghost use Rattle.poker_cli.specs.Texts.{IsTextOf};
 ghost use Rattle.printed_report.specs.SoFar.{IsReportSoFar};
 
+use crate::play_taker::{PlayTaker, take_plays};
 use card_set::Memory;
-use convert_core::{PlaysFault, Refusal, Taker, take_each};
+use convert_core::PlaysFault;
 use hand_records::{Play, Records};
 use printed_report::OpenReport;
-use std::alloc::{AllocError, Global};
+use std::alloc::Global;
 
-// The report on the hands so far.
-#[derive(Drop)]
-struct ReportSoFar {
-    report: OpenReport,
-}
+impl PlayTaker for OpenReport {
+    ghost TookPlays = { λ _ it plays. IsReportSoFar it plays };
 
-impl Taker for ReportSoFar {
-    ghost GOES_ON = { false };
-
-    ghost KEEPS = { false };
-
-    ghost Took = { λ _ it verdicts. IsReportSoFar it.report (legal_plays verdicts) };
-
-    fn goes_on(&self) -> bool {
-        false
-    }
-
-    fn keeps(&self) -> bool {
-        false
-    }
-
-    fn take(&mut self, alloc: Global, _: usize, play: &Play) -> Result<(), AllocError> {
-        match self.report.add_play(alloc, play) {
-            Ok(()) => Ok(()),
-            Err(Memory) => Err(AllocError),
-        }
-    }
-
-    fn pass(&mut self, _: Global, _: usize, _: &Refusal) -> Result<(), AllocError> {
-        Ok(())
+    fn take_play(&mut self, alloc: Global, _: usize, play: &Play) -> Result<(), Memory> {
+        self.add_play(alloc, play)
     }
 }
 
@@ -62,13 +37,11 @@ pub fn report_of(alloc: Global, records: Records) -> Result<String, PlaysFault>
         Ok(report) => report,
         Err(Memory) => return Err(PlaysFault::Memory),
     };
-    let mut so_far = ReportSoFar { report };
-    match take_each(alloc, &mut so_far, records) {
-        Ok(_) => {}
-        Err(fault) => return Err(fault),
-    }
-    match so_far.report.text(alloc) {
-        Ok(text) => Ok(text),
-        Err(Memory) => Err(PlaysFault::Memory),
+    match take_plays(alloc, report, records) {
+        Ok(report) => match report.text(alloc) {
+            Ok(text) => Ok(text),
+            Err(Memory) => Err(PlaysFault::Memory),
+        },
+        Err(fault) => Err(fault),
     }
 }

@@ -1,5 +1,5 @@
 //! Hands that are made are answered by their summary.
-ghost use Rattle.std.specs.Prelude.{◌≡◌, IfOk};
+ghost use Rattle.std.specs.Prelude.{IfOk};
 ghost use Rattle.poker_cli.specs.Answer.{IsSummed};
 ghost use Rattle.poker_cli.specs.Told.{answer_told};
 
@@ -12,8 +12,7 @@ use std::alloc::Global;
 
 /// The answer with the summary of so many hands from a seed.
 pub fn answer_to_load(alloc: Global, seed: u64, hands: HandCount) -> Result<Answer, Memory>
-    ensures answer { IfOk result (λ answer. IsSummed seed hands.number (answer_told answer)) }
-    ensures status { IfOk result (λ answer. answer.status ≡ Status.Done) }
+    ensures { IfOk result (λ answer. IsSummed seed hands.number (answer_told answer)) }
 {
     let summary = load(alloc, seed, hands.number)?;
     let text = summary_text(alloc, &summary)?;

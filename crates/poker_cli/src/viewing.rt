@@ -3,26 +3,25 @@
 ghost use Rattle.std.specs.Prelude.{◌≡◌, ◌<◌, ◌≤◌, ◌+◌, ◌++◌, true, false, All, List, length, IfErr, IfOk, OnOk};
 ghost use Rattle.acpc_view.specs.View.{views_text};
 ghost use Rattle.convert_core.specs.Judged.{IsPlaysFaultOf};
-ghost use Rattle.convert_core.specs.Verdicts.{legal_plays};
 ghost use Rattle.first_fault.specs.declared.limits.TheConstants.{MOST_HANDS};
 ghost use Rattle.hand_canon.specs.Sound.{IsSound};
 ghost use Rattle.hand_records.specs.SoundRecord.{IsSoundRecord};
 ghost use Rattle.hand_records.specs.declared.trace.Play.{Play as AnyPlay};
 ghost use Rattle.poker_cli.specs.Answer.{IsAnswerTo};
 ghost use Rattle.poker_cli.specs.Replies.{AreViews, most_view_bytes, no_seat as no_seat_said};
-ghost use Rattle.poker_cli.specs.Run.{IsOfInput};
 ghost use Rattle.poker_cli.specs.Seen.{AreSeen, AreViewsOf};
 ghost use Rattle.poker_cli.specs.Told.{answer_told};
 
 use crate::answer::{Answer, answer_to_fault, answer_to_refused, done, refusal};
+use crate::play_taker::{PlayTaker, take_plays};
 use crate::status::Status;
 use acpc_game::Game;
 use acpc_view::{views, views_len};
 use card_set::Memory;
 use chip_ledger::Seat;
-use convert_core::{Notation, PlaysFault, Refusal, Taker, read_records, take_each};
+use convert_core::{Notation, PlaysFault, read_records};
 use hand_records::{Play, Records};
-use std::alloc::{AllocError, Global};
+use std::alloc::Global;
 
 // The most bytes of views.
 const MOST_VIEW_BYTES: u64 = 268_435_456;
@@ -37,23 +36,11 @@ struct SeenLines {
     kept: bool,
 }
 
-impl Taker for SeenLines {
-    ghost GOES_ON = { false };
+impl PlayTaker for SeenLines {
+    ghost TookPlays = { λ start it plays. (it.game ≡ start.game) × (it.seat ≡ start.seat)
+        × (AreSeen it.game it.seat it.kept it.lines.items plays) };
 
-    ghost KEEPS = { false };
-
-    ghost Took = { λ start it verdicts. (it.game ≡ start.game) × (it.seat ≡ start.seat)
-        × (AreSeen it.game it.seat it.kept it.lines.items (legal_plays verdicts)) };
-
-    fn goes_on(&self) -> bool {
-        false
-    }
-
-    fn keeps(&self) -> bool {
-        false
-    }
-
-    fn take(&mut self, alloc: Global, place: usize, play: &Play) -> Result<(), AllocError> {
+    fn take_play(&mut self, alloc: Global, place: usize, play: &Play) -> Result<(), Memory> {
         if !self.kept {
             return Ok(());
         }
@@ -62,12 +49,7 @@ impl Taker for SeenLines {
             self.lines = Vec::new(alloc);
             return Ok(());
         }
-        push_views(alloc, &mut self.lines, &self.game, self.seat, place, play)?;
-        Ok(())
-    }
-
-    fn pass(&mut self, _: Global, _: usize, _: &Refusal) -> Result<(), AllocError> {
-        Ok(())
+        push_views(alloc, &mut self.lines, &self.game, self.seat, place, play)
     }
 }
 
@@ -80,9 +62,8 @@ pub fn answer_with_views<N: Notation>(
     from: &N,
     bytes: &[u8],
 ) -> Result<Answer, Memory>
-    ensures answer { IfOk result (λ answer. IsAnswerTo (N.Say from.now bytes.now)
+    ensures { IfOk result (λ answer. IsAnswerTo (N.Say from.now bytes.now)
         (N.HaveFault from.now bytes.now) (AreViews game.now seat) (answer_told answer)) }
-    ensures own { IfOk result (λ answer. IsOfInput answer.status) }
 {
     match read_records(alloc, from, bytes) {
         Ok(records) => match views_of(alloc, game, seat, records) {
@@ -98,24 +79,21 @@ pub fn answer_with_views<N: Notation>(
 fn views_of(alloc: Global, game: &Game, seat: Seat, records: Records) -> Result<Answer, PlaysFault>
     requires sound { All IsSoundRecord records }
     requires few { length records ≤ MOST_HANDS }
-    ensures answer { IfOk result (λ answer.
-        AreViewsOf game.now seat records (answer_told answer)) }
-    ensures own { IfOk result (λ answer. IsOfInput answer.status) }
+    ensures answer { IfOk result (λ answer. AreViewsOf game.now seat records (answer_told answer)) }
     ensures refused { IfErr result (IsPlaysFaultOf records) }
 {
-    let mut seen = SeenLines {
+    let seen = SeenLines {
         game: *game,
         seat,
         lines: Vec::new(alloc),
         kept: has_seat(game, seat),
     };
-    match take_each(alloc, &mut seen, records) {
-        Ok(_) => {}
-        Err(fault) => return Err(fault),
-    }
-    match answer_with_seen(alloc, seen) {
-        Ok(answer) => Ok(answer),
-        Err(Memory) => Err(PlaysFault::Memory),
+    match take_plays(alloc, seen, records) {
+        Ok(seen) => match answer_with_seen(alloc, seen) {
+            Ok(answer) => Ok(answer),
+            Err(Memory) => Err(PlaysFault::Memory),
+        },
+        Err(fault) => Err(fault),
     }
 }
 
@@ -128,10 +106,9 @@ fn has_seat(game: &Game, seat: Seat) -> bool
 
 // The answer with the lines of all hands, or why they are not kept.
 fn answer_with_seen(alloc: Global, seen: SeenLines) -> Result<Answer, Memory>
-    ensures answer { (plays : List AnyPlay)
+    ensures { (plays : List AnyPlay)
         → AreSeen seen.game seen.seat seen.kept seen.lines.items plays
         → IfOk result (λ answer. AreViews seen.game seen.seat plays (answer_told answer)) }
-    ensures own { IfOk result (λ answer. IsOfInput answer.status) }
 {
     let seats = seen.game.stacks.seats;
     if seats < seen.seat.number {
@@ -167,26 +144,20 @@ fn push_views(
     seat: Seat,
     place: usize,
     play: &Play,
-) -> Result<(), AllocError>
+) -> Result<(), Memory>
     requires few { place < MOST_HANDS }
     requires sound { IsSound play.now }
     ensures { OnOk result (lines.new.items ≡ lines.old.items
         ++ views_text game.now.no_limit seat.number place play.now) }
 {
-    match views(alloc, game, play, place as u32, seat) {
-        Ok(seen) => {
-            lines.extend_from_slice(&seen)?;
-            Ok(())
-        }
-        Err(Memory) => Err(AllocError),
-    }
+    let seen = views(alloc, game, play, place as u32, seat)?;
+    lines.extend_from_slice(&seen)?;
+    Ok(())
 }
 
 // The game has no such seat, but so many.
 fn no_seat(alloc: Global, seat: Seat, seats: u8) -> Result<Answer, Memory>
-    ensures answer { IfOk result (λ answer.
-        answer_told answer ≡ no_seat_said seat.number seats) }
-    ensures own { IfOk result (λ answer. answer.status ≡ Status.NoSuch) }
+    ensures { IfOk result (λ answer. answer_told answer ≡ no_seat_said seat.number seats) }
 {
     let seat = seat.number;
     let line = format!(in alloc; "no such seat: {seat} of {seats}\n")?;

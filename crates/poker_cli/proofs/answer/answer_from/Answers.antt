@@ -5,8 +5,8 @@ use Rattle.poker_cli.specs.Told.{answer_told}
 use Rattle.poker_cli.specs.declared.task.Task.{Task}
 use Rattle.poker_cli.proofs.answer.answer_from.Goals as goal
 
-pub returns-in-Views-clause-answer : goal.returns-in-Views-clause-answer
-returns-in-Views-clause-answer g c =
+pub returns-in-Views : goal.returns-in-Views
+returns-in-Views g c =
     subst (λ (task : Task). IfOk c.answer_with_views.result (λ answer. IsAnswerOf task (g.N.Notation.Say c.args.from.now c.args.bytes.now)
     (g.N.Notation.HaveFault c.args.from.now c.args.bytes.now) (answer_told answer)))
-    (sym c.in-Views.is) c.answer_with_views.ensures.answer
+    (sym c.in-Views.is) c.answer_with_views.ensures

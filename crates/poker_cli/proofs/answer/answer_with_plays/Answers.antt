@@ -8,14 +8,14 @@ use Rattle.poker_cli.specs.Told.{answer_told}
 use Rattle.poker_cli.proofs.Answering.{answer_unplayed}
 use Rattle.poker_cli.proofs.answer.answer_with_plays.Goals as goal
 
-pub returns-in-Ok-clause-answer : goal.returns-in-Ok-clause-answer
-returns-in-Ok-clause-answer g c =
+pub returns-in-Ok : goal.returns-in-Ok
+returns-in-Ok g c =
     IfOk-weaker c.answer_to_plays.result _ _
     (λ answer is. answers.Played c.in-Ok.plays.items c.in-Ok.ensures.plays (answer_told answer)
     (subst (λ (plays : List Play). IsAsked c.args.asked plays (answer_told answer)) c.deref.ensures.value is))
-    c.answer_to_plays.ensures.answer
+    c.answer_to_plays.ensures
 
-pub returns-in-Err-clause-answer : goal.returns-in-Err-clause-answer
-returns-in-Err-clause-answer g c =
+pub returns-in-Err : goal.returns-in-Err
+returns-in-Err g c =
     IfOk-weaker c.answer_to_fault.result _ _
-    (λ answer told. answer_unplayed _ _ _ (answer_told answer) c.in-Err.fault c.in-Err.ensures.refused told) c.answer_to_fault.ensures.answer
+    (λ answer told. answer_unplayed _ _ _ (answer_told answer) c.in-Err.fault c.in-Err.ensures.refused told) c.answer_to_fault.ensures

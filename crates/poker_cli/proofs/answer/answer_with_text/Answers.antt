@@ -9,14 +9,14 @@ use Rattle.poker_cli.specs.Told.{answer_told}
 use Rattle.poker_cli.proofs.Answering.{answer_refused, answer_wrong}
 use Rattle.poker_cli.proofs.answer.answer_with_text.Goals as goal
 
-pub returns-in-Ok-command_text-clause-answer : goal.returns-in-Ok-command_text-clause-answer
-returns-in-Ok-command_text-clause-answer g c =
+pub returns-in-Ok-command_text : goal.returns-in-Ok-command_text
+returns-in-Ok-command_text g c =
     let printed = c.in-Ok-command_text.ensures.said in
     answers.Played printed.plays (record { records = c.in-Ok.records; say = c.in-Ok.ensures.said; are = printed.are }) (answer_told c.done_with.result)
-    (c.done_with.ensures.answer ∙ ap done printed.said)
+    (c.done_with.ensures ∙ ap done printed.said)
 
-pub returns-in-Err-Refused-clause-answer : goal.returns-in-Err-Refused-clause-answer
-returns-in-Err-Refused-clause-answer g c =
+pub returns-in-Err-Refused : goal.returns-in-Err-Refused
+returns-in-Err-Refused g c =
     IfOk-weaker c.answer_to_refused.result _ _
     (λ answer told. answer_refused _ _ _ (answer_told answer) c.in-Err-Refused.hand c.in-Err-Refused.why
     (record {
@@ -24,9 +24,9 @@ returns-in-Err-Refused-clause-answer g c =
       say = c.in-Ok.ensures.said;
       first = subst (λ (fault : PlaysFault). IsPlaysFaultOf c.in-Ok.records fault) c.in-Err-Refused.field-0-is c.in-Err-Refused.ensures.refused;
     })
-    told) c.answer_to_refused.ensures.answer
+    told) c.answer_to_refused.ensures
 
-pub returns-in-Err-clause-answer : goal.returns-in-Err-clause-answer
-returns-in-Err-clause-answer g c =
+pub returns-in-Err : goal.returns-in-Err
+returns-in-Err g c =
     IfOk-weaker c.answer_to_fault.result _ _
-    (λ answer told. answer_wrong _ _ _ (answer_told answer) c.in-Err.fault c.in-Err.ensures.refused told) c.answer_to_fault.ensures.answer
+    (λ answer told. answer_wrong _ _ _ (answer_told answer) c.in-Err.fault c.in-Err.ensures.refused told) c.answer_to_fault.ensures

@@ -7,13 +7,13 @@ use Rattle.poker_cli.specs.Told.{answer_told}
 use Rattle.poker_cli.proofs.Answering.{not_judged}
 use Rattle.poker_cli.proofs.answer.answer_with_verdicts.Goals as goal
 
-pub returns-in_ok-text-in-Ok-clause-answer : goal.returns-in_ok-text-in-Ok-clause-answer
-returns-in_ok-text-in-Ok-clause-answer g c =
+pub returns-in_ok-text-in-Ok : goal.returns-in_ok-text-in-Ok
+returns-in_ok-text-in-Ok g c =
     let judged = c.in_ok-text-in-Ok.ensures in
     subst (IsJudgement (g.N.Notation.Say c.args.from.now c.args.bytes.now) (g.N.Notation.HaveFault c.args.from.now c.args.bytes.now))
-    (sym (c.done_with.ensures.answer ∙ ap done judged.said)) (answers.Judged c.in-Ok.records c.in-Ok.ensures.said judged.verdicts judged.are)
+    (sym (c.done_with.ensures ∙ ap done judged.said)) (answers.Judged c.in-Ok.records c.in-Ok.ensures.said judged.verdicts judged.are)
 
-pub returns-in-Err-clause-answer : goal.returns-in-Err-clause-answer
-returns-in-Err-clause-answer g c =
+pub returns-in-Err : goal.returns-in-Err
+returns-in-Err g c =
     IfOk-weaker c.answer_to_fault.result _ _
-    (λ answer told. not_judged _ _ (answer_told answer) c.in-Err.fault c.in-Err.ensures.refused told) c.answer_to_fault.ensures.answer
+    (λ answer told. not_judged _ _ (answer_told answer) c.in-Err.fault c.in-Err.ensures.refused told) c.answer_to_fault.ensures

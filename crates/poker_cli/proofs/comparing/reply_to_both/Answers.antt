@@ -8,11 +8,11 @@ use Rattle.poker_cli.proofs.comparing.reply_to_both.Goals as goal
 pub returns-in-Ok-answer_to_excess-clause-answer : goal.returns-in-Ok-answer_to_excess-clause-answer
 returns-in-Ok-answer_to_excess-clause-answer g c =
     compared_beyond c.args.by.now c.args.file.now (g.S.Source.left c.args.input.now) (answer_told c.in-Ok-answer_to_excess.answer)
-    (c.read_all.ensures.too_long (c.in-Err-TooLong.is ∙ ap (λ fault. Err fault) c.in-Err-TooLong.field-0-is)) c.in-Ok-answer_to_excess.ensures.answer
+    (c.read_all.ensures.too_long (c.in-Err-TooLong.is ∙ ap (λ fault. Err fault) c.in-Err-TooLong.field-0-is)) c.in-Ok-answer_to_excess.ensures
 
 pub returns-in-Ok-answer_to_comparison-clause-answer : goal.returns-in-Ok-answer_to_comparison-clause-answer
 returns-in-Ok-answer_to_comparison-clause-answer g c =
     compared_within c.args.by.now c.args.file.now (g.S.Source.left c.args.input.now) c.in-Ok.bytes.items (answer_told c.in-Ok-answer_to_comparison.answer)
     c.in-Ok.ensures.bytes
     (subst (λ (bytes : List ℕ). IsComparison c.args.by.now c.args.file.now bytes (answer_told c.in-Ok-answer_to_comparison.answer)) c.deref.ensures.value
-    c.in-Ok-answer_to_comparison.ensures.answer)
+    c.in-Ok-answer_to_comparison.ensures)

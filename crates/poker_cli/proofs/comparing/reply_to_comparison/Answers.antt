@@ -7,7 +7,8 @@ use Rattle.poker_cli.specs.Run.{IsNotThere, OfBytes}
 use Rattle.poker_cli.specs.Told.{answer_told}
 use Rattle.poker_cli.specs.declared.games.Lack.{Lack}
 use Rattle.poker_cli.specs.declared.games.NoGame.{NoGame}
-use Rattle.poker_cli.proofs.Replying.{both_asked, compared_lack, compared_reply, missing_reply, where_lacking}
+use Rattle.poker_cli.proofs.Replied.{keeps_later, none_beside}
+use Rattle.poker_cli.proofs.Replying.{both_asked, compared_lack, compared_reply, where_lacking}
 use Rattle.poker_cli.proofs.comparing.reply_to_comparison.Goals as goal
 
 pub returns-in-Ok-clause-answer : goal.returns-in-Ok-clause-answer
@@ -18,12 +19,6 @@ returns-in-Ok-clause-answer g c =
     (subst (λ (shelf : Option Files). IfOk c.reply_beside.result (λ answer. IfSome shelf (λ files. OfBytes left (λ bytes. IsComparedTo c.in-Ok.by (files c.args.name.now) bytes (answer_told answer)))))
     c.in-Ok.ensures.unchanged c.reply_beside.ensures.answer)
 
-pub returns-in-Ok-clause-file_missing : goal.returns-in-Ok-clause-file_missing
-returns-in-Ok-clause-file_missing g c missing =
-    let told = g.H.Shelf.files c.args.shelf.now in
-    missing_reply told (sides_in c.args.sides) c.args.name.now c.args.notes c.in-Ok.by c.in-Ok.ensures.comparison
-    (subst (λ (shelf : Option Files). IfSome shelf (λ files. files c.args.name.now ≡ None)) c.in-Ok.ensures.unchanged (c.reply_beside.ensures.missing missing))
-
 pub returns-in-Ok-clause-without_file : goal.returns-in-Ok-clause-without_file
 returns-in-Ok-clause-without_file g c =
     let told = g.H.Shelf.files c.args.shelf.now in
@@ -31,22 +26,29 @@ returns-in-Ok-clause-without_file g c =
     (subst (λ (shelf : Option Files). IfSome shelf (λ files. IsNotThere (files c.args.name.now) → c.reply_beside.new.input ≡ c.args.input.now)) c.in-Ok.ensures.unchanged
     c.reply_beside.ensures.without_file)
 
-pub returns-in-Ok-clause-there : goal.returns-in-Ok-clause-there
-returns-in-Ok-clause-there g c fault =
-    let told = g.H.Shelf.files c.args.shelf.now in
-    where_lacking ⊥ told (sides_in c.args.sides) c.args.name.now c.args.notes c.in-Ok.by c.in-Ok.ensures.comparison
-    (subst (λ (shelf : Option Files). IfSome shelf (λ files. IsNotThere (files c.args.name.now) → ⊥)) c.in-Ok.ensures.unchanged
-    (c.reply_beside.ensures.there fault))
-
 pub returns-in-Ok-answer_to_lack-clause-answer : goal.returns-in-Ok-answer_to_lack-clause-answer
 returns-in-Ok-answer_to_lack-clause-answer g c =
     let told = g.H.Shelf.files c.args.shelf.now in
     compared_lack told (g.S.Source.left c.args.input.now) (sides_in c.args.sides) c.args.name.now c.args.notes c.in-Err-Lacking.lack
     (answer_told c.in-Ok-answer_to_lack.answer)
     (subst (λ (reason : NoGame). IfSome told (λ (files : Files). HasNoGameFor files (sides_in c.args.sides) reason)) c.in-Err-Lacking.field-0-is c.in-Err-Lacking.ensures.none)
-    (subst (λ (lack : Lack). IsLackTold lack (answer_told c.in-Ok-answer_to_lack.answer)) c.in-Err-Lacking.lack-is c.in-Ok-answer_to_lack.ensures.answer)
+    (subst (λ (lack : Lack). IsLackTold lack (answer_told c.in-Ok-answer_to_lack.answer)) c.in-Err-Lacking.lack-is c.in-Ok-answer_to_lack.ensures)
 
 pub returns-in-Ok-clause-asks : goal.returns-in-Ok-clause-asks
 returns-in-Ok-clause-asks g c =
     both_asked g.H.Shelf.Asked (g.H.Shelf.files c.args.shelf.now) c.args.name.now c.args.notes c.args.shelf.now c.comparison_of.new.shelf (sides_in c.args.sides)
     c.in-Ok.by c.reply_beside.new.shelf c.in-Ok.ensures.comparison c.in-Ok.ensures.asked c.reply_beside.ensures.asked
+
+pub returns-in-Ok-clause-none : goal.returns-in-Ok-clause-none
+returns-in-Ok-clause-none g c =
+    let told = g.H.Shelf.files c.args.shelf.now in
+    let beside = c.reply_beside.ensures in
+    none_beside (sides_in c.args.sides) c.args.name.now c.args.notes c.in-Ok.by (g.S.Source.left c.args.input.now) told c.in-Ok.ensures.comparison c.reply_beside.result
+    (λ fault. subst (λ (shelf : Option Files). IfSome shelf (λ files. IsNotThere (files c.args.name.now) → ⊥)) c.in-Ok.ensures.unchanged (beside.there fault))
+    beside.of_file
+    (λ missing. subst (λ (shelf : Option Files). IfSome shelf (λ files. files c.args.name.now ≡ None)) c.in-Ok.ensures.unchanged (beside.missing missing))
+
+pub returns-in-Ok-clause-kept : goal.returns-in-Ok-clause-kept
+returns-in-Ok-clause-kept g c =
+    keeps_later c.args.input.now c.reply_beside.new.input _ (g.H.Shelf.faults c.args.shelf.now) (g.H.Shelf.faults c.comparison_of.new.shelf)
+    (g.H.Shelf.faults c.reply_beside.new.shelf) c.reply_beside.result c.in-Ok.ensures.later c.reply_beside.ensures.kept

@@ -9,7 +9,7 @@ use Rattle.poker_cli.proofs.entry.run_request.Goals as goal
 pub returns-in-Ok-clause-ends : goal.returns-in-Ok-clause-ends
 returns-in-Ok-clause-ends g c =
     ends_where_told (request_in c.args.request) (g.S.Source.left c.args.input.now) (g.H.Shelf.files c.args.shelf.now) _ _
-    (answer_told c.in-Ok.answer) c.deliver.result _ c.in-Ok.ensures.answer c.in-Ok.ensures.own c.deliver.ensures.status c.deliver.ensures.written
+    (answer_told c.in-Ok.answer) c.deliver.result _ c.in-Ok.ensures.answer c.in-Ok.ensures.kept.0 c.deliver.ensures.status c.deliver.ensures.written
     c.deliver.ensures.line c.deliver.ensures.no_output
 
 pub returns-in-Err-ReadFault-clause-tells : goal.returns-in-Err-ReadFault-clause-tells

@@ -10,26 +10,26 @@ use Rattle.poker_cli.specs.Replies as replies
 use Rattle.poker_cli.proofs.Numbered.{found, not_found}
 use Rattle.poker_cli.proofs.replies.answer_with_equity.Goals as goal
 
-pub returns-in_default-clause-answer : goal.returns-in_default-clause-answer
-returns-in_default-clause-answer c =
+pub returns-in_default : goal.returns-in_default
+returns-in_default c =
     let plays = c.args.plays.now in
     let beyond : length plays ≤ c.saturating_sub.result = search rules in
     IfOk-weaker c.no_hand.result _ _
     (λ answer told. subst (IsEquityAt c.args.hand c.args.street plays) (sym told)
     (replies.NoneNumbered (not_found plays c.args.hand c.saturating_sub.result c.saturating_sub.ensures beyond)))
-    c.no_hand.ensures.answer
+    c.no_hand.ensures
 
-pub returns-in_ok-text-in-Ok-clause-answer : goal.returns-in_ok-text-in-Ok-clause-answer
-returns-in_ok-text-in-Ok-clause-answer c =
+pub returns-in_ok-text-in-Ok : goal.returns-in_ok-text-in-Ok
+returns-in_ok-text-in-Ok c =
     let plays = c.args.plays.now in
     let play = c.in-Some.play.now in
     let lookup = c.in-Some.ensures.lookup in
     let here = found plays c.args.hand c.saturating_sub.result play c.saturating_sub.ensures lookup.3.0 lookup.1 in
-    subst (IsEquityAt c.args.hand c.args.street plays) (sym (c.done.ensures.answer ∙ ap done c.in_ok-text-in-Ok.ensures))
+    subst (IsEquityAt c.args.hand c.args.street plays) (sym (c.done.ensures ∙ ap done c.in_ok-text-in-Ok.ensures))
     (replies.Counted play here c.in-Ok.row c.in-Ok.ensures.equity)
 
-pub returns-in-Err-NoStreet-clause-answer : goal.returns-in-Err-NoStreet-clause-answer
-returns-in-Err-NoStreet-clause-answer c =
+pub returns-in-Err-NoStreet : goal.returns-in-Err-NoStreet
+returns-in-Err-NoStreet c =
     let plays = c.args.plays.now in
     let play = c.in-Some.play.now in
     let lookup = c.in-Some.ensures.lookup in
@@ -37,10 +37,10 @@ returns-in-Err-NoStreet-clause-answer c =
     let lacks = subst (λ (why : NoEquity). HasNoEquity play.trace c.args.street why) c.in-Err-NoStreet.field-0-is c.in-Err-NoStreet.ensures.refused in
     IfOk-weaker c.no_street.result _ _
     (λ answer told. subst (IsEquityAt c.args.hand c.args.street plays) (sym told) (replies.NoBoard play here lacks))
-    c.no_street.ensures.answer
+    c.no_street.ensures
 
-pub returns-in-Err-UnknownCards-clause-answer : goal.returns-in-Err-UnknownCards-clause-answer
-returns-in-Err-UnknownCards-clause-answer c =
+pub returns-in-Err-UnknownCards : goal.returns-in-Err-UnknownCards
+returns-in-Err-UnknownCards c =
     let plays = c.args.plays.now in
     let play = c.in-Some.play.now in
     let lookup = c.in-Some.ensures.lookup in
@@ -48,4 +48,4 @@ returns-in-Err-UnknownCards-clause-answer c =
     let lacks = subst (λ (why : NoEquity). HasNoEquity play.trace c.args.street why) c.in-Err-UnknownCards.field-0-is c.in-Err-UnknownCards.ensures.refused in
     IfOk-weaker c.no_cards.result _ _
     (λ answer told. subst (IsEquityAt c.args.hand c.args.street plays) (sym (told ∙ ap (no_cards c.args.hand) (ap (λ (seat : Seat). seat.number) c.in-Err-UnknownCards.seat-is))) (replies.NoCards play here c.in-Err-UnknownCards.seat lacks))
-    c.no_cards.ensures.answer
+    c.no_cards.ensures

@@ -7,17 +7,17 @@ use Rattle.poker_cli.specs.Replies as replies
 use Rattle.poker_cli.proofs.Numbered.{found, not_found}
 use Rattle.poker_cli.proofs.replies.answer_with_options.Goals as goal
 
-pub returns-in_default-clause-answer : goal.returns-in_default-clause-answer
-returns-in_default-clause-answer c =
+pub returns-in_default : goal.returns-in_default
+returns-in_default c =
     let plays = c.args.plays.now in
     let beyond : length plays ≤ c.saturating_sub.result = search rules in
     IfOk-weaker c.no_hand.result _ _
     (λ answer told. subst (AreOptionsAt c.args.hand c.args.events plays) (sym told)
     (replies.NoHand (not_found plays c.args.hand c.saturating_sub.result c.saturating_sub.ensures beyond)))
-    c.no_hand.ensures.answer
+    c.no_hand.ensures
 
-pub returns-then-all-events-clause-answer : goal.returns-then-all-events-clause-answer
-returns-then-all-events-clause-answer c =
+pub returns-then-all-events : goal.returns-then-all-events
+returns-then-all-events c =
     let plays = c.args.plays.now in
     let play = c.in-Some.play.now in
     let lookup = c.in-Some.ensures.lookup in
@@ -26,14 +26,14 @@ returns-then-all-events-clause-answer c =
     IfOk-weaker c.no_event.result _ _
     (λ answer told. subst (AreOptionsAt c.args.hand c.args.events plays) (sym (told ∙ ap (no_event c.args.hand c.args.events) c.len-all.ensures))
     (replies.NoEvent play here fewer))
-    c.no_event.ensures.answer
+    c.no_event.ensures
 
-pub returns-clause-answer : goal.returns-clause-answer
-returns-clause-answer c =
+pub returns : goal.returns
+returns c =
     let plays = c.args.plays.now in
     let play = c.in-Some.play.now in
     let lookup = c.in-Some.ensures.lookup in
     let here = found plays c.args.hand c.saturating_sub.result play c.saturating_sub.ensures lookup.3.0 lookup.1 in
     let few : c.args.events ≤ length play.hand.script = omega (arith, c.if-all-events.false, c.len-all.ensures) in
-    subst (AreOptionsAt c.args.hand c.args.events plays) (sym (c.done.ensures.answer ∙ ap done c.in_ok-text.ensures))
+    subst (AreOptionsAt c.args.hand c.args.events plays) (sym (c.done.ensures ∙ ap done c.in_ok-text.ensures))
     (replies.Listed play here few c.options-options.result c.options-options.ensures.legal)

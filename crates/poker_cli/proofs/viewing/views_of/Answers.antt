@@ -2,27 +2,24 @@
 use Rattle.std.proofs.Common.{refl, subst}
 use Rattle.acpc_game.specs.declared.game.Game.{Game}
 use Rattle.chip_ledger.specs.declared.numbers.Seat.{Seat}
-use Rattle.convert_core.proofs.Taken.{plays_are}
-use Rattle.convert_core.specs.Verdicts.{legal_plays}
 use Rattle.poker_cli.specs.Replies.{AreViews}
 use Rattle.poker_cli.specs.Told.{answer_told}
 use Rattle.poker_cli.proofs.SeenViews.{none_seen}
 use Rattle.poker_cli.proofs.viewing.views_of.Goals as goal
 
-pub take_each-requires-clause-begun : goal.take_each-requires-clause-begun
-take_each-requires-clause-begun c = (refl, refl, none_seen c.args.game.now c.args.seat c.has_seat.result _ c.has_seat.ensures c.new.ensures.items)
+pub take_plays-requires-clause-begun : goal.take_plays-requires-clause-begun
+take_plays-requires-clause-begun c = (refl, refl, none_seen c.args.game.now c.args.seat c.has_seat.result _ c.has_seat.ensures c.new.ensures.items)
 
 pub returns-in-Ok-answer_with_seen-clause-answer : goal.returns-in-Ok-answer_with_seen-clause-answer
 returns-in-Ok-answer_with_seen-clause-answer c =
     let taken = c.in-Ok.ensures.taken in
-    let plays = legal_plays taken.verdicts in
-    let seen = c.take_each.new.taker in
+    let seen = c.in-Ok.seen in
     let answer = answer_told c.in-Ok-answer_with_seen.answer in
     record {
-      plays = plays;
-      are = plays_are _ _ _ _ _ taken;
+      plays = taken.plays;
+      are = taken.are;
       said =
-          subst (λ (game : Game). AreViews game c.args.seat plays answer) taken.took.0
-          (subst (λ (seat : Seat). AreViews seen.game seat plays answer) taken.took.1
-          (c.in-Ok-answer_with_seen.ensures.answer plays taken.took.2));
+          subst (λ (game : Game). AreViews game c.args.seat taken.plays answer) taken.took.0
+          (subst (λ (seat : Seat). AreViews seen.game seat taken.plays answer) taken.took.1
+          (c.in-Ok-answer_with_seen.ensures taken.plays taken.took.2));
     }

@@ -1,0 +1,175 @@
+-- The status of an answer is its own, whatever the input.
+use Rattle.std.proofs.Common.{◌≡◌, ℕ, ◌==◌, Bool, true, false, if◌then◌else◌, List, [], ◌∷◌, length, Option, Some, None, IfOk, Result, Ok, Err, subst, sym}
+use Rattle.std.specs.Option.{option_map}
+use Rattle.std.proofs.lemmas.Option.{same_Some}
+use Rattle.acpc_game.specs.GameFile.{GameSaid}
+use Rattle.acpc_game.specs.declared.game.Game.{Game}
+use Rattle.acpc_text.specs.declared.fault.AcpcFault.{AcpcFault}
+use Rattle.acpc_text.specs.declared.fault.AcpcFault.TheVariants as in_acpc
+use Rattle.acpc_writing.specs.GameOf.{game_of}
+use Rattle.chip_ledger.specs.declared.numbers.Seat.{Seat}
+use Rattle.command_words.specs.declared.task.Question.{Question}
+use Rattle.command_words.specs.declared.task.Question.TheVariants as questions
+use Rattle.convert_core.specs.declared.format_fault.FormatFault.{FormatFault}
+use Rattle.convert_core.specs.declared.format_fault.FormatFault.TheVariants as formats
+use Rattle.hand_records.specs.declared.record.Record.{Record}
+use Rattle.hand_records.specs.declared.trace.Play.{Play}
+use Rattle.hand_records.specs.declared.writing.Unspelled.{Unspelled}
+use Rattle.ohh_members.specs.declared.fault.MemberFaultKind.TheVariants as in_member
+use Rattle.ohh_reading.specs.Reading as in_ohh
+use Rattle.phh_fields.specs.declared.fault.FieldFaultKind.TheVariants as in_field
+use Rattle.phh_reading.specs.Reading as in_phh
+use Rattle.poker_cli.specs.Answer.{Answer, IsAnswer, IsAnswerBy, IsAnswerOf, IsAnswerTo, IsComparedWith, IsComparison, IsJudgement, IsReply, IsWritten, to_fault, to_first_game, to_game, to_wrong_acpc, to_wrong_ohh, to_wrong_phh}
+use Rattle.poker_cli.specs.Answer as answers
+use Rattle.poker_cli.specs.Compared.{DifferentHand, compared_by, first_different, to_other_count, to_same}
+use Rattle.poker_cli.specs.OhhFaults.{ohh_status}
+use Rattle.poker_cli.specs.PhhFaults.{phh_status}
+use Rattle.poker_cli.specs.Replies.{AreOptionsAt, AreViews, IsEquityAt}
+use Rattle.poker_cli.specs.Replies as replies
+use Rattle.poker_cli.specs.Run.{IsOfInput, IsOwn, OfBytes, ReadsNothing}
+use Rattle.poker_cli.specs.Told.{answer_told}
+use Rattle.poker_cli.specs.declared.answer.Answer as made
+use Rattle.poker_cli.specs.declared.comparison.Comparison.{Comparison}
+use Rattle.poker_cli.specs.declared.no_answer.NoAnswer.{NoAnswer}
+use Rattle.poker_cli.specs.declared.status.Status.{Status}
+use Rattle.poker_cli.specs.declared.status.Status.TheVariants as statuses
+use Rattle.poker_cli.specs.declared.task.Format.{Format}
+use Rattle.poker_cli.specs.declared.task.Task.{Task}
+use Rattle.poker_cli.specs.declared.task.Task.TheVariants as tasks
+use Rattle.poker_cli.specs.declared.task.Way.{Way}
+
+-- a status of an answer to what was read of the input is none of a fault, and comes behind the reading
+pub own_of_input : (status : Status) → IsOfInput status → IsOwn status
+own_of_input statuses.BadGame of = tt
+own_of_input _ of = of
+
+pub read_of_input : (status : Status) → IsOfInput status → ReadsNothing status → ⊥
+read_of_input statuses.BadGame of nothing = of
+read_of_input statuses.Usage of nothing = of
+read_of_input statuses.ShelfFault of nothing = of
+read_of_input statuses.GameMissing of nothing = of
+read_of_input statuses.FileMissing of nothing = of
+read_of_input _ of nothing = nothing
+
+-- the same answer has the same status
+same_own : (answer other : Answer) → answer ≡ other → IsOfInput other.status → IsOfInput answer.status
+same_own answer other same of = subst (λ (a : Answer). IsOfInput a.status) (sym same) of
+
+-- ---- bytes that do not read
+
+phh_own : (wrong : in_phh.Wrong) → IsOfInput (phh_status wrong)
+phh_own in_phh.NoDocument = tt
+phh_own (in_phh.InHand hand key (in_field.TooMany quantity)) = tt
+phh_own (in_phh.InHand hand key what) = tt
+
+ohh_own : (wrong : in_ohh.Wrong) → IsOfInput (ohh_status wrong)
+ohh_own (in_ohh.NoText hand) = tt
+ohh_own (in_ohh.InHand hand path (in_member.TooMany quantity)) = tt
+ohh_own (in_ohh.InHand hand path what) = tt
+
+wrong_own : {W : Type 0} (to_wrong : W → Answer) → ((wrong : W) → IsOfInput (to_wrong wrong).status)
+    → (found : Option W) (answer : Answer) → option_map to_wrong found ≡ Some answer → IsOfInput answer.status
+wrong_own to_wrong each (Some wrong) answer told = subst (λ (a : Answer). IsOfInput a.status) (same_Some _ _ told) (each wrong)
+wrong_own to_wrong each None answer told = cc
+
+acpc_own : (fault : AcpcFault) (answer : Answer) → to_wrong_acpc fault ≡ Some answer → IsOfInput answer.status
+acpc_own in_acpc.Memory answer told = cc
+acpc_own (in_acpc.TooMany quantity line byte) answer told = subst (λ (a : Answer). IsOfInput a.status) (same_Some _ _ told) tt
+acpc_own fault answer told = subst (λ (a : Answer). IsOfInput a.status) (same_Some _ _ told) tt
+
+fault_own : (fault : FormatFault) (answer : Answer) → to_fault fault ≡ Some answer → IsOfInput answer.status
+fault_own (formats.Phh fault) answer told = wrong_own to_wrong_phh phh_own (in_phh.wrong_of fault) answer told
+fault_own (formats.Ohh fault) answer told = wrong_own to_wrong_ohh ohh_own (in_ohh.wrong_of fault) answer told
+fault_own (formats.Acpc fault) answer told = acpc_own fault answer told
+
+-- ---- what is made of hands
+
+written_own : (unspelled : Play → Option Unspelled) (Spell Back : List Play → List ℕ → Type 0) (plays : List Play) (answer : Answer)
+    → IsWritten unspelled Spell Back plays answer → IsOfInput answer.status
+written_own unspelled Spell Back plays _ (answers.NotSpelled number fact first) = tt
+written_own unspelled Spell Back plays _ (answers.Spelled none bytes spell back) = tt
+
+game_own : (found : Result GameSaid Unspelled) → IsOfInput (to_game found).status
+game_own (Ok game) = tt
+game_own (Err fact) = tt
+
+first_game_own : (plays : List Play) → IsOfInput (to_first_game plays).status
+first_game_own [] = tt
+first_game_own (play ∷ plays) = game_own (game_of play.trace.setup)
+
+options_own : (number events : ℕ) (plays : List Play) (answer : Answer) → AreOptionsAt number events plays answer → IsOfInput answer.status
+options_own number events plays _ (replies.NoHand none) = tt
+options_own number events plays _ (replies.NoEvent play is fewer) = tt
+options_own number events plays _ (replies.Listed play is few options are) = tt
+
+equity_own : (number street : ℕ) (plays : List Play) (answer : Answer) → IsEquityAt number street plays answer → IsOfInput answer.status
+equity_own number street plays _ (replies.NoneNumbered none) = tt
+equity_own number street plays _ (replies.NoBoard play is none) = tt
+equity_own number street plays _ (replies.NoCards play is seat none) = tt
+equity_own number street plays _ (replies.Counted play is row on) = tt
+
+views_own : (game : Game) (seat : Seat) (plays : List Play) (answer : Answer) → AreViews game seat plays answer → IsOfInput answer.status
+views_own game seat plays _ (replies.NoSeat beyond) = tt
+views_own game seat plays _ (replies.TooMany there many) = tt
+views_own game seat plays _ (replies.Seen there few) = tt
+
+reply_own : (question : Question) (plays : List Play) (answer : Answer) → IsReply question plays answer → IsOfInput answer.status
+reply_own (questions.Show command) plays answer is = same_own answer _ is tt
+reply_own questions.GameFile plays answer is = same_own answer _ is.told (first_game_own plays)
+reply_own (questions.Options hand events) plays answer is = options_own hand events plays answer is
+reply_own (questions.Equity hand street) plays answer is = equity_own hand street plays answer is
+
+-- ---- the answer to bytes
+
+made_own : (Say : List Record → Type 0) (HaveFault : FormatFault → Type 0) (IsMade : List Play → Answer → Type 0)
+    → ((plays : List Play) (answer : Answer) → IsMade plays answer → IsOfInput answer.status)
+    → (answer : Answer) → IsAnswerTo Say HaveFault IsMade answer → IsOfInput answer.status
+made_own Say HaveFault IsMade made answer (answers.Unread fault have _ told) = fault_own fault answer told
+made_own Say HaveFault IsMade made _ (answers.Refused number why is) = tt
+made_own Say HaveFault IsMade made answer (answers.Played plays read _ is) = made plays answer is
+
+judged_own : (Say : List Record → Type 0) (HaveFault : FormatFault → Type 0) (answer : Answer) → IsJudgement Say HaveFault answer → IsOfInput answer.status
+judged_own Say HaveFault answer (answers.NotJudged fault have _ told) = fault_own fault answer told
+judged_own Say HaveFault _ (answers.Judged records say verdicts are) = tt
+
+task_own : (task : Task) (Say : List Record → Type 0) (HaveFault : FormatFault → Type 0) (answer : Answer) → IsAnswerOf task Say HaveFault answer → IsOfInput answer.status
+task_own (tasks.Ask question) Say HaveFault answer is = made_own Say HaveFault (IsReply question) (reply_own question) answer is
+task_own tasks.Judge Say HaveFault answer is = judged_own Say HaveFault answer is
+task_own (tasks.Convert to keep) Say HaveFault answer is = made_own Say HaveFault _ (written_own _ _ _) answer is
+task_own (tasks.Views game seat) Say HaveFault answer is = made_own Say HaveFault (AreViews game seat) (views_own game seat) answer is
+
+answer_own : (task : Task) (reader : Format) (bytes : List ℕ) (answer : Answer) → IsAnswer task reader bytes answer → IsOfInput answer.status
+answer_own task reader bytes _ (answers.TooLong many) = tt
+answer_own task reader bytes answer (answers.Read few _ is) = task_own task _ _ answer is
+
+-- ---- two files
+
+both_own : (found : Option DifferentHand) (hands others : ℕ) → IsOfInput (compared_by found hands others).status
+both_own (Some differs) hands others = tt
+both_own None hands others =
+    elim (hands == others) as (λ same. IsOfInput (if same then to_same hands else to_other_count hands others).status) [ true ↦ tt | false ↦ tt ]
+
+beside_own : (other : Format) (notes : Bool) (file : List ℕ) (plays : List Play) (answer : Answer) → IsComparedWith other notes file plays answer → IsOfInput answer.status
+beside_own other notes file plays _ (answers.OtherUnread fault have answer told) = fault_own fault answer told
+beside_own other notes file plays _ (answers.OtherRefused number why is) = tt
+beside_own other notes file plays _ (answers.OtherPlayed others read) = both_own (first_different notes 0 plays others) (length plays) (length others)
+
+comparison_own : (by : Comparison) (file bytes : List ℕ) (answer : Answer) → IsComparison by file bytes answer → IsOfInput answer.status
+comparison_own by file bytes _ (answers.InputTooLong many) = tt
+comparison_own by file bytes answer (answers.InputRead few _ is) = made_own _ _ _ (beside_own by.other by.notes file) answer is
+
+-- ---- bytes of a source, whether it tells them or not
+
+some_bytes : (left : Option (List ℕ)) (P : List ℕ → Type 0) (This : Type 0) → ((bytes : List ℕ) → P bytes → This) → OfBytes left P → This
+some_bytes (Some bytes) P This each is = each bytes is
+some_bytes None P This each is = each is.0 is.1
+
+pub of_way : (left : Option (List ℕ)) (by : Way) (result : Result made.Answer NoAnswer)
+    → IfOk result (λ answer. OfBytes left (λ bytes. IsAnswerBy by bytes (answer_told answer))) → IfOk result (λ answer. IsOfInput answer.status)
+of_way left by (Ok answer) is = some_bytes left _ _ (λ bytes to. answer_own by.task by.reader bytes (answer_told answer) to) is
+of_way left by (Err why) is = tt
+
+pub of_both : (left : Option (List ℕ)) (by : Comparison) (file : List ℕ) (result : Result made.Answer NoAnswer)
+    → IfOk result (λ answer. OfBytes left (λ bytes. IsComparison by file bytes (answer_told answer))) → IfOk result (λ answer. IsOfInput answer.status)
+of_both left by file (Ok answer) is = some_bytes left _ _ (λ bytes to. comparison_own by file bytes (answer_told answer) to) is
+of_both left by file (Err why) is = tt

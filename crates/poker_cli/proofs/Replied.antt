@@ -1,0 +1,71 @@
+-- What a reply keeps, and why there is none, follows from what is read for it.
+use Rattle.std.proofs.Common.{◌≡◌, ℕ, ◌≤◌, Bool, List, Option, None, IfErr, IfOk, IfSome, IsErrOf, Result, Ok, Err, refl, arith}
+use Rattle.acpc_game.specs.declared.game.Game.{Game}
+use Rattle.command_words.specs.Words.{Compare, Plain, Sides, Under}
+use Rattle.command_words.specs.declared.notation.PlainNotation.{PlainNotation}
+use Rattle.command_words.specs.declared.request.Logs.{Logs}
+use Rattle.command_words.specs.declared.task.Task.{Task}
+use Rattle.host_io.specs.Faults.{Rose}
+use Rattle.poker_cli.specs.Answer.{Files, GivesGame, IsComparisonOf}
+use Rattle.poker_cli.specs.Lacking.{ComesFirst}
+use Rattle.poker_cli.specs.Replied.{HasNoAnswer, Keeps}
+use Rattle.poker_cli.specs.Run.{IsNotThere, IsOfInput}
+use Rattle.poker_cli.specs.declared.answer.Answer as made
+use Rattle.poker_cli.specs.declared.comparison.Comparison.{Comparison}
+use Rattle.poker_cli.specs.declared.no_answer.NoAnswer.{NoAnswer}
+use Rattle.poker_cli.specs.declared.no_answer.NoAnswer.TheVariants as whys
+use Rattle.poker_cli.proofs.Answering.{of_files}
+use Rattle.poker_cli.proofs.OwnStatus.{own_of_input, read_of_input}
+use Rattle.poker_cli.proofs.Replying.{game_there, missing_reply, where_lacking}
+
+-- where nothing but the input is read
+pub keeps_read : {S : Type 0} (input read : S) (reads asks : ℕ × ℕ) (result : Result made.Answer NoAnswer)
+    → IfOk result (λ answer. IsOfInput answer.status) → (IsErrOf result whys.ReadFault → Rose reads.0 reads.1)
+    → IfErr result (λ why. ComesFirst why → ⊥) → Keeps input read reads asks result
+keeps_read input read reads asks (Ok answer) of rose alone =
+    (own_of_input answer.status of, λ nothing. absurd (read_of_input answer.status of nothing))
+keeps_read input read reads asks (Err whys.ReadFault) of rose alone = rose refl
+keeps_read input read reads asks (Err whys.Memory) of rose alone = tt
+keeps_read input read reads asks (Err whys.ShelfFault) of rose alone = absurd (alone tt)
+keeps_read input read reads asks (Err whys.GameMissing) of rose alone = absurd (alone tt)
+keeps_read input read reads asks (Err whys.FileMissing) of rose alone = absurd (alone tt)
+
+pub none_of_plain : (from : PlainNotation) (task : Task PlainNotation) (left : Option (List ℕ)) (told : Option Files) (why : NoAnswer)
+    → (ComesFirst why → ⊥) → HasNoAnswer (Plain from task) left told why
+none_of_plain from task left told whys.ReadFault alone = (tt, λ lacks. lacks)
+none_of_plain from task left told whys.Memory alone = tt
+none_of_plain from task left told whys.ShelfFault alone = absurd (alone tt)
+none_of_plain from task left told whys.GameMissing alone = absurd (alone tt)
+none_of_plain from task left told whys.FileMissing alone = absurd (alone tt)
+
+pub none_under_game : (name : List ℕ) (logs : Logs) (game : Game) (left : Option (List ℕ)) (told : Option Files)
+    → IfSome told (λ files. GivesGame (files name) game) → (why : NoAnswer) → (ComesFirst why → ⊥) → HasNoAnswer (Under name logs) left told why
+none_under_game name logs game left told gives whys.ReadFault alone = (tt, game_there told name logs game gives)
+none_under_game name logs game left told gives whys.Memory alone = tt
+none_under_game name logs game left told gives whys.ShelfFault alone = absurd (alone tt)
+none_under_game name logs game left told gives whys.GameMissing alone = absurd (alone tt)
+none_under_game name logs game left told gives whys.FileMissing alone = absurd (alone tt)
+
+-- where the shelf was asked before
+pub keeps_later : {S : Type 0} (input read : S) (reads : ℕ × ℕ) (before between now : ℕ) (result : Result made.Answer NoAnswer)
+    → before ≤ between → Keeps input read reads (between, now) result → Keeps input read reads (before, now) result
+keeps_later input read reads before between now (Err whys.ShelfFault) later kept =
+    let rose : Rose between now = kept.0 in (omega (arith, later, rose), kept.1)
+keeps_later input read reads before between now (Err why) later kept = kept
+keeps_later input read reads before between now (Ok answer) later kept = kept
+
+-- where the file that hands are compared with is asked for behind a game
+pub none_beside : (sides : Sides) (name : List ℕ) (notes : Bool) (by : Comparison) (left : Option (List ℕ)) (told : Option Files)
+    → IfSome told (λ files. IsComparisonOf files sides notes by) → (result : Result made.Answer NoAnswer)
+    → (IsErrOf result whys.ReadFault → IfSome told (λ files. IsNotThere (files name) → ⊥))
+    → IfErr result (λ why. why ≡ whys.GameMissing → ⊥)
+    → (IsErrOf result whys.FileMissing → IfSome told (λ files. files name ≡ None))
+    → IfErr result (λ why. HasNoAnswer (Compare sides name notes) left told why)
+none_beside sides name notes by left told so (Ok answer) there of_file missing = tt
+none_beside sides name notes by left told so (Err whys.ReadFault) there of_file missing =
+    (tt, where_lacking ⊥ told sides name notes by so (there refl))
+none_beside sides name notes by left told so (Err whys.ShelfFault) there of_file missing = tt
+none_beside sides name notes by left told so (Err whys.GameMissing) there of_file missing = absurd (of_file refl)
+none_beside sides name notes by left told so (Err whys.FileMissing) there of_file missing =
+    of_files left told _ (missing_reply told sides name notes by so (missing refl))
+none_beside sides name notes by left told so (Err whys.Memory) there of_file missing = tt

@@ -1,0 +1,90 @@
+//! The plays of hands are taken one after the other, up to the first refused hand.
+ghost use Rattle.std.specs.Prelude.{◌≡◌, ◌<◌, ◌≤◌, ◌++◌, [], ◌∷◌, false, All, List, length, IfErr, IfOk, OnOk};
+ghost use Rattle.convert_core.specs.Judged.{IsPlaysFaultOf};
+ghost use Rattle.convert_core.specs.Verdicts.{legal_plays};
+ghost use Rattle.first_fault.specs.declared.limits.TheConstants.{MOST_HANDS};
+ghost use Rattle.hand_canon.specs.Sound.{IsSound};
+ghost use Rattle.hand_records.specs.SoundRecord.{IsSoundRecord};
+ghost use Rattle.hand_records.specs.declared.trace.Play.{Play as AnyPlay};
+ghost use Rattle.poker_cli.specs.Played.{HasTakenPlays, HaveTaken};
+
+use card_set::Memory;
+use convert_core::{PlaysFault, Refusal, Taker, take_each};
+use hand_records::{Play, Records};
+use std::alloc::{AllocError, Global};
+
+/// Takes the plays of a file, one after the other. Each is dropped before the next is made.
+pub trait PlayTaker {
+    /// What is so of a taker, as it was and as it is, where these plays were taken in between.
+    ghost TookPlays: { Self → Self → List AnyPlay → Type 0 };
+
+    /// Takes the play of the hand at its place in the file, from 0.
+    ///
+    /// # Errors
+    ///
+    /// Want of memory.
+    fn take_play(&mut self, alloc: Global, place: usize, play: &Play) -> Result<(), Memory>
+        requires taken { (start : Self) × HasTakenPlays (TookPlays start self.old) place }
+        requires few { place < MOST_HANDS }
+        requires sound { IsSound play.now }
+        ensures { (start : Self) (before : List AnyPlay) → length before ≡ place
+            → TookPlays start self.old before
+            → OnOk result (TookPlays start self.new (before ++ play.now ∷ [])) };
+}
+
+// A taker of verdicts to which the first refused hand is the end.
+#[derive(Drop)]
+struct LegalPlays<T: PlayTaker + Drop> {
+    taker: T,
+}
+
+impl<T: PlayTaker + Drop> Taker for LegalPlays<T> {
+    ghost GOES_ON = { false };
+
+    ghost KEEPS = { false };
+
+    ghost Took = { λ start it verdicts.
+        T.TookPlays start.taker it.taker (legal_plays verdicts) };
+
+    fn goes_on(&self) -> bool {
+        false
+    }
+
+    fn keeps(&self) -> bool {
+        false
+    }
+
+    fn take(&mut self, alloc: Global, place: usize, play: &Play) -> Result<(), AllocError> {
+        match self.taker.take_play(alloc, place, play) {
+            Ok(()) => Ok(()),
+            Err(Memory) => Err(AllocError),
+        }
+    }
+
+    fn pass(&mut self, _: Global, _: usize, _: &Refusal) -> Result<(), AllocError> {
+        Ok(())
+    }
+}
+
+/// The taker with the plays of these hands.
+///
+/// # Errors
+///
+/// The first refused hand, with what is wrong with it first; or want of memory.
+pub fn take_plays<T: PlayTaker + Drop>(
+    alloc: Global,
+    taker: T,
+    records: Records,
+) -> Result<T, PlaysFault>
+    requires sound { All IsSoundRecord records }
+    requires few { length records ≤ MOST_HANDS }
+    requires begun { T.TookPlays taker taker [] }
+    ensures taken { IfOk result (λ it. HaveTaken (T.TookPlays taker it) records) }
+    ensures refused { IfErr result (IsPlaysFaultOf records) }
+{
+    let mut legal = LegalPlays { taker };
+    match take_each(alloc, &mut legal, records) {
+        Ok(_) => Ok(legal.taker),
+        Err(fault) => Err(fault),
+    }
+}
