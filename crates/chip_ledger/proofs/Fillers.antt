@@ -1,7 +1,7 @@
 -- A new row of two seats is the filler.
 use Rattle.std.proofs.Common.{◌≡◌, ℕ, ◌-◌, false, sym, ◌∙◌}
-use Rattle.chip_ledger.specs.declared.rows.SeatRow.{SeatRow}
-use Rattle.chip_ledger.specs.declared.rows.LiveRow.{LiveRow}
+use Rattle.chip_ledger.specs.declared.seat_row.SeatRow.{SeatRow}
+use Rattle.chip_ledger.specs.declared.live_row.LiveRow.{LiveRow}
 use Rattle.chip_ledger.specs.SeatRow.{amount_of}
 use Rattle.chip_ledger.specs.LiveRow.{flag_of}
 use Rattle.chip_ledger.specs.Fillers.{index-replicate, no_amounts, no_flags}

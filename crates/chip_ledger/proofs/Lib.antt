@@ -1,5 +1,6 @@
 -- Lemmas on seats and rows.
 pub mod SeatLists
+pub mod FirstSeats
 pub mod Seats
 pub mod Same
 pub mod Fillers

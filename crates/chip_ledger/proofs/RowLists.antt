@@ -2,7 +2,7 @@
 use Rattle.std.proofs.Common.{◌≡◌, ℕ, ◌+◌, ◌-◌, ◌≤◌, map, slice_index, sym, subst, ◌∙◌, ap, arith, take}
 use Rattle.list_laws.proofs.NumbersOfRange.{taken_index_along}
 use Rattle.chip_ledger.specs.declared.rakes.RakeRow.{RakeRow}
-use Rattle.chip_ledger.specs.declared.rows.SeatRow.{SeatRow}
+use Rattle.chip_ledger.specs.declared.seat_row.SeatRow.{SeatRow}
 use Rattle.chip_ledger.specs.Fillers.{index-replicate}
 use Rattle.chip_ledger.specs.RakeRow.{no_rakes, rake_of}
 use Rattle.chip_ledger.specs.Seat.{seats_of}

@@ -4,9 +4,9 @@ use Rattle.std.specs.Coded.{le_prop}
 use Rattle.std.proofs.Props.{props}
 use Rattle.std.proofs.lemmas.List.{ext_get_or}
 use Rattle.chip_ledger.specs.declared.numbers.Seat.{Seat}
-use Rattle.chip_ledger.specs.declared.rows.SeatRow.{SeatRow}
-use Rattle.chip_ledger.specs.declared.rows.LiveRow.{LiveRow}
-use Rattle.chip_ledger.specs.declared.rows.TheConstants.{MOST_AMOUNT}
+use Rattle.chip_ledger.specs.declared.seat_row.SeatRow.{SeatRow}
+use Rattle.chip_ledger.specs.declared.live_row.LiveRow.{LiveRow}
+use Rattle.chip_ledger.specs.declared.seat_row.TheConstants.{MOST_AMOUNT}
 use Rattle.chip_ledger.specs.SeatRow.{amount_of}
 use Rattle.chip_ledger.specs.LiveRow.{flag_of}
 use Rattle.list_laws.proofs.Entries.{same_entries}

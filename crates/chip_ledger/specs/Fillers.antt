@@ -1,9 +1,9 @@
 -- What stands in a row past its last entry.
 use Rattle.std.specs.Prelude.{◌≡◌, ℕ, ◌≤◌, false, zero, suc, refl, replicate, slice_index_or}
 use Rattle.std.proofs.Common.{sym, subst, lit≤}
-use Rattle.chip_ledger.specs.declared.rows.SeatRow.{SeatRow}
-use Rattle.chip_ledger.specs.declared.rows.LiveRow.{LiveRow}
-use Rattle.chip_ledger.specs.declared.rows.TheConstants.{MOST_AMOUNT}
+use Rattle.chip_ledger.specs.declared.seat_row.SeatRow.{SeatRow}
+use Rattle.chip_ledger.specs.declared.live_row.LiveRow.{LiveRow}
+use Rattle.chip_ledger.specs.declared.seat_row.TheConstants.{MOST_AMOUNT}
 use Rattle.chip_ledger.specs.declared.pots.Pot.{Pot}
 
 -- a list of one value has this value at every index, also past its end where it is the default

@@ -1,6 +1,6 @@
 -- What a row of flags says of its seats.
 use Rattle.std.specs.Prelude.{ℕ, ◌-◌, Bool, false, List, filter, slice_index_or}
-use Rattle.chip_ledger.specs.declared.rows.LiveRow.{LiveRow}
+use Rattle.chip_ledger.specs.declared.live_row.LiveRow.{LiveRow}
 use Rattle.chip_ledger.specs.Seat.{seats_of}
 
 -- the flag of seat number n

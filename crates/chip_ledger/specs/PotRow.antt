@@ -3,9 +3,9 @@ use Rattle.std.specs.Prelude.{ℕ, ◌-◌, List, map, slice_get, take}
 use Rattle.std.specs.Option.{option_map_or}
 use Rattle.chip_ledger.specs.declared.pots.Pot.{Pot}
 use Rattle.chip_ledger.specs.declared.pots.PotRow.{PotRow}
-use Rattle.chip_ledger.specs.declared.pots.ShareRow.{ShareRow}
-use Rattle.chip_ledger.specs.declared.rows.LiveRow.{LiveRow}
-use Rattle.chip_ledger.specs.declared.rows.SeatRow.{SeatRow}
+use Rattle.chip_ledger.specs.declared.shares.ShareRow.{ShareRow}
+use Rattle.chip_ledger.specs.declared.live_row.LiveRow.{LiveRow}
+use Rattle.chip_ledger.specs.declared.seat_row.SeatRow.{SeatRow}
 use Rattle.chip_ledger.specs.LiveRow.{flag_of, flagged}
 use Rattle.chip_ledger.specs.Pots.{PlainPot, Stake}
 use Rattle.chip_ledger.specs.Seat.{seats_of}

@@ -6,9 +6,12 @@ use Rattle.std.specs.List.{range_with_len}
 abbrev pub seats_of : ℕ → List ℕ
 seats_of seats = range_with_len 1 seats
 
--- a seat of a hand with so many seats
-abbrev pub IsSeatOf : ℕ → ℕ → Type 0
-IsSeatOf seats seat = (1 ≤ seat) × (seat ≤ seats)
+-- a number is that of a seat of a hand with so many seats
+pub record IsSeatOf (seats seat : ℕ) : Type 0 where
+  -- it is not below the first
+  pub first : 1 ≤ seat
+  -- and not above the last
+  pub last : seat ≤ seats
 
 -- the seat of the small blind of a hand with so many seats, where blinds go round from the button:
 -- the first, or of two the second

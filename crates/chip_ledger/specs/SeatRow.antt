@@ -1,6 +1,6 @@
 -- What a row of amounts says of its seats.
 use Rattle.std.specs.Prelude.{ℕ, ◌-◌, slice_index, sum_by, List, take}
-use Rattle.chip_ledger.specs.declared.rows.SeatRow.{SeatRow}
+use Rattle.chip_ledger.specs.declared.seat_row.SeatRow.{SeatRow}
 use Rattle.chip_ledger.specs.Seat.{seats_of}
 
 -- the amount of seat number n

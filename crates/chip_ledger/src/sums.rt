@@ -1,9 +1,9 @@
 //! The total of a row is the sum of its seats' amounts.
 ghost use Rattle.std.specs.Prelude.{◌≡◌, ◌*◌, ◌≤◌};
 ghost use Rattle.chip_ledger.specs.SeatRow.{total_of};
-ghost use Rattle.chip_ledger.specs.declared.rows.TheConstants.{MOST_AMOUNT};
+ghost use Rattle.chip_ledger.specs.declared.seat_row.TheConstants.{MOST_AMOUNT};
 
-use crate::rows::SeatRow;
+use crate::seat_row::SeatRow;
 
 /// The amounts of all seats of the row together.
 pub fn total(row: &SeatRow) -> u64

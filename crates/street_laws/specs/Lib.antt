@@ -1,5 +1,4 @@
 -- Words for what is due next, street by street.
-pub mod Seats
 pub mod Dues
 pub mod Walk
 pub mod Done

@@ -1,6 +1,6 @@
 -- The empty pot is the filler.
 use Rattle.std.proofs.Common.{ap}
-use Rattle.chip_ledger.specs.declared.rows.LiveRow.{LiveRow}
+use Rattle.chip_ledger.specs.declared.live_row.LiveRow.{LiveRow}
 use Rattle.chip_ledger.specs.declared.pots.Pot.{Pot}
 use Rattle.chip_ledger.specs.Fillers.{no_pot}
 use Rattle.chip_ledger.proofs.Fillers.{no_flags_same}
