@@ -3,7 +3,6 @@ pub mod Counted
 pub mod DeckLaws
 pub mod KnownCards
 pub mod Listing
-pub mod Read
 pub mod RowLaws
 pub mod SetLaws
 pub mod Spelled

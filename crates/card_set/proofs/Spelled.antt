@@ -1,7 +1,7 @@
 -- Laws of the spelling of slots: it has one reading, and its first fault is one.
-use Rattle.std.proofs.Common.{◌≡◌, ℕ, ◌+◌, ◌*◌, ◌%◌, ◌<◌, ◌≤◌, ◌==◌, Bool, true, false, ◌&&◌, List, [], ◌∷◌, ◌++◌, length, take, drop, get_or, take-append-drop, Option, Some, None, refl, sym, ◌∙◌, ap, subst, arith, append_assoc, length-append, inl, inr, find, option_and_then, eqb-true}
+use Rattle.std.proofs.Common.{◌≡◌, ℕ, ◌+◌, ◌*◌, ◌%◌, ◌<◌, ◌≤◌, ◌==◌, Bool, true, false, not, ◌&&◌, List, [], ◌∷◌, ◌++◌, length, take, drop, get_or, take-append-drop, Option, Some, None, refl, sym, ◌∙◌, ap, subst, arith, append_assoc, length-append, inl, inr, find, option_and_then, eqb-true}
 use Rattle.std.specs.Option.{option_map}
-use Rattle.std.proofs.lemmas.Bool.{and_parts}
+use Rattle.std.proofs.lemmas.Bool.{and_parts, not-true}
 use Rattle.std.proofs.lemmas.List.{drop_more}
 use Rattle.card_set.specs.declared.card.Rank.{Rank}
 use Rattle.card_set.specs.declared.card.Rank.TheVariants as ranks
@@ -13,6 +13,7 @@ use Rattle.card_set.specs.declared.spelling.CardFault.{CardFault}
 use Rattle.card_set.specs.declared.spelling.CardFault.TheVariants as faults
 use Rattle.card_set.specs.Deck.{all_ranks, all_suits}
 use Rattle.card_set.specs.Spelling.{rank_letter, suit_letter, slot_spelling, spelling, rank_lettered, suit_lettered, slot_spelled, slots_spelled, HasFault, PairFault, BeginsSlot, SpellsSlot, FirstBadPair}
+use Rattle.card_set.proofs.Letters.{each_rank}
 use Rattle.list_laws.proofs.Lists.{pair_more}
 use Rattle.list_laws.proofs.Tests.{chosen_either}
 
@@ -78,19 +79,7 @@ suit_letter-suit_lettered letter suit is = eqb-true (suit_letter suit) letter (f
 
 -- the letter of a rank is no question mark
 rank_letter-known : (rank : Rank) → rank_letter rank == 63 ≡ false
-rank_letter-known ranks.Two = refl
-rank_letter-known ranks.Three = refl
-rank_letter-known ranks.Four = refl
-rank_letter-known ranks.Five = refl
-rank_letter-known ranks.Six = refl
-rank_letter-known ranks.Seven = refl
-rank_letter-known ranks.Eight = refl
-rank_letter-known ranks.Nine = refl
-rank_letter-known ranks.Ten = refl
-rank_letter-known ranks.Jack = refl
-rank_letter-known ranks.Queen = refl
-rank_letter-known ranks.King = refl
-rank_letter-known ranks.Ace = refl
+rank_letter-known rank = not-true (rank_letter rank == 63) (each_rank (λ letter. not (letter == 63)) refl rank)
 
 -- the two letters of a card are read as that card
 pub slot_spelled-card : (rank : Rank) (suit : Suit) → slot_spelled (rank_letter rank) (suit_letter suit) ≡ Some (slots.Known (record { rank = rank; suit = suit }))

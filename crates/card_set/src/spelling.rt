@@ -1,6 +1,6 @@
 //! A card is spelled by the letter of its rank and the letter of its suit, an unknown one by two
 //! question marks.
-ghost use Rattle.std.specs.Prelude.{◌≡◌, ◌%◌, ◌≤◌, List, [], ◌∷◌, length, IfOk, IfErr, IfSome, IfNone, IsOkAnd};
+ghost use Rattle.std.specs.Prelude.{◌≡◌, ◌≤◌, List, [], ◌∷◌, length, IfOk, IfErr, IfSome, IfNone, IsOkAnd};
 ghost use Rattle.card_set.specs.declared.card.Rank.{Rank};
 ghost use Rattle.card_set.specs.declared.card.Suit.{Suit};
 ghost use Rattle.card_set.specs.declared.card.Slot.{Slot};
@@ -66,6 +66,7 @@ fn letter_of_suit(suit: Suit) -> u8
 
 /// The slots that the bytes spell, two letters each and at most seven of them.
 /// An odd length is told before more than seven pairs, and both before the first bad pair.
+#[tactic(auto, using(crate::proofs::Spelled::pair_fault))]
 pub fn read_slots(bytes: &[u8]) -> Result<SlotRow, CardFault>
     ensures read { IfOk result (λ row. bytes.now ≡ spelling (slots_of row)) }
     ensures only { (slots : List Slot) → length slots ≤ 7 → bytes.now ≡ spelling slots
@@ -73,31 +74,12 @@ pub fn read_slots(bytes: &[u8]) -> Result<SlotRow, CardFault>
     ensures fault { IfErr result (HasFault bytes.now) }
     ensures first_fault { (fault : CardFault) → HasFault bytes.now fault → result ≡ Err fault }
 {
-    read_row(bytes)
-}
-
-// The slots, or the first fault: the length is looked at before the pairs.
-fn read_row(bytes: &[u8]) -> Result<SlotRow, CardFault>
-    ensures read { IfOk result (λ row. bytes.now ≡ spelling (slots_of row)) }
-    ensures fault { IfErr result (HasFault bytes.now) }
-{
     if bytes.len() % 2 == 1 {
         return Err(CardFault::OddLength);
     }
     if bytes.len() > 14 {
         return Err(CardFault::TooMany);
     }
-    read_pairs(bytes)
-}
-
-// The slots of at most seven whole pairs, or the fault of the first pair that spells none.
-#[tactic(auto, using(crate::proofs::Spelled::pair_fault))]
-fn read_pairs(bytes: &[u8]) -> Result<SlotRow, CardFault>
-    requires pairs { length bytes.now % 2 ≡ 0 }
-    requires few { length bytes.now ≤ 14 }
-    ensures read { IfOk result (λ row. bytes.now ≡ spelling (slots_of row)) }
-    ensures fault { IfErr result (HasFault bytes.now) }
-{
     let mut row = SlotRow::new();
     for index in 0..bytes.len() / 2 {
         match read_slot(bytes[2 * index], bytes[2 * index + 1]) {

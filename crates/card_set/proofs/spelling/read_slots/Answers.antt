@@ -1,8 +1,45 @@
-use Rattle.card_set.proofs.Read.{only_spelled, only_fault}
+-- The fault of the bytes is one, and so is the row that they spell.
+use Rattle.std.proofs.Common.{◌≤◌, ◌*◌, length, Err, sym, ◌∙◌, ap, arith, length-take}
+use Rattle.std.proofs.lemmas.List.{take_all}
+use Rattle.card_set.specs.declared.spelling.CardFault.TheVariants as faults
+use Rattle.card_set.specs.Row.{slots_of}
+use Rattle.card_set.specs.Spelling.{HasFault}
+use Rattle.card_set.proofs.Spelled.{fault_spells_nothing, one_fault, pair_fault, row_more, same_slots}
 use Rattle.card_set.proofs.spelling.read_slots.Goals as goal
 
+pub returns-then-bytes-eq1-clause-only : goal.returns-then-bytes-eq1-clause-only
+returns-then-bytes-eq1-clause-only c = fault_spells_nothing c.args.bytes.now faults.OddLength (omega (arith, c.if-bytes-eq1.true))
+
+pub returns-then-bytes-gt14-clause-only : goal.returns-then-bytes-gt14-clause-only
+returns-then-bytes-gt14-clause-only c =
+    fault_spells_nothing c.args.bytes.now faults.TooMany (omega (arith, c.if-bytes-eq1.false), omega (arith, c.if-bytes-gt14.true))
+
+-- the fault of the first pair that spells no slot
+module _ (c : goal.In-Err) where
+  bad : HasFault c.args.bytes.now c.in-Err.fault
+  bad =
+      pair_fault c.args.bytes.now (slots_of c.loop-index.row) c.loop-index.index c.in-Err.fault c.in-Err.ensures.fault c.loop-index.invariant.read (omega arith) (omega (arith, c.if-bytes-eq1.false)) (omega (arith, c.if-bytes-gt14.false))
+
+pub returns-in-Err-clause-only : goal.returns-in-Err-clause-only
+returns-in-Err-clause-only c = fault_spells_nothing c.args.bytes.now c.in-Err.fault (bad c)
+
+pub returns-in-Err-clause-first_fault : goal.returns-in-Err-clause-first_fault
+returns-in-Err-clause-first_fault c = λ fault has. ap (λ g. Err g) (one_fault c.args.bytes.now c.in-Err.fault fault (bad c) has)
+
+pub loop-index-preserved : goal.loop-index-preserved
+loop-index-preserved c = record {
+  read =
+      row_more c.args.bytes.now (slots_of c.loop-index.row) (slots_of c.push.new.self) c.in-Ok.slot c.loop-index.index c.loop-index.invariant.read c.in-Ok.ensures.read c.push.ensures.entries (omega arith);
+  counted = omega arith;
+}
+
 pub returns-clause-only : goal.returns-clause-only
-returns-clause-only c = only_spelled c.args.bytes.now c.read_row.result c.read_row.ensures.read c.read_row.ensures.fault
+returns-clause-only c = λ slots few is.
+    let read = sym (take_all (2 * c.loop-index.index) c.args.bytes.now (omega (arith, c.loop-index-test.false, c.if-bytes-eq1.false))) ∙ c.loop-index.invariant.read in
+    same_slots (slots_of c.loop-index.row) slots (sym read ∙ is)
 
 pub returns-clause-first_fault : goal.returns-clause-first_fault
-returns-clause-first_fault c = only_fault c.args.bytes.now c.read_row.result c.read_row.ensures.read c.read_row.ensures.fault
+returns-clause-first_fault c = λ fault has.
+    let read = sym (take_all (2 * c.loop-index.index) c.args.bytes.now (omega (arith, c.loop-index-test.false, c.if-bytes-eq1.false))) ∙ c.loop-index.invariant.read in
+    let few : length (slots_of c.loop-index.row) ≤ 7 = omega (arith, c.loop-index.row.fits, length-take c.loop-index.row.len c.loop-index.row.slots) in
+    absurd (fault_spells_nothing c.args.bytes.now fault has (slots_of c.loop-index.row) few read)

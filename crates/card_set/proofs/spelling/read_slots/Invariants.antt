@@ -1,7 +1,7 @@
 use Rattle.std.proofs.Common.{◌≡◌, ◌*◌, take}
 use Rattle.card_set.specs.Row.{slots_of}
 use Rattle.card_set.specs.Spelling.{spelling}
-use Rattle.card_set.proofs.spelling.read_pairs.Given as goal
+use Rattle.card_set.proofs.spelling.read_slots.Given as goal
 
 -- the pairs so far spell the slots so far
 abbrev pub invariant-loop-index : goal.invariant-loop-index
