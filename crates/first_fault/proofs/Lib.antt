@@ -1,5 +1,7 @@
 -- Laws of reading one item after the other, as a loop does, and of digits.
 pub mod EachItem
 pub mod Thread
+pub mod Added
+pub mod FailsThen
 pub mod MoreDigits
 pub mod DecimalDigits

@@ -24,6 +24,11 @@ abbrev pub read_if : {F D A : Type 0} → (D → Result A F) → Option D → Re
 read_if form None = Ok None
 read_if form (Some item) = form item >>= λ x. Ok (Some x)
 
+-- the same, in a form that may give nothing
+abbrev pub or_none : {F D A : Type 0} → (D → Result (Option A) F) → Option D → Result (Option A) F
+or_none form None = Ok None
+or_none form (Some item) = form item
+
 -- items one after the other, the first of which has this number, each read in a form that is told
 -- its number
 unfoldable pub each_from : {F D A : Type 0} → (ℕ → D → Result A F) → ℕ → List D → Result (List A) F
@@ -40,7 +45,10 @@ thread_from form counts n (item ∷ rest) =
     >>= λ found.
     thread_from form found.1 (n + 1) rest >>= λ others. Ok (found.0 ++ others.0, others.1)
 
--- the same, in a form that may give nothing
-abbrev pub or_none : {F D A : Type 0} → (D → Result (Option A) F) → Option D → Result (Option A) F
-or_none form None = Ok None
-or_none form (Some item) = form item
+-- items one after the other, the first of which has this index, each added to what was read before
+-- it
+unfoldable pub added_from : {F D S : Type 0} → (S → ℕ → D → Result S F) → S → ℕ → List D
+    → Result S F
+added_from form before index [] = Ok before
+added_from form before index (item ∷ rest) =
+    form before index item >>= λ after. added_from form after (index + 1) rest

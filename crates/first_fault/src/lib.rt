@@ -2,12 +2,14 @@
 //! are; and texts are cut into words.
 #![tactic(auto)]
 
+mod bounds;
 mod digits;
 mod limits;
 mod stop;
 mod text;
 mod words;
 
+pub use bounds::{has_count, keep_within};
 pub use digits::{are_digits, read_digits};
 pub use limits::{MOST_FILE_MOVES, MOST_HANDS, MOST_TEXT_BYTES, Quantity};
 pub use stop::Stop;

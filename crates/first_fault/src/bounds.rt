@@ -1,0 +1,25 @@
+//! A number, and how many values a list has, are held against a least and a greatest number.
+ghost use Rattle.std.specs.Prelude.{◌≡◌, ◌≤◌, ◌&&◌, List, length, map, nat_le, IfOk};
+ghost use Rattle.first_fault.specs.Forms.{within};
+ghost use Rattle.first_fault.specs.Reading.{Gives};
+
+use crate::stop::Stop;
+
+/// The number, where it is from `least` to `most`, or else the fault.
+pub fn keep_within<F: Copy>(number: u64, least: u64, most: u64, fault: F) -> Result<u64, Stop<F>>
+    ensures within { IfOk result (λ number. (least ≤ number) × (number ≤ most)) }
+    ensures said { Gives (λ number. number) result (within least most fault number) }
+{
+    if least <= number && number <= most {
+        Ok(number)
+    } else {
+        Err(Stop::At(fault))
+    }
+}
+
+/// Whether there are from `least` to `most` values.
+pub fn has_count<T>(values: &[T], least: usize, most: usize) -> bool
+    ensures { result ≡ (nat_le least (length values.now) && nat_le (length values.now) most) }
+{
+    least <= values.len() && values.len() <= most
+}
