@@ -35,22 +35,16 @@ fn greatest_score<O: HandOrder>(hole: &CardRow, board: &CardRow, pick: Pick) -> 
         ≡ greatest O.points (allowed pick (cards_of hole.now) (cards_of board.now)) }
 {
     match pick {
-        Pick::AnyFive => any_five::<O>(hole, board),
-        Pick::TwoAndThree => two_and_three::<O>(hole, board),
-        Pick::AllHeld => all_held::<O>(hole),
+        Pick::AnyFive => O::best_set(&CardSet::of(&joined(hole, board))),
+        Pick::TwoAndThree => {
+            let judge = WithBoard::<O> {
+                board: *board,
+                order: PhantomData,
+            };
+            best_choice(&judge, hole, 0, CardRow::new(), 2)
+        }
+        Pick::AllHeld => O::best_set(&CardSet::of(hole)),
     }
-}
-
-// The best of the cards of both rows.
-fn any_five<O: HandOrder>(hole: &CardRow, board: &CardRow) -> Option<Score>
-    requires held { O.HELD ≡ 5 }
-    requires enough { 5 ≤ length (cards_of hole.now) + length (cards_of board.now) }
-    requires room { length (cards_of hole.now) + length (cards_of board.now) ≤ 7 }
-    requires different { AllDifferent (cards_of hole.now ++ cards_of board.now) }
-    ensures { option_map (λ s. s.points) result
-        ≡ greatest O.points (choices 5 (cards_of hole.now ++ cards_of board.now)) }
-{
-    O::best_set(&CardSet::of(&joined(hole, board)))
 }
 
 // The cards of the first row, then those of the second.
@@ -63,28 +57,6 @@ fn joined(first: &CardRow, second: &CardRow) -> CardRow
         row.push(*card);
     }
     row
-}
-
-// The best of two hole cards with three cards of the board.
-fn two_and_three<O: HandOrder>(hole: &CardRow, board: &CardRow) -> Option<Score>
-    requires held { O.HELD ≡ 5 }
-    requires different { AllDifferent (cards_of hole.now ++ cards_of board.now) }
-    ensures { option_map (λ s. s.points) result
-        ≡ greatest O.points (choices_of_both 2 (cards_of hole.now) 3 (cards_of board.now)) }
-{
-    let judge = WithBoard::<O> {
-        board: *board,
-        order: PhantomData,
-    };
-    best_choice(&judge, hole, 0, CardRow::new(), 2)
-}
-
-// The only choice of all hole cards.
-fn all_held<O: HandOrder>(hole: &CardRow) -> Option<Score>
-    requires { AreHeld O.HELD (cards_of hole.now) }
-    ensures { option_map (λ s. s.points) result ≡ O.points (cards_of hole.now) }
-{
-    O::best_set(&CardSet::of(hole))
 }
 
 /// How many points a choice has.

@@ -1,10 +1,10 @@
 -- Where no rank is left out, those that occur at all are the bits that some suit has.
-use Rattle.std.proofs.Common.{◌≡◌, ◌↔◌, ℕ, zero, suc, ◌+◌, ◌-◌, ◌<◌, ◌≤◌, ◌==◌, ◌&&◌, not, Bool, true, false, cond, List, [], ◌∷◌, ◌++◌, refl, sym, ◌∙◌, ap, arith, bit_or, eqb-true, eq-eqb}
+use Rattle.std.proofs.Common.{◌≡◌, ◌↔◌, ℕ, zero, suc, ◌+◌, ◌-◌, ◌<◌, ◌≤◌, ◌==◌, ◌&&◌, Bool, true, false, cond, List, [], ◌∷◌, ◌++◌, refl, sym, ◌∙◌, ap, arith, bit_or, eqb-true, eq-eqb}
 use Rattle.std.specs.Int.{bit_at}
 use Rattle.std.specs.Prelude.{nat_le}
 use Rattle.std.proofs.lemmas.Bool.{le-leb, leb-true}
 use Rattle.hand_order.specs.Lowest.{has_height, lowest}
-use Rattle.low_rank.specs.RazzBest.{is_free, low_count, lowest_ranks, place_of}
+use Rattle.low_rank.specs.RazzBest.{is_free, low_count, place_of}
 use Rattle.low_rank.specs.declared.razz.SuitMasks.{SuitMasks}
 use Rattle.list_laws.proofs.Bits.{all_level}
 
@@ -36,12 +36,11 @@ same_test a n same = by_tests (a == 1) (nat_le 1 n) refl refl
     by_tests false true is other = sym is ∙ eq-eqb a 1 (same.1 (leb-true 1 n other))
 
 -- the bits that some suit has are the ranks that occur
-pub all_free : (masks : SuitMasks) (least need : ℕ) (others : List ℕ) → least ≡ 1 → others ≡ [] → lowest (has_height (bit_or (bit_or (bit_or masks.clubs masks.diamonds) masks.hearts) masks.spades)) 13 1 need ≡ lowest_ranks (is_free (low_count masks) least others) need
-unfolding lowest_ranks
-all_free masks least need others one none =
-    lowest-agree (has_height all) (is_free (low_count masks) 1 []) 13 1 need (λ j below. same_test (bit_at all (place_of (1 + j))) (low_count masks (1 + j)) (all_level masks.clubs masks.diamonds masks.hearts masks.spades (place_of (1 + j))) ∙ sym (and_true (nat_le 1 (low_count masks (1 + j)))))
-    ∙ ap (λ (n : ℕ). lowest (is_free (low_count masks) n []) 13 1 need) (sym one)
-    ∙ ap (λ (l : List ℕ). lowest (is_free (low_count masks) least l) 13 1 need) (sym none)
+pub all_free : (masks : SuitMasks) (least heights from need : ℕ) (others : List ℕ) → least ≡ 1 → others ≡ [] → lowest (has_height (bit_or (bit_or (bit_or masks.clubs masks.diamonds) masks.hearts) masks.spades)) heights from need ≡ lowest (is_free (low_count masks) least others) heights from need
+all_free masks least heights from need others one none =
+    lowest-agree (has_height all) (is_free (low_count masks) 1 []) heights from need (λ j below. same_test (bit_at all (place_of (from + j))) (low_count masks (from + j)) (all_level masks.clubs masks.diamonds masks.hearts masks.spades (place_of (from + j))) ∙ sym (and_true (nat_le 1 (low_count masks (from + j)))))
+    ∙ ap (λ (n : ℕ). lowest (is_free (low_count masks) n []) heights from need) (sym one)
+    ∙ ap (λ (l : List ℕ). lowest (is_free (low_count masks) least l) heights from need) (sym none)
   where
     all : ℕ
     all = bit_or (bit_or (bit_or masks.clubs masks.diamonds) masks.hearts) masks.spades

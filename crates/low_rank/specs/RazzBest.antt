@@ -1,5 +1,5 @@
 -- The lowest ranks of each class of razz: those that occur oftener, and the others beside them.
-use Rattle.std.specs.Prelude.{◌≡◌, ◌==◌, ◌&&◌, not, ℕ, ◌+◌, ◌-◌, Bool, List, [], ◌++◌, length, nat_le, if◌then◌else◌}
+use Rattle.std.specs.Prelude.{◌≡◌, ◌==◌, ◌&&◌, ◌||◌, not, ℕ, ◌+◌, ◌-◌, Bool, List, [], ◌++◌, length, nat_le, if◌then◌else◌}
 use Rattle.std.specs.List.{list_any}
 use Rattle.std.specs.Int.{bit_at}
 use Rattle.hand_order.specs.Lowest.{lowest}
@@ -7,7 +7,9 @@ use Rattle.low_rank.specs.declared.razz.SuitMasks.{SuitMasks}
 
 -- how often the ranks that a class names first occur
 abbrev pub often : ℕ → ℕ
-often class = if class == 5 then 4 else (if class == 4 then 3 else (if class == 3 then 3 else 2))
+often class =
+    if (class == 0) || ((class == 1) || (class == 2)) then 2
+    else (if (class == 3) || (class == 4) then 3 else 4)
 
 -- how many ranks these are
 abbrev pub often_ranks : ℕ → ℕ

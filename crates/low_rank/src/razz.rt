@@ -16,7 +16,6 @@ ghost use Rattle.low_rank.specs.RazzBest.{
   is_free,
   is_height_of,
   low_count,
-  lowest_ranks,
   often,
   often_ranks,
   seldom,
@@ -88,7 +87,6 @@ fn best_class(masks: &SuitMasks, class: u32) -> LowRanks
 
 // The shape of each class: five ranks, a pair, two pairs, three, a full house, four of a rank.
 fn shape_of(class: u32) -> Shape
-    requires { class ≤ 5 }
     ensures often { result.often ≡ often class }
     ensures often_ranks { result.often_ranks ≡ often_ranks class }
     ensures seldom { result.seldom ≡ seldom class }
@@ -140,28 +138,20 @@ fn lowest_of_shape(masks: &SuitMasks, shape: &Shape) -> RankRow
     ensures { heights_of result ≡ both_ranks (low_count masks.now)
         shape.now.often shape.now.often_ranks shape.now.seldom shape.now.seldom_ranks }
 {
-    let first = lowest_ranks(masks, shape.often, &RankRow::new(), shape.often_ranks);
-    let others = lowest_ranks(masks, shape.seldom, &first, shape.seldom_ranks);
+    let first = lowest_free(
+        masks,
+        shape.often,
+        &RankRow::new(),
+        13,
+        1,
+        shape.often_ranks,
+    );
+    let others = lowest_free(masks, shape.seldom, &first, 13, 1, shape.seldom_ranks);
     joined(&first, &others)
 }
 
 // So many of the lowest ranks that occur often enough and are none of the others, the greatest
-// first.
-#[tactic(auto, unfolding(crate::specs::RazzBest::lowest_ranks))]
-fn lowest_ranks(masks: &SuitMasks, least: u8, others: &RankRow, need: u8) -> RankRow
-    requires { need ≤ 5 }
-    ensures list { heights_of result
-        ≡ lowest_ranks (is_free (low_count masks.now) least (heights_of others.now)) need }
-    ensures long { length (heights_of result) ≤ need }
-{
-    if least == 1 && others.as_slice().is_empty() {
-        let all = masks.clubs | masks.diamonds | masks.hearts | masks.spades;
-        return hand_order::lowest_ranks(all, 13, 1, need);
-    }
-    lowest_free(masks, least, others, 13, 1, need)
-}
-
-// The same among as many heights from one on.
+// first, among as many heights from one on.
 fn lowest_free(
     masks: &SuitMasks,
     least: u8,
@@ -177,6 +167,10 @@ fn lowest_free(
         ≡ lowest (is_free (low_count masks.now) least (heights_of others.now)) heights from need }
     ensures long { length (heights_of result) ≤ need }
 {
+    if least == 1 && others.as_slice().is_empty() {
+        let all = masks.clubs | masks.diamonds | masks.hearts | masks.spades;
+        return hand_order::lowest_ranks(all, heights, from, need);
+    }
     if heights == 0 || need == 0 {
         return RankRow::new();
     }
@@ -188,26 +182,18 @@ fn lowest_free(
     row
 }
 
-// Whether a rank occurs often enough and is none of the others.
+// Whether a rank occurs in enough suits and is none of the others.
 fn is_free(masks: &SuitMasks, least: u8, others: &RankRow, height: u8) -> bool
     requires first { 1 ≤ height }
     requires last { height ≤ 13 }
     ensures { result ≡ is_free (low_count masks.now) least (heights_of others.now) height }
 {
-    least <= count_of_suits(masks, height) && !is_height_of(others.as_slice(), height)
-}
-
-// How many suits have a rank.
-fn count_of_suits(masks: &SuitMasks, height: u8) -> u8
-    requires first { 1 ≤ height }
-    requires last { height ≤ 13 }
-    ensures { result ≡ low_count masks.now height }
-{
     let place = if height == 1 { 12 } else { height - 2 };
-    bit_of(masks.clubs, place)
+    let suits = bit_of(masks.clubs, place)
         + bit_of(masks.diamonds, place)
         + bit_of(masks.hearts, place)
-        + bit_of(masks.spades, place)
+        + bit_of(masks.spades, place);
+    least <= suits && !is_height_of(others.as_slice(), height)
 }
 
 // A bit of a mask, 1 where it is set.

@@ -1,4 +1,4 @@
-use Rattle.std.proofs.Common.{ℕ, ◌-◌, ◌^◌, List, Some, length, arith, ap, ◌∙◌, bit_or}
+use Rattle.std.proofs.Common.{ℕ, ◌-◌, ◌^◌, List, Some, arith, ap, ◌∙◌, bit_or}
 use Rattle.card_set.specs.declared.card.Suit.TheVariants as suits
 use Rattle.hand_order.specs.Digits.{class_above}
 use Rattle.hand_order.specs.Lowest.{has_height}
