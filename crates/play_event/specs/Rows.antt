@@ -4,8 +4,8 @@ use Rattle.std.specs.List.{list_all}
 use Rattle.std.proofs.Common.{arith, refl, length-append}
 use Rattle.std.proofs.lemmas.List.{length-replicate}
 use Rattle.std.proofs.lemmas.Bool.{and_parts, leb-true}
-use Rattle.chip_ledger.specs.declared.rows.SeatRow.{SeatRow}
-use Rattle.chip_ledger.specs.declared.rows.TheConstants.{MOST_AMOUNT}
+use Rattle.chip_ledger.specs.declared.seat_row.SeatRow.{SeatRow}
+use Rattle.chip_ledger.specs.declared.seat_row.TheConstants.{MOST_AMOUNT}
 
 -- a list of two to ten amounts
 abbrev pub is_row : List ℕ → Bool

@@ -1,8 +1,8 @@
 -- The up-cards and the hand of a seat, in their rows.
 use Rattle.std.specs.Prelude.{ℕ, ◌-◌, List}
 use Rattle.card_set.specs.declared.card.Slot.{Slot}
-use Rattle.play_event.specs.declared.card_rows.UpRow.{UpRow}
-use Rattle.play_event.specs.declared.card_rows.HandRow.{HandRow}
+use Rattle.play_event.specs.declared.up_cards.UpRow.{UpRow}
+use Rattle.play_event.specs.declared.hands.HandRow.{HandRow}
 use Rattle.play_event.specs.SlotRows.{slots_at}
 
 -- the up-cards of seat number n

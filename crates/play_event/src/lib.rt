@@ -2,10 +2,10 @@
 //! play.
 #![tactic(auto)]
 
-mod card_rows;
 mod code;
 mod cursor;
 mod event;
+mod hands;
 mod laws;
 mod limit;
 mod packed_event;
@@ -17,11 +17,12 @@ mod setup;
 mod stake_laws;
 mod street;
 mod unpacking;
+mod up_cards;
 
-pub use card_rows::{HandRow, UpRow};
 pub use code::Code;
 pub use cursor::Cursor;
 pub use event::{Event, Kind, Spelled};
+pub use hands::HandRow;
 pub use laws::{
     law_of_chips, law_of_floors, law_of_movers, law_of_places, law_of_raises, law_of_reasons,
     law_of_scripts, law_of_spellings, law_of_streets, law_of_targets, law_of_up_cards,
@@ -34,3 +35,4 @@ pub use script::Script;
 pub use setup::{Reopen, Rules, Setup};
 pub use stake_laws::law_of_folds;
 pub use street::{Size, Street};
+pub use up_cards::UpRow;

@@ -1,14 +1,13 @@
 //! An event is packed into at most fifteen bytes, before any of them goes to a script.
 ghost use Rattle.std.specs.Prelude.{◌≡◌, ◌+◌, ◌^◌, ◌<◌, ◌≤◌, List, [], ◌∷◌, ◌++◌, length, map, IfSome, OnErr, OnOk};
 ghost use Rattle.std.specs.Int.{w64, to_be_bytes};
-ghost use Rattle.card_set.specs.Row.{slots_of, cards_of};
 ghost use Rattle.play_event.specs.declared.event.Event.{Event};
-ghost use Rattle.play_event.specs.EventNumbers.{AmountFits, ChipsFit, IsEvent, AreEvents};
-ghost use Rattle.play_event.specs.PackedForm.{actor_byte, card_byte, slot_byte, counted, stated_bytes, amount_bytes, kind_byte, kind_bytes, packed_event, packed_events};
+ghost use Rattle.play_event.specs.EventNumbers.{ChipsFit, IsEvent, AreEvents};
+ghost use Rattle.play_event.specs.PackedForm.{actor_byte, card_byte, slot_byte, counted, kind_byte, kind_bytes, packed_event, packed_events};
 
 use crate::event::{Event, Kind, Spelled};
 use crate::packed_event::PackedEvent;
-use card_set::{Card, CardRow, Slot, SlotRow, place_in_deck};
+use card_set::{Card, Slot, place_in_deck};
 use chip_ledger::Seat;
 use std::alloc::AllocError;
 
@@ -24,6 +23,7 @@ pub fn law_of_packing()
 
 /// Puts the packed form of the event behind those of others. Without memory for it nothing changes.
 /// Before the first one there is made room for the events of most hands.
+#[tactic(auto, unfolding(crate::specs::PackedForm::packed_event))]
 pub(crate) fn append(script: &mut Vec<u8>, event: Event) -> Result<(), AllocError>
     ensures appended { OnOk result (script.new.items ≡ script.old.items ++ packed_event event) }
     ensures unchanged { OnErr result (script.new.items ≡ script.old.items) }
@@ -33,20 +33,10 @@ pub(crate) fn append(script: &mut Vec<u8>, event: Event) -> Result<(), AllocErro
         script.try_reserve(USUAL_BYTES)?;
     }
     let mut packed = PackedEvent::new();
-    pack(&mut packed, event);
-    packed.append_to(script)
-}
-
-// The packed form of the event, made where it is kept.
-#[tactic(auto, unfolding(crate::specs::PackedForm::packed_event))]
-fn pack(packed: &mut PackedEvent, event: Event)
-    requires { packed.old ≡ [] }
-    ensures packed { packed.new ≡ packed_event event }
-    ensures event { IsEvent event }
-{
     packed.push(number_of_kind(event.kind));
     packed.extend(&event.at.to_be_bytes());
-    pack_kind(packed, event.kind);
+    pack_kind(&mut packed, event.kind);
+    packed.append_to(script)
 }
 
 fn number_of_kind(kind: Kind) -> u8
@@ -72,27 +62,59 @@ fn pack_kind(packed: &mut PackedEvent, kind: Kind)
     ensures chips { ChipsFit kind }
 {
     match kind {
-        Kind::Hole { seat, cards } => pack_slots_of(packed, seat, &cards),
+        Kind::Hole { seat, cards } => {
+            packed.push(seat.number());
+            pack_slots(packed, cards.as_slice());
+        }
         Kind::Board { cards } => pack_cards(packed, cards.as_slice()),
         Kind::Fold { actor } => packed.push(number_of_actor(actor)),
-        Kind::Call { actor, stated } => pack_call(packed, actor, stated),
-        Kind::Raise { actor, amount } => pack_raise(packed, actor, amount),
+        Kind::Call { actor, stated } => {
+            packed.push(number_of_actor(actor));
+            match stated {
+                None => packed.push(0),
+                Some(chips) => packed.extend(&with_chips(1, chips)),
+            }
+        }
+        Kind::Raise { actor, amount } => {
+            packed.push(number_of_actor(actor));
+            match amount {
+                Spelled::To(chips) => packed.extend(&with_chips(1, chips)),
+                Spelled::Added(chips) => packed.extend(&with_chips(2, chips)),
+                Spelled::HandTotal(chips) => packed.extend(&with_chips(3, chips)),
+                Spelled::Unit => packed.push(4),
+            }
+        }
         Kind::BringIn { actor } => packed.push(number_of_actor(actor)),
-        Kind::Discard { seat, cards } => pack_slots_of(packed, seat, &cards),
-        Kind::Show { seat, cards } => pack_cards_of(packed, seat, &cards),
+        Kind::Discard { seat, cards } => {
+            packed.push(seat.number());
+            pack_slots(packed, cards.as_slice());
+        }
+        Kind::Show { seat, cards } => {
+            packed.push(seat.number());
+            pack_cards(packed, cards.as_slice());
+        }
         Kind::Muck { seat } => packed.push(seat.number()),
     }
 }
 
-fn pack_slots_of(packed: &mut PackedEvent, seat: Seat, cards: &SlotRow)
-    requires { length packed.old ≤ 5 }
-    ensures { packed.new
-        ≡ packed.old ++ seat.number ∷ counted (map slot_byte (slots_of cards.now)) }
+fn number_of_actor(actor: Option<Seat>) -> u8
+    ensures { result ≡ actor_byte actor }
 {
-    packed.push(seat.number());
-    pack_slots(packed, cards.as_slice());
+    match actor {
+        None => 0,
+        Some(seat) => seat.number(),
+    }
 }
 
+// A byte, and chips behind it.
+fn with_chips(first: u8, chips: u64) -> [u8; 9]
+    ensures { result ≡ first ∷ to_be_bytes w64 chips }
+{
+    let [a, b, c, d, e, f, g, h] = chips.to_be_bytes();
+    [first, a, b, c, d, e, f, g, h]
+}
+
+// The numbers of slots, behind how many there are.
 fn pack_slots(packed: &mut PackedEvent, slots: &[Slot])
     requires room { length packed.old ≤ 6 }
     requires few { length slots.now ≤ 7 }
@@ -113,59 +135,7 @@ fn number_of_slot(slot: Slot) -> u8
     }
 }
 
-fn pack_call(packed: &mut PackedEvent, actor: Option<Seat>, stated: Option<u64>)
-    requires { length packed.old ≤ 5 }
-    ensures packed { packed.new ≡ packed.old ++ actor_byte actor ∷ stated_bytes stated }
-    ensures chips { IfSome stated (λ chips. chips < 2 ^ 64) }
-{
-    packed.push(number_of_actor(actor));
-    match stated {
-        None => packed.push(0),
-        Some(chips) => pack_chips(packed, 1, chips),
-    }
-}
-
-fn pack_raise(packed: &mut PackedEvent, actor: Option<Seat>, amount: Spelled)
-    requires { length packed.old ≤ 5 }
-    ensures packed { packed.new ≡ packed.old ++ actor_byte actor ∷ amount_bytes amount }
-    ensures chips { AmountFits amount }
-{
-    packed.push(number_of_actor(actor));
-    match amount {
-        Spelled::To(chips) => pack_chips(packed, 1, chips),
-        Spelled::Added(chips) => pack_chips(packed, 2, chips),
-        Spelled::HandTotal(chips) => pack_chips(packed, 3, chips),
-        Spelled::Unit => packed.push(4),
-    }
-}
-
-fn number_of_actor(actor: Option<Seat>) -> u8
-    ensures { result ≡ actor_byte actor }
-{
-    match actor {
-        None => 0,
-        Some(seat) => seat.number(),
-    }
-}
-
-// A byte, and chips behind it.
-fn pack_chips(packed: &mut PackedEvent, first: u8, chips: u64)
-    requires { length packed.old ≤ 6 }
-    ensures { packed.new ≡ packed.old ++ first ∷ to_be_bytes w64 chips }
-{
-    packed.push(first);
-    packed.extend(&chips.to_be_bytes());
-}
-
-fn pack_cards_of(packed: &mut PackedEvent, seat: Seat, cards: &CardRow)
-    requires { length packed.old ≤ 5 }
-    ensures { packed.new
-        ≡ packed.old ++ seat.number ∷ counted (map card_byte (cards_of cards.now)) }
-{
-    packed.push(seat.number());
-    pack_cards(packed, cards.as_slice());
-}
-
+// The numbers of cards, behind how many there are.
 fn pack_cards(packed: &mut PackedEvent, cards: &[Card])
     requires room { length packed.old ≤ 6 }
     requires few { length cards.now ≤ 7 }

@@ -1,5 +1,5 @@
 //! Packed bytes are read from left to right: an event at their front, and the bytes behind it.
-ghost use Rattle.std.specs.Prelude.{◌≡◌, ◌≤◌, ◌&&◌, map, length, Option, Some, None, IfSome};
+ghost use Rattle.std.specs.Prelude.{◌≡◌, ◌≤◌, ◌&&◌, length, Option, Some, None, IfSome};
 ghost use Rattle.std.specs.Option.{option_map};
 ghost use Rattle.std.specs.Int.{w32, w64};
 ghost use Rattle.card_set.specs.Row.{slots_of, cards_of};
@@ -177,20 +177,12 @@ fn read_hand(number: u8, seat: Seat, bytes: &[u8]) -> Option<(Kind, &[u8])>
 fn read_slots(bytes: &[u8]) -> Option<(SlotRow, &[u8])>
     ensures { option_map (λ read. (slots_of read.0, read.1.now)) result ≡ slots_at bytes.now }
 {
-    let (row, rest) = read_counted(bytes)?;
-    Some((slot_row(row), rest))
-}
-
-// The slots of up to seven bytes.
-fn slot_row(bytes: &[u8]) -> SlotRow
-    requires { length bytes.now ≤ 7 }
-    ensures { slots_of result ≡ map slot_of bytes.now }
-{
+    let (numbers, rest) = read_counted(bytes)?;
     let mut row = SlotRow::new();
-    for byte in bytes {
-        row.push(slot_named(*byte));
+    for number in numbers {
+        row.push(slot_named(*number));
     }
-    row
+    Some((row, rest))
 }
 
 fn slot_named(byte: u8) -> Slot
@@ -207,8 +199,12 @@ fn slot_named(byte: u8) -> Slot
 fn read_cards(bytes: &[u8]) -> Option<(CardRow, &[u8])>
     ensures { option_map (λ read. (cards_of read.0, read.1.now)) result ≡ cards_at bytes.now }
 {
-    let (row, rest) = read_counted(bytes)?;
-    Some((card_row(row), rest))
+    let (numbers, rest) = read_counted(bytes)?;
+    let mut row = CardRow::new();
+    for number in numbers {
+        row.push(card_named(*number));
+    }
+    Some((row, rest))
 }
 
 // Up to seven bytes that stand behind their count.
@@ -233,18 +229,6 @@ fn read_byte(bytes: &[u8]) -> Option<(u8, &[u8])>
         [] => None,
         [byte, rest @ ..] => Some((*byte, rest)),
     }
-}
-
-// The cards of up to seven bytes.
-fn card_row(bytes: &[u8]) -> CardRow
-    requires { length bytes.now ≤ 7 }
-    ensures { cards_of result ≡ map card_of bytes.now }
-{
-    let mut row = CardRow::new();
-    for byte in bytes {
-        row.push(card_named(*byte));
-    }
-    row
 }
 
 // The card of a byte from 1 to 52.

@@ -1,56 +1,10 @@
-//! A row of slots for each of up to ten seats, and rows without slots past the last seat.
+//! A row has the cards that each of up to ten seats holds, and none past the last seat.
 ghost use Rattle.std.specs.Prelude.{◌≡◌, ◌≢◌, ℕ, ◌≤◌, [], length};
 ghost use Rattle.card_set.specs.Row.{slots_of};
 ghost use Rattle.play_event.specs.SlotRows.{slots_at};
 
 use card_set::SlotRow;
 use chip_ledger::Seat;
-
-/// The up-cards of each seat. The first seat's are at index 0.
-#[derive(Clone, Copy, Debug, PartialEq, Eq)]
-pub struct UpRow {
-    pub seats: u8,
-    pub cards: [SlotRow; 10],
-    pub ghost greatest: { seats ≤ 10 },
-    pub ghost full: { length cards ≡ 10 },
-    pub ghost filler: { (k : ℕ) → seats ≤ k → slots_at cards k ≡ [] },
-}
-
-impl UpRow {
-    ghost use Rattle.play_event.specs.SeatSlots.{ups_of};
-
-    /// A row of so many seats, each without up-cards.
-    pub fn new(seats: u8) -> Self
-        requires { seats ≤ 10 }
-        ensures seats { result.seats ≡ seats }
-        ensures empty { (n : ℕ) → ups_of result n ≡ [] }
-    {
-        let none = SlotRow::new();
-        UpRow {
-            seats,
-            cards: [none; 10],
-        }
-    }
-
-    /// The seat's up-cards.
-    pub fn get(&self, seat: Seat) -> SlotRow
-        requires { seat.number ≤ self.now.seats }
-        ensures { slots_of result ≡ ups_of self.now seat.number }
-    {
-        self.cards[seat.number as usize - 1]
-    }
-
-    /// Gives the seat these up-cards.
-    pub fn set(&mut self, seat: Seat, cards: SlotRow)
-        requires { seat.number ≤ self.old.seats }
-        ensures seats { self.new.seats ≡ self.old.seats }
-        ensures cards { ups_of self.new seat.number ≡ slots_of cards }
-        ensures others { (n : ℕ)
-            → 1 ≤ n → n ≢ seat.number → ups_of self.new n ≡ ups_of self.old n }
-    {
-        self.cards[seat.number as usize - 1] = cards;
-    }
-}
 
 /// The cards that each seat holds. The first seat's are at index 0.
 #[derive(Clone, Copy, Debug, PartialEq, Eq)]
@@ -78,9 +32,8 @@ impl HandRow {
         }
     }
 
-    /// The seat's cards.
+    /// The seat's cards; past the last seat none.
     pub fn get(&self, seat: Seat) -> SlotRow
-        requires { seat.number ≤ self.now.seats }
         ensures { slots_of result ≡ slots_of_hand self.now seat.number }
     {
         self.hands[seat.number as usize - 1]
