@@ -1,8 +1,8 @@
 -- The seat in turn that is kept, or that opens by up-cards, is the seat in turn by the rules.
-use Rattle.std.proofs.Common.{◌≡◌, ◌==◌, ◌≤◌, Bool, true, false, if◌then◌else◌, Option, Some, None, IfSome, is_some, ℕ, refl, sym, ap, subst, ◌∙◌, arith}
+use Rattle.std.proofs.Common.{◌≡◌, ◌≤◌, Bool, true, false, if◌then◌else◌, Option, Some, None, IfSome, is_some, ℕ, refl, sym, ap, subst, ◌∙◌}
 use Rattle.std.proofs.lemmas.Bool.{true≢false}
 use Rattle.chip_ledger.specs.declared.numbers.Seat.{Seat}
-use Rattle.play_event.specs.declared.card_rows.UpRow.{UpRow}
+use Rattle.play_event.specs.declared.up_cards.UpRow.{UpRow}
 use Rattle.play_event.specs.declared.reason.Due.{Due}
 use Rattle.play_event.specs.declared.reason.Due.TheVariants as dues
 use Rattle.play_event.specs.declared.limit.Opener.{Opener}
@@ -12,26 +12,18 @@ use Rattle.play_event.specs.Past.{Past}
 use Rattle.play_event.specs.Streets.{is_stud, is_opened_by_up_cards, opener_of}
 use Rattle.play_event.specs.TurnTargets.{is_bet_due}
 use Rattle.street_laws.specs.Dues.{is_move, is_before_moves}
-use Rattle.street_laws.specs.Seats.{IsSeat}
 use Rattle.street_laws.proofs.Unsettled.{bring_in_is_due}
 use Rattle.betting_numbers.specs.declared.running.RunningNumbers.{RunningNumbers}
 use Rattle.betting_numbers.specs.LegalMoves.{IsTurn}
 use Rattle.chip_ledger.specs.SeatsSaid.{seat_said}
-use Rattle.betting_numbers.specs.SeatsSaid.{turn_of}
+use Rattle.betting_numbers.specs.TurnSaid.{turn_of}
 use Rattle.betting_numbers.specs.Standing.{StandsFor}
 use Rattle.betting_numbers.specs.Seen.{first_behind_seen, has_to_move_seen, is_move_due_seen}
 use Rattle.betting_numbers.specs.Turn.{IsFirstBehind, IsNextUp, KeepsTurn}
 use Rattle.betting_numbers.specs.UpSeen.{HoldsUps, known_opener_seen}
 use Rattle.betting_numbers.proofs.InTurn.{turn_blinds, turn_found}
+use Rattle.betting_numbers.proofs.Passing.{opener_in}
 use Rattle.betting_numbers.proofs.UpOpener.{bets_move, turn_first, turn_later}
-
--- who opens where the blinds say it is of the hand
-opener_by : (b : RunningNumbers) (one : Bool) → IsSeat b.setup (if one then blinds_opener b.setup 1 else 1)
-opener_by b true = record { first = omega (arith, b.first_opener.first, b.first_opener_is); last = omega (arith, b.first_opener_in, b.first_opener_is) }
-opener_by b false = record { first = omega arith; last = omega (arith, b.setup.stacks.least) }
-
-opener_in : (b : RunningNumbers) → IsSeat b.setup (blinds_opener b.setup b.street)
-opener_in b = opener_by b (b.street == 1)
 
 -- a bet that is no bring-in is a move
 move_of_bets : (due : Due) → is_bet_due due ≡ true → (due ≡ dues.BringIn → ⊥) → is_move due ≡ true

@@ -3,16 +3,16 @@ use Rattle.std.specs.Prelude.{◌≡◌, ◌≢◌, ℕ, []}
 use Rattle.betting_numbers.specs.declared.running.RunningNumbers.{RunningNumbers}
 use Rattle.betting_numbers.specs.Standing.{StandsFor}
 use Rattle.betting_numbers.specs.UpTo.{StandsUpTo}
-use Rattle.chip_ledger.specs.declared.rows.LiveRow.{LiveRow}
+use Rattle.chip_ledger.specs.declared.live_row.LiveRow.{LiveRow}
 use Rattle.chip_ledger.specs.LiveRow.{flag_of, flagged}
 use Rattle.play_event.specs.Past.{Past, moves_of}
 use Rattle.play_event.specs.Seats.{is_live}
-use Rattle.street_laws.specs.Seats.{IsSeat}
+use Rattle.chip_ledger.specs.Seat.{IsSeatOf}
 
 -- of each seat of the hand, after each past for which the numbers stand so
 abbrev pub EachSeat : RunningNumbers → (Past → Type 0) → (Past → ℕ → Type 0) → Type 0
 EachSeat b stands P =
-    (past : Past) → stands past → (seat : ℕ) → IsSeat b.setup seat → P past seat
+    (past : Past) → stands past → (seat : ℕ) → IsSeatOf b.setup.stacks.seats seat → P past seat
 
 -- a row of so many seats has those of the hand, and this is so of each of them, whether the numbers
 -- stand for the past or up to their due

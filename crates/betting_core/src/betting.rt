@@ -7,7 +7,7 @@ ghost use Rattle.play_event.specs.Chips.{chips_left, chips_put};
 ghost use Rattle.play_event.specs.Due.{is_settled, turn};
 ghost use Rattle.play_event.specs.Openers.{TheSeat};
 ghost use Rattle.play_event.specs.TurnTargets.{has_targets, is_bet_due};
-ghost use Rattle.betting_numbers.specs.SeatsSaid.{turn_of};
+ghost use Rattle.betting_numbers.specs.TurnSaid.{turn_of};
 ghost use Rattle.play_event.specs.Streets.{unit};
 ghost use Rattle.betting_core.specs.Kept.{AreOfGame, IsOfTable};
 ghost use Rattle.betting_core.specs.Seen.{TellsLive, TellsSeats};
@@ -131,7 +131,6 @@ impl<V: Variant> Betting<V> {
     /// all-in. `None` where no move or bring-in is due, it is not known whose turn it is, or that
     /// seat may not raise.
     pub fn targets(&self, up: &UpRow) -> Option<Targets>
-        requires row { up.now.seats ≡ self.now.setup.stacks.seats }
         ensures some { WhereUps self.now up.now
             (λ past. is_some result ≡ has_targets self.now.setup self.now.rules past) }
         ensures ends { WhereUps self.now up.now
@@ -151,8 +150,7 @@ impl<V: Variant> Betting<V> {
     /// Whose turn it is, if it is known, where a bring-in or a move is due. The row is read in
     /// stud, where no seat has moved on the street yet.
     pub fn turn_now(&self, up: &UpRow) -> Option<Seat>
-        requires row { up.now.seats ≡ self.now.setup.stacks.seats }
-        requires bets { is_bet_due self.now.due ≡ true }
+        requires { is_bet_due self.now.due ≡ true }
         ensures turn { WhereUps self.now up.now
             (λ past. IsTurn self.now past (turn_of (seat_said result))) }
         ensures in_hand { IsOfTable self.now result }
@@ -163,7 +161,6 @@ impl<V: Variant> Betting<V> {
     // Whose turn it is, if it is known, and who is behind where the row is read. It is nobody's
     // where neither a bring-in nor a move is due.
     pub(crate) fn turn_found(&self, up: &UpRow) -> SeatInTurn
-        requires row { up.now.seats ≡ self.now.setup.stacks.seats }
         ensures turn { WhereUps self.now up.now
             (λ past. is_bet_due self.now.due ≡ true
             → IsTurn self.now past (turn_of (seat_said result.seat))) }

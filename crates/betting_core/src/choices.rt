@@ -12,7 +12,6 @@ use variant_table::Variant;
 impl<V: Variant> Betting<V> {
     /// What the seat owes.
     pub fn owed(&self, seat: Seat) -> u64
-        requires { seat.number ≤ self.now.setup.stacks.seats }
         ensures { result ≡ owed_seen self.now seat.number }
     {
         self.numbers.owed(seat)
@@ -20,7 +19,6 @@ impl<V: Variant> Betting<V> {
 
     /// Whether the seat may fold, where it is in turn and a move is due.
     pub fn may_fold(&self, seat: Seat) -> bool
-        requires { seat.number ≤ self.now.setup.stacks.seats }
         ensures { result ≡ is_none (fold_why self.now (Some seat.number) seat.number) }
     {
         self.numbers.against_fold(Some(seat), seat).is_none()
@@ -28,7 +26,6 @@ impl<V: Variant> Betting<V> {
 
     /// The chips that a call adds: what the seat owes, as far as its chips reach.
     pub fn chips_to_call(&self, seat: Seat) -> u64
-        requires { seat.number ≤ self.now.setup.stacks.seats }
         ensures { result ≡ call_seen self.now seat.number - amount_of self.now.bets seat.number }
     {
         self.numbers
@@ -38,7 +35,6 @@ impl<V: Variant> Betting<V> {
 
     /// The chips of the street that the seat has put after its bring-in.
     pub fn bring_in_target(&self, seat: Seat) -> u64
-        requires { seat.number ≤ self.now.setup.stacks.seats }
         ensures { result ≡ bring_in_seen self.now seat.number }
     {
         self.numbers.bring_in_target(seat)

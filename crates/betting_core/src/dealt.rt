@@ -10,7 +10,7 @@ ghost use Rattle.betting_numbers.specs.Standing.{StandsFor};
 ghost use Rattle.betting_numbers.specs.UpTo.{StandsUpTo};
 ghost use Rattle.street_laws.specs.Done.{is_done};
 ghost use Rattle.street_laws.specs.Dues.{is_deal_or_draw, is_cards_due};
-ghost use Rattle.betting_numbers.specs.Turn.{IsDealtTo, IsNextUp, IsPassedTo, IsSettledTo};
+ghost use Rattle.betting_numbers.specs.Turn.{IsDealtTo, IsNextUp, IsPassedTo};
 ghost use Rattle.street_laws.specs.Walk.{street_cards};
 ghost use Rattle.chip_ledger.specs.SeatsSaid.{seat_said};
 
@@ -52,7 +52,7 @@ impl<V: Variant> Betting<V> {
         if self.numbers.is_bring_in_due(stud::<V>()) {
             self.numbers.set_turn(Due::BringIn, None);
         } else {
-            pass::<V>(&mut self.numbers, None);
+            pass::<V>(&mut self.numbers, false, None);
         }
     }
 }
@@ -67,25 +67,17 @@ fn stud<V: Variant>() -> bool
     }
 }
 
-// What is due after a move that led to these numbers, where this seat, if it is known, is next up.
-pub(crate) fn settle<V: Variant>(table: &mut RunningNumbers, behind: Option<Seat>)
+// What is due where no bring-in is: nothing more where the hand is over, else a move of the seat in
+// turn, or the next street begins. Where it is known who is next up, that is this seat.
+pub(crate) fn pass<V: Variant>(table: &mut RunningNumbers, over: bool, behind: Option<Seat>)
     requires { IsReadyToPass V.CODE V.STREETS table.old behind }
-    ensures settled { IsSettledTo table.old table.new }
+    ensures passed { IsPassedTo over table.old table.new }
     ensures kept { AreKept V.STREETS table.new }
 {
-    if table.live_count() <= 1 {
+    if over {
         table.set_due(Due::Over);
-    } else {
-        pass::<V>(table, behind);
+        return;
     }
-}
-
-// What is due where no bring-in is: the turn is passed on, or the next street begins.
-fn pass<V: Variant>(table: &mut RunningNumbers, behind: Option<Seat>)
-    requires { IsReadyToPass V.CODE V.STREETS table.old behind }
-    ensures passed { IsPassedTo table.old table.new }
-    ensures kept { AreKept V.STREETS table.new }
-{
     let street = table.street;
     let next = mover(table, behind);
     if next.is_some() {
@@ -108,7 +100,7 @@ fn mover(table: &RunningNumbers, behind: Option<Seat>) -> Option<Seat>
     ensures in_hand { IsOfTable table.now result }
 {
     match behind {
-        None => table.mover(table.blinds_opener()),
+        None => table.mover(),
         Some(seat) if table.to_move(seat) => behind,
         Some(_) => None,
     }

@@ -8,16 +8,16 @@ ghost use Rattle.play_event.specs.Trace.{traced_move};
 ghost use Rattle.betting_numbers.specs.Seen.{all_in_seen};
 ghost use Rattle.betting_core.specs.Kept.{IsOfTable, IsSameHand};
 ghost use Rattle.betting_numbers.specs.Standing.{StandsFor};
-ghost use Rattle.betting_numbers.specs.LegalMoves.{IsLegalMove, IsInTurn, IsRefused, IsAllowed, IsOfHand, IsInReach, IsFit, WhereBets, WhereUps, reason_after, past_with, with_move};
+ghost use Rattle.betting_numbers.specs.LegalMoves.{IsLegalMove, IsInTurn, IsRefused, IsAllowed, IsOfHand, IsInReach, IsFit, WhereBets, WhereUps, reason_after, past_with};
 ghost use Rattle.street_laws.specs.CardEvents.{is_card_said};
 ghost use Rattle.betting_numbers.specs.Turn.{IsFirstBehind, may_come_at};
 ghost use Rattle.play_event.specs.Said.{Said, said_of};
 
 use crate::betting::Betting;
-use crate::dealt::settle;
-use betting_numbers::{LegalMove, not_now};
+use crate::dealt::pass;
+use betting_numbers::{LegalMove, Turn};
 use chip_ledger::Seat;
-use play_event::{Act, Event, Illegal, Kind, Move as Moved, UpRow};
+use play_event::{Event, Illegal, Kind, Move as Moved, UpRow};
 use variant_table::Variant;
 
 impl<V: Variant> Betting<V> {
@@ -28,8 +28,7 @@ impl<V: Variant> Betting<V> {
     /// `up` has the up-cards of each seat. They are read in stud, where no seat has moved on the
     /// street yet: there they decide who opens it.
     pub fn step(&mut self, up: &UpRow, event: &Event) -> Result<Moved, Illegal>
-        requires row { up.now.seats ≡ self.old.setup.stacks.seats }
-        requires kind { is_card_said (said_of event.now) ≡ false }
+        requires { is_card_said (said_of event.now) ≡ false }
         ensures refused { WhereUps self.old up.now
             (IsRefused self.old (said_of event.now) result) }
         ensures legal { WhereUps self.old up.now
@@ -65,32 +64,21 @@ impl<V: Variant> Betting<V> {
         ensures seat { IfOk result (IsInTurn turn) }
         ensures reach { IfOk result (IsInReach self.now) }
     {
+        let turn = Turn {
+            numbers: &self.numbers,
+            seat: turn,
+        };
         match event.kind {
-            Kind::Fold { actor } => match not_now(self.numbers.due, true, false) {
-                Some(reason) => Err(reason),
-                None => self.numbers.legal_fold(turn, actor),
-            },
-            Kind::Call { actor, stated } => match not_now(self.numbers.due, true, false) {
-                Some(reason) => Err(reason),
-                None => self.numbers.legal_call(turn, actor, stated),
-            },
-            Kind::Raise { actor, amount } => match not_now(self.numbers.due, true, true) {
-                Some(reason) => Err(reason),
-                None => {
-                    let size = self.unit();
-                    self.numbers
-                        .legal_raise(turn, V::LIMIT, size, actor, amount)
-                }
-            },
-            Kind::BringIn { actor } => match not_now(self.numbers.due, false, true) {
-                Some(reason) => Err(reason),
-                None => self.numbers.legal_bring_in(turn, actor),
-            },
+            Kind::Fold { actor } => turn.fold(actor),
+            Kind::Call { actor, stated } => turn.call(actor, stated),
+            Kind::Raise { actor, amount } => turn.raise(V::LIMIT, self.unit(), actor, amount),
+            Kind::BringIn { actor } => turn.bring_in(actor),
             _ => Err(Illegal::WrongKind),
         }
     }
 
-    // Makes a legal move, where this seat, if it was looked for, is the first able one behind.
+    // Makes a legal move, and what comes behind it. This seat, if it was looked for, is the first
+    // able one behind.
     fn play(&mut self, legal: LegalMove, behind: Option<Seat>) -> Moved
         requires in_hand { legal.seat.number ≤ self.old.setup.stacks.seats }
         requires behind { IfSome behind (IsFirstBehind self.old legal.seat.number) }
@@ -112,24 +100,9 @@ impl<V: Variant> Betting<V> {
         let moved = self
             .numbers
             .traced(V::LIMIT, size, legal.seat, legal.act, legal.target);
-        self.make(legal.seat, legal.act, legal.target, behind);
+        self.numbers.make(legal.seat, legal.act, legal.target, size);
+        let over = self.numbers.live_count() <= 1;
+        pass::<V>(&mut self.numbers, over, behind);
         moved
-    }
-
-    // Makes a legal move, and what comes behind it.
-    fn make(&mut self, seat: Seat, act: Act, target: u64, behind: Option<Seat>)
-        requires in_hand { seat.number ≤ self.old.setup.stacks.seats }
-        requires behind { IfSome behind (IsFirstBehind self.old seat.number) }
-        requires reach { target ≤ all_in_seen self.old seat.number }
-        requires fits { may_come_at (act_said act) self.old.due ≡ true }
-        ensures stands { (past : Past) → StandsFor self.old past
-            → is_bet_due self.old.due ≡ true
-            → StandsFor self.new
-            (with_move self.old past seat.number (act_said act) target) }
-        ensures same { IsSameHand self.old self.new }
-    {
-        let unit = self.unit();
-        self.numbers.make(seat, act, target, unit);
-        settle::<V>(&mut self.numbers, behind);
     }
 }

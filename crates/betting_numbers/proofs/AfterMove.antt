@@ -16,10 +16,10 @@ use Rattle.play_event.specs.Due.{has_moved_since_rise, has_opened_betting}
 use Rattle.play_event.specs.Raising.{has_moved, raises_on}
 use Rattle.betting_numbers.specs.declared.running.RunningNumbers.{RunningNumbers}
 use Rattle.betting_numbers.specs.Moving.{IsMoved, most_raises}
-use Rattle.street_laws.specs.Seats.{IsSeat}
 use Rattle.betting_numbers.specs.Standing.{Standing, newest_seat}
 use Rattle.betting_numbers.proofs.Bridge.{price_is}
 use Rattle.list_laws.proofs.Numbers.{different_number, same_number}
+use Rattle.chip_ledger.specs.Seat.{IsSeatOf}
 
 -- of a seat and of the others
 by_seat : (P : ℕ → Type 0) (seat k : ℕ) → P seat → (k ≢ seat → P k) → P k
@@ -56,7 +56,7 @@ doubled_one_more : (r : Bool) (twice : ℕ) (rest : List ℕ) → (if r then max
 doubled_one_more true twice rest = refl
 doubled_one_more false twice rest = refl
 
-module _ (b next : RunningNumbers) (moves : List Move) (seat target unit : ℕ) (act : Act) (st : Standing b.setup b.street b moves) (in_hand : IsSeat b.setup seat) (mv : IsMoved b next seat act target unit) (unit_is : unit ≡ streets.unit b.setup b.street) where
+module _ (b next : RunningNumbers) (moves : List Move) (seat target unit : ℕ) (act : Act) (st : Standing b.setup b.street b moves) (in_hand : IsSeatOf b.setup.stacks.seats seat) (mv : IsMoved b next seat act target unit) (unit_is : unit ≡ streets.unit b.setup b.street) where
   abbrev pub the_move : Move
   the_move = record { street = b.street; seat = seat; act = act; from = street_chips b.setup moves b.street seat; to = target }
 
@@ -66,9 +66,9 @@ module _ (b next : RunningNumbers) (moves : List Move) (seat target unit : ℕ) 
   added_by : (k : ℕ) (mine : Bool) → (seat == k) ≡ mine → chips_added k (the_move ∷ moves) ≡ (if mine then target - street_chips b.setup moves b.street seat else 0) + chips_added k moves
   added_by k mine is = ap (λ e. (if e then target - street_chips b.setup moves b.street seat else 0) + chips_added k moves) is
 
-  puts_after : (k : ℕ) → IsSeat b.setup k → amount_of next.puts k ≡ chips_put b.setup (the_move ∷ moves) k
+  puts_after : (k : ℕ) → IsSeatOf b.setup.stacks.seats k → amount_of next.puts k ≡ chips_put b.setup (the_move ∷ moves) k
   puts_after k in_k =
-      by_seat (λ k. IsSeat b.setup k → amount_of next.puts k ≡ chips_put b.setup (the_move ∷ moves) k) seat k
+      by_seat (λ k. IsSeatOf b.setup.stacks.seats k → amount_of next.puts k ≡ chips_put b.setup (the_move ∷ moves) k) seat k
       (λ i. omega (arith, mv.puts, st.puts seat in_hand, st.bets seat in_hand, added_by seat true (same_number seat)))
       (λ other i. omega (arith, mv.other_puts k i.first other, st.puts k i, added_by k false (different_number seat k other)))
       in_k
@@ -78,16 +78,16 @@ module _ (b next : RunningNumbers) (moves : List Move) (seat target unit : ℕ) 
       ap (λ ms. brought b.setup b.street k + chips_added k ms) this_street
       ∙ ap (λ e. brought b.setup b.street k + ((if e then target - street_chips b.setup moves b.street seat else 0) + chips_added k (moves_on b.street moves))) is
 
-  bets_after : (k : ℕ) → IsSeat b.setup k → amount_of next.bets k ≡ street_chips b.setup (the_move ∷ moves) b.street k
+  bets_after : (k : ℕ) → IsSeatOf b.setup.stacks.seats k → amount_of next.bets k ≡ street_chips b.setup (the_move ∷ moves) b.street k
   bets_after k in_k =
-      by_seat (λ k. IsSeat b.setup k → amount_of next.bets k ≡ street_chips b.setup (the_move ∷ moves) b.street k) seat k
+      by_seat (λ k. IsSeatOf b.setup.stacks.seats k → amount_of next.bets k ≡ street_chips b.setup (the_move ∷ moves) b.street k) seat k
       (λ i. omega (arith, mv.bets, st.bets seat in_hand, street_added seat true (same_number seat)))
       (λ other i. omega (arith, mv.other_bets k i.first other, st.bets k i, street_added k false (different_number seat k other)))
       in_k
 
-  live_after : (k : ℕ) → IsSeat b.setup k → flag_of next.live k ≡ is_live (the_move ∷ moves) k
+  live_after : (k : ℕ) → IsSeatOf b.setup.stacks.seats k → flag_of next.live k ≡ is_live (the_move ∷ moves) k
   live_after k in_k =
-      by_seat (λ k. IsSeat b.setup k → flag_of next.live k ≡ is_live (the_move ∷ moves) k) seat k
+      by_seat (λ k. IsSeatOf b.setup.stacks.seats k → flag_of next.live k ≡ is_live (the_move ∷ moves) k) seat k
       (λ i. mv.live ∙ ap (λ l. l && not (is_fold act)) (st.live seat in_hand) ∙ live_one_more (is_fold act) (seat == seat) (list_any (λ move. is_fold move.act && (move.seat == seat)) moves) (same_number seat))
       (λ other i. mv.other_live k i.first other ∙ st.live k i ∙ live_as_before (is_fold act) (seat == k) (list_any (λ move. is_fold move.act && (move.seat == k)) moves) (different_number seat k other))
       in_k
@@ -97,9 +97,9 @@ module _ (b next : RunningNumbers) (moves : List Move) (seat target unit : ℕ) 
       ap (list_any (λ move. move.seat == k)) this_street
       ∙ ap (λ e. e || has_moved moves b.street k) is
 
-  moved_after : (k : ℕ) → IsSeat b.setup k → flag_of next.moved k ≡ has_moved (the_move ∷ moves) b.street k
+  moved_after : (k : ℕ) → IsSeatOf b.setup.stacks.seats k → flag_of next.moved k ≡ has_moved (the_move ∷ moves) b.street k
   moved_after k in_k =
-      by_seat (λ k. IsSeat b.setup k → flag_of next.moved k ≡ has_moved (the_move ∷ moves) b.street k) seat k
+      by_seat (λ k. IsSeatOf b.setup.stacks.seats k → flag_of next.moved k ≡ has_moved (the_move ∷ moves) b.street k) seat k
       (λ i. mv.moved ∙ sym (moved_by seat true (same_number seat)))
       (λ other i. mv.other_moved k i.first other ∙ st.moved k i ∙ sym (moved_by k false (different_number seat k other)))
       in_k
@@ -109,9 +109,9 @@ module _ (b next : RunningNumbers) (moves : List Move) (seat target unit : ℕ) 
       ap (λ e. if e then ((seat == k) || (nat_le target (price b.setup moves b.street) && has_moved_since_rise b.setup moves b.street k)) else has_moved_since_rise b.setup moves b.street k) (same_number b.street)
       ∙ ap (λ e. e || (nat_le target (price b.setup moves b.street) && has_moved_since_rise b.setup moves b.street k)) is
 
-  since_after : (k : ℕ) → IsSeat b.setup k → flag_of next.since_rise k ≡ has_moved_since_rise b.setup (the_move ∷ moves) b.street k
+  since_after : (k : ℕ) → IsSeatOf b.setup.stacks.seats k → flag_of next.since_rise k ≡ has_moved_since_rise b.setup (the_move ∷ moves) b.street k
   since_after k in_k =
-      by_seat (λ k. IsSeat b.setup k → flag_of next.since_rise k ≡ has_moved_since_rise b.setup (the_move ∷ moves) b.street k) seat k
+      by_seat (λ k. IsSeatOf b.setup.stacks.seats k → flag_of next.since_rise k ≡ has_moved_since_rise b.setup (the_move ∷ moves) b.street k) seat k
       (λ i. mv.since_rise ∙ sym (since_by seat true (same_number seat)))
       (λ other i. mv.other_since k i.first other
       ∙ ap (λ p. nat_le target p && flag_of b.since_rise k) (price_is b moves st)

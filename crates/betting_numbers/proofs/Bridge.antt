@@ -19,19 +19,19 @@ use Rattle.play_event.specs.Mover.{mover_after, first_in_turn, next_in_turn}
 use Rattle.play_event.specs.Raising.{has_able_opponent}
 use Rattle.betting_numbers.specs.declared.running.RunningNumbers.{RunningNumbers}
 use Rattle.betting_numbers.specs.Seen.{left_seen, is_able_seen, price_seen, owed_seen, all_in_seen, live_count_seen, able_count_seen, has_to_move_seen, is_move_due_seen, is_bring_in_due_seen, has_opponent_seen, after_last, last_seen, mover_seen}
-use Rattle.street_laws.specs.Seats.{IsSeat}
 use Rattle.betting_numbers.specs.Standing.{Standing, newest_seat}
 use Rattle.chip_ledger.proofs.SeatLists.{any_seats, count_seats}
 use Rattle.list_laws.proofs.Finding.{find_agree}
+use Rattle.chip_ledger.specs.Seat.{IsSeatOf}
 
 -- a seat to which the turn may be passed
 abbrev pub StartsIn : Setup → InTurn → Type 0
 StartsIn setup NoSeat = Unit {0}
 StartsIn setup Undecided = Unit {0}
-StartsIn setup (TheSeat seat) = IsSeat setup seat
+StartsIn setup (TheSeat seat) = IsSeatOf setup.stacks.seats seat
 
 -- tests that agree at each seat find the same first seat in turn
-pub first_same : (setup : Setup) (p q : ℕ → Bool) → ((k : ℕ) → IsSeat setup k → p k ≡ q k) → (from : InTurn) → StartsIn setup from → first_in_turn setup p from ≡ first_in_turn setup q from
+pub first_same : (setup : Setup) (p q : ℕ → Bool) → ((k : ℕ) → IsSeatOf setup.stacks.seats k → p k ≡ q k) → (from : InTurn) → StartsIn setup from → first_in_turn setup p from ≡ first_in_turn setup q from
 first_same setup p q h NoSeat starts = refl
 first_same setup p q h Undecided starts = refl
 first_same setup p q h (TheSeat seat) starts =
@@ -56,10 +56,10 @@ abbrev to_move_by : Bool → Bool → ℕ → ℕ → Bool
 to_move_by able since owes count = able && (if since then false else (nat_lt 0 owes || nat_le 2 count))
 
 module _ (b : RunningNumbers) (moves : List Move) (st : Standing b.setup b.street b moves) where
-  pub left_is : (seat : ℕ) → IsSeat b.setup seat → left_seen b seat ≡ chips_left b.setup moves seat
+  pub left_is : (seat : ℕ) → IsSeatOf b.setup.stacks.seats seat → left_seen b seat ≡ chips_left b.setup moves seat
   left_is seat in_hand = ap (λ n. amount_of b.setup.stacks seat - n) (st.puts seat in_hand)
 
-  pub able_is : (seat : ℕ) → IsSeat b.setup seat → is_able_seen b seat ≡ is_able b.setup moves seat
+  pub able_is : (seat : ℕ) → IsSeatOf b.setup.stacks.seats seat → is_able_seen b seat ≡ is_able b.setup moves seat
   able_is seat in_hand =
       ap (λ l. l && nat_lt 0 (left_seen b seat)) (st.live seat in_hand)
       ∙ ap (λ n. is_live moves seat && nat_lt 0 n) (left_is seat in_hand)
@@ -67,11 +67,11 @@ module _ (b : RunningNumbers) (moves : List Move) (st : Standing b.setup b.stree
   pub price_is : price_seen b ≡ price b.setup moves b.street
   price_is = ap greatest (map-seats (amount_of b.bets) (street_chips b.setup moves b.street) b.setup.stacks.seats (λ k low high. st.bets k (record { first = low; last = high })))
 
-  pub owed_is : (seat : ℕ) → IsSeat b.setup seat → owed_seen b seat ≡ owed b.setup moves b.street seat
+  pub owed_is : (seat : ℕ) → IsSeatOf b.setup.stacks.seats seat → owed_seen b seat ≡ owed b.setup moves b.street seat
   owed_is seat in_hand =
       ap (λ n. n - amount_of b.bets seat) price_is ∙ ap (λ n. price b.setup moves b.street - n) (st.bets seat in_hand)
 
-  pub all_in_is : (seat : ℕ) → IsSeat b.setup seat → all_in_seen b seat ≡ all_in b.setup moves b.street seat
+  pub all_in_is : (seat : ℕ) → IsSeatOf b.setup.stacks.seats seat → all_in_seen b seat ≡ all_in b.setup moves b.street seat
   all_in_is seat in_hand =
       ap (λ n. n + left_seen b seat) (st.bets seat in_hand) ∙ ap (λ n. street_chips b.setup moves b.street seat + n) (left_is seat in_hand)
 
@@ -81,7 +81,7 @@ module _ (b : RunningNumbers) (moves : List Move) (st : Standing b.setup b.stree
   pub able_count_is : able_count_seen b ≡ able_count b.setup moves
   able_count_is = count_seats (is_able_seen b) (is_able b.setup moves) b.setup.stacks.seats (λ k low high. able_is k (record { first = low; last = high }))
 
-  pub to_move_is : (seat : ℕ) → IsSeat b.setup seat → has_to_move_seen b seat ≡ has_to_move b.setup moves b.street seat
+  pub to_move_is : (seat : ℕ) → IsSeatOf b.setup.stacks.seats seat → has_to_move_seen b seat ≡ has_to_move b.setup moves b.street seat
   to_move_is seat in_hand =
       ap (λ a. to_move_by a (flag_of b.since_rise seat) (owed_seen b seat) (able_count_seen b)) (able_is seat in_hand)
       ∙ ap (λ s. to_move_by (is_able b.setup moves seat) s (owed_seen b seat) (able_count_seen b)) (st.since_rise seat in_hand)

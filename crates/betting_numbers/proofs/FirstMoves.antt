@@ -17,12 +17,12 @@ use Rattle.play_event.specs.Due.{has_moved_since_rise}
 use Rattle.play_event.specs.Seats.{all_seats}
 use Rattle.play_event.specs.Openers.{TheSeat, in_turn, seat_after}
 use Rattle.play_event.specs.Mover.{first_in_turn}
-use Rattle.street_laws.specs.Seats.{IsSeat}
 use Rattle.betting_numbers.specs.declared.running.RunningNumbers.{RunningNumbers}
 use Rattle.chip_ledger.specs.SeatsSaid.{seat_said}
 use Rattle.betting_numbers.specs.Seen.{is_able_seen, owed_seen, able_count_seen, has_to_move_seen, is_move_due_seen, after_last, last_seen, mover_seen}
 use Rattle.betting_numbers.specs.Standing.{StandsFor, newest_seat}
 use Rattle.betting_numbers.proofs.OneChanged.{another_passes}
+use Rattle.chip_ledger.specs.Seat.{IsSeatOf}
 
 -- nobody has moved on the street where nobody moved last
 pub no_moves : (moves : List Move) → newest_seat moves ≡ None → moves ≡ []
@@ -44,7 +44,7 @@ all_true true false = refl
 all_true false x = refl
 
 -- of fewer than two able seats each is this one
-pub only_able : (b : RunningNumbers) (first : ℕ) → IsSeat b.setup first → is_able_seen b first ≡ true → nat_le 2 (able_count_seen b) ≡ false → (k : ℕ) → 1 ≤ k → k ≤ b.setup.stacks.seats → is_able_seen b k ≡ true → k ≡ first
+pub only_able : (b : RunningNumbers) (first : ℕ) → IsSeatOf b.setup.stacks.seats first → is_able_seen b first ≡ true → nat_le 2 (able_count_seen b) ≡ false → (k : ℕ) → 1 ≤ k → k ≤ b.setup.stacks.seats → is_able_seen b k ≡ true → k ≡ first
 only_able b first in_hand able few k low high able_k =
     let none : list_any (λ j. is_able_seen b j && not (j == first)) (all_seats b.setup) ≡ false =
     another_passes (is_able_seen b) 1 b.setup.stacks.seats first in_hand.first (omega (arith, in_hand.last))
@@ -52,7 +52,7 @@ only_able b first in_hand able few k low high able_k =
     ∙ le-ltb 1 (able_count_seen b) (omega (arith, leb-false 2 (able_count_seen b) few)) in
     eqb-true k first (not-false (k == first) (second_fails (is_able_seen b k) (not (k == first)) able_k (none_at (λ j. is_able_seen b j && not (j == first)) b.setup.stacks.seats k low high none)))
 
-module _ (b : RunningNumbers) (past : Past) (stands : StandsFor b past) (last : b.last ≡ None) (first : ℕ) (in_hand : IsSeat b.setup first) (able : is_able_seen b first ≡ true) (some : is_move_due_seen b ≡ true) where
+module _ (b : RunningNumbers) (past : Past) (stands : StandsFor b past) (last : b.last ≡ None) (first : ℕ) (in_hand : IsSeatOf b.setup.stacks.seats first) (able : is_able_seen b first ≡ true) (some : is_move_due_seen b ≡ true) where
   fresh : flag_of b.since_rise first ≡ false
   fresh =
       stands.standing.since_rise first in_hand

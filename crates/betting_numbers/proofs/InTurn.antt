@@ -20,9 +20,8 @@ use Rattle.play_event.specs.Reasons.{why, first_reason, all_reasons}
 use Rattle.betting_numbers.specs.declared.running.RunningNumbers.{RunningNumbers}
 use Rattle.street_laws.specs.Dues.{is_move}
 use Rattle.play_event.specs.TurnTargets.{is_bet_due}
-use Rattle.betting_numbers.specs.SeatsSaid.{turn_of}
+use Rattle.betting_numbers.specs.TurnSaid.{turn_of}
 use Rattle.betting_numbers.specs.Seen.{after_last, last_seen, mover_seen, has_to_move_seen, is_move_due_seen}
-use Rattle.street_laws.specs.Seats.{IsSeat}
 use Rattle.betting_numbers.specs.Standing.{Standing, StandsFor}
 use Rattle.chip_ledger.specs.SeatRow.{amount_of}
 use Rattle.play_event.specs.declared.reason.Illegal.TheVariants as reasons
@@ -52,6 +51,7 @@ use Rattle.std.proofs.lemmas.List.Folds.{list_any-append}
 use Rattle.std.proofs.Math.Bool.{or_comm}
 use Rattle.chip_ledger.specs.SeatsSaid.{seat_said}
 use Rattle.play_event.specs.Targets.{greatest_by}
+use Rattle.chip_ledger.specs.Seat.{IsSeatOf}
 
 -- why an event is refused where this is due
 pub why_where : (b : RunningNumbers) (past : Past) (event : Said) (due : Due) → StandsFor b past → b.due ≡ due → why b.setup b.rules past event ≡ first_reason (all_reasons b.setup b.rules past (b.street, due) event)
@@ -61,7 +61,7 @@ why_where b past event due stands is =
     ∙ ap (λ d. first_reason (all_reasons b.setup b.rules past (b.street, d) event)) is
 
 -- a seat is found where one passes, from whichever seat one starts
-pub found_some : (setup : Setup) (p : ℕ → Bool) (start : ℕ) → IsSeat setup start → is_some (find p (seats_from setup start)) ≡ list_any p (all_seats setup)
+pub found_some : (setup : Setup) (p : ℕ → Bool) (start : ℕ) → IsSeatOf setup.stacks.seats start → is_some (find p (seats_from setup start)) ≡ list_any p (all_seats setup)
 found_some setup p start in_hand =
     let n = setup.stacks.seats in
     let low : 1 ≤ start = in_hand.first in
@@ -78,14 +78,14 @@ found_some setup p start in_hand =
     ∙ list_any-append p (range_with_len 1 (start - 1)) (range_with_len start (n + 1 - start))
     )
 
-pub found_round : (setup : Setup) (p : ℕ → Bool) (start : ℕ) → IsSeat setup start → list_any p (all_seats setup) ≡ true → is_some (find p (seats_from setup start)) ≡ true
+pub found_round : (setup : Setup) (p : ℕ → Bool) (start : ℕ) → IsSeatOf setup.stacks.seats start → list_any p (all_seats setup) ≡ true → is_some (find p (seats_from setup start)) ≡ true
 found_round setup p start in_hand some = found_some setup p start in_hand ∙ some
 
 none_is_nobody : (found : Option ℕ) → in_turn found ≡ NoSeat → is_some found ≡ true → ⊥
 none_is_nobody None is some = true≢false (sym some)
 none_is_nobody (Some seat) is some = cc
 
-pub nobody_by : (setup : Setup) (p : ℕ → Bool) (from : InTurn) (seat : ℕ) → from ≡ TheSeat seat → IsSeat setup seat → list_any p (all_seats setup) ≡ true → first_in_turn setup p from ≡ NoSeat → ⊥
+pub nobody_by : (setup : Setup) (p : ℕ → Bool) (from : InTurn) (seat : ℕ) → from ≡ TheSeat seat → IsSeatOf setup.stacks.seats seat → list_any p (all_seats setup) ≡ true → first_in_turn setup p from ≡ NoSeat → ⊥
 nobody_by setup p from seat is in_hand some none =
     none_is_nobody (find p (seats_from setup seat)) (sym (ap (first_in_turn setup p) is) ∙ none) (found_round setup p seat in_hand some)
 
@@ -93,16 +93,16 @@ nobody_by setup p from seat is in_hand some none =
 pub record Passed (b : RunningNumbers) (opener : ℕ) : Type 0 where
   pub seat : ℕ
   pub is : after_last (last_seen b) (seat_after b.setup) (TheSeat opener) ≡ TheSeat seat
-  pub in_hand : IsSeat b.setup seat
+  pub in_hand : IsSeatOf b.setup.stacks.seats seat
 
 -- the seat after a seat is of the hand
-pub after_in_by : (setup : Setup) (seat : ℕ) (last : Bool) → (seat == setup.stacks.seats) ≡ last → IsSeat setup seat → IsSeat setup (if last then 1 else seat + 1)
+pub after_in_by : (setup : Setup) (seat : ℕ) (last : Bool) → (seat == setup.stacks.seats) ≡ last → IsSeatOf setup.stacks.seats seat → IsSeatOf setup.stacks.seats (if last then 1 else seat + 1)
 after_in_by setup seat true is in_hand = record { first = omega arith; last = omega (arith, in_hand.first, in_hand.last) }
 after_in_by setup seat false is in_hand =
     let other : seat ≡ setup.stacks.seats → ⊥ = eqb-false seat setup.stacks.seats is in
     record { first = omega arith; last = omega (arith, in_hand.last, other) }
 
-passed_by : (b : RunningNumbers) (opener : ℕ) → IsSeat b.setup opener → (last : Option Seat) → b.last ≡ last → Passed b opener
+passed_by : (b : RunningNumbers) (opener : ℕ) → IsSeatOf b.setup.stacks.seats opener → (last : Option Seat) → b.last ≡ last → Passed b opener
 passed_by b opener in_hand None is = record { seat = opener; is = ap (λ (o : Option Seat). after_last (seat_said o) (seat_after b.setup) (TheSeat opener)) is; in_hand = in_hand }
 passed_by b opener in_hand (Some s) is = record {
   seat = seat_after b.setup s.number;
@@ -110,7 +110,7 @@ passed_by b opener in_hand (Some s) is = record {
   in_hand = after_in_by b.setup s.number (s.number == b.setup.stacks.seats) refl (record { first = s.first; last = b.last_in s is });
 }
 
-pub passed : (b : RunningNumbers) (opener : ℕ) → IsSeat b.setup opener → Passed b opener
+pub passed : (b : RunningNumbers) (opener : ℕ) → IsSeatOf b.setup.stacks.seats opener → Passed b opener
 passed b opener in_hand = passed_by b opener in_hand b.last refl
 
 -- a seat is in turn where some seat has a move to make
@@ -120,7 +120,7 @@ same_found None (Some seat) same = absurd (cc)
 same_found (Some seat) None same = absurd (cc)
 same_found (Some seat) (Some other) same = refl
 
-pub turn_found : (b : RunningNumbers) (opener : ℕ) → IsSeat b.setup opener → (found : Option ℕ) → in_turn found ≡ mover_seen b (TheSeat opener) → is_some found ≡ is_move_due_seen b
+pub turn_found : (b : RunningNumbers) (opener : ℕ) → IsSeatOf b.setup.stacks.seats opener → (found : Option ℕ) → in_turn found ≡ mover_seen b (TheSeat opener) → is_some found ≡ is_move_due_seen b
 turn_found b opener in_hand found is =
     let to : Passed b opener = passed b opener in_hand in
     same_found found (find (has_to_move_seen b) (seats_from b.setup to.seat)) (is ∙ ap (first_in_turn b.setup (has_to_move_seen b)) to.is)
@@ -167,7 +167,7 @@ pub found_turn : (found : Option ℕ) (in_seen : InTurn) → in_turn found ≡ i
 found_turn None in_seen is some = absurd (some (sym is))
 found_turn (Some seat) in_seen is some = is
 
-module _ (b : RunningNumbers) (past : Past) (stands : StandsFor b past) (opener : ℕ) (in_hand : IsSeat b.setup opener) where
+module _ (b : RunningNumbers) (past : Past) (stands : StandsFor b past) (opener : ℕ) (in_hand : IsSeatOf b.setup.stacks.seats opener) where
   passed_to : Passed b opener
   passed_to = passed b opener in_hand
 
@@ -235,13 +235,13 @@ raise_reach limit b floor named amount m none =
     omega (arith, most, greatest_within limit (all_in_seen b m) (ceiling_seen b m) (fulls_seen b))
 
 -- a call goes where the rules have it
-call_is : (b : RunningNumbers) (moves : List Move) → Standing b.setup b.street b moves → (m : ℕ) → IsSeat b.setup m → call_seen b m ≡ call_target b.setup moves b.street m
+call_is : (b : RunningNumbers) (moves : List Move) → Standing b.setup b.street b moves → (m : ℕ) → IsSeatOf b.setup.stacks.seats m → call_seen b m ≡ call_target b.setup moves b.street m
 call_is b moves st m in_m =
     ap (λ p. min p (all_in_seen b m)) (price_is b moves st)
     ∙ ap (λ a. min (price b.setup moves b.street) a) (all_in_is b moves st m in_m)
 
 -- a bring-in goes where the rules have it
-bring_in_is : (b : RunningNumbers) (moves : List Move) → Standing b.setup b.street b moves → (m : ℕ) → IsSeat b.setup m → bring_in_seen b m ≡ bring_in_target b.setup moves b.street m
+bring_in_is : (b : RunningNumbers) (moves : List Move) → Standing b.setup b.street b moves → (m : ℕ) → IsSeatOf b.setup.stacks.seats m → bring_in_seen b m ≡ bring_in_target b.setup moves b.street m
 bring_in_is b moves st m in_m = ap (λ a. min b.setup.bring_in a) (all_in_is b moves st m in_m)
 
 bring_in_actor : (named : Option ℕ) (m : ℕ) → bring_in_why named m ≡ None → actor_of named (TheSeat m) ≡ m
@@ -308,7 +308,7 @@ module _ (b : RunningNumbers) (past : Past) (stands : StandsFor b past) where
       ap (λ (t : ℕ × Due). resolved_on b.setup past t.0 event ∷ past) stands.turn_is
       ∙ ap (λ (t : InTurn). resolved_by b.setup (moves_of past) b.street t event ∷ past) (sym turn)
 
-  pub fold_is_legal : (named : Option ℕ) (m : ℕ) → now_why true false b.due ≡ None → IsSeat b.setup m → IsTurn b past (TheSeat m) → None ≡ fold_why b named m → IsLegalMove b past (said.Fold named) m Folded (amount_of b.bets m)
+  pub fold_is_legal : (named : Option ℕ) (m : ℕ) → now_why true false b.due ≡ None → IsSeatOf b.setup.stacks.seats m → IsTurn b past (TheSeat m) → None ≡ fold_why b named m → IsLegalMove b past (said.Fold named) m Folded (amount_of b.bets m)
   fold_is_legal named m now in_m turn none =
       let actor : actor_of named (TheSeat m) ≡ m = fold_actor b named m (sym none) in
       record {
@@ -318,7 +318,7 @@ module _ (b : RunningNumbers) (past : Past) (stands : StandsFor b past) where
             ∙ ap (λ (t : ℕ). Moved (move_of b (moves_of past) m Folded t) ∷ past) (sym (stands.standing.bets m in_m));
       }
 
-  pub call_is_legal : (named stated : Option ℕ) (m : ℕ) → now_why true false b.due ≡ None → IsSeat b.setup m → IsTurn b past (TheSeat m) → None ≡ call_why b named stated m → IsLegalMove b past (said.Call named stated) m Called (call_seen b m)
+  pub call_is_legal : (named stated : Option ℕ) (m : ℕ) → now_why true false b.due ≡ None → IsSeatOf b.setup.stacks.seats m → IsTurn b past (TheSeat m) → None ≡ call_why b named stated m → IsLegalMove b past (said.Call named stated) m Called (call_seen b m)
   call_is_legal named stated m now in_m turn none =
       let actor : actor_of named (TheSeat m) ≡ m = call_actor b named stated m (sym none) in
       record {
@@ -328,7 +328,7 @@ module _ (b : RunningNumbers) (past : Past) (stands : StandsFor b past) where
             ∙ ap (λ (t : ℕ). Moved (move_of b (moves_of past) m Called t) ∷ past) (sym (call_is b (moves_of past) stands.standing m in_m));
       }
 
-  pub raise_is_legal : (named : Option ℕ) (amount : Spelled) (m : ℕ) (limit : Limit) → limit_of b.setup.code ≡ limit → now_why true true b.due ≡ None → IsSeat b.setup m → IsTurn b past (TheSeat m) → None ≡ raise_why limit b (floor_by b.rules.reopen (starting_price b.setup b.street) b) named amount m → IsLegalMove b past (said.Raise named amount) m Raised (target_seen b m amount)
+  pub raise_is_legal : (named : Option ℕ) (amount : Spelled) (m : ℕ) (limit : Limit) → limit_of b.setup.code ≡ limit → now_why true true b.due ≡ None → IsSeatOf b.setup.stacks.seats m → IsTurn b past (TheSeat m) → None ≡ raise_why limit b (floor_by b.rules.reopen (starting_price b.setup b.street) b) named amount m → IsLegalMove b past (said.Raise named amount) m Raised (target_seen b m amount)
   raise_is_legal named amount m limit limit_is now in_m turn none =
       let actor : actor_of named (TheSeat m) ≡ m = raise_actor limit b (floor_by b.rules.reopen (starting_price b.setup b.street) b) named amount m (sym none) in
       record {
@@ -338,7 +338,7 @@ module _ (b : RunningNumbers) (past : Past) (stands : StandsFor b past) where
             ∙ ap (λ (t : ℕ). Moved (move_of b (moves_of past) m Raised t) ∷ past) (target_is b (moves_of past) stands.standing m in_m amount);
       }
 
-  pub bring_in_is_legal : (named : Option ℕ) (m : ℕ) → now_why false true b.due ≡ None → IsSeat b.setup m → IsTurn b past (TheSeat m) → None ≡ bring_in_why named m → IsLegalMove b past (said.BringIn named) m BroughtIn (bring_in_seen b m)
+  pub bring_in_is_legal : (named : Option ℕ) (m : ℕ) → now_why false true b.due ≡ None → IsSeatOf b.setup.stacks.seats m → IsTurn b past (TheSeat m) → None ≡ bring_in_why named m → IsLegalMove b past (said.BringIn named) m BroughtIn (bring_in_seen b m)
   bring_in_is_legal named m now in_m turn none =
       let actor : actor_of named (TheSeat m) ≡ m = bring_in_actor named m (sym none) in
       record {
@@ -348,13 +348,13 @@ module _ (b : RunningNumbers) (past : Past) (stands : StandsFor b past) where
             ∙ ap (λ (t : ℕ). Moved (move_of b (moves_of past) m BroughtIn t) ∷ past) (sym (bring_in_is b (moves_of past) stands.standing m in_m));
       }
 
-  pub fold_moves : (named : Option ℕ) (m : ℕ) → now_why true false b.due ≡ None → IsSeat b.setup m → IsTurn b past (TheSeat m) → why b.setup b.rules past (said.Fold named) ≡ fold_why b named m
+  pub fold_moves : (named : Option ℕ) (m : ℕ) → now_why true false b.due ≡ None → IsSeatOf b.setup.stacks.seats m → IsTurn b past (TheSeat m) → why b.setup b.rules past (said.Fold named) ≡ fold_why b named m
   fold_moves named m now in_m turn = why_fold b past stands (move_now b.due now) m in_m (sym turn) named
 
-  pub call_moves : (named stated : Option ℕ) (m : ℕ) → now_why true false b.due ≡ None → IsSeat b.setup m → IsTurn b past (TheSeat m) → why b.setup b.rules past (said.Call named stated) ≡ call_why b named stated m
+  pub call_moves : (named stated : Option ℕ) (m : ℕ) → now_why true false b.due ≡ None → IsSeatOf b.setup.stacks.seats m → IsTurn b past (TheSeat m) → why b.setup b.rules past (said.Call named stated) ≡ call_why b named stated m
   call_moves named stated m now in_m turn = why_call b past stands (move_now b.due now) m in_m (sym turn) named stated
 
-  pub raise_moves : (named : Option ℕ) (amount : Spelled) (m : ℕ) (limit : Limit) → limit_of b.setup.code ≡ limit → now_why true true b.due ≡ None → IsSeat b.setup m → IsTurn b past (TheSeat m) → why b.setup b.rules past (said.Raise named amount) ≡ raise_why limit b (floor_by b.rules.reopen (starting_price b.setup b.street) b) named amount m
+  pub raise_moves : (named : Option ℕ) (amount : Spelled) (m : ℕ) (limit : Limit) → limit_of b.setup.code ≡ limit → now_why true true b.due ≡ None → IsSeatOf b.setup.stacks.seats m → IsTurn b past (TheSeat m) → why b.setup b.rules past (said.Raise named amount) ≡ raise_why limit b (floor_by b.rules.reopen (starting_price b.setup b.street) b) named amount m
   raise_moves named amount m limit limit_is now in_m turn = why_raise b past stands limit limit_is m in_m (sym turn) b.due refl now named amount
 
   pub bring_in_moves : (named : Option ℕ) (m : ℕ) → now_why false true b.due ≡ None → IsTurn b past (TheSeat m) → why b.setup b.rules past (said.BringIn named) ≡ bring_in_why named m
@@ -388,3 +388,12 @@ move_fits (dues.Deal street) is = absurd (cc)
 move_fits (dues.Draw street) is = absurd (cc)
 move_fits dues.BringIn is = absurd (cc)
 move_fits dues.Show is = absurd (cc)
+
+-- a bring-in or a move is due where an event may come
+pub bets_now : (at_move at_bring_in : Bool) (due : Due) → now_why at_move at_bring_in due ≡ None → is_bet_due due ≡ true
+bets_now at_move at_bring_in dues.Move is = refl
+bets_now at_move at_bring_in dues.BringIn is = refl
+bets_now at_move at_bring_in dues.Over is = absurd (cc)
+bets_now at_move at_bring_in (dues.Deal street) is = absurd (cc)
+bets_now at_move at_bring_in (dues.Draw street) is = absurd (cc)
+bets_now at_move at_bring_in dues.Show is = absurd (cc)

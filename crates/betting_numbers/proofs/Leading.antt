@@ -7,7 +7,7 @@ use Rattle.card_set.specs.Known.{known_cards}
 use Rattle.list_laws.proofs.Finding.{any_agree, find_agree}
 use Rattle.list_laws.proofs.Any.{none_passes}
 use Rattle.list_laws.proofs.Tests.{second_fails}
-use Rattle.play_event.specs.declared.card_rows.UpRow.{UpRow}
+use Rattle.play_event.specs.declared.up_cards.UpRow.{UpRow}
 use Rattle.play_event.specs.declared.limit.Opener.{Opener}
 use Rattle.play_event.specs.Openers.{is_opener_before}
 use Rattle.play_event.specs.SeatSlots.{ups_of}

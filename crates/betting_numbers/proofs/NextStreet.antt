@@ -13,10 +13,10 @@ use Rattle.chip_ledger.specs.Greatest.{greatest}
 use Rattle.play_event.specs.Due.{has_moved_since_rise, has_opened_betting}
 use Rattle.betting_numbers.specs.declared.running.RunningNumbers.{RunningNumbers}
 use Rattle.betting_numbers.specs.Moving.{IsNextStreet, most_raises}
-use Rattle.street_laws.specs.Seats.{IsSeat}
 use Rattle.betting_numbers.specs.Standing.{Standing, newest_seat}
 use Rattle.street_laws.specs.Walk.{has_no_move_later}
 use Rattle.street_laws.proofs.Later.{newest_other, none_on}
+use Rattle.chip_ledger.specs.Seat.{IsSeatOf}
 
 pub none_since : (setup : Setup) (moves : List Move) (street later seat : ℕ) → has_no_move_later moves street ≡ true → street < later → has_moved_since_rise setup moves later seat ≡ false
 none_since setup [] street later seat early less = refl
@@ -69,7 +69,7 @@ module _ (b next : RunningNumbers) (moves : List Move) (st : Standing b.setup b.
   empty : moves_on (b.street + 1) moves ≡ []
   empty = none_on moves b.street (b.street + 1) early (omega arith)
 
-  bets_next : (seat : ℕ) → IsSeat b.setup seat → amount_of next.bets seat ≡ street_chips b.setup moves (b.street + 1) seat
+  bets_next : (seat : ℕ) → IsSeatOf b.setup.stacks.seats seat → amount_of next.bets seat ≡ street_chips b.setup moves (b.street + 1) seat
   bets_next seat in_hand = omega (arith, new.bets seat, nothing_brought b.setup (b.street + 1) seat (omega (arith, from_one)), ap (chips_added seat) empty)
 
   standing_there : Standing b.setup (b.street + 1) next moves

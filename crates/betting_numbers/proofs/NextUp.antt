@@ -15,7 +15,6 @@ use Rattle.play_event.specs.Past.{Act}
 use Rattle.play_event.specs.Seats.{all_seats}
 use Rattle.play_event.specs.Mover.{first_in_turn, seats_from}
 use Rattle.play_event.specs.Openers.{InTurn, TheSeat, in_turn, seat_after}
-use Rattle.street_laws.specs.Seats.{IsSeat}
 use Rattle.betting_numbers.specs.declared.running.RunningNumbers.{RunningNumbers}
 use Rattle.betting_numbers.specs.Seen.{is_able_seen, owed_seen, price_seen, able_count_seen, has_to_move_seen, after_last, mover_seen, first_behind_seen}
 use Rattle.betting_numbers.specs.Moving.{IsMoved}
@@ -23,6 +22,7 @@ use Rattle.betting_numbers.specs.Turn.{IsFirstBehind, IsNextUp, StartsFresh}
 use Rattle.betting_numbers.proofs.FirstMoves.{only_able}
 use Rattle.betting_numbers.proofs.InTurn.{after_in_by, found_some}
 use Rattle.betting_numbers.proofs.TargetEnds.{same_turn}
+use Rattle.chip_ledger.specs.Seat.{IsSeatOf}
 
 -- what is found among numbers in a row, and others behind them, is no number behind one that passes
 low_by : (p : ℕ → Bool) (first n k m : ℕ) (rest : List ℕ) (here : Bool) → p first ≡ here → first ≤ k → p k ≡ true → (first + 1 ≤ k → find p (range_with_len (first + 1) n ++ rest) ≡ Some m → (first + 1 ≤ m) × (m ≤ k)) → (if here then Some first else find p (range_with_len (first + 1) n ++ rest)) ≡ Some m → (first ≤ m) × (m ≤ k)
@@ -50,7 +50,7 @@ found_rest p first (suc n) m rest below found =
     rest_by p first n m rest (p first) (found_rest p (first + 1) n m rest (omega (arith, below))) below found
 
 -- no other seat passes where going round from behind a seat that seat is found
-alone_by : (setup : Setup) (p : ℕ → Bool) (seat k : ℕ) (last : Bool) → (seat == setup.stacks.seats) ≡ last → IsSeat setup seat → IsSeat setup k → k ≢ seat → p k ≡ true → find p (seats_from setup (if last then 1 else seat + 1)) ≡ Some seat → ⊥
+alone_by : (setup : Setup) (p : ℕ → Bool) (seat k : ℕ) (last : Bool) → (seat == setup.stacks.seats) ≡ last → IsSeatOf setup.stacks.seats seat → IsSeatOf setup.stacks.seats k → k ≢ seat → p k ≡ true → find p (seats_from setup (if last then 1 else seat + 1)) ≡ Some seat → ⊥
 alone_by setup p seat k true is in_hand in_k other passes found =
     let n = setup.stacks.seats in
     let same : seat ≡ n = eqb-true seat n is in
@@ -85,7 +85,7 @@ found_still p q first (suc n) m rest weaker passes later found =
     still_by p q first n m rest (p first) refl (weaker first (omega arith) (omega arith)) passes
     (found_still p q (first + 1) n m rest (λ k low high. weaker k (omega (arith, low)) (omega (arith, high))) passes later) found
 
-round_still : (setup : Setup) (p q : ℕ → Bool) (start m : ℕ) → IsSeat setup start → ((k : ℕ) → IsSeat setup k → q k ≡ true → p k ≡ true) → q m ≡ true → find p (seats_from setup start) ≡ Some m → find q (seats_from setup start) ≡ Some m
+round_still : (setup : Setup) (p q : ℕ → Bool) (start m : ℕ) → IsSeatOf setup.stacks.seats start → ((k : ℕ) → IsSeatOf setup.stacks.seats k → q k ≡ true → p k ≡ true) → q m ≡ true → find p (seats_from setup start) ≡ Some m → find q (seats_from setup start) ≡ Some m
 round_still setup p q start m in_hand weaker passes found =
     let n = setup.stacks.seats in
     let before = range_with_len 1 (start - 1) in
@@ -112,8 +112,8 @@ flagged_by able false more flag is = true≢false (sym flag)
 flagged_by true true more flag is = true≢false (sym is)
 flagged_by false true more flag is = true≢false (sym is)
 
-module _ (b next : RunningNumbers) (seat : ℕ) (act : Act) (target unit : ℕ) (moved : IsMoved b next seat act target unit) (in_hand : IsSeat b.setup seat)
-    (fresh : (k : ℕ) → IsSeat b.setup k → flag_of b.since_rise k ≡ false) (behind : ℕ) (in_behind : IsSeat b.setup behind) (first : TheSeat behind ≡ first_behind_seen b seat) where
+module _ (b next : RunningNumbers) (seat : ℕ) (act : Act) (target unit : ℕ) (moved : IsMoved b next seat act target unit) (in_hand : IsSeatOf b.setup.stacks.seats seat)
+    (fresh : (k : ℕ) → IsSeatOf b.setup.stacks.seats k → flag_of b.since_rise k ≡ false) (behind : ℕ) (in_behind : IsSeatOf b.setup.stacks.seats behind) (first : TheSeat behind ≡ first_behind_seen b seat) where
   abbrev moves : ℕ → Bool
   moves = has_to_move_seen next
 
@@ -124,14 +124,14 @@ module _ (b next : RunningNumbers) (seat : ℕ) (act : Act) (target unit : ℕ) 
   abbrev start : ℕ
   start = seat_after b.setup seat
 
-  start_in : IsSeat b.setup start
+  start_in : IsSeatOf b.setup.stacks.seats start
   start_in = after_in_by b.setup seat (seat == b.setup.stacks.seats) refl in_hand
 
   found : find able (seats_from b.setup start) ≡ Some behind
   found = the_same (find able (seats_from b.setup start)) behind first
 
   -- the other seats are able as they were
-  able_still : (k : ℕ) → IsSeat b.setup k → k ≢ seat → is_able_seen next k ≡ able k
+  able_still : (k : ℕ) → IsSeatOf b.setup.stacks.seats k → k ≢ seat → is_able_seen next k ≡ able k
   able_still k in_k other =
       ap (λ live. live && nat_lt 0 (amount_of next.setup.stacks k - amount_of next.puts k)) (moved.other_live k in_k.first other)
       ∙ ap (λ put. flag_of b.live k && nat_lt 0 (amount_of next.setup.stacks k - put)) (moved.other_puts k in_k.first other)
@@ -147,14 +147,14 @@ module _ (b next : RunningNumbers) (seat : ℕ) (act : Act) (target unit : ℕ) 
   able_then : (k : ℕ) → moves k ≡ true → is_able_seen next k ≡ true
   able_then k moves_k = (and_parts (is_able_seen next k) (if flag_of next.since_rise k then false else (nat_lt 0 (owed_seen next k) || nat_le 2 (able_count_seen next))) moves_k).0
 
-  was_able : (k : ℕ) → IsSeat b.setup k → moves k ≡ true → able k ≡ true
+  was_able : (k : ℕ) → IsSeatOf b.setup.stacks.seats k → moves k ≡ true → able k ≡ true
   was_able k in_k moves_k = sym (able_still k in_k (another k moves_k)) ∙ able_then k moves_k
 
-  in_next : (k : ℕ) → IsSeat b.setup k → IsSeat next.setup k
-  in_next k in_k = subst (λ (setup : Setup). IsSeat setup k) (sym moved.setup) in_k
+  in_next : (k : ℕ) → IsSeatOf b.setup.stacks.seats k → IsSeatOf next.setup.stacks.seats k
+  in_next k in_k = subst (λ (setup : Setup). IsSeatOf setup.stacks.seats k) (sym moved.setup) in_k
 
   -- where the seat behind has no move to make, it alone is able beside the one that moved
-  none_by : moves behind ≡ false → (k : ℕ) → IsSeat b.setup k → moves k ≡ true → (behind ≡ seat) ⊎ (behind ≡ seat → ⊥) → ⊥
+  none_by : moves behind ≡ false → (k : ℕ) → IsSeatOf b.setup.stacks.seats k → moves k ≡ true → (behind ≡ seat) ⊎ (behind ≡ seat → ⊥) → ⊥
   none_by stays k in_k moves_k (inl same) =
       alone_by b.setup able seat k (seat == b.setup.stacks.seats) refl in_hand in_k (another k moves_k) (was_able k in_k moves_k) (found ∙ ap Some same)
   none_by stays k in_k moves_k (inr other) =
@@ -185,7 +185,7 @@ module _ (b next : RunningNumbers) (seat : ℕ) (act : Act) (target unit : ℕ) 
       ∙ ap (λ (o : Option ℕ). first_in_turn next.setup moves (after_last o (seat_after next.setup) opener)) (sym moved.last)
 
 -- after the first move of the street
-pub next_up : (b next : RunningNumbers) (seat : ℕ) (act : Act) (target unit : ℕ) → IsMoved b next seat act target unit → IsSeat b.setup seat → StartsFresh b → (behind : Seat) → IsFirstBehind b seat behind → IsNextUp next behind
+pub next_up : (b next : RunningNumbers) (seat : ℕ) (act : Act) (target unit : ℕ) → IsMoved b next seat act target unit → IsSeatOf b.setup.stacks.seats seat → StartsFresh b → (behind : Seat) → IsFirstBehind b seat behind → IsNextUp next behind
 next_up b next seat act target unit moved in_hand fresh behind is = record {
   turn = turn_next b next seat act target unit moved in_hand (fresh is.before_moves) behind.number (record { first = behind.first; last = is.in_hand }) is.first;
   in_hand = subst (λ (setup : Setup). behind.number ≤ setup.stacks.seats) (sym moved.setup) is.in_hand;

@@ -19,7 +19,6 @@ use Rattle.play_event.specs.Due.{has_opened_betting, turn, is_bring_in_due, is_m
 use Rattle.betting_numbers.specs.declared.running.RunningNumbers.{RunningNumbers}
 use Rattle.betting_numbers.specs.Seen.{live_count_seen, is_move_due_seen}
 use Rattle.betting_numbers.specs.Moving.{IsMoved, IsNextStreet}
-use Rattle.street_laws.specs.Seats.{IsSeat}
 use Rattle.betting_numbers.specs.Standing.{Standing, StandsFor}
 use Rattle.street_laws.specs.Walk.{has_nothing_later}
 use Rattle.play_event.specs.ValidSetup.{IsValid}
@@ -39,6 +38,7 @@ use Rattle.street_laws.proofs.LiveSeats.{some_left}
 use Rattle.street_laws.proofs.CardTurns.{several_live}
 use Rattle.play_event.proofs.StillAble.{able_still, still_live}
 use Rattle.play_event.proofs.FloorLaws.{bet_unfinished}
+use Rattle.chip_ledger.specs.Seat.{IsSeatOf}
 
 -- the numbers stand whatever is due
 pub standing_with_turn : (setup : Setup) (street : ℕ) (b : RunningNumbers) (due : Due) (next : Option Seat) (moves : List Move) → Standing setup street b moves → Standing setup street (with_turn b due next) moves
@@ -99,7 +99,7 @@ street_after code street false true move = omega arith
 street_after code street false false true = omega arith
 street_after code street false false false = behind_by street (nat_lt street (street_count code)) (street_cards code (street + 1)) dues.Show
 
-module _ (b mid next : RunningNumbers) (past : Past) (seat target unit : ℕ) (act : Act) (stands : StandsFor b past) (bets : is_bet_due b.due ≡ true) (in_hand : IsSeat b.setup seat) (mv : IsMoved b mid seat act target unit) (unit_is : unit ≡ streets.unit b.setup b.street) (from_one : 1 ≤ b.street) (within : b.street ≤ street_count b.setup.code) (fits : may_come_at act b.due ≡ true) (to : IsSettledTo mid next) where
+module _ (b mid next : RunningNumbers) (past : Past) (seat target unit : ℕ) (act : Act) (stands : StandsFor b past) (bets : is_bet_due b.due ≡ true) (in_hand : IsSeatOf b.setup.stacks.seats seat) (mv : IsMoved b mid seat act target unit) (unit_is : unit ≡ streets.unit b.setup b.street) (from_one : 1 ≤ b.street) (within : b.street ≤ street_count b.setup.code) (fits : may_come_at act b.due ≡ true) (to : IsSettledTo mid next) where
   abbrev pub new_move : Move
   new_move = the_move b mid (moves_of past) seat target unit act stands.standing in_hand mv unit_is
 

@@ -8,7 +8,6 @@ use Rattle.play_event.specs.Openers.{InTurn, NoSeat, TheSeat, Undecided}
 use Rattle.play_event.specs.Targets.{least_target, greatest_target}
 use Rattle.play_event.specs.TurnTargets.{AreTargets}
 use Rattle.play_event.proofs.TargetLaws.{targets_end}
-use Rattle.street_laws.specs.Seats.{IsSeat}
 use Rattle.betting_numbers.specs.declared.running.RunningNumbers.{RunningNumbers}
 use Rattle.betting_numbers.specs.Seen.{all_in_seen}
 use Rattle.betting_numbers.specs.Standing.{Standing}
@@ -16,9 +15,10 @@ use Rattle.betting_numbers.specs.Why.{greatest_seen, floor_by}
 use Rattle.betting_numbers.specs.Targeted.{least_seen}
 use Rattle.betting_numbers.proofs.Bridge.{all_in_is}
 use Rattle.betting_numbers.proofs.WhyRaise.{least_target_is, greatest_is}
+use Rattle.chip_ledger.specs.Seat.{IsSeatOf}
 
 -- numbers that are the least target, the greatest and all-in by the running numbers
-pub targets_are : (b : RunningNumbers) (moves : List Move) (st : Standing b.setup b.street b moves) (m : ℕ) (in_hand : IsSeat b.setup m) (limit : Limit) (limit_is : limit_of b.setup.code ≡ limit) (least greatest whole : ℕ)
+pub targets_are : (b : RunningNumbers) (moves : List Move) (st : Standing b.setup b.street b moves) (m : ℕ) (in_hand : IsSeatOf b.setup.stacks.seats m) (limit : Limit) (limit_is : limit_of b.setup.code ≡ limit) (least greatest whole : ℕ)
     → least ≡ least_seen limit b (floor_by b.rules.reopen (starting_price b.setup b.street) b) m → greatest ≡ greatest_seen limit b m → whole ≡ all_in_seen b m → AreTargets b.setup b.rules moves b.street m least greatest whole
 targets_are b moves st m in_hand limit limit_is least greatest whole is_least is_greatest is_whole =
     let at = b.street in

@@ -12,18 +12,18 @@ use Rattle.play_event.specs.Raising.{is_closed, is_reopened}
 use Rattle.play_event.specs.Trace.{TracedMove, traced_move, unit_target_in}
 use Rattle.betting_numbers.specs.declared.running.RunningNumbers.{RunningNumbers}
 use Rattle.betting_numbers.specs.Seen.{price_seen}
-use Rattle.street_laws.specs.Seats.{IsSeat}
 use Rattle.betting_numbers.specs.Standing.{Standing}
 use Rattle.betting_numbers.specs.LegalMoves.{move_of}
 use Rattle.betting_numbers.specs.Traced.{is_closed_seen, unit_seen, traced_seen}
 use Rattle.betting_numbers.specs.Why.{is_legal_seen, floor_by}
 use Rattle.betting_numbers.proofs.Bridge.{price_is}
 use Rattle.betting_numbers.proofs.WhyRaise.{target_is, open_is, legal_is}
+use Rattle.chip_ledger.specs.Seat.{IsSeatOf}
 
 abbrev traced_by : ℕ → ℕ → Act → (from to the_price : ℕ) → Bool → ℕ → TracedMove
 traced_by street seat act from to the_price closed unit_to = record { street = street; seat = seat; act = act; from = from; to = to; price = the_price; closed = closed; unit_to = unit_to }
 
-module _ (b : RunningNumbers) (moves : List Move) (st : Standing b.setup b.street b moves) (m : ℕ) (in_hand : IsSeat b.setup m) (limit : Limit) (limit_is : limit_of b.setup.code ≡ limit) where
+module _ (b : RunningNumbers) (moves : List Move) (st : Standing b.setup b.street b moves) (m : ℕ) (in_hand : IsSeatOf b.setup.stacks.seats m) (limit : Limit) (limit_is : limit_of b.setup.code ≡ limit) where
   closed_is : (target : ℕ) → is_closed_seen limit b m target ≡ is_closed b.setup moves b.street m target
   closed_is target =
       ap (λ o. not o || not (is_legal_seen limit b (floor_by reopen.Full 0 b) m target)) (sym (open_is b moves st m in_hand limit limit_is reopen.Full))

@@ -4,7 +4,7 @@ use Rattle.std.specs.List.{list_any}
 use Rattle.std.proofs.lemmas.Bool.{true≢false, and_parts, leb-true}
 use Rattle.chip_ledger.specs.declared.numbers.Seat.{Seat}
 use Rattle.chip_ledger.specs.LiveRow.{flag_of}
-use Rattle.play_event.specs.declared.card_rows.UpRow.{UpRow}
+use Rattle.play_event.specs.declared.up_cards.UpRow.{UpRow}
 use Rattle.play_event.specs.declared.reason.Due.{Due}
 use Rattle.play_event.specs.declared.reason.Due.TheVariants as dues
 use Rattle.play_event.specs.declared.limit.Opener.{Opener}
@@ -19,9 +19,8 @@ use Rattle.card_set.specs.Known.{is_unknown, known_cards}
 use Rattle.play_event.specs.Mover.{mover, mover_after, first_in_turn}
 use Rattle.play_event.specs.Table.{up_cards}
 use Rattle.betting_numbers.specs.declared.running.RunningNumbers.{RunningNumbers}
-use Rattle.betting_numbers.specs.SeatsSaid.{turn_of}
+use Rattle.betting_numbers.specs.TurnSaid.{turn_of}
 use Rattle.betting_numbers.specs.Seen.{is_able_seen, owed_seen, able_count_seen, has_to_move_seen, is_move_due_seen, after_last, last_seen, mover_seen}
-use Rattle.street_laws.specs.Seats.{IsSeat}
 use Rattle.betting_numbers.specs.Standing.{StandsFor}
 use Rattle.betting_numbers.specs.LegalMoves.{IsTurn}
 use Rattle.play_event.specs.TurnTargets.{is_bet_due}
@@ -39,6 +38,7 @@ use Rattle.list_laws.proofs.Any.{list_any-filter, list_any-weaker}
 use Rattle.list_laws.proofs.Finding.{find-filter, found_passes}
 use Rattle.betting_numbers.proofs.FirstMoves.{all_true, no_moves, none_since_start, opener_turn}
 use Rattle.chip_ledger.specs.SeatsSaid.{seat_said}
+use Rattle.chip_ledger.specs.Seat.{IsSeatOf}
 
 module _ (b : RunningNumbers) (past : Past) (stands : StandsFor b past) (up : UpRow) (holds : HoldsUps b.setup up past) where
   unknown_is : has_unknown_up_card_seen b up ≡ has_unknown_up_card b.setup (up_cards b.setup.code past) (moves_of past)
@@ -51,13 +51,13 @@ module _ (b : RunningNumbers) (past : Past) (stands : StandsFor b past) (up : Up
   abbrev opens_earlier : Opener → (seat other : ℕ) → Bool
   opens_earlier opener seat other = is_opener_before opener (b.street == 1) (known_cards (up_cards b.setup.code past other)) (known_cards (up_cards b.setup.code past seat))
 
-  before_is : (opener : Opener) (k other : ℕ) → IsSeat b.setup k → IsSeat b.setup other → is_before_seen opener b up k other ≡ (is_able b.setup (moves_of past) other && opens_earlier opener k other)
+  before_is : (opener : Opener) (k other : ℕ) → IsSeatOf b.setup.stacks.seats k → IsSeatOf b.setup.stacks.seats other → is_before_seen opener b up k other ≡ (is_able b.setup (moves_of past) other && opens_earlier opener k other)
   before_is opener k other in_k in_other =
       ap (λ a. a && is_opener_before opener (b.street == 1) (known_cards (ups_of up other)) (known_cards (ups_of up k))) (able_is b (moves_of past) stands.standing other in_other)
       ∙ ap (λ slots. is_able b.setup (moves_of past) other && is_opener_before opener (b.street == 1) (known_cards slots) (known_cards (ups_of up k))) (holds other in_other.first in_other.last)
       ∙ ap (λ slots. is_able b.setup (moves_of past) other && is_opener_before opener (b.street == 1) (known_cards (up_cards b.setup.code past other)) (known_cards slots)) (holds k in_k.first in_k.last)
 
-  opens_is : (opener : Opener) (k : ℕ) → IsSeat b.setup k → is_opener_seen opener b up k ≡ (is_able b.setup (moves_of past) k && not (list_any (opens_earlier opener k) (able_seats b.setup (moves_of past))))
+  opens_is : (opener : Opener) (k : ℕ) → IsSeatOf b.setup.stacks.seats k → is_opener_seen opener b up k ≡ (is_able b.setup (moves_of past) k && not (list_any (opens_earlier opener k) (able_seats b.setup (moves_of past))))
   opens_is opener k in_k =
       ap (λ a. a && not (list_any (is_before_seen opener b up k) (all_seats b.setup))) (able_is b (moves_of past) stands.standing k in_k)
       ∙ ap (λ o. is_able b.setup (moves_of past) k && not o) (
@@ -132,13 +132,13 @@ module _ (b : RunningNumbers) (past : Past) (stands : StandsFor b past) where
   seen_turn : (opener : InTurn) → StartsIn b.setup (after_last (last_seen b) (seat_after b.setup) opener) → opener ≡ opener_by (opener_of b.setup.code) b.setup (up_cards b.setup.code past) (moves_of past) b.street → mover_seen b opener ≡ mover b.setup (up_cards b.setup.code past) (moves_of past) b.street
   seen_turn opener starts is = mover_is b (moves_of past) stands.standing opener starts ∙ ap (λ (o : InTurn). mover_after b.setup o (moves_of past) b.street) is
 
-  somebody_from : (opener : ℕ) → IsSeat b.setup opener → is_move_due_seen b ≡ true → mover_seen b (TheSeat opener) ≡ NoSeat → ⊥
+  somebody_from : (opener : ℕ) → IsSeatOf b.setup.stacks.seats opener → is_move_due_seen b ≡ true → mover_seen b (TheSeat opener) ≡ NoSeat → ⊥
   somebody_from opener in_hand some none =
       let to : Passed b opener = passed b opener in_hand in
       nobody_by b.setup (has_to_move_seen b) (after_last (last_seen b) (seat_after b.setup) (TheSeat opener)) to.seat to.is to.in_hand some none
 
   -- after a move the opener does not count
-  pub turn_later : (last : Seat) → b.last ≡ Some last → (one : ℕ) → IsSeat b.setup one → (found : Option ℕ) → in_turn found ≡ mover_seen b (TheSeat one) → is_move_due_seen b ≡ true → IsTurn b past (turn_of found)
+  pub turn_later : (last : Seat) → b.last ≡ Some last → (one : ℕ) → IsSeatOf b.setup.stacks.seats one → (found : Option ℕ) → in_turn found ≡ mover_seen b (TheSeat one) → is_move_due_seen b ≡ true → IsTurn b past (turn_of found)
   turn_later last is one in_hand found found_is some =
       let opener = opener_by (opener_of b.setup.code) b.setup (up_cards b.setup.code past) (moves_of past) b.street in
       let said : last_seen b ≡ Some last.number = ap (λ (o : Option Seat). seat_said o) is in
@@ -180,7 +180,7 @@ module _ (b : RunningNumbers) (past : Past) (stands : StandsFor b past) where
         )
 
     -- all are known, and this seat opens
-    turn_known : is_opened_by_up_cards opener ≡ true → false ≡ has_unknown_up_card_seen b up → (first : ℕ) → IsSeat b.setup first → Some first ≡ up_opener_seen opener b up → (found : Option ℕ) → in_turn found ≡ mover_seen b (TheSeat first) → is_move_due_seen b ≡ true → IsTurn b past (turn_of found)
+    turn_known : is_opened_by_up_cards opener ≡ true → false ≡ has_unknown_up_card_seen b up → (first : ℕ) → IsSeatOf b.setup.stacks.seats first → Some first ≡ up_opener_seen opener b up → (found : Option ℕ) → in_turn found ≡ mover_seen b (TheSeat first) → is_move_due_seen b ≡ true → IsTurn b past (turn_of found)
     turn_known cards known first in_hand opens found found_is some =
         let to : Passed b first = passed b first in_hand in
         found_turn found (mover_seen b (TheSeat first)) found_is (somebody_from first in_hand some)
@@ -195,7 +195,7 @@ module _ (b : RunningNumbers) (past : Past) (stands : StandsFor b past) where
     turn_never none some = absurd (true≢false (sym (one_opens b past stands up holds opener some) ∙ ap is_some (sym none)))
 
     -- this seat opens, where all are known
-    turn_opened : is_opened_by_up_cards opener ≡ true → b.last ≡ None → (first : ℕ) → IsSeat b.setup first → Some first ≡ known_opener_seen opener b up → is_move_due_seen b ≡ true → IsTurn b past (TheSeat first)
+    turn_opened : is_opened_by_up_cards opener ≡ true → b.last ≡ None → (first : ℕ) → IsSeatOf b.setup.stacks.seats first → Some first ≡ known_opener_seen opener b up → is_move_due_seen b ≡ true → IsTurn b past (TheSeat first)
     turn_opened cards last first in_hand opens some =
         let parts = opens_known opener b up first opens in
         let able : is_able_seen b first ≡ true = (and_parts (is_able_seen b first) (not (list_any (is_before_seen opener b up first) (all_seats b.setup))) (found_passes (is_opener_seen opener b up) (all_seats b.setup) first (sym parts.1))).0 in

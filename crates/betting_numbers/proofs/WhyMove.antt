@@ -19,10 +19,10 @@ use Rattle.play_event.specs.MoveReasons.{actor_of, is_other_seat, is_undecided, 
 use Rattle.play_event.specs.Reasons.{why, first_reason, all_reasons}
 use Rattle.betting_numbers.specs.declared.running.RunningNumbers.{RunningNumbers}
 use Rattle.betting_numbers.specs.Seen.{is_able_seen, left_seen, all_in_seen}
-use Rattle.street_laws.specs.Seats.{IsSeat}
 use Rattle.betting_numbers.specs.Standing.{Standing, StandsFor}
 use Rattle.betting_numbers.specs.Why.{bring_in_why, is_another, fold_why, call_why, call_seen, stated_why}
 use Rattle.betting_numbers.proofs.Bridge.{able_is, price_is, owed_is, all_in_is}
+use Rattle.chip_ledger.specs.Seat.{IsSeatOf}
 
 -- a reason that reads the seat that moves reads the seat in turn, where the seat that is named is that
 by_named : (f : ℕ → Option Illegal) (named : Option ℕ) (mover : ℕ) (another : Bool) → is_another named mover ≡ another → (if another then Some reasons.WrongSeat else f (actor_of named (TheSeat mover))) ≡ (if another then Some reasons.WrongSeat else f mover)
@@ -42,7 +42,7 @@ pub other_is : (setup : Setup) (moves : List Move) (named : Option ℕ) (mover :
 other_is setup moves None mover = refl
 other_is setup moves (Some seat) mover = refl
 
-module _ (b : RunningNumbers) (past : Past) (stands : StandsFor b past) (due_is : b.due ≡ dues.Move) (m : ℕ) (in_hand : IsSeat b.setup m) (mover_is : mover b.setup (up_cards b.setup.code past) (moves_of past) b.street ≡ TheSeat m) where
+module _ (b : RunningNumbers) (past : Past) (stands : StandsFor b past) (due_is : b.due ≡ dues.Move) (m : ℕ) (in_hand : IsSeatOf b.setup.stacks.seats m) (mover_is : mover b.setup (up_cards b.setup.code past) (moves_of past) b.street ≡ TheSeat m) where
   pub why_fold : (named : Option ℕ) → why b.setup b.rules past (said.Fold named) ≡ fold_why b named m
   unfolding why
   why_fold named =

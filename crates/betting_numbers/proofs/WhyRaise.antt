@@ -5,7 +5,7 @@ use Rattle.std.proofs.lemmas.Bool.{cases_lt, lt-ltb, le-ltb}
 use Rattle.chip_ledger.specs.LiveRow.{flag_of}
 use Rattle.std.proofs.Common.{sum_by}
 use Rattle.std.proofs.lemmas.List.Sums.{sum-map}
-use Rattle.chip_ledger.specs.Seat.{seats_of}
+use Rattle.chip_ledger.specs.Seat.{IsSeatOf, seats_of}
 use Rattle.chip_ledger.proofs.Seats.{sum-seats}
 use Rattle.chip_ledger.specs.SeatRow.{amount_of, total_of}
 use Rattle.play_event.specs.declared.event.Spelled.{Spelled}
@@ -36,14 +36,13 @@ use Rattle.betting_numbers.specs.declared.running.RunningNumbers.{RunningNumbers
 use Rattle.betting_numbers.specs.Caps.{cap_at}
 use Rattle.betting_numbers.specs.Moving.{most_raises}
 use Rattle.betting_numbers.specs.Seen.{price_seen, owed_seen, all_in_seen}
-use Rattle.street_laws.specs.Seats.{IsSeat}
 use Rattle.betting_numbers.specs.Standing.{Standing, StandsFor}
 use Rattle.betting_numbers.specs.Targeted.{least_seen}
 use Rattle.betting_numbers.specs.Why.{now_why, is_reopened_by, ceiling_seen, fulls_by, fulls_seen, is_legal_seen, greatest_seen, is_another, target_seen, is_within_cap_by, is_open_by, may_raise_seen, floor_by, raise_to_why, raise_why}
 use Rattle.betting_numbers.proofs.Bridge.{price_is, owed_is, all_in_is, opponent_is}
 use Rattle.betting_numbers.proofs.WhyMove.{read_mover, other_is}
 
-module _ (b : RunningNumbers) (moves : List Move) (st : Standing b.setup b.street b moves) (m : ℕ) (in_hand : IsSeat b.setup m) where
+module _ (b : RunningNumbers) (moves : List Move) (st : Standing b.setup b.street b moves) (m : ℕ) (in_hand : IsSeatOf b.setup.stacks.seats m) where
   pub target_is : (amount : Spelled) → raise_target b.setup moves b.street m amount ≡ target_seen b m amount
   target_is (spelled.To amount) = refl
   target_is (spelled.Added amount) = ap (λ n. n + amount) (sym (st.bets m in_hand))
@@ -218,7 +217,7 @@ module _ (b : RunningNumbers) (past : Past) (stands : StandsFor b past) where
   pub raise_undecided : mover b.setup (up_cards b.setup.code past) (moves_of past) b.street ≡ Undecided → (due : Due) → b.due ≡ due → now_why true true due ≡ None → (named : Option ℕ) (amount : Spelled) → why b.setup b.rules past (said.Raise named amount) ≡ (if is_other_seat b.setup (moves_of past) named Undecided then Some reasons.WrongSeat else Some reasons.UpCardUnknown)
   raise_undecided mover_is due due_is now named amount = refused_at due due_is now named amount ∙ ap (λ (t : InTurn). refused_by t named amount) mover_is
 
-module _ (b : RunningNumbers) (past : Past) (stands : StandsFor b past) (limit : Limit) (limit_is : limit_of b.setup.code ≡ limit) (m : ℕ) (in_hand : IsSeat b.setup m) (mover_is : mover b.setup (up_cards b.setup.code past) (moves_of past) b.street ≡ TheSeat m) where
+module _ (b : RunningNumbers) (past : Past) (stands : StandsFor b past) (limit : Limit) (limit_is : limit_of b.setup.code ≡ limit) (m : ℕ) (in_hand : IsSeatOf b.setup.stacks.seats m) (mover_is : mover b.setup (up_cards b.setup.code past) (moves_of past) b.street ≡ TheSeat m) where
   pub why_raise : (due : Due) → b.due ≡ due → now_why true true due ≡ None → (named : Option ℕ) (amount : Spelled) → why b.setup b.rules past (said.Raise named amount) ≡ raise_why limit b (floor_by b.rules.reopen (starting_price b.setup b.street) b) named amount m
   unfolding refused
   why_raise due due_is now named amount =

@@ -1,7 +1,7 @@
 -- A legal move, and whose turn it is, after a past.
-use Rattle.std.specs.Prelude.{◌≡◌, ◌≤◌, ℕ, true, List, ◌∷◌, Option, Some, None, Result, IfErr, IfOk}
+use Rattle.std.specs.Prelude.{◌≡◌, ◌≤◌, ℕ, true, List, ◌∷◌, Option, Some, None, Result, IfErr, IfOk, OnOk}
 use Rattle.chip_ledger.specs.declared.numbers.Seat.{Seat}
-use Rattle.play_event.specs.declared.card_rows.UpRow.{UpRow}
+use Rattle.play_event.specs.declared.up_cards.UpRow.{UpRow}
 use Rattle.play_event.specs.declared.reason.Illegal.{Illegal}
 use Rattle.play_event.specs.Chips.{street_chips}
 use Rattle.play_event.specs.Mover.{mover}
@@ -15,7 +15,7 @@ use Rattle.play_event.specs.Table.{up_cards}
 use Rattle.play_event.specs.TurnTargets.{is_bet_due}
 use Rattle.betting_numbers.specs.declared.legal_moves.LegalMove.{LegalMove}
 use Rattle.betting_numbers.specs.declared.running.RunningNumbers.{RunningNumbers}
-use Rattle.betting_numbers.specs.SeatsSaid.{turn_of}
+use Rattle.betting_numbers.specs.TurnSaid.{turn_of}
 use Rattle.betting_numbers.specs.Seen.{all_in_seen}
 use Rattle.betting_numbers.specs.Standing.{StandsFor}
 use Rattle.betting_numbers.specs.Turn.{may_come_at}
@@ -47,11 +47,6 @@ pub record IsLegalMove (b : RunningNumbers) (past : Past) (event : Said) (seat :
 abbrev pub IsTurn : RunningNumbers → Past → InTurn → Type 0
 IsTurn b past in_turn =
     in_turn ≡ mover b.setup (up_cards b.setup.code past) (moves_of past) b.street
-
--- after each past for which the state stands, and after which this is the turn
-abbrev pub WhereTurn : RunningNumbers → Option Seat → (Past → Type 0) → Type 0
-WhereTurn b turn P =
-    (past : Past) → StandsFor b past → IsTurn b past (turn_of (seat_said turn)) → P past
 
 -- after each past for which the state stands, and after which this is the turn if a bring-in or a
 -- move is due
@@ -102,9 +97,11 @@ IsFit b legal = may_come_at (act_said legal.act) b.due ≡ true
 pub record IsAnswered (b : RunningNumbers) (in_turn : Option Seat) (event : Said)
     (answer : Result LegalMove Illegal) : Type 0 where
   -- a refusal has the reason of the rules
-  pub refused : WhereTurn b in_turn (IsRefused b event answer)
+  pub refused : WhereBets b in_turn (IsRefused b event answer)
   -- what is allowed is legal, and takes place as the move that is given
-  pub legal : WhereTurn b in_turn (IsAllowed b event answer)
+  pub legal : WhereBets b in_turn (IsAllowed b event answer)
+  -- a bring-in or a move is due then
+  pub due : OnOk answer (is_bet_due b.due ≡ true)
   -- that move may come where this is due
   pub fits : IfOk answer (IsFit b)
   -- it is of a seat of the hand

@@ -1,6 +1,6 @@
 -- What the running numbers say, and for which past they stand.
 pub mod Caps
-pub mod SeatsSaid
+pub mod TurnSaid
 pub mod Seen
 pub mod Moving
 pub mod Turn

@@ -4,7 +4,7 @@ use Rattle.chip_ledger.specs.Greatest.{greatest}
 use Rattle.chip_ledger.specs.LiveRow.{flag_of}
 use Rattle.chip_ledger.specs.Seat.{seats_of}
 use Rattle.chip_ledger.specs.SeatRow.{amount_of}
-use Rattle.chip_ledger.specs.declared.rows.TheConstants.{MOST_AMOUNT}
+use Rattle.chip_ledger.specs.declared.seat_row.TheConstants.{MOST_AMOUNT}
 use Rattle.play_event.specs.Chips.{blind_posted, posted}
 use Rattle.play_event.specs.declared.setup.Setup.{Setup}
 use Rattle.betting_numbers.specs.declared.starting.Posted.{Posted}

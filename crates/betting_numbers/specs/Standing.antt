@@ -15,11 +15,11 @@ use Rattle.play_event.specs.Raising.{has_moved, raises_on}
 use Rattle.play_event.specs.Seats.{is_live, live_count}
 use Rattle.play_event.specs.Showing.{has_to_show}
 use Rattle.play_event.specs.ValidSetup.{IsValid}
-use Rattle.street_laws.specs.Seats.{IsSeat}
 use Rattle.street_laws.specs.Walk.{has_nothing_later}
 use Rattle.betting_numbers.specs.declared.running.RunningNumbers.{RunningNumbers}
 use Rattle.betting_numbers.specs.Moving.{most_raises}
 use Rattle.betting_numbers.specs.Seen.{last_seen}
+use Rattle.chip_ledger.specs.Seat.{IsSeatOf}
 
 -- the seat of the newest move
 abbrev pub newest_seat : List Move → Option ℕ
@@ -30,16 +30,19 @@ newest_seat (move ∷ before) = Some move.seat
 pub record Standing (setup : Setup) (street : ℕ) (b : RunningNumbers) (moves : List Move) : Type 0
   where
     -- the chips that each seat put in this hand
-    pub puts : (seat : ℕ) → IsSeat setup seat → amount_of b.puts seat ≡ chips_put setup moves seat
+    pub puts : (seat : ℕ) → IsSeatOf setup.stacks.seats seat
+        → amount_of b.puts seat ≡ chips_put setup moves seat
     -- the chips that each seat put on this street
-    pub bets : (seat : ℕ) → IsSeat setup seat
+    pub bets : (seat : ℕ) → IsSeatOf setup.stacks.seats seat
         → amount_of b.bets seat ≡ street_chips setup moves street seat
     -- the seats that have not folded
-    pub live : (seat : ℕ) → IsSeat setup seat → flag_of b.live seat ≡ is_live moves seat
+    pub live : (seat : ℕ) → IsSeatOf setup.stacks.seats seat
+        → flag_of b.live seat ≡ is_live moves seat
     -- the seats that moved on this street
-    pub moved : (seat : ℕ) → IsSeat setup seat → flag_of b.moved seat ≡ has_moved moves street seat
+    pub moved : (seat : ℕ) → IsSeatOf setup.stacks.seats seat
+        → flag_of b.moved seat ≡ has_moved moves street seat
     -- the seats that moved since the price last rose
-    pub since_rise : (seat : ℕ) → IsSeat setup seat
+    pub since_rise : (seat : ℕ) → IsSeatOf setup.stacks.seats seat
         → flag_of b.since_rise seat ≡ has_moved_since_rise setup moves street seat
     -- the seat that moved last on this street
     pub last : last_seen b ≡ newest_seat (moves_on street moves)

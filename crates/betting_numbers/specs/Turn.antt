@@ -13,7 +13,7 @@ use Rattle.betting_numbers.specs.Seen.{first_behind_seen, has_to_move_seen, live
 use Rattle.betting_numbers.specs.Moving.{IsNextStreet}
 use Rattle.street_laws.specs.Walk.{betting_turn, turn_after}
 use Rattle.street_laws.specs.Dues.{is_move}
-use Rattle.street_laws.specs.Seats.{IsSeat}
+use Rattle.chip_ledger.specs.Seat.{IsSeatOf}
 
 -- the same numbers, and another thing due
 abbrev pub with_due : RunningNumbers → Due → RunningNumbers
@@ -36,7 +36,9 @@ KeepsSeat b = is_bet_due b.due ≡ true → IfSome b.next (λ seat. seat.number 
 
 -- where no seat has moved on the street, none has since the price rose
 abbrev pub StartsFresh : RunningNumbers → Type 0
-StartsFresh b = b.last ≡ None → (seat : ℕ) → IsSeat b.setup seat → flag_of b.since_rise seat ≡ false
+StartsFresh b =
+    b.last ≡ None → (seat : ℕ) → IsSeatOf b.setup.stacks.seats seat
+    → flag_of b.since_rise seat ≡ false
 
 -- before the first move of a street, the first able seat behind the one that makes it
 pub record IsFirstBehind (b : RunningNumbers) (seat : ℕ) (behind : Seat) : Type 0 where
@@ -60,13 +62,14 @@ pub record IsTurnedTo (now : ℕ × Due) (mid next : RunningNumbers) : Type 0 wh
   pub setup : next.setup ≡ mid.setup
   pub rules : next.rules ≡ mid.rules
 
+-- where no bring-in is due the hand is over, if it is, or a move comes, or what comes behind it
+abbrev pub IsPassedTo : (over : Bool) → RunningNumbers → RunningNumbers → Type 0
+IsPassedTo over mid next =
+    IsTurnedTo (turn_after mid.setup.code mid.street over false (is_move_due_seen mid)) mid next
+
 -- after a move comes what is due after it
 abbrev pub IsSettledTo : RunningNumbers → RunningNumbers → Type 0
-IsSettledTo mid next =
-    IsTurnedTo
-    (turn_after mid.setup.code mid.street (nat_le (live_count_seen mid) 1) false
-    (is_move_due_seen mid))
-    mid next
+IsSettledTo mid next = IsPassedTo (nat_le (live_count_seen mid) 1) mid next
 
 -- after the deal or the draw of a street comes a bring-in, a move, or what comes behind it
 abbrev pub IsDealtTo : RunningNumbers → RunningNumbers → Type 0
@@ -74,11 +77,6 @@ IsDealtTo mid next =
     IsTurnedTo
     (betting_turn mid.setup.code mid.street (is_bring_in_due_seen mid) (is_move_due_seen mid))
     mid next
-
--- where no bring-in is due a move comes, or what comes behind it
-abbrev pub IsPassedTo : RunningNumbers → RunningNumbers → Type 0
-IsPassedTo mid next =
-    IsTurnedTo (betting_turn mid.setup.code mid.street false (is_move_due_seen mid)) mid next
 
 -- a move that brings no chips in comes only where a move is due
 abbrev pub may_come_at : Act → Due → Bool

@@ -1,7 +1,7 @@
 -- Who opens a street by up-cards, by the running numbers and a row of up-cards.
 use Rattle.std.specs.Prelude.{◌≡◌, ℕ, ◌≤◌, Bool, true, ◌&&◌, ◌==◌, not, if◌then◌else◌, find, Option, None}
 use Rattle.std.specs.List.{list_any}
-use Rattle.play_event.specs.declared.card_rows.UpRow.{UpRow}
+use Rattle.play_event.specs.declared.up_cards.UpRow.{UpRow}
 use Rattle.play_event.specs.declared.setup.Setup.{Setup}
 use Rattle.play_event.specs.declared.limit.Opener.{Opener}
 use Rattle.play_event.specs.Openers.{is_opener_before}

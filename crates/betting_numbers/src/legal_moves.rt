@@ -1,5 +1,6 @@
 //! An event is allowed as a legal move: whose it is, and where it goes. It is made elsewhere.
-ghost use Rattle.std.specs.Prelude.{◌≡◌, ◌≤◌, true, false, None, IfSome};
+ghost use Rattle.std.specs.Prelude.{◌≡◌, ◌≤◌, Some};
+ghost use Rattle.chip_ledger.specs.declared.numbers.Seat.{Seat};
 ghost use Rattle.play_event.specs.Said as said;
 ghost use Rattle.play_event.specs.Streets.{limit_of, unit};
 ghost use Rattle.betting_numbers.specs.LegalMoves.{IsAnswered};
@@ -20,34 +21,31 @@ pub struct LegalMove {
     pub target: u64,
 }
 
-/// Why an event may not come that may come at a move or not, and at a bring-in or not.
-pub fn not_now(due: Due, at_move: bool, at_bring_in: bool) -> Option<Illegal>
-    ensures { result ≡ now_why at_move at_bring_in due }
-{
-    match due {
-        Due::Move if at_move => None,
-        Due::BringIn if at_bring_in => None,
-        Due::Over => Some(Illegal::HandOver),
-        Due::Deal(_) | Due::Draw(_) | Due::BringIn | Due::Move | Due::Show => {
-            Some(Illegal::WrongKind)
-        }
-    }
+/// The seat in turn, if it is known, as events are answered by it.
+#[derive(Clone, Copy)]
+pub struct Turn<'a> {
+    pub numbers: &'a RunningNumbers,
+    pub seat: Option<Seat>,
+    pub ghost in_hand: { (s : Seat) → seat ≡ Some s → s.number ≤ numbers.now.setup.stacks.seats },
 }
 
-impl RunningNumbers {
+impl Turn<'_> {
     /// The fold that an event says, if it is legal.
-    pub fn legal_fold(&self, turn: Option<Seat>, actor: Option<Seat>) -> Result<LegalMove, Illegal>
-        requires in_hand { IfSome turn (λ seat. seat.number ≤ self.now.setup.stacks.seats) }
-        requires now { now_why true false self.now.due ≡ None }
-        ensures { IsAnswered self.now turn (said.Fold (seat_said actor)) result }
+    pub fn fold(&self, actor: Option<Seat>) -> Result<LegalMove, Illegal>
+        ensures { IsAnswered self.now.numbers.now self.now.seat (said.Fold (seat_said actor))
+            result }
     {
-        match turn {
-            None => Err(self.unknown(actor)),
+        let numbers = self.numbers;
+        if let Some(reason) = not_now(numbers.due, true, false) {
+            return Err(reason);
+        }
+        match self.seat {
+            None => Err(numbers.unknown(actor)),
             Some(seat) => {
-                match self.against_fold(actor, seat) {
+                match numbers.against_fold(actor, seat) {
                     Some(reason) => Err(reason),
                     None => {
-                        let target = self.bets.get(seat);
+                        let target = numbers.bets.get(seat);
                         Ok(LegalMove {
                             seat,
                             act: Act::Fold,
@@ -60,23 +58,21 @@ impl RunningNumbers {
     }
 
     /// The call or check that an event says, if it is legal.
-    pub fn legal_call(
-        &self,
-        turn: Option<Seat>,
-        actor: Option<Seat>,
-        stated: Option<u64>,
-    ) -> Result<LegalMove, Illegal>
-        requires in_hand { IfSome turn (λ seat. seat.number ≤ self.now.setup.stacks.seats) }
-        requires now { now_why true false self.now.due ≡ None }
-        ensures { IsAnswered self.now turn (said.Call (seat_said actor) stated) result }
+    pub fn call(&self, actor: Option<Seat>, stated: Option<u64>) -> Result<LegalMove, Illegal>
+        ensures { IsAnswered self.now.numbers.now self.now.seat
+            (said.Call (seat_said actor) stated) result }
     {
-        match turn {
-            None => Err(self.unknown(actor)),
+        let numbers = self.numbers;
+        if let Some(reason) = not_now(numbers.due, true, false) {
+            return Err(reason);
+        }
+        match self.seat {
+            None => Err(numbers.unknown(actor)),
             Some(seat) => {
-                match self.against_call(actor, stated, seat) {
+                match numbers.against_call(actor, stated, seat) {
                     Some(reason) => Err(reason),
                     None => {
-                        let target = self.call_target(seat);
+                        let target = numbers.call_target(seat);
                         Ok(LegalMove {
                             seat,
                             act: Act::Call,
@@ -89,30 +85,32 @@ impl RunningNumbers {
     }
 
     /// The bet or raise that an event says, if it is legal, where bets have this size.
-    pub fn legal_raise(
+    pub fn raise(
         &self,
-        turn: Option<Seat>,
         limit: Limit,
         size: u64,
         actor: Option<Seat>,
         amount: Spelled,
     ) -> Result<LegalMove, Illegal>
-        requires in_hand { IfSome turn (λ seat. seat.number ≤ self.now.setup.stacks.seats) }
-        requires now { now_why true true self.now.due ≡ None }
-        requires limit { limit_of self.now.setup.code ≡ limit }
-        requires size { size ≡ unit self.now.setup self.now.street }
-        ensures { IsAnswered self.now turn (said.Raise (seat_said actor) amount) result }
+        requires limit { limit_of self.now.numbers.now.setup.code ≡ limit }
+        requires size { size ≡ unit self.now.numbers.now.setup self.now.numbers.now.street }
+        ensures { IsAnswered self.now.numbers.now self.now.seat
+            (said.Raise (seat_said actor) amount) result }
     {
-        match turn {
-            None => Err(self.unknown(actor)),
+        let numbers = self.numbers;
+        if let Some(reason) = not_now(numbers.due, true, true) {
+            return Err(reason);
+        }
+        match self.seat {
+            None => Err(numbers.unknown(actor)),
             Some(seat) => {
                 let raiser = Raiser {
-                    numbers: self,
+                    numbers,
                     seat,
                     limit,
                     size,
                 };
-                let floor = self.floor(self.start_price());
+                let floor = numbers.floor(numbers.start_price());
                 match raiser.against(floor, actor, amount) {
                     Some(reason) => Err(reason),
                     None => {
@@ -129,22 +127,21 @@ impl RunningNumbers {
     }
 
     /// The bring-in that an event says, if it is legal.
-    pub fn legal_bring_in(
-        &self,
-        turn: Option<Seat>,
-        actor: Option<Seat>,
-    ) -> Result<LegalMove, Illegal>
-        requires in_hand { IfSome turn (λ seat. seat.number ≤ self.now.setup.stacks.seats) }
-        requires now { now_why false true self.now.due ≡ None }
-        ensures { IsAnswered self.now turn (said.BringIn (seat_said actor)) result }
+    pub fn bring_in(&self, actor: Option<Seat>) -> Result<LegalMove, Illegal>
+        ensures { IsAnswered self.now.numbers.now self.now.seat (said.BringIn (seat_said actor))
+            result }
     {
-        match turn {
-            None => Err(self.unknown(actor)),
+        let numbers = self.numbers;
+        if let Some(reason) = not_now(numbers.due, false, true) {
+            return Err(reason);
+        }
+        match self.seat {
+            None => Err(numbers.unknown(actor)),
             Some(seat) => {
-                match self.against_bring_in(actor, seat) {
+                match numbers.against_bring_in(actor, seat) {
                     Some(reason) => Err(reason),
                     None => {
-                        let target = self.bring_in_target(seat);
+                        let target = numbers.bring_in_target(seat);
                         Ok(LegalMove {
                             seat,
                             act: Act::BringIn,
@@ -155,7 +152,9 @@ impl RunningNumbers {
             }
         }
     }
+}
 
+impl RunningNumbers {
     // Why a move is refused where it is not known whose turn it is.
     fn unknown(&self, named: Option<Seat>) -> Illegal
         ensures { result ≡ unknown_why self.now (seat_said named) }
@@ -173,7 +172,21 @@ impl RunningNumbers {
     {
         match named {
             None => false,
-            Some(seat) => self.setup.stacks.seats < seat.number || !self.able(seat),
+            Some(seat) => !self.able(seat),
+        }
+    }
+}
+
+// Why an event may not come that may come at a move or not, and at a bring-in or not.
+fn not_now(due: Due, at_move: bool, at_bring_in: bool) -> Option<Illegal>
+    ensures { result ≡ now_why at_move at_bring_in due }
+{
+    match due {
+        Due::Move if at_move => None,
+        Due::BringIn if at_bring_in => None,
+        Due::Over => Some(Illegal::HandOver),
+        Due::Deal(_) | Due::Draw(_) | Due::BringIn | Due::Move | Due::Show => {
+            Some(Illegal::WrongKind)
         }
     }
 }

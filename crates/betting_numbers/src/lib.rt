@@ -15,7 +15,7 @@ mod turns;
 mod up_opening;
 mod viewing;
 
-pub use legal_moves::{LegalMove, not_now};
+pub use legal_moves::{LegalMove, Turn};
 pub use running::RunningNumbers;
 pub use starting::start;
 pub use targeting::Targets;

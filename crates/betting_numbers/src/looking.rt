@@ -1,6 +1,6 @@
 //! What the running numbers say: who is live and able, the price, and what is owed.
 ghost use Rattle.std.specs.Prelude.{◌≡◌, ◌≤◌, ◌<◌};
-ghost use Rattle.chip_ledger.specs.declared.rows.TheConstants.{MOST_AMOUNT};
+ghost use Rattle.chip_ledger.specs.declared.seat_row.TheConstants.{MOST_AMOUNT};
 ghost use Rattle.play_event.specs.Streets.{is_stud};
 ghost use Rattle.betting_numbers.specs.Seen.{able_count_seen, is_able_seen, all_in_seen, is_bring_in_due_seen, left_seen, live_count_seen, has_opponent_seen, owed_seen, price_seen, has_to_move_seen};
 
@@ -18,7 +18,6 @@ impl RunningNumbers {
 
     /// The street's chips of the seat where it puts all it has left.
     pub fn all_in(&self, seat: Seat) -> u64
-        requires { seat.number ≤ self.now.setup.stacks.seats }
         ensures value { result ≡ all_in_seen self.now seat.number }
         ensures bounded { result ≤ MOST_AMOUNT }
     {
@@ -35,7 +34,6 @@ impl RunningNumbers {
 
     /// The seat has a move to make.
     pub fn to_move(&self, seat: Seat) -> bool
-        requires { seat.number ≤ self.now.setup.stacks.seats }
         ensures { result ≡ has_to_move_seen self.now seat.number }
     {
         self.able(seat)
@@ -45,7 +43,6 @@ impl RunningNumbers {
 
     /// What the seat owes.
     pub fn owed(&self, seat: Seat) -> u64
-        requires { seat.number ≤ self.now.setup.stacks.seats }
         ensures { result ≡ owed_seen self.now seat.number }
     {
         self.price.saturating_sub(self.bets.get(seat))
@@ -66,7 +63,6 @@ impl RunningNumbers {
 
     /// The seat is live and has chips left.
     pub fn able(&self, seat: Seat) -> bool
-        requires { seat.number ≤ self.now.setup.stacks.seats }
         ensures { result ≡ is_able_seen self.now seat.number }
     {
         self.live.get(seat) && 0 < self.left(seat)
@@ -74,7 +70,6 @@ impl RunningNumbers {
 
     /// The chips that the seat has left.
     pub fn left(&self, seat: Seat) -> u64
-        requires { seat.number ≤ self.now.setup.stacks.seats }
         ensures { result ≡ left_seen self.now seat.number }
     {
         self.setup

@@ -2,7 +2,7 @@
 ghost use Rattle.std.specs.Prelude.{◌<◌, ◌≡◌, ◌≤◌, ◌+◌, ◌-◌, ◌*◌, ◌&&◌, ◌||◌, ℕ, false, None, nat_le, nat_lt, not, min, max, if◌then◌else◌};
 ghost use Rattle.chip_ledger.specs.LiveRow.{flag_of};
 ghost use Rattle.chip_ledger.specs.SeatRow.{amount_of};
-ghost use Rattle.chip_ledger.specs.declared.rows.TheConstants.{MOST_AMOUNT};
+ghost use Rattle.chip_ledger.specs.declared.seat_row.TheConstants.{MOST_AMOUNT};
 ghost use Rattle.play_event.specs.Past.{is_fold, is_raise, is_bring_in};
 ghost use Rattle.play_event.specs.Played.{act_said};
 ghost use Rattle.betting_numbers.specs.Moving.{IsMoved, IsNextStreet, most_raises};
@@ -60,7 +60,7 @@ impl RunningNumbers {
     {
         self.street += 1;
         self.due = due;
-        clear(&mut self.bets);
+        self.bets = SeatRow::new(self.setup.stacks.seats);
         self.price = 0;
         keep(&mut self.moved, false);
         keep(&mut self.since_rise, false);
@@ -107,14 +107,6 @@ fn brings_in(act: Act) -> bool
         Act::BringIn => true,
         Act::Fold | Act::Call | Act::Raise => false,
     }
-}
-
-// No seat has chips in the row any more.
-fn clear(row: &mut SeatRow)
-    ensures seats { row.new.seats ≡ row.old.seats }
-    ensures all_zero { (n : ℕ) → amount_of row.new n ≡ 0 }
-{
-    row.amounts = [0; 10];
 }
 
 // The flags stay, or none of them.
@@ -187,7 +179,6 @@ fn full_raise_after(full_raise: u64, raised: bool, rise: u64) -> u64
 
 // The last full bet after a move to a target.
 fn full_bet_after(full_bet: u64, opens: bool, unit: u64, target: u64) -> u64
-    requires { target ≤ MOST_AMOUNT }
     ensures { result ≡ (if opens && nat_le (full_bet + unit) target then target else full_bet) }
 {
     if opens && full_bet <= target && unit <= target - full_bet {

@@ -1,6 +1,6 @@
 //! Who opens a street of a game with blinds, and the price at which a street starts.
 ghost use Rattle.std.specs.Prelude.{◌≡◌, ◌≤◌};
-ghost use Rattle.chip_ledger.specs.declared.rows.TheConstants.{MOST_AMOUNT};
+ghost use Rattle.chip_ledger.specs.declared.seat_row.TheConstants.{MOST_AMOUNT};
 ghost use Rattle.play_event.specs.Openers as openers;
 ghost use Rattle.play_event.specs.Price.{starting_price};
 

@@ -1,6 +1,6 @@
 //! Who may raise, and to what, by the running numbers.
 ghost use Rattle.std.specs.Prelude.{◌≡◌, ◌≤◌, ◌<◌, ◌-◌, ◌&&◌, ◌||◌, ◌==◌};
-ghost use Rattle.chip_ledger.specs.declared.rows.TheConstants.{MOST_AMOUNT};
+ghost use Rattle.chip_ledger.specs.declared.seat_row.TheConstants.{MOST_AMOUNT};
 ghost use Rattle.play_event.specs.declared.limit.Limit.TheVariants as limits;
 ghost use Rattle.play_event.specs.Streets.{unit};
 ghost use Rattle.betting_numbers.specs.Seen.{all_in_seen, owed_seen};
@@ -16,7 +16,6 @@ use play_event::{Illegal, Limit, Reopen, Spelled};
 impl RunningNumbers {
     /// Why a fold is refused.
     pub fn against_fold(&self, named: Option<Seat>, mover: Seat) -> Option<Illegal>
-        requires { mover.number ≤ self.now.setup.stacks.seats }
         ensures { result ≡ fold_why self.now (seat_said named) mover.number }
     {
         if another(named, mover) {
@@ -35,7 +34,6 @@ impl RunningNumbers {
         stated: Option<u64>,
         mover: Seat,
     ) -> Option<Illegal>
-        requires { mover.number ≤ self.now.setup.stacks.seats }
         ensures { result ≡ call_why self.now (seat_said named) stated mover.number }
     {
         if another(named, mover) {
@@ -48,7 +46,6 @@ impl RunningNumbers {
 
     /// Where a call goes.
     pub fn call_target(&self, seat: Seat) -> u64
-        requires { seat.number ≤ self.now.setup.stacks.seats }
         ensures value { result ≡ call_seen self.now seat.number }
         ensures reach { result ≤ all_in_seen self.now seat.number }
     {
@@ -57,7 +54,6 @@ impl RunningNumbers {
 
     /// Where a bring-in goes.
     pub fn bring_in_target(&self, seat: Seat) -> u64
-        requires { seat.number ≤ self.now.setup.stacks.seats }
         ensures value { result ≡ bring_in_seen self.now seat.number }
         ensures reach { result ≤ all_in_seen self.now seat.number }
     {

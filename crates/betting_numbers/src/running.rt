@@ -3,7 +3,7 @@
 ghost use Rattle.std.specs.Prelude.{◌≡◌, ◌≤◌, ◌-◌, ◌*◌, ℕ, ◌&&◌, nat_lt, map, count_by, Some};
 ghost use Rattle.chip_ledger.specs.declared.numbers.Seat.{Seat};
 ghost use Rattle.betting_numbers.specs.Caps.{cap_at};
-ghost use Rattle.chip_ledger.specs.declared.rows.TheConstants.{MOST_AMOUNT};
+ghost use Rattle.chip_ledger.specs.declared.seat_row.TheConstants.{MOST_AMOUNT};
 ghost use Rattle.chip_ledger.specs.Greatest.{greatest};
 ghost use Rattle.chip_ledger.specs.LiveRow.{flag_of};
 ghost use Rattle.chip_ledger.specs.Seat.{seats_of};

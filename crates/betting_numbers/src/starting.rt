@@ -1,6 +1,6 @@
 //! The betting before the first card: what is posted.
 ghost use Rattle.std.specs.Prelude.{◌≡◌, ◌≤◌, ◌<◌, ◌+◌, ℕ, [], nat_le, if◌then◌else◌, cond};
-ghost use Rattle.chip_ledger.specs.declared.rows.TheConstants.{MOST_AMOUNT};
+ghost use Rattle.chip_ledger.specs.declared.seat_row.TheConstants.{MOST_AMOUNT};
 ghost use Rattle.chip_ledger.specs.SeatRow.{amount_of};
 ghost use Rattle.play_event.specs.declared.reason.Due.TheVariants as dues;
 ghost use Rattle.play_event.specs.Streets.{unit};
@@ -51,7 +51,10 @@ pub fn start(setup: &Setup, rules: &Rules, size: u64) -> RunningNumbers
 {
     caps_fit(rules);
     let seats = setup.stacks.seats;
-    let posted = post_all(setup);
+    let mut posted = Posted::nothing(setup);
+    for index in 0..seats {
+        posted.post(setup, index);
+    }
     RunningNumbers {
         setup: *setup,
         rules: *rules,
@@ -78,28 +81,23 @@ pub fn start(setup: &Setup, rules: &Rules, size: u64) -> RunningNumbers
     }
 }
 
-// What all seats post.
-fn post_all(setup: &Setup) -> Posted
-    requires { IsPostable setup.now }
-    ensures { HasPosted setup.now setup.now.stacks.seats result }
-{
-    let mut posted = Posted {
-        bets: SeatRow::new(setup.stacks.seats),
-        puts: SeatRow::new(setup.stacks.seats),
-        live: LiveRow::new(setup.stacks.seats),
-        pot: 0,
-        price: 0,
-        able_count: 0,
-        big_blind: 0,
-        last_big: 0,
-    };
-    for index in 0..setup.stacks.seats {
-        posted.post(setup, index);
-    }
-    posted
-}
-
 impl Posted {
+    // No seat has posted.
+    fn nothing(setup: &Setup) -> Self
+        ensures { HasPosted setup.now 0 result }
+    {
+        Posted {
+            bets: SeatRow::new(setup.stacks.seats),
+            puts: SeatRow::new(setup.stacks.seats),
+            live: LiveRow::new(setup.stacks.seats),
+            pot: 0,
+            price: 0,
+            able_count: 0,
+            big_blind: 0,
+            last_big: 0,
+        }
+    }
+
     // One seat more posts, behind so many.
     fn post(&mut self, setup: &Setup, index: u8)
         requires posts { IsPostable setup.now }

@@ -4,7 +4,7 @@ ghost use Rattle.play_event.specs.Openers.{TheSeat};
 ghost use Rattle.play_event.specs.Past.{Past, moves_of};
 ghost use Rattle.chip_ledger.specs.Greatest.{greatest};
 ghost use Rattle.play_event.specs.Streets.{limit_of, unit};
-ghost use Rattle.betting_numbers.specs.SeatsSaid.{turn_of};
+ghost use Rattle.betting_numbers.specs.TurnSaid.{turn_of};
 ghost use Rattle.betting_numbers.specs.Standing.{StandsFor};
 ghost use Rattle.betting_numbers.specs.Targeted.{least_seen, AreEndsFor};
 ghost use Rattle.play_event.specs.TurnTargets.{may_raise_now};

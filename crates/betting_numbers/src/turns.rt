@@ -10,14 +10,15 @@ use crate::running::RunningNumbers;
 use chip_ledger::Seat;
 
 impl RunningNumbers {
-    /// Whose turn it is, where this seat opens: nobody's where no move is due.
-    pub fn mover(&self, opener: Seat) -> Option<Seat>
-        requires { opener.number ≤ self.now.setup.stacks.seats }
-        ensures turn { in_turn (seat_said result) ≡ mover_seen self.now (TheSeat opener.number) }
+    /// Whose turn it is, where the blinds say who opens: nobody's where no move is due.
+    pub fn mover(&self) -> Option<Seat>
+        ensures turn { in_turn (seat_said result)
+            ≡ mover_seen self.now
+            (TheSeat (openers.blinds_opener self.now.setup self.now.street)) }
         ensures due { is_some result ≡ is_move_due_seen self.now }
         ensures in_hand { IfSome result (λ seat. seat.number ≤ self.now.setup.stacks.seats) }
     {
-        let start = self.passed_to(opener);
+        let start = self.passed_to();
         let to_last = self.setup.stacks.seats + 1 - start.number;
         match self.first_to_move(start.number, to_last) {
             Some(seat) => Some(seat),
@@ -25,17 +26,16 @@ impl RunningNumbers {
         }
     }
 
-    // Where the turn is passed to, where this seat opens: to the seat after that which moved last,
-    // going round.
-    fn passed_to(&self, opener: Seat) -> Seat
-        requires { opener.number ≤ self.now.setup.stacks.seats }
+    // Where the turn is passed to, where the blinds say who opens: to the seat after the one that
+    // moved last, going round.
+    fn passed_to(&self) -> Seat
         ensures value { TheSeat result.number
             ≡ after_last (last_seen self.now) (openers.seat_after self.now.setup)
-            (TheSeat opener.number) }
+            (TheSeat (openers.blinds_opener self.now.setup self.now.street)) }
         ensures in_hand { result.number ≤ self.now.setup.stacks.seats }
     {
         match self.last {
-            None => opener,
+            None => self.blinds_opener(),
             Some(seat) => {
                 if seat.number == self.setup.stacks.seats {
                     Seat { number: 1 }

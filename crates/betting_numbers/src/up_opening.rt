@@ -29,7 +29,6 @@ impl RunningNumbers {
     /// The same walk finds who is behind the opener: the able seat that was walked last before it
     /// or, where none was able before it, the one that was walked last of all.
     pub fn up_opener(&self, opener: Opener, up: &UpRow) -> SeatInTurn
-        requires row { up.now.seats ≡ self.now.setup.stacks.seats }
         ensures found { seat_said result.seat ≡ known_opener_seen opener self.now up.now }
         ensures behind { IfSome result.seat
             (λ seat. in_turn (seat_said result.behind) ≡ first_behind_seen self.now seat.number) }
@@ -81,13 +80,11 @@ struct Ups<'a> {
     up: &'a UpRow,
     // Whether the lowest or the highest up-card opens.
     opener: Opener,
-    ghost row: { up.now.seats ≡ numbers.now.setup.stacks.seats },
 }
 
 impl Ups<'_> {
     // The seat is able, and an up-card of it is unknown.
     fn unknown(&self, seat: Seat) -> bool
-        requires { seat.number ≤ self.now.numbers.now.setup.stacks.seats }
         ensures { result ≡ has_unknown_seen self.now.numbers.now self.now.up.now seat.number }
     {
         self.numbers.able(seat) && has_unknown(self.up.get(seat).as_slice())
@@ -96,9 +93,8 @@ impl Ups<'_> {
     // The able one of two seats or, where both are, the one that opens before all that the other
     // opens before.
     fn earlier(&self, lead: Seat, other: Seat) -> Seat
-        requires lead_in { lead.number ≤ self.now.numbers.now.setup.stacks.seats }
-        requires other_in { other.number ≤ lead.number }
-        ensures in_hand { result.number ≤ self.now.numbers.now.setup.stacks.seats }
+        requires { other.number ≤ lead.number }
+        ensures within { result.number ≤ lead.number }
         ensures from { other.number ≤ result.number }
         ensures lead { LeadsAsWell self.now.opener self.now.numbers.now self.now.up.now
             lead.number result.number }
@@ -122,8 +118,6 @@ impl Ups<'_> {
 
     // The seat is able, and the leader does not open before it.
     fn opens(&self, lead: Seat, seat: Seat) -> bool
-        requires lead_in { lead.number ≤ self.now.numbers.now.setup.stacks.seats }
-        requires in_hand { seat.number ≤ self.now.numbers.now.setup.stacks.seats }
         ensures { result
             ≡ (is_able_seen self.now.numbers.now seat.number
             && not (is_before_seen self.now.opener self.now.numbers.now self.now.up.now seat.number

@@ -1,5 +1,5 @@
 -- Before the first card the numbers are what was posted.
-use Rattle.std.proofs.Common.{ℕ, ◌-◌, Bool, true, ◌&&◌, nat_lt, nat_le, if◌then◌else◌, sum_by, [], refl, sym, ap, ◌∙◌, arith}
+use Rattle.std.proofs.Common.{ℕ, ◌-◌, Bool, true, ◌&&◌, nat_lt, nat_le, if◌then◌else◌, sum_by, [], ◌≡◌, refl, sym, ap, subst, ◌∙◌, arith}
 use Rattle.chip_ledger.specs.Greatest.{greatest}
 use Rattle.chip_ledger.specs.LiveRow.{flag_of}
 use Rattle.chip_ledger.specs.Seat.{seats_of}
@@ -7,20 +7,27 @@ use Rattle.chip_ledger.specs.SeatRow.{amount_of}
 use Rattle.chip_ledger.proofs.SeatLists.{count_seats}
 use Rattle.chip_ledger.proofs.Seats.{map-seats}
 use Rattle.list_laws.proofs.Counting.{count_all}
+use Rattle.play_event.specs.declared.setup.Setup.{Setup}
 use Rattle.play_event.specs.Chips.{blind_posted, posted}
 use Rattle.play_event.specs.Streets.{unit}
 use Rattle.street_laws.proofs.AtStart.{all_live, first_deal}
+use Rattle.betting_numbers.specs.Posting.{HasPosted}
+use Rattle.betting_numbers.specs.declared.starting.Posted.{Posted}
 use Rattle.betting_numbers.proofs.Posting.{bet_inside, price_at_start, put_within, sum_seats}
 use Rattle.betting_numbers.proofs.starting.start.Goals as goal
 use Rattle.street_laws.proofs.LiveSeats.{one_of_several}
 
+-- all seats have posted
+all_posted : (setup : Setup) (count : ℕ) (p : Posted) → count ≡ setup.stacks.seats → HasPosted setup count p → HasPosted setup setup.stacks.seats p
+all_posted setup count p all has = subst (λ (n : ℕ). HasPosted setup n p) all has
+
 pub invariant_of-result-clause-first_price_is : goal.invariant_of-result-clause-first_price_is
 invariant_of-result-clause-first_price_is c =
-    price_at_start c.args.setup.now c.post_all-posted.result c.post_all-posted.ensures
+    price_at_start c.args.setup.now c.loop-index.posted (all_posted c.args.setup.now c.loop-index.index c.loop-index.posted (omega (arith, c.loop-index.auto.index-end, c.loop-index-test.false)) c.loop-index.invariant)
 
 pub returns-clause-stands : goal.returns-clause-stands
 returns-clause-stands c =
-    let posts = c.post_all-posted.ensures in
+    let posts = (all_posted c.args.setup.now c.loop-index.index c.loop-index.posted (omega (arith, c.loop-index.auto.index-end, c.loop-index-test.false)) c.loop-index.invariant) in
     let setup = c.args.setup.now in
     record {
       valid = c.requires.valid;
@@ -35,8 +42,8 @@ returns-clause-stands c =
         full_raise = refl;
         full_bet =
             c.full_bet.ensures
-            ∙ ap (λ (size : ℕ). if nat_le size c.post_all-posted.result.price then c.post_all-posted.result.price else 0) c.requires.size
-            ∙ ap (λ (price : ℕ). if nat_le (unit setup 1) price then price else 0) (price_at_start setup c.post_all-posted.result posts);
+            ∙ ap (λ (size : ℕ). if nat_le size c.loop-index.posted.price then c.loop-index.posted.price else 0) c.requires.size
+            ∙ ap (λ (price : ℕ). if nat_le (unit setup 1) price then price else 0) (price_at_start setup c.loop-index.posted posts);
         doubled = refl;
         opened = refl;
       };
@@ -47,35 +54,35 @@ returns-clause-stands c =
     }
 
 pub invariant_of-result-clause-within : goal.invariant_of-result-clause-within
-invariant_of-result-clause-within c = put_within c.args.setup.now c.post_all-posted.result c.post_all-posted.ensures c.requires.reach
+invariant_of-result-clause-within c = put_within c.args.setup.now c.loop-index.posted (all_posted c.args.setup.now c.loop-index.index c.loop-index.posted (omega (arith, c.loop-index.auto.index-end, c.loop-index-test.false)) c.loop-index.invariant) c.requires.reach
 
 pub invariant_of-result-clause-inside : goal.invariant_of-result-clause-inside
-invariant_of-result-clause-inside c = bet_inside c.args.setup.now c.post_all-posted.result c.post_all-posted.ensures
+invariant_of-result-clause-inside c = bet_inside c.args.setup.now c.loop-index.posted (all_posted c.args.setup.now c.loop-index.index c.loop-index.posted (omega (arith, c.loop-index.auto.index-end, c.loop-index-test.false)) c.loop-index.invariant)
 
 pub invariant_of-result-clause-pot_is : goal.invariant_of-result-clause-pot_is
 invariant_of-result-clause-pot_is c =
-    let posts = c.post_all-posted.ensures in
+    let posts = (all_posted c.args.setup.now c.loop-index.index c.loop-index.posted (omega (arith, c.loop-index.auto.index-end, c.loop-index-test.false)) c.loop-index.invariant) in
     let setup = c.args.setup.now in
-    let puts = c.post_all-posted.result.puts in
+    let puts = c.loop-index.posted.puts in
     posts.pot
     ∙ sym (sum_seats (amount_of puts) (posted setup) setup.stacks.seats posts.puts)
     ∙ sym (ap (λ (n : ℕ). sum_by (amount_of puts) (seats_of n)) posts.put_seats)
 
 pub invariant_of-result-clause-price_is : goal.invariant_of-result-clause-price_is
 invariant_of-result-clause-price_is c =
-    let posts = c.post_all-posted.ensures in
+    let posts = (all_posted c.args.setup.now c.loop-index.index c.loop-index.posted (omega (arith, c.loop-index.auto.index-end, c.loop-index-test.false)) c.loop-index.invariant) in
     let setup = c.args.setup.now in
-    posts.price ∙ sym (ap greatest (map-seats (amount_of c.post_all-posted.result.bets) (blind_posted setup) setup.stacks.seats posts.bets))
+    posts.price ∙ sym (ap greatest (map-seats (amount_of c.loop-index.posted.bets) (blind_posted setup) setup.stacks.seats posts.bets))
 
 pub invariant_of-result-clause-live_is : goal.invariant_of-result-clause-live_is
 invariant_of-result-clause-live_is c =
     let n = c.args.setup.now.stacks.seats in
-    sym (count_seats (flag_of c.post_all-posted.result.live) (λ k. true) n c.post_all-posted.ensures.live ∙ count_all (λ k. true) 1 n (λ k. refl))
+    sym (count_seats (flag_of c.loop-index.posted.live) (λ k. true) n (all_posted c.args.setup.now c.loop-index.index c.loop-index.posted (omega (arith, c.loop-index.auto.index-end, c.loop-index-test.false)) c.loop-index.invariant).live ∙ count_all (λ k. true) 1 n (λ k. refl))
 
 pub invariant_of-result-clause-able_is : goal.invariant_of-result-clause-able_is
 invariant_of-result-clause-able_is c =
-    let posts = c.post_all-posted.ensures in
-    let p = c.post_all-posted.result in
+    let posts = (all_posted c.args.setup.now c.loop-index.index c.loop-index.posted (omega (arith, c.loop-index.auto.index-end, c.loop-index-test.false)) c.loop-index.invariant) in
+    let p = c.loop-index.posted in
     let setup = c.args.setup.now in
     let left : ℕ → Bool = λ k. nat_lt 0 (amount_of setup.stacks k - posted setup k) in
     posts.able

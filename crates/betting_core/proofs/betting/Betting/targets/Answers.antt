@@ -4,7 +4,7 @@ use Rattle.play_event.specs.declared.reason.Due.{Due}
 use Rattle.play_event.specs.Past.{moves_of}
 use Rattle.play_event.specs.Openers.{InTurn, TheSeat}
 use Rattle.betting_numbers.specs.declared.targeting.Targets.{Targets}
-use Rattle.betting_numbers.specs.SeatsSaid.{turn_of}
+use Rattle.betting_numbers.specs.TurnSaid.{turn_of}
 use Rattle.betting_numbers.specs.LegalMoves.{IsTurn, WhereUps}
 use Rattle.play_event.specs.Mover.{mover}
 use Rattle.play_event.specs.Table.{up_cards}

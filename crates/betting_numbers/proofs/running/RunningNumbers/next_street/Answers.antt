@@ -5,4 +5,4 @@ use Rattle.betting_numbers.proofs.NextStreet.{zero_greatest}
 use Rattle.betting_numbers.proofs.running.RunningNumbers.next_street.Goals as goal
 
 pub invariant_of-self-clause-price_is : goal.invariant_of-self-clause-price_is
-invariant_of-self-clause-price_is c = sym (zero_greatest (amount_of c.clear.new.row) 1 c.args.self.now.setup.stacks.seats c.clear.ensures.all_zero)
+invariant_of-self-clause-price_is c = sym (zero_greatest (amount_of c.new-self.result) 1 c.args.self.now.setup.stacks.seats c.new-self.ensures.all_zero)

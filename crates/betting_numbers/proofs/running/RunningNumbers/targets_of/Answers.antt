@@ -3,7 +3,7 @@ use Rattle.std.proofs.Common.{◌≡◌, ◌≤◌, ℕ, Option, IfSome, sym, ap
 use Rattle.chip_ledger.specs.declared.numbers.Seat.{Seat}
 use Rattle.play_event.specs.Past.{moves_of}
 use Rattle.play_event.specs.Openers.{TheSeat}
-use Rattle.betting_numbers.specs.SeatsSaid.{turn_of}
+use Rattle.betting_numbers.specs.TurnSaid.{turn_of}
 use Rattle.play_event.specs.TurnTargets.{AreTargets, may_raise_now}
 use Rattle.betting_numbers.proofs.TargetEnds.{targets_are, same_turn}
 use Rattle.betting_numbers.proofs.WhyRaise.{may_raise_is}

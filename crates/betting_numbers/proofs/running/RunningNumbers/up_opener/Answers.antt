@@ -25,7 +25,7 @@ loop-index-preserved c =
     let less = c.loop-index-test.true in
     let less_than : index < n = omega (arith, less) in
     let walked : (opens : Bool) → c.opens.result ≡ opens → IsWalked c.args.opener b c.args.up.now (n + 1 - (index + 1)) (index + 1) next.result.number (if opens then Some (n - index) else seat_said c.loop-index.first) = λ opens is.
-    walked_more c.args.opener b c.args.up.now n index (n - index) c.loop-index.lead next.result.number (seat_said c.loop-index.first) opens less_than refl kept.walked (sym c.unknown.ensures ∙ c.if-unknown.false) next.ensures.lead next.ensures.other next.ensures.from next.ensures.in_hand (sym is ∙ c.opens.ensures) in
+    walked_more c.args.opener b c.args.up.now n index (n - index) c.loop-index.lead next.result.number (seat_said c.loop-index.first) opens less_than refl kept.walked (sym c.unknown.ensures ∙ c.if-unknown.false) next.ensures.lead next.ensures.other next.ensures.from (omega (arith, next.ensures.within, kept.lead_in)) (sym is ∙ c.opens.ensures) in
     let nearer : (able : Bool) → c.able.result ≡ able → (if able then Some (n - index) else seat_said c.loop-index.nearest) ≡ able_from b (n + 1 - (index + 1)) (index + 1) = λ able is.
     nearest_more b index (n - index) (seat_said c.loop-index.nearest) able less_than refl (sym is ∙ c.able.ensures) kept.nearest_is in
     let IsIn : Option Seat → Type 0 = λ (f : Option Seat). IfSome f (λ seat. seat.number ≤ n) in
@@ -36,7 +36,7 @@ loop-index-preserved c =
       ];
       far = omega (arith, next.ensures.from);
       lead_first = next.result.first;
-      lead_in = next.ensures.in_hand;
+      lead_in = omega (arith, next.ensures.within, kept.lead_in);
       first_in = elim c.if-opens.branch [
         | then-opens w ↦ subst IsIn (sym w.first-is) (omega arith)
         | else-opens w ↦ subst IsIn (sym w.first-is) kept.first_in
