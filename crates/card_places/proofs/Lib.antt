@@ -7,7 +7,6 @@ pub mod Sums
 pub mod Rooms
 pub mod HeldCards
 pub mod HeldWithin
-pub mod FirstSeats
 pub mod Fits
 pub mod Covered
 pub mod AllCovered

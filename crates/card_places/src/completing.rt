@@ -1,12 +1,11 @@
 //! A deal, a draw or a show is complete exactly where nobody lacks anything of it.
-ghost use Rattle.std.specs.Prelude.{◌≡◌, ◌≤◌, count_by, Some, None};
+ghost use Rattle.std.specs.Prelude.{◌≡◌, count_by, Some, None};
 ghost use Rattle.std.specs.List.{list_any};
 ghost use Rattle.chip_ledger.specs.Seat.{seats_of};
 ghost use Rattle.play_event.specs.Places.{is_in_group};
 ghost use Rattle.card_places.specs.Counted.{AreCounts};
 ghost use Rattle.card_places.specs.Placed.{placed};
 ghost use Rattle.card_places.specs.Refusals as why;
-ghost use Rattle.street_laws.specs.Dues.{IsDueWithin};
 
 use crate::card_state::CardState;
 use crate::counting::OwnerCounts;
@@ -17,8 +16,6 @@ use play_event::Due;
 /// Whether what is due is complete: no seat, nor the board, lacks a card of a deal or draw, and
 /// all have shown or mucked at a show. What is no matter of cards is never complete here.
 pub fn done(state: &CardState, live: &LiveRow, due: Due) -> bool
-    requires due { IsDueWithin 5 due }
-    requires live { live.now.seats ≡ state.now.seats }
     ensures { result ≡ why.is_done_in state.now live.now due }
 {
     match due {
@@ -37,8 +34,7 @@ pub fn done(state: &CardState, live: &LiveRow, due: Due) -> bool
 
 // Some seat lacks cards of the street's deal.
 fn some_lacks(state: &CardState, live: &LiveRow, on: u8, dealt: &OwnerCounts) -> bool
-    requires live { live.now.seats ≡ state.now.seats }
-    requires dealt { AreCounts dealt.now.numbers on (placed state.now.places) }
+    requires { AreCounts dealt.now.numbers on (placed state.now.places) }
     ensures { result
         ≡ list_any (why.is_owed_deal_in state.now live.now on) (seats_of state.now.seats) }
 {
@@ -62,7 +58,6 @@ fn board_lacks(state: &CardState, on: u8, dealt: u8) -> bool
 
 // Some seat is owed cards for its discards.
 fn some_owed(state: &CardState, on: u8) -> bool
-    requires street { on ≤ 5 }
     ensures { result ≡ list_any (why.is_owed_draw_in state.now on) (seats_of state.now.seats) }
 {
     let dealt = OwnerCounts::on(&state.places, on);
@@ -78,7 +73,6 @@ fn some_owed(state: &CardState, on: u8) -> bool
 // Some seat has still to show or muck.
 #[tactic(auto, using(chip_ledger::proofs::SeatLists::any_more))]
 fn some_to_show(state: &CardState, live: &LiveRow) -> bool
-    requires live { live.now.seats ≡ state.now.seats }
     ensures { result ≡ list_any (why.has_to_show_in state.now live.now) (seats_of state.now.seats) }
 {
     let mut any = false;

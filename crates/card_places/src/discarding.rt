@@ -1,11 +1,8 @@
 //! A discard is refused exactly by the rules, and else takes the cards that its names find.
-ghost use Rattle.std.specs.Prelude.{◌≡◌, ◌≤◌, ◌+◌, true, length, count_by, None, Some, IfErr, OnErr, OnOk};
+ghost use Rattle.std.specs.Prelude.{◌≡◌, ◌≤◌, None, Some, IfErr, OnErr, OnOk};
 ghost use Rattle.card_set.specs.Row.{slots_of};
-ghost use Rattle.play_event.specs.Naming.{after_discard};
-ghost use Rattle.play_event.specs.Places.{is_held_by};
 ghost use Rattle.card_places.specs.Placed.{placed};
 ghost use Rattle.card_places.specs.Refusals as why;
-ghost use Rattle.card_places.specs.Room.{is_seat_of};
 ghost use Rattle.card_places.specs.Discarded.{IsDiscarded, IsDiscardSearch};
 
 use crate::card_state::CardState;
@@ -29,7 +26,6 @@ pub fn discard_on(
     cards: &SlotRow,
 ) -> Result<(), Illegal>
     requires street { on ≤ 5 }
-    requires live { live.now.seats ≡ state.old.seats }
     ensures right { OnOk result (why.discard_why_on state.old live.now on seat.number
         (slots_of cards.now) ≡ None) }
     ensures wrong { IfErr result (λ reason. why.discard_why_on state.old live.now on seat.number
@@ -44,7 +40,8 @@ pub fn discard_on(
     match discard_why_on(state, live, on, seat, cards, &search) {
         Some(reason) => Err(reason),
         None => {
-            set_discard(state, on, seat, cards, &search);
+            run(&state.table, &mut state.places, &search);
+            state.draws.set(on, seat, cards.len);
             Ok(())
         }
     }
@@ -59,9 +56,7 @@ fn discard_why_on(
     cards: &SlotRow,
     search: &Search,
 ) -> Option<Illegal>
-    requires street { on ≤ 5 }
-    requires live { live.now.seats ≡ state.now.seats }
-    requires search { IsDiscardSearch state.now.table.code search.now (placed state.now.places) on
+    requires { IsDiscardSearch state.now.table.code search.now (placed state.now.places) on
         seat.number (slots_of cards.now) }
     ensures { result ≡ why.discard_why_on state.now live.now on seat.number (slots_of cards.now) }
 {
@@ -81,8 +76,6 @@ fn discard_why_on(
 
 // The seat draws next.
 fn is_next_to_draw(state: &CardState, live: &LiveRow, on: u8, seat: Seat) -> bool
-    requires street { on ≤ 5 }
-    requires live { live.now.seats ≡ state.now.seats }
     ensures { result ≡ why.is_next_in state.now live.now on seat.number }
 {
     match next_to_draw(state, live, on) {
@@ -105,20 +98,4 @@ fn discard_search(
     let names = known(cards);
     let blanks = blanks(cards.as_slice()) as u8;
     search_of(table, places, seat, true, Some(on), &names, blanks)
-}
-
-// The seat draws on the street, and what it discards is gone.
-fn set_discard(state: &mut CardState, on: u8, seat: Seat, cards: &SlotRow, search: &Search)
-    requires street { on ≤ 5 }
-    requires search { IsDiscardSearch state.old.table.code search.now (placed state.old.places) on
-        seat.number (slots_of cards.now) }
-    requires takes { count_by (is_held_by seat.number)
-        (after_discard on seat.number (slots_of cards.now) (placed state.old.places))
-        + length (slots_of cards.now)
-        ≤ count_by (is_held_by seat.number) (placed state.old.places) }
-    requires in_hand { is_seat_of state.old.seats seat.number ≡ true }
-    ensures { IsDiscarded state.old state.new on seat.number (slots_of cards.now) }
-{
-    run(&state.table, &mut state.places, search);
-    state.draws.set(on, seat, cards.len);
 }

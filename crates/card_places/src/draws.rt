@@ -28,21 +28,31 @@ impl Draws {
         }
     }
 
-    /// The seat drew on the street.
+    /// The seat drew on the street. Past the fifth street none did.
     pub fn drew(&self, street: u8, seat: Seat) -> bool
-        requires { street ≤ 5 }
         ensures { result ≡ has_drawn_at self.now street seat.number }
     {
-        self.drew[10 * street as usize + seat.number as usize - 1]
+        match self
+            .drew
+            .get(10 * street as usize + seat.number as usize - 1)
+        {
+            Some(drew) => *drew,
+            None => false,
+        }
     }
 
-    /// How many cards the seat named in the draw of the street.
+    /// How many cards the seat named in the draw of the street; past the fifth street 0.
     pub fn named(&self, street: u8, seat: Seat) -> u8
-        requires { street ≤ 5 }
         ensures value { result ≡ named_at self.now street seat.number }
         ensures most { result ≤ 7 }
     {
-        self.named[10 * street as usize + seat.number as usize - 1]
+        match self
+            .named
+            .get(10 * street as usize + seat.number as usize - 1)
+        {
+            Some(count) => *count,
+            None => 0,
+        }
     }
 
     /// The seat draws on the street, and names so many cards.

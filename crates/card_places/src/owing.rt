@@ -17,8 +17,6 @@ pub struct NextDeal {
 /// no seat is owed any, to the board.
 #[tactic(auto, using(chip_ledger::proofs::SeatLists::any_more))]
 pub fn next_deal(state: &CardState, live: &LiveRow, on: u8) -> NextDeal
-    requires street { on ≤ 5 }
-    requires live { live.now.seats ≡ state.now.seats }
     ensures owner { seat_said result.owner ≡ why.first_owed_in state.now live.now on }
     ensures count { result.count
         ≡ why.owed_to_in state.now live.now on (seat_said result.owner) }
@@ -43,9 +41,6 @@ pub fn next_deal(state: &CardState, live: &LiveRow, on: u8) -> NextDeal
 /// How many cards of the street the seat is still owed: in place of those that it discarded, or by
 /// the deal while it is live.
 pub fn owed(state: &CardState, live: &LiveRow, on: u8, seat: Seat) -> u8
-    requires street { on ≤ 5 }
-    requires live { live.now.seats ≡ state.now.seats }
-    requires seat { seat.number ≤ state.now.seats }
     ensures value { result ≡ why.owed_in state.now live.now on seat.number }
     ensures most { result ≤ 7 }
 {
@@ -72,8 +67,6 @@ pub fn board_owed(state: &CardState, on: u8) -> u8
 /// The seat that draws next on the street: the first live one that did not draw there.
 #[tactic(auto, using(chip_ledger::proofs::SeatLists::any_more))]
 pub fn next_to_draw(state: &CardState, live: &LiveRow, on: u8) -> Option<Seat>
-    requires street { on ≤ 5 }
-    requires live { live.now.seats ≡ state.now.seats }
     ensures found { seat_said result ≡ why.next_to_draw_in state.now live.now on }
     ensures in_hand { IfSome result (λ seat. seat.number ≤ state.now.seats) }
 {

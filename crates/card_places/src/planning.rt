@@ -1,8 +1,7 @@
 //! A deal is refused exactly by the rules.
-ghost use Rattle.std.specs.Prelude.{◌≡◌, ◌≤◌, ◌||◌, ◌==◌, Some};
+ghost use Rattle.std.specs.Prelude.{◌≡◌, ◌||◌, ◌==◌, Some};
 ghost use Rattle.play_event.specs.CardReasons as reasons;
 ghost use Rattle.card_places.specs.Refusals as why;
-ghost use Rattle.street_laws.specs.Dues.{IsDueWithin};
 ghost use Rattle.card_places.specs.DueStreet.{due_street};
 
 use crate::card_state::CardState;
@@ -20,8 +19,6 @@ pub fn hole_why(
     seat: Seat,
     cards: &[Slot],
 ) -> Option<Illegal>
-    requires due { IsDueWithin 5 due }
-    requires live { live.now.seats ≡ state.now.seats }
     ensures { result ≡ why.hole_why state.now live.now due seat.number cards.now }
 {
     match due {
@@ -47,8 +44,6 @@ fn hole_why_on(
     seat: Seat,
     cards: &[Slot],
 ) -> Option<Illegal>
-    requires street { on ≤ 5 }
-    requires live { live.now.seats ≡ state.now.seats }
     ensures { result ≡ why.hole_why_on state.now live.now on seat.number cards.now }
 {
     if seat.number > state.seats {

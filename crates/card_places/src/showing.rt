@@ -30,7 +30,6 @@ pub fn show_on(
     seat: Seat,
     cards: &CardRow,
 ) -> Result<(), Illegal>
-    requires live { live.now.seats ≡ state.old.seats }
     ensures right { OnOk result (why.show_why_on state.old live.now seat.number
         (cards_of cards.now) ≡ None) }
     ensures wrong { IfErr result (λ reason. why.show_why_on state.old live.now seat.number
@@ -44,7 +43,8 @@ pub fn show_on(
     match show_why_on(state, live, seat, cards, &search) {
         Some(reason) => Err(reason),
         None => {
-            set_show(state, seat, cards, &search);
+            run(&state.table, &mut state.places, &search);
+            state.shown.set(seat, true);
             Ok(())
         }
     }
@@ -58,8 +58,7 @@ fn show_why_on(
     cards: &CardRow,
     search: &Search,
 ) -> Option<Illegal>
-    requires live { live.now.seats ≡ state.now.seats }
-    requires search { IsShowSearch state.now.table.code search.now (placed state.now.places)
+    requires { IsShowSearch state.now.table.code search.now (placed state.now.places)
         seat.number (cards_of cards.now) }
     ensures value { result ≡ why.show_why_on state.now live.now seat.number (cards_of cards.now) }
     ensures in_hand { IfNone result (seat.number ≤ state.now.seats) }
@@ -142,17 +141,6 @@ fn is_show_of_all(places: &DealtCards, seat: Seat, cards: &CardRow) -> bool
     cards.len == places.held(Some(seat))
 }
 
-// The seat showed the cards, and they are known.
-fn set_show(state: &mut CardState, seat: Seat, cards: &CardRow, search: &Search)
-    requires in_hand { seat.number ≤ state.old.seats }
-    requires search { IsShowSearch state.old.table.code search.now (placed state.old.places)
-        seat.number (cards_of cards.now) }
-    ensures { IsShown state.old state.new seat.number (cards_of cards.now) }
-{
-    run(&state.table, &mut state.places, search);
-    state.shown.set(seat, true);
-}
-
 /// Why no show may come now, if none may.
 pub fn shut(
     state: &CardState,
@@ -161,7 +149,6 @@ pub fn shut(
     settled: bool,
     seat: Seat,
 ) -> Option<Illegal>
-    requires { live.now.seats ≡ state.now.seats }
     ensures not_shut { IfNone result ((cards : List Card)
         → why.show_why state.now live.now due settled seat.number cards
         ≡ why.show_why_on state.now live.now seat.number cards) }
@@ -189,7 +176,6 @@ pub fn shut(
 
 /// Why the seat may not muck now.
 pub fn muck_why(state: &CardState, live: &LiveRow, due: Due, seat: Seat) -> Option<Illegal>
-    requires { live.now.seats ≡ state.now.seats }
     ensures wrong { result ≡ why.muck_why state.now live.now due seat.number }
     ensures in_hand { IfNone result (seat.number ≤ state.now.seats) }
 {
@@ -214,7 +200,6 @@ pub fn muck_why(state: &CardState, live: &LiveRow, due: Due, seat: Seat) -> Opti
 
 // The seat may show or muck.
 fn may_show(state: &CardState, live: &LiveRow, seat: Seat) -> bool
-    requires { live.now.seats ≡ state.now.seats }
     ensures may { result ≡ why.may_show_in state.now live.now seat.number }
     ensures in_hand { IsTrue result → seat.number ≤ state.now.seats }
 {

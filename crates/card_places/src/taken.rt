@@ -1,5 +1,5 @@
 //! A card is taken exactly where the deck lacks it, or where it clashes with another.
-ghost use Rattle.std.specs.Prelude.{◌≡◌, ◌≤◌, ◌+◌, ◌&&◌, ◌==◌, length, map, not, count_by, nat_lt, is_some};
+ghost use Rattle.std.specs.Prelude.{◌≡◌, ◌+◌, ◌&&◌, ◌==◌, map, not, count_by, nat_lt, is_some};
 ghost use Rattle.std.specs.List.{list_any};
 ghost use Rattle.play_event.specs.Places as places;
 ghost use Rattle.play_event.specs.Taken as taken;
@@ -13,7 +13,6 @@ use card_set::{Card, Slot};
 /// Whether one of the slots may not be dealt on this street: the deck lacks its card, a place has
 /// it, or two of the slots bear it.
 pub fn has_taken_card(table: &DealTable, rows: &[DealtCard], street: u8, slots: &[Slot]) -> bool
-    requires { length rows.now ≤ 120 }
     ensures { result ≡ taken.has_taken_card table.now.code
         (map place_of rows.now) street slots.now }
 {
@@ -59,7 +58,6 @@ fn lies(rows: &[DealtCard], past_deck: bool, card: Card) -> bool
 /// Whether a card that is dealt now on this street is dealt past the deck: only then may cards
 /// come back that are gone.
 pub fn is_past_deck(table: &DealTable, rows: &[DealtCard], street: u8) -> bool
-    requires { length rows.now ≤ 120 }
     ensures { result ≡ places.is_past_deck table.now.code (map place_of rows.now) street }
 {
     table.street(street).draws && (table.deck() as usize) < count_drawn(rows, street)
@@ -67,7 +65,6 @@ pub fn is_past_deck(table: &DealTable, rows: &[DealtCard], street: u8) -> bool
 
 // How many cards were dealt before the street, and how many were discarded on it, both together.
 fn count_drawn(rows: &[DealtCard], street: u8) -> usize
-    requires { length rows.now ≤ 120 }
     ensures { result ≡ count_by (λ place. nat_lt place.street street) (map place_of rows.now)
         + count_by (λ place. place.discarded == street) (map place_of rows.now) }
 {

@@ -3,7 +3,7 @@ use Rattle.std.proofs.Common.{◌≡◌, ℕ, Bool, List, Option, Some, None, Re
 use Rattle.card_set.specs.declared.card.Card.{Card}
 use Rattle.card_set.specs.declared.card.Slot.{Slot}
 use Rattle.card_set.specs.Known.{known_slots}
-use Rattle.chip_ledger.specs.declared.rows.LiveRow.{LiveRow}
+use Rattle.chip_ledger.specs.declared.live_row.LiveRow.{LiveRow}
 use Rattle.play_event.specs.declared.event.Kind.{Kind}
 use Rattle.play_event.specs.declared.reason.Due.{Due}
 use Rattle.play_event.specs.declared.reason.Due.TheVariants as dues
@@ -16,7 +16,6 @@ use Rattle.play_event.specs.Reasons.{why}
 use Rattle.play_event.specs.Said.{Said, kind_said}
 use Rattle.play_event.specs.Said as said
 use Rattle.play_event.specs.Scripts.{with_event}
-use Rattle.street_laws.specs.Dues.{IsDueWithin}
 use Rattle.card_places.specs.declared.card_state.CardState.{CardState}
 use Rattle.card_places.specs.Dealt.{IsDealt}
 use Rattle.card_places.specs.Discarded.{IsDiscarded}
@@ -57,14 +56,14 @@ answered_by t next due live asks event (Err found) reason same none wrong stands
 
 -- hole cards
 pub hole_answered : (t next : CardState) (due : Due) (live : LiveRow) (seat : ℕ) (cards : List Slot) (kind : Kind) (answer : Result (Unit {0}) Illegal)
-    → IsDueWithin 5 due → kind_said kind ≡ said.Hole seat cards
+    → kind_said kind ≡ said.Hole seat cards
     → OnOk answer (hole_why t live due seat cards ≡ None) → IfErr answer (λ found. hole_why t live due seat cards ≡ Some found)
     → ((on : ℕ) → due_street due ≡ Some on → OnOk answer (IsDealt t next (Some seat) on cards)) → AreOfOneHand t next → OnErr answer (next ≡ t)
     → IsAnswered t next due live AsksNothing (kind_said kind) answer
-hole_answered t next due live seat cards kind answer within is none wrong dealt hand unchanged =
+hole_answered t next due live seat cards kind answer is none wrong dealt hand unchanged =
     subst (λ (event : Said). IsAnswered t next due live AsksNothing event answer) (sym is)
     (answered_by t next due live AsksNothing (said.Hole seat cards) answer (hole_why t live due seat cards)
-    (λ rules setup past now asked. why_hole t due live setup rules past seat cards now within) none wrong
+    (λ rules setup past now asked. why_hole t due live setup rules past seat cards now) none wrong
     (λ setup past now right. on_ok answer
     (λ dealt. hole_stands t next setup past (turn setup past).0 seat cards now.stands refl dealt)
     (dealt (turn setup past).0 (hole_turn t due live setup past seat cards now.due_is right))) hand unchanged)
@@ -85,16 +84,16 @@ board_answered t next due live cards kind answer is none wrong dealt hand unchan
 
 -- discards
 pub discard_answered : (t next : CardState) (due : Due) (live : LiveRow) (seat : ℕ) (cards : List Slot) (kind : Kind) (answer : Result (Unit {0}) Illegal)
-    → IsDueWithin 5 due → kind_said kind ≡ said.Discard seat cards
+    → kind_said kind ≡ said.Discard seat cards
     → OnOk answer (discard_why t live due seat cards ≡ None) → IfErr answer (λ found. discard_why t live due seat cards ≡ Some found)
     → ((on : ℕ) → due ≡ dues.Draw on → OnOk answer (IsDiscarded t next on seat cards)) → AreOfOneHand t next → OnErr answer (next ≡ t)
     → IsAnswered t next due live AsksNothing (kind_said kind) answer
-discard_answered t next due live seat cards kind answer within is none wrong discarded hand unchanged =
+discard_answered t next due live seat cards kind answer is none wrong discarded hand unchanged =
     subst (λ (event : Said). IsAnswered t next due live AsksNothing event answer) (sym is)
     (answered_by t next due live AsksNothing (said.Discard seat cards) answer (discard_why t live due seat cards)
-    (λ rules setup past now asked. why_discard t due live setup rules past seat cards now within) none wrong
+    (λ rules setup past now asked. why_discard t due live setup rules past seat cards now) none wrong
     (λ setup past now right.
-    let drawing = discard_turn t due live setup past seat cards now within right in
+    let drawing = discard_turn t due live setup past seat cards now right in
     on_ok answer
     (λ change. discard_stands t next setup past (turn setup past).0 seat cards now.stands (omega (arith, t.shown_seats, t.shown.greatest)) drawing.undrawn refl change)
     (discarded (turn setup past).0 drawing.draws)) hand unchanged)

@@ -1,7 +1,7 @@
 -- Where a seat may discard, its draw is due, and it did not draw yet.
 use Rattle.std.proofs.Common.{◌≡◌, ℕ, false, List, None, sym, ap, ◌∙◌}
 use Rattle.card_set.specs.declared.card.Slot.{Slot}
-use Rattle.chip_ledger.specs.declared.rows.LiveRow.{LiveRow}
+use Rattle.chip_ledger.specs.declared.live_row.LiveRow.{LiveRow}
 use Rattle.play_event.specs.declared.reason.Due.{Due}
 use Rattle.play_event.specs.declared.reason.Due.TheVariants as dues
 use Rattle.play_event.specs.declared.setup.Setup.{Setup}
@@ -11,7 +11,6 @@ use Rattle.play_event.specs.Due.{turn}
 use Rattle.card_places.specs.declared.card_state.CardState.{CardState}
 use Rattle.deal_core.specs.Standing.{IsNow}
 use Rattle.card_places.specs.Refusals.{discard_why}
-use Rattle.street_laws.specs.Dues.{IsDueWithin}
 use Rattle.card_places.proofs.Legal.{drawer_is}
 use Rattle.street_laws.proofs.DueStreets.{draw_street}
 use Rattle.list_laws.proofs.Options.{from_some_none}
@@ -20,16 +19,16 @@ pub record IsDrawing (setup : Setup) (past : Past) (due : Due) (seat : ℕ) : Ty
   pub draws : due ≡ dues.Draw (turn setup past).0
   pub undrawn : has_drawn past (turn setup past).0 seat ≡ false
 
-pub discard_turn : (t : CardState) (due : Due) (live : LiveRow) (setup : Setup) (past : Past) (seat : ℕ) (cards : List Slot) → IsNow t due live setup past → IsDueWithin 5 due → discard_why t live due seat cards ≡ None → IsDrawing setup past due seat
-discard_turn t (dues.Draw on) live setup past seat cards now within none =
+pub discard_turn : (t : CardState) (due : Due) (live : LiveRow) (setup : Setup) (past : Past) (seat : ℕ) (cards : List Slot) → IsNow t due live setup past → discard_why t live due seat cards ≡ None → IsDrawing setup past due seat
+discard_turn t (dues.Draw on) live setup past seat cards now none =
     let drawer = drawer_is t live on seat cards none in
     let same = draw_street setup past on now.due_is in
     record {
       draws = ap dues.Draw same;
-      undrawn = ap (λ (s : ℕ). has_drawn past s seat) (sym same) ∙ sym (now.stands.drew on seat within.1 (record { first = drawer.first; last = drawer.last })) ∙ drawer.undrawn;
+      undrawn = ap (λ (s : ℕ). has_drawn past s seat) (sym same) ∙ sym (now.stands.drew on seat (record { first = drawer.first; last = drawer.last })) ∙ drawer.undrawn;
     }
-discard_turn t (dues.Deal on) live setup past seat cards now within none = from_some_none none
-discard_turn t dues.BringIn live setup past seat cards now within none = from_some_none none
-discard_turn t dues.Move live setup past seat cards now within none = from_some_none none
-discard_turn t dues.Show live setup past seat cards now within none = from_some_none none
-discard_turn t dues.Over live setup past seat cards now within none = from_some_none none
+discard_turn t (dues.Deal on) live setup past seat cards now none = from_some_none none
+discard_turn t dues.BringIn live setup past seat cards now none = from_some_none none
+discard_turn t dues.Move live setup past seat cards now none = from_some_none none
+discard_turn t dues.Show live setup past seat cards now none = from_some_none none
+discard_turn t dues.Over live setup past seat cards now none = from_some_none none

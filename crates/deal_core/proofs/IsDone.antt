@@ -1,9 +1,9 @@
 -- What is complete by the state is complete in the past.
-use Rattle.std.proofs.Common.{◌≡◌, ℕ, ◌-◌, ◌≤◌, Bool, true, ◌&&◌, ◌||◌, not, nat_lt, if◌then◌else◌, count_by, Option, Some, is_some, refl, sym, ap, ◌∙◌}
+use Rattle.std.proofs.Common.{◌≡◌, ℕ, ◌-◌, Bool, true, ◌&&◌, ◌||◌, not, nat_lt, if◌then◌else◌, count_by, Option, Some, is_some, refl, sym, ap, ◌∙◌}
 use Rattle.std.specs.List.{list_any}
-use Rattle.chip_ledger.specs.declared.rows.LiveRow.{LiveRow}
+use Rattle.chip_ledger.specs.declared.live_row.LiveRow.{LiveRow}
 use Rattle.chip_ledger.specs.LiveRow.{flag_of}
-use Rattle.chip_ledger.specs.Seat.{seats_of}
+use Rattle.chip_ledger.specs.Seat.{IsSeatOf, seats_of}
 use Rattle.play_event.specs.declared.code.Code.{Code}
 use Rattle.play_event.specs.declared.reason.Due.{Due}
 use Rattle.play_event.specs.declared.reason.Due.TheVariants as dues
@@ -18,9 +18,9 @@ use Rattle.play_event.specs.Places.{is_in_group}
 use Rattle.card_places.specs.declared.card_state.CardState.{CardState}
 use Rattle.card_places.specs.Drawn.{named_at}
 use Rattle.card_places.specs.Placed.{placed}
-use Rattle.deal_core.specs.Standing.{IsSeatOf, IsNow}
+use Rattle.deal_core.specs.Standing.{IsNow}
 use Rattle.card_places.specs.Refusals.{board_owed_in, next_to_draw_in, is_owed_deal_in, is_owed_draw_in, has_to_show_in, is_done_in}
-use Rattle.street_laws.specs.Dues.{IsDueWithin, is_cards_due}
+use Rattle.street_laws.specs.Dues.{is_cards_due}
 use Rattle.street_laws.specs.Done.{is_done}
 use Rattle.street_laws.proofs.Groups.{group_count}
 use Rattle.chip_ledger.proofs.SeatLists.{any_seats}
@@ -37,10 +37,10 @@ module _ (t : CardState) (due : Due) (live : LiveRow) (setup : Setup) (past : Pa
       ∙ ap (λ (c : Code). nat_lt 0 (if flag_of live seat then hole_cards_on c on - hole_cards_dealt past on seat else 0)) (sym now.code_is)
       ∙ ap (λ (b : Bool). nat_lt 0 (if b then hole_cards_on setup.code on - hole_cards_dealt past on seat else 0)) (now.lives seat in_hand)
 
-  owed_draw_is : (on seat : ℕ) → on ≤ 5 → IsSeatOf t.seats seat → is_owed_draw_in t on seat ≡ nat_lt 0 (replacements_owed past on seat)
-  owed_draw_is on seat within in_hand =
+  owed_draw_is : (on seat : ℕ) → IsSeatOf t.seats seat → is_owed_draw_in t on seat ≡ nat_lt 0 (replacements_owed past on seat)
+  owed_draw_is on seat in_hand =
       ap (λ (n : ℕ). nat_lt 0 (named_at t.draws on seat - n)) (dealt_of on seat)
-      ∙ ap (λ (n : ℕ). nat_lt 0 (n - hole_cards_dealt past on seat)) (now.stands.named on seat within in_hand)
+      ∙ ap (λ (n : ℕ). nat_lt 0 (n - hole_cards_dealt past on seat)) (now.stands.named on seat in_hand)
 
   to_show_is : (seat : ℕ) → IsSeatOf t.seats seat → has_to_show_in t live seat ≡ has_to_show past seat
   to_show_is seat in_hand =
@@ -52,19 +52,19 @@ module _ (t : CardState) (due : Due) (live : LiveRow) (setup : Setup) (past : Pa
   all_are p q same = any_seats p q t.seats (λ k low high. same k (record { first = low; last = high })) ∙ ap (λ (n : ℕ). list_any q (seats_of n)) (sym now.seats)
 
 -- the same in the past, whatever street is due
-pub done_is : (t : CardState) (at due : Due) (live : LiveRow) (setup : Setup) (past : Past) → IsNow t at live setup past → IsDueWithin 5 due → is_done_in t live due ≡ is_done setup past due
-done_is t at (dues.Deal on) live setup past now within =
+pub done_is : (t : CardState) (at due : Due) (live : LiveRow) (setup : Setup) (past : Past) → IsNow t at live setup past → is_done_in t live due ≡ is_done setup past due
+done_is t at (dues.Deal on) live setup past now =
     ap (λ b. not (b || nat_lt 0 (board_owed_in t on))) (all_are t at live setup past now (is_owed_deal_in t live on) (λ seat. nat_lt 0 (hole_cards_owed setup past on seat)) (lacks_is t at live setup past now on))
     ∙ ap (λ (n : ℕ). not (list_any (λ seat. nat_lt 0 (hole_cards_owed setup past on seat)) (seats_of setup.stacks.seats) || nat_lt 0 n)) (sym (board_owed_is t at live setup past now on))
-done_is t at (dues.Draw on) live setup past now within =
+done_is t at (dues.Draw on) live setup past now =
     ap (λ (c : Code). not (has_draw c on && (is_some (next_to_draw_in t live on) || list_any (is_owed_draw_in t on) (seats_of t.seats)))) (sym now.code_is)
-    ∙ ap (λ (o : Option ℕ). not (has_draw setup.code on && (is_some o || list_any (is_owed_draw_in t on) (seats_of t.seats)))) (sym (next_is t at live setup past now on within.1))
-    ∙ ap (λ b. not (has_draw setup.code on && (is_some (next_to_draw setup past on) || b))) (all_are t at live setup past now (is_owed_draw_in t on) (λ seat. nat_lt 0 (replacements_owed past on seat)) (λ seat in_hand. owed_draw_is t at live setup past now on seat within.1 in_hand))
-done_is t at dues.Show live setup past now within =
+    ∙ ap (λ (o : Option ℕ). not (has_draw setup.code on && (is_some o || list_any (is_owed_draw_in t on) (seats_of t.seats)))) (sym (next_is t at live setup past now on))
+    ∙ ap (λ b. not (has_draw setup.code on && (is_some (next_to_draw setup past on) || b))) (all_are t at live setup past now (is_owed_draw_in t on) (λ seat. nat_lt 0 (replacements_owed past on seat)) (λ seat in_hand. owed_draw_is t at live setup past now on seat in_hand))
+done_is t at dues.Show live setup past now =
     ap not (all_are t at live setup past now (has_to_show_in t live) (has_to_show past) (to_show_is t at live setup past now))
-done_is t at dues.BringIn live setup past now within = refl
-done_is t at dues.Move live setup past now within = refl
-done_is t at dues.Over live setup past now within = refl
+done_is t at dues.BringIn live setup past now = refl
+done_is t at dues.Move live setup past now = refl
+done_is t at dues.Over live setup past now = refl
 
 -- what is complete can be ended
 pub done_ended : (t : CardState) (live : LiveRow) (due : Due) → is_done_in t live due ≡ true → is_cards_due due ≡ true

@@ -5,7 +5,7 @@ use Rattle.play_event.specs.Table.{places_of}
 use Rattle.card_places.specs.declared.card_state.CardState.{CardState}
 use Rattle.card_places.specs.declared.deal_table.DealTable.{DealTable}
 use Rattle.deal_core.specs.Answered.{AreOfOneHand}
-use Rattle.deal_core.specs.Standing.{IsSeatOf}
+use Rattle.chip_ledger.specs.Seat.{IsSeatOf}
 
 pub same_places : (t next : CardState) (past : Past) → next.table ≡ t.table → places_of t.table.code past ≡ places_of next.table.code past
 same_places t next past same = ap (λ (table : DealTable). places_of table.code past) (sym same)

@@ -3,7 +3,7 @@ use Rattle.std.proofs.Common.{◌≡◌, ℕ, Some, None, List, ◌∷◌, ap, s
 use Rattle.card_set.specs.declared.card.Card.{Card}
 use Rattle.card_set.specs.declared.card.Slot.{Slot}
 use Rattle.card_set.specs.Known.{known_slots}
-use Rattle.chip_ledger.specs.declared.rows.LiveRow.{LiveRow}
+use Rattle.chip_ledger.specs.declared.live_row.LiveRow.{LiveRow}
 use Rattle.chip_ledger.specs.LiveRow.{flag_of}
 use Rattle.play_event.specs.declared.setup.Setup.{Setup}
 use Rattle.play_event.specs.Said as said
@@ -21,8 +21,8 @@ use Rattle.deal_core.specs.Standing.{StandsFor}
 stands_hole : (t next : CardState) (past : Past) (on seat : ℕ) (cards : List Slot) → StandsFor t past → IsDealt t next (Some seat) on cards → StandsFor next (Dealt on seat cards ∷ past)
 stands_hole t next past on seat cards stands dealt = record {
   places = dealt.places ∙ ap (after_deal t.table.code (Some seat) on cards) stands.places ∙ same_places t next (Dealt on seat cards ∷ past) dealt.table;
-  drew = λ street n within in_hand. ap (λ (d : Draws). has_drawn_at d street n) dealt.draws ∙ stands.drew street n within (back t next n dealt.seats in_hand);
-  named = λ street n within in_hand. ap (λ (d : Draws). named_at d street n) dealt.draws ∙ stands.named street n within (back t next n dealt.seats in_hand);
+  drew = λ street n in_hand. ap (λ (d : Draws). has_drawn_at d street n) dealt.draws ∙ stands.drew street n (back t next n dealt.seats in_hand);
+  named = λ street n in_hand. ap (λ (d : Draws). named_at d street n) dealt.draws ∙ stands.named street n (back t next n dealt.seats in_hand);
   shown = λ n in_hand. ap (λ (r : LiveRow). flag_of r n) dealt.shown ∙ stands.shown n (back t next n dealt.seats in_hand);
   mucked = λ n in_hand. ap (λ (r : LiveRow). flag_of r n) dealt.mucked ∙ stands.mucked n (back t next n dealt.seats in_hand);
 }
@@ -30,8 +30,8 @@ stands_hole t next past on seat cards stands dealt = record {
 stands_board : (t next : CardState) (past : Past) (on : ℕ) (cards : List Card) → StandsFor t past → IsDealt t next None on (known_slots cards) → StandsFor next (Boarded on cards ∷ past)
 stands_board t next past on cards stands dealt = record {
   places = dealt.places ∙ ap (after_deal t.table.code None on (known_slots cards)) stands.places ∙ same_places t next (Boarded on cards ∷ past) dealt.table;
-  drew = λ street n within in_hand. ap (λ (d : Draws). has_drawn_at d street n) dealt.draws ∙ stands.drew street n within (back t next n dealt.seats in_hand);
-  named = λ street n within in_hand. ap (λ (d : Draws). named_at d street n) dealt.draws ∙ stands.named street n within (back t next n dealt.seats in_hand);
+  drew = λ street n in_hand. ap (λ (d : Draws). has_drawn_at d street n) dealt.draws ∙ stands.drew street n (back t next n dealt.seats in_hand);
+  named = λ street n in_hand. ap (λ (d : Draws). named_at d street n) dealt.draws ∙ stands.named street n (back t next n dealt.seats in_hand);
   shown = λ n in_hand. ap (λ (r : LiveRow). flag_of r n) dealt.shown ∙ stands.shown n (back t next n dealt.seats in_hand);
   mucked = λ n in_hand. ap (λ (r : LiveRow). flag_of r n) dealt.mucked ∙ stands.mucked n (back t next n dealt.seats in_hand);
 }

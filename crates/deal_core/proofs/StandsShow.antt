@@ -2,7 +2,7 @@
 use Rattle.std.proofs.Common.{◌≡◌, ◌≢◌, ℕ, Bool, true, false, ◌||◌, ◌==◌, List, ◌∷◌, refl, sym, ap, ◌∙◌}
 use Rattle.std.proofs.lemmas.Bool.{eqb-true}
 use Rattle.card_set.specs.declared.card.Card.{Card}
-use Rattle.chip_ledger.specs.declared.rows.LiveRow.{LiveRow}
+use Rattle.chip_ledger.specs.declared.live_row.LiveRow.{LiveRow}
 use Rattle.chip_ledger.specs.LiveRow.{flag_of}
 use Rattle.play_event.specs.declared.setup.Setup.{Setup}
 use Rattle.play_event.specs.Said as said
@@ -29,8 +29,8 @@ pub show_stands : (t next : CardState) (setup : Setup) (past : Past) (seat : ℕ
 unfolding with_event
 show_stands t next setup past seat cards stands shown = record {
   places = shown.places ∙ ap (after_show t.table.code seat cards) stands.places ∙ same_places t next (Shown (turn setup past).0 seat cards ∷ past) shown.table;
-  drew = λ street n within in_hand. ap (λ (d : Draws). has_drawn_at d street n) shown.draws ∙ stands.drew street n within (back t next n shown.seats in_hand);
-  named = λ street n within in_hand. ap (λ (d : Draws). named_at d street n) shown.draws ∙ stands.named street n within (back t next n shown.seats in_hand);
+  drew = λ street n in_hand. ap (λ (d : Draws). has_drawn_at d street n) shown.draws ∙ stands.drew street n (back t next n shown.seats in_hand);
+  named = λ street n in_hand. ap (λ (d : Draws). named_at d street n) shown.draws ∙ stands.named street n (back t next n shown.seats in_hand);
   shown = λ n in_hand. flag_is t.shown next.shown seat n (has_shown past n) (seat == n) refl shown.shown (shown.others n in_hand.first) (stands.shown n (back t next n shown.seats in_hand));
   mucked = λ n in_hand. ap (λ (r : LiveRow). flag_of r n) shown.mucked ∙ stands.mucked n (back t next n shown.seats in_hand);
 }
@@ -39,8 +39,8 @@ pub muck_stands : (t next : CardState) (setup : Setup) (past : Past) (seat : ℕ
 unfolding with_event
 muck_stands t next setup past seat stands mucked = record {
   places = ap placed mucked.places ∙ stands.places ∙ same_places t next past mucked.table;
-  drew = λ street n within in_hand. ap (λ (d : Draws). has_drawn_at d street n) mucked.draws ∙ stands.drew street n within (back t next n mucked.seats in_hand);
-  named = λ street n within in_hand. ap (λ (d : Draws). named_at d street n) mucked.draws ∙ stands.named street n within (back t next n mucked.seats in_hand);
+  drew = λ street n in_hand. ap (λ (d : Draws). has_drawn_at d street n) mucked.draws ∙ stands.drew street n (back t next n mucked.seats in_hand);
+  named = λ street n in_hand. ap (λ (d : Draws). named_at d street n) mucked.draws ∙ stands.named street n (back t next n mucked.seats in_hand);
   shown = λ n in_hand. ap (λ (r : LiveRow). flag_of r n) mucked.shown ∙ stands.shown n (back t next n mucked.seats in_hand);
   mucked = λ n in_hand. flag_is t.mucked next.mucked seat n (has_mucked past n) (seat == n) refl mucked.mucked (mucked.others n in_hand.first) (stands.mucked n (back t next n mucked.seats in_hand));
 }

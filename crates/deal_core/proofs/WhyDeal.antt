@@ -1,12 +1,12 @@
 -- The reasons of a deal by the state are the reasons of the rules.
-use Rattle.std.proofs.Common.{◌≡◌, ℕ, ◌-◌, ◌≤◌, Bool, true, false, ◌||◌, ◌==◌, not, nat_lt, nat_le, if◌then◌else◌, List, length, count_by, Option, Some, None, refl, sym, ap, ◌∙◌}
+use Rattle.std.proofs.Common.{◌≡◌, ℕ, ◌-◌, Bool, true, false, ◌||◌, ◌==◌, not, nat_lt, nat_le, if◌then◌else◌, List, length, count_by, Option, Some, None, refl, sym, ap, ◌∙◌}
 use Rattle.std.proofs.lemmas.Bool.{and_parts, leb-true}
 use Rattle.std.proofs.lemmas.List.{length-map}
 use Rattle.card_set.specs.Known.{known_slots}
 use Rattle.card_set.specs.declared.card.Card.{Card}
 use Rattle.card_set.specs.declared.card.Slot.{Slot}
 use Rattle.card_set.specs.declared.card.Slot.TheVariants as slots
-use Rattle.chip_ledger.specs.declared.rows.LiveRow.{LiveRow}
+use Rattle.chip_ledger.specs.declared.live_row.LiveRow.{LiveRow}
 use Rattle.chip_ledger.specs.LiveRow.{flag_of}
 use Rattle.play_event.specs.declared.code.Code.{Code}
 use Rattle.play_event.specs.declared.reason.Due.{Due}
@@ -30,14 +30,14 @@ use Rattle.play_event.specs.Reasons.{why, first_reason, all_reasons}
 use Rattle.card_places.specs.declared.card_state.CardState.{CardState}
 use Rattle.card_places.specs.Drawn.{named_at}
 use Rattle.card_places.specs.Placed.{placed}
-use Rattle.deal_core.specs.Standing.{IsSeatOf, IsNow}
+use Rattle.deal_core.specs.Standing.{IsNow}
 use Rattle.card_places.specs.Refusals.{owed_of, owed_in, board_owed_in, deal_chain, hole_why_on, board_why_on, hole_why, board_why}
 use Rattle.card_places.specs.Room.{is_seat_of}
-use Rattle.street_laws.specs.Dues.{IsDueWithin}
 use Rattle.card_places.specs.DueStreet.{due_street}
 use Rattle.street_laws.proofs.Groups.{group_count}
 use Rattle.street_laws.proofs.DueStreets.{deal_street, draw_street}
 use Rattle.list_laws.proofs.Options.{from_some_none}
+use Rattle.chip_ledger.specs.Seat.{IsSeatOf}
 
 -- a kind that may come
 by_kind : (k : Bool) (rest : Option Illegal) → (if not (k || false) then Some reasons.WrongKind else rest) ≡ (if k then rest else Some reasons.WrongKind)
@@ -58,11 +58,11 @@ module _ (t : CardState) (due : Due) (live : LiveRow) (setup : Setup) (past : Pa
   pub dealt_is : (owner : Option ℕ) (on : ℕ) → count_by (is_in_group owner on) (placed t.places) ≡ count_by (is_in_group owner on) (places_of setup.code past)
   dealt_is owner on = ap (count_by (is_in_group owner on)) (now.stands.places ∙ ap (λ (c : Code). places_of c past) (sym now.code_is))
 
-  pub owed_is : (on seat : ℕ) → on ≤ 5 → IsSeatOf t.seats seat → cards_owed setup past on seat ≡ owed_in t live on seat
-  owed_is on seat within in_hand = sym (
+  pub owed_is : (on seat : ℕ) → IsSeatOf t.seats seat → cards_owed setup past on seat ≡ owed_in t live on seat
+  owed_is on seat in_hand = sym (
       ap (λ (c : Code). owed_of (has_draw c on) (flag_of live seat) (hole_cards_on c on) (named_at t.draws on seat) (count_by (is_in_group (Some seat) on) (placed t.places))) (sym now.code_is)
       ∙ ap (λ (l : Bool). owed_of (has_draw setup.code on) l (hole_cards_on setup.code on) (named_at t.draws on seat) (count_by (is_in_group (Some seat) on) (placed t.places))) (now.lives seat in_hand)
-      ∙ ap (λ (n : ℕ). owed_of (has_draw setup.code on) (is_live (moves_of past) seat) (hole_cards_on setup.code on) n (count_by (is_in_group (Some seat) on) (placed t.places))) (now.stands.named on seat within in_hand)
+      ∙ ap (λ (n : ℕ). owed_of (has_draw setup.code on) (is_live (moves_of past) seat) (hole_cards_on setup.code on) n (count_by (is_in_group (Some seat) on) (placed t.places))) (now.stands.named on seat in_hand)
       ∙ ap (λ (n : ℕ). owed_of (has_draw setup.code on) (is_live (moves_of past) seat) (hole_cards_on setup.code on) (cards_discarded past on seat) n) (dealt_is (Some seat) on ∙ group_count setup.code (Some seat) past on)
       )
 
@@ -77,11 +77,11 @@ module _ (t : CardState) (due : Due) (live : LiveRow) (setup : Setup) (past : Pa
       ap (λ (c : Code). has_taken_card c (places_of c past) on cards) now.code_is
       ∙ ap (λ (ps : List Place). has_taken_card t.table.code ps on cards) (sym now.stands.places)
 
-  on_is : (on seat : ℕ) (cards : List Slot) → on ≤ 5 → deal_chain (not (is_seat_of setup.stacks.seats seat) || (cards_owed setup past on seat == 0)) (cards_owed setup past on seat) (length cards) (has_taken_card setup.code (places_of setup.code past) on cards) ≡ hole_why_on t live on seat cards
-  on_is on seat cards within =
+  on_is : (on seat : ℕ) (cards : List Slot) → deal_chain (not (is_seat_of setup.stacks.seats seat) || (cards_owed setup past on seat == 0)) (cards_owed setup past on seat) (length cards) (has_taken_card setup.code (places_of setup.code past) on cards) ≡ hole_why_on t live on seat cards
+  on_is on seat cards =
       ap (λ (n : ℕ). deal_chain (not (is_seat_of n seat) || (cards_owed setup past on seat == 0)) (cards_owed setup past on seat) (length cards) (has_taken_card setup.code (places_of setup.code past) on cards)) now.seats
       ∙ ap (λ (b : Bool). deal_chain (not (is_seat_of t.seats seat) || (cards_owed setup past on seat == 0)) (cards_owed setup past on seat) (length cards) b) (taken_is on cards)
-      ∙ chain_same (is_seat_of t.seats seat) (cards_owed setup past on seat) (owed_in t live on seat) (length cards) (has_taken_card t.table.code (placed t.places) on cards) (λ is. owed_is on seat within (seat_in t.seats seat is))
+      ∙ chain_same (is_seat_of t.seats seat) (cards_owed setup past on seat) (owed_in t live on seat) (length cards) (has_taken_card t.table.code (placed t.places) on cards) (λ is. owed_is on seat (seat_in t.seats seat is))
 
   board_is : (on : ℕ) (cards : List Slot) → (if is_wrong_deal (board_cards_owed setup past on) (length cards) then Some reasons.WrongCount else if has_taken_card setup.code (places_of setup.code past) on cards then Some reasons.CardTaken else None) ≡ board_why_on t on cards
   board_is on cards =
@@ -89,27 +89,27 @@ module _ (t : CardState) (due : Due) (live : LiveRow) (setup : Setup) (past : Pa
       ∙ ap (λ (b : Bool). if is_wrong_deal (board_owed_in t on) (length cards) then Some reasons.WrongCount else if b then Some reasons.CardTaken else None) (taken_is on cards)
 
 -- where this is due
-hole_by : (t : CardState) (due : Due) (live : LiveRow) (setup : Setup) (rules : Rules) (past : Past) (seat : ℕ) (cards : List Slot) → IsNow t due live setup past → IsDueWithin 5 due → first_reason (all_reasons setup rules past ((turn setup past).0, due) (said.Hole seat cards)) ≡ hole_why t live due seat cards
-hole_by t dues.Over live setup rules past seat cards now within = refl
-hole_by t dues.BringIn live setup rules past seat cards now within = refl
-hole_by t dues.Move live setup rules past seat cards now within = refl
-hole_by t dues.Show live setup rules past seat cards now within = refl
-hole_by t (dues.Draw on) live setup rules past seat cards now within =
+hole_by : (t : CardState) (due : Due) (live : LiveRow) (setup : Setup) (rules : Rules) (past : Past) (seat : ℕ) (cards : List Slot) → IsNow t due live setup past → first_reason (all_reasons setup rules past ((turn setup past).0, due) (said.Hole seat cards)) ≡ hole_why t live due seat cards
+hole_by t dues.Over live setup rules past seat cards now = refl
+hole_by t dues.BringIn live setup rules past seat cards now = refl
+hole_by t dues.Move live setup rules past seat cards now = refl
+hole_by t dues.Show live setup rules past seat cards now = refl
+hole_by t (dues.Draw on) live setup rules past seat cards now =
     ap (λ (s : ℕ). deal_chain (not (is_seat_of setup.stacks.seats seat) || (cards_owed setup past s seat == 0)) (cards_owed setup past s seat) (length cards) (has_taken_card setup.code (places_of setup.code past) s cards)) (sym (draw_street setup past on now.due_is))
-    ∙ on_is t (dues.Draw on) live setup past now on seat cards within.1
-hole_by t (dues.Deal on) live setup rules past seat cards now within =
+    ∙ on_is t (dues.Draw on) live setup past now on seat cards
+hole_by t (dues.Deal on) live setup rules past seat cards now =
     by_kind (nat_lt 0 (hole_cards_on setup.code on)) (deal_chain (not (is_seat_of setup.stacks.seats seat) || (cards_owed setup past (turn setup past).0 seat == 0)) (cards_owed setup past (turn setup past).0 seat) (length cards) (has_taken_card setup.code (places_of setup.code past) (turn setup past).0 cards))
     ∙ ap (λ (r : Option Illegal). if nat_lt 0 (hole_cards_on setup.code on) then r else Some reasons.WrongKind) (
     ap (λ (s : ℕ). deal_chain (not (is_seat_of setup.stacks.seats seat) || (cards_owed setup past s seat == 0)) (cards_owed setup past s seat) (length cards) (has_taken_card setup.code (places_of setup.code past) s cards)) (sym (deal_street setup past on now.due_is))
-    ∙ on_is t (dues.Deal on) live setup past now on seat cards within.1
+    ∙ on_is t (dues.Deal on) live setup past now on seat cards
     )
     ∙ ap (λ (c : Code). if nat_lt 0 (hole_cards_on c on) then hole_why_on t live on seat cards else Some reasons.WrongKind) now.code_is
 
-pub why_hole : (t : CardState) (due : Due) (live : LiveRow) (setup : Setup) (rules : Rules) (past : Past) (seat : ℕ) (cards : List Slot) → IsNow t due live setup past → IsDueWithin 5 due → why setup rules past (said.Hole seat cards) ≡ hole_why t live due seat cards
+pub why_hole : (t : CardState) (due : Due) (live : LiveRow) (setup : Setup) (rules : Rules) (past : Past) (seat : ℕ) (cards : List Slot) → IsNow t due live setup past → why setup rules past (said.Hole seat cards) ≡ hole_why t live due seat cards
 unfolding why
-why_hole t due live setup rules past seat cards now within =
+why_hole t due live setup rules past seat cards now =
     ap (λ (d : Due). first_reason (all_reasons setup rules past ((turn setup past).0, d) (said.Hole seat cards))) now.due_is
-    ∙ hole_by t due live setup rules past seat cards now within
+    ∙ hole_by t due live setup rules past seat cards now
 
 board_by : (t : CardState) (due : Due) (live : LiveRow) (setup : Setup) (rules : Rules) (past : Past) (cards : List Card) → IsNow t due live setup past → first_reason (all_reasons setup rules past ((turn setup past).0, due) (said.Board cards)) ≡ board_why t due (known_slots cards)
 board_by t dues.Over live setup rules past cards now = refl

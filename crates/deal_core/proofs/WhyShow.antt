@@ -1,7 +1,7 @@
 -- The reasons of a show or a muck by the state are the reasons of the rules.
 use Rattle.std.proofs.Common.{◌≡◌, ℕ, Bool, true, false, ◌&&◌, ◌||◌, not, if◌then◌else◌, filter, List, length, Option, Some, None, refl, sym, ap, ◌∙◌}
 use Rattle.card_set.specs.declared.card.Card.{Card}
-use Rattle.chip_ledger.specs.declared.rows.LiveRow.{LiveRow}
+use Rattle.chip_ledger.specs.declared.live_row.LiveRow.{LiveRow}
 use Rattle.chip_ledger.specs.LiveRow.{flag_of}
 use Rattle.play_event.specs.declared.code.Code.{Code}
 use Rattle.play_event.specs.declared.reason.Due.{Due}

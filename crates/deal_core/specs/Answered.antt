@@ -1,7 +1,7 @@
 -- What an event of cards does to the state of the cards: the answer of the rules, and what stands
 -- after it. And what a row tells of the seats.
 use Rattle.std.specs.Prelude.{◌≡◌, ℕ, Bool, Result, None, Some, OnOk, OnErr, IfErr}
-use Rattle.chip_ledger.specs.declared.rows.LiveRow.{LiveRow}
+use Rattle.chip_ledger.specs.declared.live_row.LiveRow.{LiveRow}
 use Rattle.play_event.specs.declared.reason.Due.{Due}
 use Rattle.play_event.specs.declared.reason.Illegal.{Illegal}
 use Rattle.play_event.specs.declared.setup.Rules.{Rules}
@@ -12,7 +12,8 @@ use Rattle.play_event.specs.Reasons.{why}
 use Rattle.play_event.specs.Said.{Said}
 use Rattle.play_event.specs.Scripts.{with_event}
 use Rattle.card_places.specs.declared.card_state.CardState.{CardState}
-use Rattle.deal_core.specs.Standing.{IsNow, IsSeatOf, StandsFor}
+use Rattle.deal_core.specs.Standing.{IsNow, StandsFor}
+use Rattle.chip_ledger.specs.Seat.{IsSeatOf}
 
 -- after each past of a hand for which the state stands, with what the calls are told of it
 abbrev pub WhereNow : CardState → Due → LiveRow → (Setup → Past → Type 0) → Type 0

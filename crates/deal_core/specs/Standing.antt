@@ -1,6 +1,7 @@
 -- What a state of the cards says of a past.
-use Rattle.std.specs.Prelude.{◌≡◌, ℕ, ◌≤◌}
-use Rattle.chip_ledger.specs.declared.rows.LiveRow.{LiveRow}
+use Rattle.std.specs.Prelude.{◌≡◌, ℕ}
+use Rattle.chip_ledger.specs.Seat.{IsSeatOf}
+use Rattle.chip_ledger.specs.declared.live_row.LiveRow.{LiveRow}
 use Rattle.chip_ledger.specs.LiveRow.{flag_of}
 use Rattle.play_event.specs.declared.reason.Due.{Due}
 use Rattle.play_event.specs.declared.setup.Setup.{Setup}
@@ -14,23 +15,16 @@ use Rattle.card_places.specs.declared.card_state.CardState.{CardState}
 use Rattle.card_places.specs.Drawn.{has_drawn_at, named_at}
 use Rattle.card_places.specs.Placed.{placed}
 
--- a number is that of a seat
-pub record IsSeatOf (seats seat : ℕ) : Type 0 where
-  -- it is not below the first
-  pub first : 1 ≤ seat
-  -- and not above the last
-  pub last : seat ≤ seats
-
 -- A state stands for a past where it has its places, its draws, its shows and its mucks. Nothing
 -- else is asked of the past.
 pub record StandsFor (t : CardState) (past : Past) : Type 0 where
   -- its cards, in the order of dealing, are the places of the past
   pub places : placed t.places ≡ places_of t.table.code past
   -- it knows who drew on which street
-  pub drew : (street seat : ℕ) → street ≤ 5 → IsSeatOf t.seats seat
+  pub drew : (street seat : ℕ) → IsSeatOf t.seats seat
       → has_drawn_at t.draws street seat ≡ has_drawn past street seat
   -- and how many cards each seat discarded there, and so how many it is still owed
-  pub named : (street seat : ℕ) → street ≤ 5 → IsSeatOf t.seats seat
+  pub named : (street seat : ℕ) → IsSeatOf t.seats seat
       → named_at t.draws street seat ≡ cards_discarded past street seat
   -- it knows who showed
   pub shown : (seat : ℕ) → IsSeatOf t.seats seat → flag_of t.shown seat ≡ has_shown past seat

@@ -78,7 +78,6 @@ impl<V: Variant> Cards<V> {
     pub fn deal(&mut self, due: Due, live: &LiveRow, event: &Event) -> Result<(), Illegal>
         requires kind { is_deal (said_of event.now) ≡ true }
         requires due { IsDueWithin V.STREETS due }
-        requires live { live.now.seats ≡ self.old.seats }
         ensures { IsAnswered self.old self.new due live.now AsksNothing (said_of event.now) result }
     {
         match event.kind {
@@ -126,7 +125,6 @@ impl<V: Variant> Cards<V> {
     pub fn discard(&mut self, due: Due, live: &LiveRow, event: &Event) -> Result<(), Illegal>
         requires kind { is_discard (said_of event.now) ≡ true }
         requires due { IsDueWithin V.STREETS due }
-        requires live { live.now.seats ≡ self.old.seats }
         ensures { IsAnswered self.old self.new due live.now AsksNothing (said_of event.now) result }
     {
         match event.kind {
@@ -149,8 +147,7 @@ impl<V: Variant> Cards<V> {
         settled: bool,
         event: &Event,
     ) -> Result<(), Illegal>
-        requires kind { is_showing (said_of event.now) ≡ true }
-        requires live { live.now.seats ≡ self.old.seats }
+        requires { is_showing (said_of event.now) ≡ true }
         ensures { IsAnswered self.old self.new due live.now (IsSettledAs settled)
             (said_of event.now) result }
     {
@@ -184,8 +181,6 @@ impl<V: Variant> Cards<V> {
     /// Whether the deal, the draw or the show that `due` names is complete. The state need not be
     /// told what is due now: the next street's deal may be complete before it is looked at.
     pub fn done(&self, due: Due, live: &LiveRow) -> bool
-        requires due { IsDueWithin V.STREETS due }
-        requires live { live.now.seats ≡ self.now.seats }
         ensures done { WhereLive self.now live.now
             (λ setup past. result ≡ is_done setup past due) }
         ensures ended { result ≡ true → is_cards_due due ≡ true }
@@ -196,8 +191,6 @@ impl<V: Variant> Cards<V> {
     /// What the street deals next: to the first seat that is owed cards all that it is owed, and
     /// where no seat is owed any, to the board.
     pub fn next_deal(&self, live: &LiveRow, on: u8) -> NextDeal
-        requires street { on ≤ V.STREETS }
-        requires live { live.now.seats ≡ self.now.seats }
         ensures next { WhereLive self.now live.now
             (λ setup past. IsNextDeal setup past on result) }
         ensures most { result.count ≤ 7 }
@@ -207,8 +200,6 @@ impl<V: Variant> Cards<V> {
 
     /// The seat that draws next on the street, if one has to.
     pub fn next_to_draw(&self, live: &LiveRow, on: u8) -> Option<Seat>
-        requires street { on ≤ V.STREETS }
-        requires live { live.now.seats ≡ self.now.seats }
         ensures next { WhereLive self.now live.now
             (λ setup past. seat_said result ≡ next_to_draw setup past on) }
         ensures in_hand { IfSome result (λ seat. seat.number ≤ self.now.seats) }

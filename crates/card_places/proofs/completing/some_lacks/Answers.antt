@@ -12,7 +12,7 @@ loop-index-preserved c =
     let last : c.loop-index.index + 1 ≤ 10 = omega (arith, c.loop-index-test.true, t.shown_seats, t.shown.greatest) in
     elim c.if-get.branch [
       | then-get w ↦
-          let counted = seat_counted c.args.dealt.now.numbers c.args.on (placed t.places) (c.loop-index.index + 1) w.of.result (omega arith) last c.requires.dealt w.of.ensures in
+          let counted = seat_counted c.args.dealt.now.numbers c.args.on (placed t.places) (c.loop-index.index + 1) w.of.result (omega arith) last c.requires w.of.ensures in
           search (rules, any_more, counted)
       | else-get w ↦ search (rules, any_more)
     ]

@@ -2,7 +2,7 @@
 use Rattle.std.proofs.Common.{◌≡◌, nat_lt, sym, ap, ◌∙◌, arith}
 use Rattle.std.proofs.lemmas.Bool.{lt-ltb}
 use Rattle.card_places.specs.Refusals.{owed_in}
-use Rattle.card_places.proofs.FirstSeats.{first_seat, no_seat}
+use Rattle.chip_ledger.proofs.FirstSeats.{first_seat, no_seat}
 use Rattle.card_places.proofs.owing.next_deal.Goals as goal
 
 pub returns-then-count-gt0-clause-owner : goal.returns-then-count-gt0-clause-owner

@@ -4,7 +4,7 @@ use Rattle.std.proofs.lemmas.Bool.{and_from}
 use Rattle.chip_ledger.specs.LiveRow.{flag_of}
 use Rattle.card_places.specs.Drawn.{has_drawn_at}
 use Rattle.card_places.specs.Refusals.{has_to_draw}
-use Rattle.card_places.proofs.FirstSeats.{first_seat, no_seat}
+use Rattle.chip_ledger.proofs.FirstSeats.{first_seat, no_seat}
 use Rattle.card_places.proofs.owing.next_to_draw.Goals as goal
 
 pub returns-then-not-drew-clause-found : goal.returns-then-not-drew-clause-found

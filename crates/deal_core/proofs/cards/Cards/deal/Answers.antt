@@ -8,12 +8,9 @@ use Rattle.card_places.specs.Dealt.{IsDealt}
 use Rattle.card_places.specs.Refusals.{board_why}
 use Rattle.card_places.proofs.Fits.{hole_owed, board_owed}
 use Rattle.deal_core.proofs.Answers.{board_answered, hole_answered}
-use Rattle.deal_core.proofs.Games.{due_in, due_five}
+use Rattle.deal_core.proofs.Games.{due_in}
 use Rattle.deal_core.proofs.Same.{of_itself}
 use Rattle.deal_core.proofs.cards.Cards.deal.Goals as goal
-
-pub hole_why-requires-clause-due : goal.hole_why-requires-clause-due
-hole_why-requires-clause-due g c = due_five g.V.Variant.CODE _ c.args.due g.met.V.Variant.values.streets_is c.requires.due
 
 pub put-requires : goal.put-requires
 put-requires g c =
@@ -34,7 +31,6 @@ returns-in-Some g c =
     let t = c.self.inside.state in
     rw (← c.self.view_is)
     (hole_answered t t c.args.due c.args.live.now c.in-Hole.seat.number c.as_slice-known.result.now c.args.event.now.kind _
-    (due_five g.V.Variant.CODE _ c.args.due g.met.V.Variant.values.streets_is c.requires.due)
     (ap kind_said c.in-Hole.is ∙ ap (said.Hole c.in-Hole.seat.number) (sym c.as_slice-known.ensures))
     tt (sym c.hole_why.ensures ∙ c.in-Some.is) (λ on street. tt) (of_itself t) refl)
 
@@ -43,7 +39,6 @@ returns-in-None g c =
     let t = c.self.inside.state in
     rw (← c.self.view_is)
     (hole_answered t c.put.new.self c.args.due c.args.live.now c.in-Hole.seat.number c.as_slice-known.result.now c.args.event.now.kind _
-    (due_five g.V.Variant.CODE _ c.args.due g.met.V.Variant.values.streets_is c.requires.due)
     (ap kind_said c.in-Hole.is ∙ ap (said.Hole c.in-Hole.seat.number) (sym c.as_slice-known.ensures))
     (sym c.hole_why.ensures ∙ c.in-None.is) tt (rw c.self.view_is c.put.ensures.dealt) (rw c.self.view_is c.put.ensures.hand) tt)
 

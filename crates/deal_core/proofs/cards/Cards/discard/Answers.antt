@@ -7,7 +7,6 @@ use Rattle.play_event.specs.declared.reason.Due.{Due}
 use Rattle.play_event.specs.declared.reason.Illegal.TheVariants as reasons
 use Rattle.play_event.specs.Said.{kind_said}
 use Rattle.deal_core.proofs.Answers.{discard_answered}
-use Rattle.deal_core.proofs.Games.{due_five}
 use Rattle.deal_core.proofs.Same.{of_itself, one_hand}
 use Rattle.deal_core.proofs.cards.Cards.discard.Goals as goal
 use Rattle.list_laws.proofs.Results.{if_err, on_ok}
@@ -18,7 +17,6 @@ returns-in-Over g c =
     let cards = slots_of c.in-Discard.cards in
     rw (← c.self.view_is)
     (discard_answered t t c.args.due c.args.live.now c.in-Discard.seat.number cards c.args.event.now.kind _
-    (due_five g.V.Variant.CODE _ c.args.due g.met.V.Variant.values.streets_is c.requires.due)
     (ap kind_said c.in-Discard.is) tt (ap (λ (due : Due). discard_why t c.args.live.now due c.in-Discard.seat.number cards) c.in-Over.is) (λ on street. tt) (of_itself t) refl)
 
 pub returns-in-Draw : goal.returns-in-Draw
@@ -30,7 +28,6 @@ returns-in-Draw g c =
     let answer = c.discard_on.result in
     rw (← c.self.view_is)
     (discard_answered t c.discard_on.new.state c.args.due c.args.live.now seat cards c.args.event.now.kind answer
-    (due_five g.V.Variant.CODE _ c.args.due g.met.V.Variant.values.streets_is c.requires.due)
     (ap kind_said c.in-Discard.is)
     (on_ok answer (λ none. on_draw ∙ none) c.discard_on.ensures.right) (if_err answer (λ reason is. on_draw ∙ is) c.discard_on.ensures.wrong)
     (λ on street.
@@ -44,5 +41,4 @@ returns-in-Deal g c =
     let wrong : discard_why t c.args.live.now c.args.due c.in-Discard.seat.number cards ≡ Some reasons.WrongKind = search rules in
     rw (← c.self.view_is)
     (discard_answered t t c.args.due c.args.live.now c.in-Discard.seat.number cards c.args.event.now.kind _
-    (due_five g.V.Variant.CODE _ c.args.due g.met.V.Variant.values.streets_is c.requires.due)
     (ap kind_said c.in-Discard.is) tt wrong (λ on street. tt) (of_itself t) refl)
