@@ -1,6 +1,6 @@
 -- The seats of a row that have the most points are its winners, and chips that are divided among them are theirs by right.
 use Rattle.std.proofs.Common.{◌≡◌, ◌≢◌, ◌<◌, ◌≤◌, ℕ, ◌&&◌, Bool, [], Option, sym, ◌∙◌, ap, arith}
-use Rattle.chip_ledger.specs.declared.rows.LiveRow.{LiveRow}
+use Rattle.chip_ledger.specs.declared.live_row.LiveRow.{LiveRow}
 use Rattle.chip_ledger.specs.LiveRow.{flag_of, flagged}
 use Rattle.hand_order.specs.Best.{IsLess}
 use Rattle.variant_table.specs.Division.{AreParts, count_to, divided}

@@ -10,7 +10,7 @@ use Rattle.list_laws.proofs.Lists.{empty_from}
 use Rattle.list_laws.proofs.Ranges.{any_within}
 use Rattle.list_laws.proofs.Any.{none_passes, found_some, list_any-filter}
 use Rattle.list_laws.proofs.Tests.{same_test}
-use Rattle.chip_ledger.specs.declared.rows.LiveRow.{LiveRow}
+use Rattle.chip_ledger.specs.declared.live_row.LiveRow.{LiveRow}
 use Rattle.chip_ledger.specs.LiveRow.{flag_of, flagged}
 use Rattle.chip_ledger.specs.Seat.{seats_of}
 use Rattle.chip_ledger.proofs.Flags.{flag-from_flagged, flagged-from_flag}

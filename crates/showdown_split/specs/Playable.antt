@@ -4,12 +4,12 @@ use Rattle.card_set.specs.declared.row.CardRow.{CardRow}
 use Rattle.card_set.specs.Different.{AllDifferent}
 use Rattle.card_set.specs.Row.{cards_of}
 use Rattle.chip_ledger.specs.declared.pots.Pot.{Pot}
-use Rattle.chip_ledger.specs.declared.rows.LiveRow.{LiveRow}
-use Rattle.chip_ledger.specs.declared.rows.TheConstants.{MOST_AMOUNT}
+use Rattle.chip_ledger.specs.declared.live_row.LiveRow.{LiveRow}
+use Rattle.chip_ledger.specs.declared.seat_row.TheConstants.{MOST_AMOUNT}
 use Rattle.chip_ledger.specs.LiveRow.{flag_of, flagged}
 use Rattle.card_set.specs.declared.pick.Pick.{Pick}
 use Rattle.hand_order.specs.Choices.{CanPick}
-use Rattle.play_event.specs.declared.card_rows.HandRow.{HandRow}
+use Rattle.play_event.specs.declared.hands.HandRow.{HandRow}
 use Rattle.showdown_split.specs.Hands.{holding}
 
 -- each shown seat up to this one has cards that the pick can use, all different from one another

@@ -2,7 +2,7 @@
 use Rattle.std.specs.Prelude.{ℕ, zero, suc, ◌==◌, Bool, true, false, IsTrue, [], Option, Some, None, if◌then◌else◌}
 use Rattle.std.specs.List.{list_any}
 use Rattle.std.specs.Option.{is_some}
-use Rattle.chip_ledger.specs.declared.rows.LiveRow.{LiveRow}
+use Rattle.chip_ledger.specs.declared.live_row.LiveRow.{LiveRow}
 use Rattle.chip_ledger.specs.LiveRow.{flag_of, flagged}
 use Rattle.hand_order.specs.Best.{IsLess}
 use Rattle.hand_order.specs.Points.{better}

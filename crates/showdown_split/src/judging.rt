@@ -21,8 +21,7 @@ use variant_table::Variant;
 /// The scores of the shown seats in a game: in its first order, and in the second where it pays by
 /// two.
 pub fn judged<V: Variant>(hands: &HandRow, board: &CardRow, shown: &LiveRow) -> (Scores, Scores)
-    requires seats { hands.now.seats ≡ shown.now.seats }
-    requires playable { ArePlayable V.Award.HELD V.PICK hands.now board.now shown.now }
+    requires { ArePlayable V.Award.HELD V.PICK hands.now board.now shown.now }
     ensures { AreJudged V.CODE (showdown_of hands.now board.now shown.now)
         (points_of result.0) (points_of result.1) }
 {
@@ -34,8 +33,7 @@ pub fn judged<V: Variant>(hands: &HandRow, board: &CardRow, shown: &LiveRow) -> 
 // The scores of the shown seats in the second order, in a game that pays by two; in another game
 // none.
 fn low_scores<V: Variant>(hands: &HandRow, board: &CardRow, shown: &LiveRow) -> Scores
-    requires seats { hands.now.seats ≡ shown.now.seats }
-    requires playable { ArePlayable V.Second.HELD V.PICK hands.now board.now shown.now }
+    requires { ArePlayable V.Second.HELD V.PICK hands.now board.now shown.now }
     ensures two { V.SPLIT ≡ true
         → (n : ℕ) → 1 ≤ n → n ≤ shown.now.seats → flag_of shown.now n ≡ true
         → IsPointsOfHolding V.Second.is_hand V.Second.is_weaker V.Second.points
@@ -51,8 +49,7 @@ fn low_scores<V: Variant>(hands: &HandRow, board: &CardRow, shown: &LiveRow) -> 
 
 // The scores of the shown seats in an order.
 fn scores_of<O: HandOrder>(hands: &HandRow, board: &CardRow, shown: &LiveRow, pick: Pick) -> Scores
-    requires seats { hands.now.seats ≡ shown.now.seats }
-    requires playable { ArePlayable O.HELD pick hands.now board.now shown.now }
+    requires { ArePlayable O.HELD pick hands.now board.now shown.now }
     ensures { (n : ℕ) → 1 ≤ n → n ≤ shown.now.seats → flag_of shown.now n ≡ true
         → IsPointsOfHolding O.is_hand O.is_weaker O.points
         (allowed pick (holding hands.now n) (cards_of board.now)) (points_of result n) }
@@ -69,13 +66,12 @@ fn scores_of<O: HandOrder>(hands: &HandRow, board: &CardRow, shown: &LiveRow, pi
 
 // The score of a seat.
 fn score_of<O: HandOrder>(hands: &HandRow, board: &CardRow, pick: Pick, seat: Seat) -> Option<Score>
-    requires in_row { seat.number ≤ hands.now.seats }
     requires usable { CanPick O.HELD pick (holding hands.now seat.number) (cards_of board.now) }
     requires different { AllDifferent (holding hands.now seat.number ++ cards_of board.now) }
     ensures { IsPointsOfHolding O.is_hand O.is_weaker O.points
         (allowed pick (holding hands.now seat.number) (cards_of board.now))
         (option_map (λ s. s.points) result) }
 {
-    let hole = known_row(&hands.get(seat));
+    let hole = known_row(&hands.hands[seat.number as usize - 1]);
     best_of::<O>(&hole, board, pick)
 }

@@ -1,6 +1,6 @@
 //! A pot goes to the one seat that may win it, or to the shown seats among those that may.
 ghost use Rattle.std.specs.Prelude.{◌≡◌, ◌≢◌, ◌≤◌, ◌&&◌, ℕ, true, [], IfSome, IfNone, OnSome, false, if◌then◌else◌};
-ghost use Rattle.chip_ledger.specs.declared.rows.TheConstants.{MOST_AMOUNT};
+ghost use Rattle.chip_ledger.specs.declared.seat_row.TheConstants.{MOST_AMOUNT};
 ghost use Rattle.chip_ledger.specs.LiveRow.{flag_of, flagged};
 ghost use Rattle.chip_ledger.specs.PotRow.{plain};
 ghost use Rattle.chip_ledger.specs.SeatRow.{amount_of, total_of};
@@ -79,7 +79,6 @@ fn contested(chips: u64, contending: &LiveRow, high: &Scores, low: &Scores) -> S
 
 // The seats that may win the pot and are shown.
 fn contending(pot: &Pot, shown: &LiveRow) -> LiveRow
-    requires { pot.now.eligible.seats ≡ shown.now.seats }
     ensures seats { result.seats ≡ shown.now.seats }
     ensures flags { (n : ℕ) → 1 ≤ n → n ≤ shown.now.seats
         → flag_of result n ≡ (flag_of pot.now.eligible n && flag_of shown.now n) }
@@ -87,7 +86,8 @@ fn contending(pot: &Pot, shown: &LiveRow) -> LiveRow
     let mut row = LiveRow::new(shown.seats);
     for index in 0..shown.seats {
         let seat = Seat { number: index + 1 };
-        row.set(seat, pot.eligible.get(seat) && shown.get(seat));
+        let may_win = pot.eligible.flags[seat.number as usize - 1];
+        row.set(seat, may_win && shown.get(seat));
     }
     row
 }

@@ -28,16 +28,16 @@ returns g c contending inside =
     let held_same : second.HELD ≡ award.HELD = laws.second.held_is ∙ same_held v.CODE ∙ sym laws.award.held_is in
     let first : (n : ℕ) → contending n ≡ true → IsJudged award.HELD award.is_hand award.is_weaker award.points v.PICK (holding hands n) board (high n) =
     λ n contends. let range = inside n contends in record {
-      usable = c.requires.playable.usable n range.0 range.1 range.2;
-      different = c.requires.playable.different n range.0 range.1 range.2;
+      usable = c.requires.usable n range.0 range.1 range.2;
+      different = c.requires.different n range.0 range.1 range.2;
       points_are =
           subst (λ (pick : Pick). IsPointsOfHolding award.is_hand award.is_weaker award.points (allowed pick (holding hands n) board) (high n)) c.PICK.ensures
           (c.scores_of-high.ensures n range.0 range.1 range.2);
     } in
     let later : v.SPLIT ≡ true → (n : ℕ) → contending n ≡ true → IsJudged second.HELD second.is_hand second.is_weaker second.points v.PICK (holding hands n) board (low n) =
     λ two n contends. let range = inside n contends in record {
-      usable = subst (λ (held : ℕ). CanPick held v.PICK (holding hands n) board) (sym held_same) (c.requires.playable.usable n range.0 range.1 range.2);
-      different = c.requires.playable.different n range.0 range.1 range.2;
+      usable = subst (λ (held : ℕ). CanPick held v.PICK (holding hands n) board) (sym held_same) (c.requires.usable n range.0 range.1 range.2);
+      different = c.requires.different n range.0 range.1 range.2;
       points_are = c.low_scores-low.ensures.two two n range.0 range.1 range.2;
     } in
     record {
