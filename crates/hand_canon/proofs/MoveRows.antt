@@ -2,7 +2,7 @@
 use Rattle.std.proofs.Common.{◌≡◌, ℕ, ◌≤◌, nat_lt, ◌==◌, ◌&&◌, Bool, not, List, map, filter, reverse, sym, ap, ◌∙◌}
 use Rattle.std.specs.List.{flat_map, list_any}
 use Rattle.std.proofs.lemmas.List.{reverse-reverse}
-use Rattle.chip_ledger.specs.declared.rows.LiveRow.{LiveRow}
+use Rattle.chip_ledger.specs.declared.live_row.LiveRow.{LiveRow}
 use Rattle.chip_ledger.specs.LiveRow.{flag_of}
 use Rattle.list_laws.proofs.Any.{list_any-filter, list_any-map}
 use Rattle.list_laws.proofs.Counting.{count_agree}

@@ -4,7 +4,7 @@ use Rattle.std.proofs.Props.{props}
 use Rattle.std.proofs.lemmas.List.{get_or-take, length-take-le}
 use Rattle.chip_ledger.proofs.Same.{seat_row_same_by_seats}
 use Rattle.chip_ledger.specs.declared.rakes.RakeRow.{RakeRow}
-use Rattle.chip_ledger.specs.declared.rows.SeatRow.{SeatRow}
+use Rattle.chip_ledger.specs.declared.seat_row.SeatRow.{SeatRow}
 use Rattle.play_event.specs.declared.code.Code.{Code}
 use Rattle.play_event.specs.declared.setup.Setup.{Setup}
 

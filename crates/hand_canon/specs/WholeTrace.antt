@@ -1,7 +1,7 @@
 -- The whole trace of a past: what it keeps, the shares of its pots, and what each seat ends with.
 use Rattle.std.specs.Prelude.{◌≡◌, ℕ, ◌≤◌, List, All}
 use Rattle.chip_ledger.specs.declared.pots.Pot.{Pot}
-use Rattle.chip_ledger.specs.declared.rows.SeatRow.{SeatRow}
+use Rattle.chip_ledger.specs.declared.seat_row.SeatRow.{SeatRow}
 use Rattle.chip_ledger.specs.Rakes.{nets_of}
 use Rattle.chip_ledger.specs.PotRow.{pots_in, shares_in, plain_shares}
 use Rattle.chip_ledger.specs.SeatRow.{amount_of}

@@ -3,8 +3,8 @@ ghost use Rattle.std.specs.Prelude.{◌≡◌, ◌≤◌, ◌*◌, find, option_
 ghost use Rattle.std.specs.Option.{ForSome};
 ghost use Rattle.std.specs.Result.{result_err};
 ghost use Rattle.chip_ledger.specs.SeatRow.{amount_of};
-ghost use Rattle.chip_ledger.specs.declared.rows.TheConstants.{MOST_AMOUNT};
-ghost use Rattle.hand_canon.specs.Agreement.{HasBoundedPots, comparison, difference_of, difference_said, finish_compared, first_difference, is_different, pot_total_of, row_compared, total_compared, value_compared, value_of, which_said, win_compared, win_of};
+ghost use Rattle.chip_ledger.specs.declared.seat_row.TheConstants.{MOST_AMOUNT};
+ghost use Rattle.hand_canon.specs.Agreement.{HasBoundedPots, comparison, difference_of, difference_said, finish_compared, first_difference, is_different, row_compared, total_compared, value_compared, value_of, which_said, win_compared, win_of};
 ghost use Rattle.hand_records.specs.SoundRecord.{IsStatedFor};
 
 use chip_ledger::{Seat, SeatRow};
@@ -60,7 +60,6 @@ pub fn check_stated(trace: &Trace, stated: &Stated) -> Result<(), FactDiffers>
 
 // The first stated finishing stack that differs.
 fn first_finish(trace: &Trace, row: Option<SeatRow>) -> Option<FactDiffers>
-    requires { ForSome row (λ row. row.seats ≡ trace.now.setup.stacks.seats) }
     ensures { option_map difference_said result
         ≡ find is_different (row_compared trace.now finish_compared row) }
 {
@@ -91,7 +90,6 @@ fn finish(trace: &Trace, seat: Seat) -> u64
 
 // The first stated win that differs.
 fn first_win(trace: &Trace, row: Option<SeatRow>) -> Option<FactDiffers>
-    requires { ForSome row (λ row. row.seats ≡ trace.now.setup.stacks.seats) }
     ensures { option_map difference_said result
         ≡ find is_different (row_compared trace.now win_compared row) }
 {
@@ -134,7 +132,11 @@ fn differing_total(trace: &Trace, total: Option<u64>) -> Option<FactDiffers>
     let Some(total) = total else {
         return None;
     };
-    compare(Which::Pots, signed(total), signed(pot_total(trace)))
+    let mut all = 0;
+    for pot in &trace.pots.pots[..trace.pots.count as usize] {
+        all += pot.chips;
+    }
+    compare(Which::Pots, signed(total), signed(all))
 }
 
 // Chips as a number with a sign.
@@ -145,22 +147,8 @@ fn signed(chips: u64) -> i64
     chips as i64
 }
 
-// All pots together.
-fn pot_total(trace: &Trace) -> u64
-    requires { HasBoundedPots trace.now }
-    ensures sum { result ≡ pot_total_of trace.now }
-    ensures bounded { result ≤ 11 * MOST_AMOUNT }
-{
-    let mut all = 0;
-    for pot in &trace.pots.pots[..trace.pots.count as usize] {
-        all += pot.chips;
-    }
-    all
-}
-
 // The first stated value that differs.
 fn first_value(trace: &Trace, row: Option<NetRow>) -> Option<FactDiffers>
-    requires { ForSome row (λ row. row.seats ≡ trace.now.setup.stacks.seats) }
     ensures { option_map difference_said result
         ≡ find is_different (row_compared trace.now value_compared row) }
 {

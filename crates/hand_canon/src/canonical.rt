@@ -72,8 +72,6 @@ fn write_discard(
     discards: &HandRow,
     seat: Seat,
 ) -> Result<(), Memory>
-    requires folded { folded.now.seats ≡ 10 }
-    requires discards { discards.now.seats ≡ 10 }
     ensures { OnOk result (words_of written.new
         ≡ words_of written.old ++ discards_from folded.now discards.now seat.number) }
 {
@@ -192,15 +190,13 @@ fn write_showing(
     held: &HandRow,
     seat: Seat,
 ) -> Result<(), Memory>
-    requires folded { folded.now.seats ≡ 10 }
-    requires held { held.now.seats ≡ 10 }
     ensures { OnOk result (words_of written.new
         ≡ words_of written.old ++ showings_from folded.now shown.now held.now seat.number) }
 {
     if folded.get(seat) {
         return Ok(());
     }
-    if shown.flags[seat.number as usize - 1] {
+    if shown.get(seat) {
         let cards = known_row(&held.get(seat));
         written.push(Kind::Show { seat, cards })
     } else {

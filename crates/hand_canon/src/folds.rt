@@ -24,8 +24,7 @@ pub fn folds_before(moves: &[Move], street: u8) -> LiveRow
 
 /// The seats, of ten, that fold.
 pub(crate) fn folds(moves: &[Move]) -> LiveRow
-    ensures seats { result.seats ≡ 10 }
-    ensures flags { (n : ℕ) → 1 ≤ n → flag_of result n ≡ list_any (is_fold_of n) moves.now }
+    ensures { (n : ℕ) → 1 ≤ n → flag_of result n ≡ list_any (is_fold_of n) moves.now }
 {
     let mut folded = LiveRow::new(10);
     for played in moves {
@@ -58,8 +57,7 @@ fn is_fold(act: Act) -> bool
 
 /// How many of so many seats have not folded.
 pub(crate) fn count_unfolded(folded: &LiveRow, seats: u8) -> u8
-    requires row { folded.now.seats ≡ 10 }
-    requires seats { seats ≤ 10 }
+    requires { seats ≤ 10 }
     ensures { result ≡ unfolded_count folded.now seats }
 {
     let mut count = 0;

@@ -13,8 +13,7 @@ use play_event::{HandRow, Place};
 /// The cards that each seat, of ten, was dealt on a street.
 pub(crate) fn dealt_to_seats(places: &[Place], street: u8) -> HandRow
     requires { (n : ℕ) → length (dealt_slots (map place_said places.now) (Some n) street) ≤ 7 }
-    ensures seats { result.seats ≡ 10 }
-    ensures dealt { (n : ℕ) → 1 ≤ n
+    ensures { (n : ℕ) → 1 ≤ n
         → slots_of_hand result n ≡ dealt_slots (map place_said places.now) (Some n) street }
 {
     let mut dealt = HandRow::new(10);

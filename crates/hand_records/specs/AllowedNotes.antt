@@ -15,10 +15,14 @@ IsWithin least most number = (least ≤ number) × (number ≤ most)
 abbrev pub IsNoteText : List ℕ → Type 0
 IsNoteText text = IsWithin 1 MOST_TEXT_BYTES (length text)
 
+-- a text of a note that does not say its default
+pub record IsUnusualNote (default note : List ℕ) : Type 0 where
+  pub text : IsNoteText note
+  pub said : note ≢ default
+
 -- the name of a seat's player
-pub record IsName (seat : ℕ) (name : List ℕ) : Type 0 where
-  pub text : IsNoteText name
-  pub said : name ≢ default_name seat
+abbrev pub IsName : ℕ → List ℕ → Type 0
+IsName seat = IsUnusualNote (default_name seat)
 
 -- the numbers of so many seats at the table; they are not 1, 2 and so on, which is the default
 pub record AreSeatNumbers (count : ℕ) (numbers : List ℕ) : Type 0 where

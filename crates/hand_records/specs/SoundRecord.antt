@@ -2,7 +2,7 @@
 -- it, and allowed notes.
 use Rattle.std.specs.Prelude.{◌≡◌, ℕ, ◌≤◌, List, map}
 use Rattle.std.specs.Option.{ForSome}
-use Rattle.chip_ledger.specs.declared.rows.TheConstants.{MOST_AMOUNT}
+use Rattle.chip_ledger.specs.declared.seat_row.TheConstants.{MOST_AMOUNT}
 use Rattle.play_event.specs.Said.{Said, said_of}
 use Rattle.play_event.specs.ValidSetup.{IsValid}
 use Rattle.canon_script.specs.PlayedScript.{IsWithinLimits}

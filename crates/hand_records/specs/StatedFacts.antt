@@ -1,6 +1,6 @@
 -- Stated facts, put together of their parts.
 use Rattle.std.specs.Prelude.{ℕ, Option}
-use Rattle.chip_ledger.specs.declared.rows.SeatRow.{SeatRow}
+use Rattle.chip_ledger.specs.declared.seat_row.SeatRow.{SeatRow}
 use Rattle.hand_records.specs.declared.record.NetRow.{NetRow}
 use Rattle.hand_records.specs.declared.record.Stated.{Stated}
 

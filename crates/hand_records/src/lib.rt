@@ -3,7 +3,9 @@
 #![tactic(auto)]
 
 mod calendar;
+mod moves;
 mod notes;
+mod places;
 mod record;
 mod sizes;
 mod texts;
@@ -11,9 +13,11 @@ mod trace;
 mod writing;
 
 pub use calendar::has_day;
+pub use moves::Moves;
 pub use notes::{CivilDate, Clock, Moment, NoteName, Notes, name_of};
+pub use places::Places;
 pub use record::{NetRow, Record, Records, Stated};
 pub use sizes::Sizes;
 pub use texts::{keep_short, keep_text};
-pub use trace::{Moves, Places, Play, Trace};
+pub use trace::{Play, Trace};
 pub use writing::{Keep, Unspelled, WriteRefusal};

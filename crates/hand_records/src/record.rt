@@ -35,7 +35,6 @@ impl NetRow {
 
     /// What the seat won or lost.
     pub fn get(&self, seat: Seat) -> i64
-        requires { seat.number ≤ self.now.seats }
         ensures { result ≡ net_of self.now seat.number }
     {
         self.nets[seat.number as usize - 1]

@@ -1,8 +1,8 @@
 //! The text of a note is kept where it is not empty and not the default of the note.
-ghost use Rattle.std.specs.Prelude.{◌≡◌, ◌≢◌, ◌≤◌, length, IfOk, IfSome};
+ghost use Rattle.std.specs.Prelude.{◌≡◌, ◌≤◌, length, IfOk, IfSome};
 ghost use Rattle.first_fault.specs.declared.limits.TheConstants.{MOST_TEXT_BYTES};
 ghost use Rattle.first_fault.specs.Reading.{Gives};
-ghost use Rattle.hand_records.specs.AllowedNotes.{IsNoteText, noted, noted_or};
+ghost use Rattle.hand_records.specs.AllowedNotes.{IsUnusualNote, noted, noted_or};
 
 use card_set::Memory;
 use first_fault::{MOST_TEXT_BYTES, Stop, Text};
@@ -12,8 +12,7 @@ use std::alloc::Global;
 pub fn keep_short(alloc: Global, text: &str, default: &str) -> Result<Option<Text>, Memory>
     requires { length text.now ≤ MOST_TEXT_BYTES }
     ensures said { IfOk result (λ note. note ≡ noted default.now text.now) }
-    ensures allowed { IfOk result (λ note. IfSome note (λ text.
-        IsNoteText text × (text ≢ default.now))) }
+    ensures allowed { IfOk result (λ note. IfSome note (IsUnusualNote default.now)) }
 {
     if text.is_empty() || text == default {
         return Ok(None);
@@ -29,8 +28,7 @@ pub fn keep_text<F: Drop>(
     fault: F,
 ) -> Result<Option<Text>, Stop<F>>
     ensures said { Gives (λ note. note) result (noted_or fault default.now text.now) }
-    ensures allowed { IfOk result (λ note. IfSome note (λ text.
-        IsNoteText text × (text ≢ default.now))) }
+    ensures allowed { IfOk result (λ note. IfSome note (IsUnusualNote default.now)) }
 {
     if text.len() > MOST_TEXT_BYTES {
         return Err(Stop::At(fault));

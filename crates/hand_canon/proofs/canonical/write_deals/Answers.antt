@@ -16,7 +16,7 @@ use Rattle.list_laws.proofs.Lists.{same_behind, two_behind}
 pub returns : goal.returns
 returns c =
     let same = deals_are c.args.trace.now.setup (map place_said c.args.trace.now.places) c.args.street c.dealt_to_seats-hands.result (slots_of c.dealt_to_board-board.result)
-    (λ n from. c.dealt_to_seats-hands.ensures.dealt n from ∙ ap (λ places. dealt_slots (map place_said places) (Some n) c.args.street) c.as_slice.ensures)
+    (λ n from. c.dealt_to_seats-hands.ensures n from ∙ ap (λ places. dealt_slots (map place_said places) (Some n) c.args.street) c.as_slice.ensures)
     (c.dealt_to_board-board.ensures ∙ ap (λ places. dealt_slots (map place_said places) None c.args.street) c.as_slice-2.ensures) in
     let all : c.loop-index.index ≡ c.args.trace.now.setup.stacks.seats = omega (arith, c.loop-index-test.false, c.loop-index.auto.index-end) in
     let deals = subst (λ (seats : ℕ). words_of c.loop-index.written ≡ words_of c.args.written.now ++ flat_map (λ seat. deal_said seat (slots_of_hand c.dealt_to_seats-hands.result seat)) (seats_of seats)) all c.loop-index.invariant in

@@ -14,13 +14,13 @@ use Rattle.list_laws.proofs.Lists.{nothing_behind, same_behind}
 
 pub returns-then-count_unfolded-lt2 : goal.returns-then-count_unfolded-lt2
 returns-then-count_unfolded-lt2 c =
-    let marked = folded_all c.args.trace.now.moves c.folds-folded.result (λ n from. c.folds-folded.ensures.flags n from ∙ ap (list_any (is_fold_of n)) c.as_slice.ensures) in
+    let marked = folded_all c.args.trace.now.moves c.folds-folded.result (λ n from. c.folds-folded.ensures n from ∙ ap (list_any (is_fold_of n)) c.as_slice.ensures) in
     let core = core_said c.args.trace.now in
     nothing_behind _ _ (no_showdown c.args.trace.now.setup core.places (plain_moves core.moves) core.shown c.folds-folded.result marked (omega (arith, c.count_unfolded.ensures, c.if-count_unfolded-lt2.true)))
 
 pub returns : goal.returns
 returns c =
-    let marked = folded_all c.args.trace.now.moves c.folds-folded.result (λ n from. c.folds-folded.ensures.flags n from ∙ ap (list_any (is_fold_of n)) c.as_slice.ensures) in
+    let marked = folded_all c.args.trace.now.moves c.folds-folded.result (λ n from. c.folds-folded.ensures n from ∙ ap (list_any (is_fold_of n)) c.as_slice.ensures) in
     let core = core_said c.args.trace.now in
     let same = showdown_are c.args.trace.now.setup core.places (plain_moves core.moves) c.args.trace.now.shown c.folds-folded.result c.held_by_seats-held.result
     marked (omega (arith, c.count_unfolded.ensures, c.if-count_unfolded-lt2.false))

@@ -1,6 +1,6 @@
 use Rattle.std.proofs.Common.{◌≡◌, ◌≤◌, ◌*◌, sum_by, take}
-use Rattle.hand_canon.proofs.agreement.pot_total.Given as goal
-use Rattle.chip_ledger.specs.declared.rows.TheConstants.{MOST_AMOUNT}
+use Rattle.hand_canon.proofs.agreement.differing_total.Given as goal
+use Rattle.chip_ledger.specs.declared.seat_row.TheConstants.{MOST_AMOUNT}
 
 -- the pots so far are added up
 abbrev pub invariant-loop-pot : goal.invariant-loop-pot

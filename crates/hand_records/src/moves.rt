@@ -1,0 +1,66 @@
+//! The moves of a hand stand in the order in which they were made.
+ghost use Rattle.std.specs.Prelude.{◌≡◌, ◌<◌, [], ◌∷◌, ◌++◌, length, slice_get, Some, OnOk, OnErr};
+
+use card_set::Memory;
+use play_event::Move;
+use std::alloc::Global;
+use std::marker::Model;
+
+/// The moves of a hand, in the order in which they were made.
+#[derive(Debug, Drop)]
+pub struct Moves {
+    moves: Vec<Move>,
+}
+
+impl Model for Moves {
+    ghost use Rattle.std.specs.Prelude.{List};
+    ghost use Rattle.play_event.specs.declared.played.Move.{Move};
+
+    ghost Value = { List Move };
+
+    ghost view = { λ m. m.moves.items };
+}
+
+impl Moves {
+    /// No moves.
+    pub fn new(alloc: Global) -> Self
+        ensures { result ≡ [] }
+    {
+        Moves {
+            moves: Vec::new(alloc),
+        }
+    }
+
+    /// Puts a move after the others. Without memory for it they stay as they were.
+    pub fn push(&mut self, item: Move) -> Result<(), Memory>
+        ensures pushed { OnOk result (self.new ≡ self.old ++ item ∷ []) }
+        ensures unchanged { OnErr result (self.new ≡ self.old) }
+    {
+        match self.moves.push(item) {
+            Ok(()) => Ok(()),
+            Err(_) => Err(Memory),
+        }
+    }
+
+    /// The move at this index, from 0. Ask first that the index is below `len`.
+    pub fn get(&self, index: usize) -> Move
+        requires { index < length self.now }
+        ensures { slice_get self.now index ≡ Some result }
+    {
+        self.moves[index]
+    }
+
+    /// How many moves there are.
+    pub fn len(&self) -> usize
+        ensures { result ≡ length self.now }
+    {
+        self.moves.len()
+    }
+
+    /// The moves, in order.
+    pub fn as_slice(&self) -> &[Move]
+        ensures { result.now ≡ self.now }
+    {
+        self.moves.as_slice()
+    }
+}
