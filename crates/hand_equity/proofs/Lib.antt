@@ -9,7 +9,6 @@ pub mod Counts
 pub mod Few
 pub mod DealtHands
 pub mod EachOnce
-pub mod FirstSeat
 pub mod FlopGames
 pub mod Judged
 pub mod Leads

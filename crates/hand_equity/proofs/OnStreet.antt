@@ -10,7 +10,7 @@ use Rattle.card_set.specs.CardSet.{is_in, is_one_of}
 use Rattle.card_set.specs.Known.{is_unknown, known_cards}
 use Rattle.card_set.specs.Row.{cards_of}
 use Rattle.canon_script.specs.CanonScript.{dealt_slots, held_slots}
-use Rattle.chip_ledger.specs.declared.rows.LiveRow.{LiveRow}
+use Rattle.chip_ledger.specs.declared.live_row.LiveRow.{LiveRow}
 use Rattle.chip_ledger.specs.LiveRow.{flag_of}
 use Rattle.chip_ledger.specs.Seat.{seats_of}
 use Rattle.chip_ledger.proofs.SeatLists.{any_seats}
@@ -18,7 +18,7 @@ use Rattle.hand_canon.specs.RowTests.{is_fold_before}
 use Rattle.hand_records.specs.declared.trace.Trace.{Trace}
 use Rattle.hand_records.specs.TraceRows.{place_said}
 use Rattle.list_laws.proofs.Finding.{find_agree}
-use Rattle.play_event.specs.declared.card_rows.HandRow.{HandRow}
+use Rattle.play_event.specs.declared.hands.HandRow.{HandRow}
 use Rattle.play_event.specs.declared.played.Move as rows
 use Rattle.play_event.specs.declared.played.Place as places
 use Rattle.play_event.specs.SeatSlots.{slots_of_hand}
@@ -61,8 +61,8 @@ same_unknown trace street hands live are =
 pub same_table : (trace : Trace) (street : ℕ) (hands : HandRow) (live : LiveRow) (board : CardRow) (dead : CardSet) (all : List places.Place) → AreGathered trace street hands live → all ≡ trace.places → cards_of board ≡ known_cards (board_slots (map place_said all) street) → ((card : Card) → is_in dead card ≡ list_any (λ seat. not (flag_of live seat) && is_one_of card (holding hands seat)) (seats_of live.seats)) → AreSame (standing_of hands live board dead) (standing_on trace street)
 same_table trace street hands live board dead all are same_places board_is dead_is = record {
   seats = are.seats;
-  live = λ n inside. are.flags n inside.0 (subst (λ (s : ℕ). n ≤ s) are.seats inside.1);
-  holding = λ n inside. ap known_cards (are.held n inside.0);
+  live = λ n inside. are.flags n inside.first (subst (λ (s : ℕ). n ≤ s) are.seats inside.last);
+  holding = λ n inside. ap known_cards (are.held n inside.first);
   board = board_is ∙ ap (λ (l : List places.Place). known_cards (board_slots (map place_said l) street)) same_places;
   dead = λ card.
       dead_is card

@@ -83,7 +83,7 @@ held_few play seat sound =
 
 -- a seat of the trace is one of the hand
 hand_seat : (play : Play) (seat : ℕ) → IsSound play → IsSeatOf play.trace.setup.stacks.seats seat → IsSeatOf play.hand.setup.stacks.seats seat
-hand_seat play seat sound inside = (inside.0, subst (λ (setup : Setup). seat ≤ setup.stacks.seats) sound.trace.same_setup inside.1)
+hand_seat play seat sound inside = record { first = inside.first; last = subst (λ (setup : Setup). seat ≤ setup.stacks.seats) sound.trace.same_setup inside.last }
 
 whole_hand : (play : Play) (street seat : ℕ) → IsSound play → IsDealtOn play street → IsSeatOf play.trace.setup.stacks.seats seat → length (held_slots (traced play.trace) seat) ≡ (game_of play.trace.setup.code).hole
 whole_hand play street seat sound on inside =
@@ -96,7 +96,7 @@ whole_hand play street seat sound on inside =
     subst (λ (placed : List TracedPlace). 0 < length (dealt_slots placed None street)) (same_places play sound) on.some in
     let come = reached setup rules events street are (omega (arith, on.least)) on.most some in
     ap (λ (placed : List TracedPlace). length (held_slots placed seat)) (same_places play sound)
-    ∙ whole setup rules events seat are seats.0 seats.1 (omega (arith, come, on.least))
+    ∙ whole setup rules events seat are seats.first seats.last (omega (arith, come, on.least))
     ∙ ap (λ (s : Setup). (game_of s.code).hole) (sym sound.trace.same_setup)
 
 -- what passes one of two tests is among the places
@@ -113,7 +113,7 @@ different_cards play street seat sound on inside =
     let seats = hand_seat play seat sound inside in
     let placed = places_of setup.code (past_of setup events) in
     subst (λ (places : List TracedPlace). AllDifferent (known_cards (held_slots places seat) ++ known_cards (board_slots places street))) (sym (same_places play sound))
-    (subst (λ (held : List Slot). AllDifferent (known_cards held ++ known_cards (board_slots (traced_places setup (past_of setup events)) street))) (sym (held_places setup rules events seat are seats.0 seats.1))
+    (subst (λ (held : List Slot). AllDifferent (known_cards held ++ known_cards (board_slots (traced_places setup (past_of setup events)) street))) (sym (held_places setup rules events seat are seats.first seats.last))
     (subst (λ (board : List Slot). AllDifferent (known_cards (map slot_of (filter (is_out_of 0 seat) placed)) ++ known_cards board)) (sym (board_is setup rules events street are on.most))
     (both_different placed (is_out_of 0 seat) (is_before None (street + 1)) seat
     (rising 0 placed (legal_cards setup rules events are.legal).list.numbered)
@@ -125,7 +125,7 @@ different_cards play street seat sound on inside =
 all_known : (play : Play) (street seat : ℕ) → first_unknown play.trace street ≡ None → IsSeatOf play.trace.setup.stacks.seats seat → is_live_on play.trace street seat ≡ true → list_any is_unknown (held_slots (traced play.trace) seat) ≡ false
 all_known play street seat none inside live =
     let seats = play.trace.setup.stacks.seats in
-    let never = find_none (is_unknown_seat play.trace street) 1 seats seat (ap is_some none) inside.0 (omega (arith, inside.1)) in
+    let never = find_none (is_unknown_seat play.trace street) 1 seats seat (ap is_some none) inside.first (omega (arith, inside.last)) in
     sym (ap (λ (b : Bool). b && list_any is_unknown (held_slots (traced play.trace) seat)) live) ∙ never
 
 -- a seat is live when the board of a street is dealt
@@ -137,9 +137,9 @@ live_seat play street sound on =
     let some : 0 < length (dealt_slots (traced_places setup past) None street) =
     subst (λ (placed : List TracedPlace). 0 < length (dealt_slots placed None street)) (same_places play sound) on.some in
     let found = some_live setup play.hand.rules (events_of play) street (flop_events play street sound on) (omega (arith, on.least)) on.most some in
-    let inside : found.0 ≤ play.trace.setup.stacks.seats = subst (λ (s : Setup). found.0 ≤ s.stacks.seats) (sym sound.trace.same_setup) found.1.0.1 in
+    let inside : found.0 ≤ play.trace.setup.stacks.seats = subst (λ (s : Setup). found.0 ≤ s.stacks.seats) (sym sound.trace.same_setup) found.1.0.last in
     let rows : map move_said play.trace.moves ≡ traced_moves setup (moves_of past) = ap (λ (core : TraceCore). core.moves) sound.trace.core in
-    (found.0, ((found.1.0.0, inside), sym (folded_rows setup street found.0 play.trace.moves (moves_of past) rows) ∙ found.1.1))
+    (found.0, (record { first = found.1.0.first; last = inside }, sym (folded_rows setup street found.0 play.trace.moves (moves_of past) rows) ∙ found.1.1))
 
 pub ready : (play : Play) (street : ℕ) → IsSound play → IsReady play.trace street
 ready play street sound = record {

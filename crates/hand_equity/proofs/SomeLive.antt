@@ -61,7 +61,7 @@ some_live setup rules events street are least most some =
     let dealt : 0 < board_cards_dealt past street = omega (arith, here, length-map group slot_of, board_count setup.code past street, some) in
     let more = leb-false (live_count setup moves) 1 ((legal_done setup rules events are.legal).done.several street (boarded past street dealt)) in
     let found = some_in_range (is_live moves) 1 setup.stacks.seats (counted_some (is_live moves) (seats_of setup.stacks.seats) (omega (arith, more))) in
-    (found.0, ((found.1.0, omega (arith, found.1.1.0)), found.1.1.1))
+    (found.0, (record { first = found.1.0; last = omega (arith, found.1.1.0) }, found.1.1.1))
 
 -- a seat folded among the moves before a street, where one of the rows says so
 pub folded_rows : (setup : Setup) (street seat : ℕ) (played : List rows.Move) (moves : List Move) → map move_said played ≡ traced_moves setup moves

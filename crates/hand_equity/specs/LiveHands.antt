@@ -3,12 +3,12 @@ use Rattle.std.specs.Prelude.{ℕ, ◌++◌, Bool, IsTrue, List}
 use Rattle.card_set.specs.declared.card.Card.{Card}
 use Rattle.card_set.specs.declared.pick.Pick.{Pick}
 use Rattle.card_set.specs.Different.{AllDifferent}
-use Rattle.chip_ledger.specs.declared.rows.LiveRow.{LiveRow}
+use Rattle.chip_ledger.specs.declared.live_row.LiveRow.{LiveRow}
 use Rattle.chip_ledger.specs.LiveRow.{flag_of}
 use Rattle.chip_ledger.specs.Seat.{IsSeatOf}
 use Rattle.hand_order.specs.Best.{Beats}
 use Rattle.hand_order.specs.Choices.{CanPick, allowed}
-use Rattle.play_event.specs.declared.card_rows.HandRow.{HandRow}
+use Rattle.play_event.specs.declared.hands.HandRow.{HandRow}
 use Rattle.showdown_split.specs.Hands.{holding}
 use Rattle.variant_table.specs.Orders.{Order}
 use Rattle.variant_table.specs.Shares.{HasHand}

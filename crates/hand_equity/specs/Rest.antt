@@ -6,10 +6,10 @@ use Rattle.card_set.specs.declared.row.CardRow.{CardRow}
 use Rattle.card_set.specs.declared.set.CardSet.{CardSet}
 use Rattle.card_set.specs.CardSet.{every_card, is_in, is_one_of}
 use Rattle.card_set.specs.Row.{cards_of}
-use Rattle.chip_ledger.specs.declared.rows.LiveRow.{LiveRow}
+use Rattle.chip_ledger.specs.declared.live_row.LiveRow.{LiveRow}
 use Rattle.chip_ledger.specs.Seat.{seats_of}
 use Rattle.play_event.specs.declared.code.Code.{Code}
-use Rattle.play_event.specs.declared.card_rows.HandRow.{HandRow}
+use Rattle.play_event.specs.declared.hands.HandRow.{HandRow}
 use Rattle.play_event.specs.Taken.{is_in_deck}
 use Rattle.hand_equity.specs.declared.rest.Rest.{Rest}
 use Rattle.hand_equity.specs.LiveHands.{LiveHands, live_hands}

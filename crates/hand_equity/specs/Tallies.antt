@@ -1,7 +1,7 @@
 -- What a tally says after more boards.
 use Rattle.std.specs.Prelude.{◌≡◌, ◌+◌, ◌-◌, ◌≤◌, ℕ, List, length, slice_index}
 use Rattle.card_set.specs.declared.card.Card.{Card}
-use Rattle.hand_equity.specs.declared.tally.Tally.{Tally}
+use Rattle.hand_equity.specs.declared.tally.BoardTally.{BoardTally}
 use Rattle.hand_equity.specs.Contest.{Contest, HasNobody, IsShared, Ties, Wins}
 use Rattle.hand_equity.specs.Counting.{CountsOn, Grows, IsCountOf}
 
@@ -10,7 +10,7 @@ abbrev pub count_for : List ℕ → ℕ → ℕ
 count_for counts seat = slice_index counts (seat - 1)
 
 -- a tally has one board more, with its outcome
-pub record HasBoardMore (contest : Contest) (before after : Tally) : Type 0 where
+pub record HasBoardMore (contest : Contest) (before after : BoardTally) : Type 0 where
   pub boards : after.boards ≡ before.boards + 1
   pub nobody : Grows (HasNobody contest) before.nobody after.nobody
   pub shared : Grows (IsShared contest) before.shared after.shared
@@ -23,7 +23,7 @@ pub record HasBoardMore (contest : Contest) (before after : Tally) : Type 0 wher
 pub record HasBoardsMore
     (contest : List Card → Contest)
     (lists : List (List Card))
-    (before after : Tally) : Type 0 where
+    (before after : BoardTally) : Type 0 where
   pub boards : after.boards ≡ before.boards + length lists
   pub nobody : CountsOn (λ board. HasNobody (contest board)) lists before.nobody after.nobody
   pub shared : CountsOn (λ board. IsShared (contest board)) lists before.shared after.shared
@@ -42,7 +42,7 @@ pub record HasBoardsMore
 pub record IsTallyOf
     (contest : List Card → Contest)
     (lists : List (List Card))
-    (tally : Tally) : Type 0 where
+    (tally : BoardTally) : Type 0 where
   pub boards : tally.boards ≡ length lists
   pub nobody : IsCountOf (λ board. HasNobody (contest board)) lists tally.nobody
   pub shared : IsCountOf (λ board. IsShared (contest board)) lists tally.shared
@@ -52,7 +52,7 @@ pub record IsTallyOf
       → IsCountOf (λ board. Ties (contest board) seat) lists (count_for tally.ties seat)
 
 -- a tally of no boards
-pub record IsEmptyTally (tally : Tally) : Type 0 where
+pub record IsEmptyTally (tally : BoardTally) : Type 0 where
   pub nobody : tally.nobody ≡ 0
   pub shared : tally.shared ≡ 0
   pub wins : (k : ℕ) → slice_index tally.wins k ≡ 0

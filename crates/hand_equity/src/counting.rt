@@ -14,7 +14,7 @@ use crate::boards::{Contenders, count_boards};
 use crate::rest::Rest;
 use crate::row::{EquityRow, row_of};
 use crate::table::rest_beside;
-use crate::tally::Tally;
+use crate::tally::BoardTally;
 use card_set::{CardRow, CardSet};
 use chip_ledger::LiveRow;
 use hand_order::HandOrder;
@@ -60,7 +60,7 @@ pub fn equity<V: Variant>(
 }
 
 // The tally of the second order, in a game that pays by two; in another game an empty one.
-fn low_tally<V: Variant>(contenders: &Contenders, rest: &Rest, board: &CardRow) -> Tally
+fn low_tally<V: Variant>(contenders: &Contenders, rest: &Rest, board: &CardRow) -> BoardTally
     requires room { length (cards_of board.now) ≤ 5 }
     requires playable { (more : List Card)
         → IsAmong more (choices (5 - length (cards_of board.now)) (rest_cards rest.now))
@@ -76,12 +76,12 @@ fn low_tally<V: Variant>(contenders: &Contenders, rest: &Rest, board: &CardRow) 
     if V::SPLIT {
         tally_of::<V::Second>(contenders, rest, board)
     } else {
-        Tally::new()
+        BoardTally::new()
     }
 }
 
 // The tally of an order over all completions of a board.
-fn tally_of<O: HandOrder>(contenders: &Contenders, rest: &Rest, board: &CardRow) -> Tally
+fn tally_of<O: HandOrder>(contenders: &Contenders, rest: &Rest, board: &CardRow) -> BoardTally
     requires room { length (cards_of board.now) ≤ 5 }
     requires playable { (more : List Card)
         → IsAmong more (choices (5 - length (cards_of board.now)) (rest_cards rest.now))
@@ -93,5 +93,12 @@ fn tally_of<O: HandOrder>(contenders: &Contenders, rest: &Rest, board: &CardRow)
         (boards_with (cards_of board.now) (5 - length (cards_of board.now)) (rest_cards rest.now))
         result }
 {
-    count_boards::<O>(contenders, rest, 0, 5 - board.len, *board, Tally::new())
+    count_boards::<O>(
+        contenders,
+        rest,
+        0,
+        5 - board.len,
+        *board,
+        BoardTally::new(),
+    )
 }

@@ -1,7 +1,7 @@
 //! How often each live seat wins or ties.
 ghost use Rattle.std.specs.Prelude.{◌≡◌, length};
 
-use crate::tally::Tally;
+use crate::tally::BoardTally;
 
 /// How often the live seats win and tie, over all completions of a board. All numbers count
 /// completions. The first seat's are at index 0, and a seat that is not live has 0.
@@ -30,7 +30,7 @@ pub struct EquityRow {
 }
 
 /// The row of what two tallies say.
-pub fn row_of(high: &Tally, low: &Tally) -> EquityRow
+pub fn row_of(high: &BoardTally, low: &BoardTally) -> EquityRow
     ensures total { result.total ≡ high.now.boards }
     ensures shared { result.shared ≡ high.now.shared }
     ensures wins { result.wins ≡ high.now.wins }

@@ -9,7 +9,7 @@ use Rattle.std.proofs.lemmas.List.Sums.{fold-append}
 use Rattle.list_laws.proofs.Bytes.{same_bytes}
 use Rattle.name_index.specs.Names.{with_name}
 use Rattle.name_index.proofs.Placed.{with_known, with_new}
-use Rattle.hand_session.specs.declared.lists.SessionRow.{SessionRow}
+use Rattle.hand_session.specs.declared.session_rows.SessionRow.{SessionRow}
 use Rattle.hand_session.specs.declared.visits.Visit.{Visit}
 use Rattle.hand_session.specs.Hands.{Hand, Seated}
 use Rattle.hand_session.specs.Sessions.{is_named, names_among}

@@ -3,8 +3,8 @@ use Rattle.std.specs.Prelude.{◌≡◌, ◌≤◌, ◌++◌, ℕ, List}
 use Rattle.first_fault.specs.declared.limits.TheConstants.{MOST_HANDS}
 use Rattle.name_index.specs.Indexed.{AreIndexed}
 use Rattle.hand_session.specs.declared.ledger.Ledger.{Ledger}
-use Rattle.hand_session.specs.declared.lists.SessionRow.{SessionRow}
-use Rattle.hand_session.specs.declared.lists.Step.{Step}
+use Rattle.hand_session.specs.declared.session_rows.SessionRow.{SessionRow}
+use Rattle.hand_session.specs.declared.steps.Step.{Step}
 use Rattle.hand_session.specs.Visits.{row_names}
 
 -- The names of a ledger are indexed, and the hand that comes has a number.

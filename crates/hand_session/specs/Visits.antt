@@ -1,10 +1,10 @@
 -- How a session is gathered: what a name does in one hand, and its row with one hand more.
 use Rattle.std.specs.Prelude.{ℕ, ◌+◌, ◌*◌, ◌≤◌, ℤ, pos, ◌+ℤ◌, ◌-ℤ◌, ◌≤ℤ◌, ◌==◌, ◌&&◌, ◌||◌, Bool, List, [], ◌∷◌, ◌++◌, map, filter, fold, flat_map, sum_by, bytes_eq, if◌then◌else◌}
 use Rattle.std.specs.List.{list_any}
-use Rattle.chip_ledger.specs.declared.rows.TheConstants.{MOST_AMOUNT}
-use Rattle.hand_session.specs.declared.lists.SessionRow.{SessionRow}
-use Rattle.hand_session.specs.declared.lists.Step.{Step}
-use Rattle.hand_session.specs.declared.lists.StepKind.TheVariants as kinds
+use Rattle.chip_ledger.specs.declared.seat_row.TheConstants.{MOST_AMOUNT}
+use Rattle.hand_session.specs.declared.session_rows.SessionRow.{SessionRow}
+use Rattle.hand_session.specs.declared.steps.Step.{Step}
+use Rattle.hand_session.specs.declared.steps.StepKind.TheVariants as kinds
 use Rattle.hand_session.specs.declared.visits.Visit.{Visit}
 use Rattle.hand_session.specs.Hands.{Hand, Seated}
 use Rattle.hand_session.specs.Sessions.{gap_step, is_named}

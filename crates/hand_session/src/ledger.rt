@@ -8,8 +8,9 @@ ghost use Rattle.hand_session.specs.Ledgers.{HasGrown, TakesHand};
 ghost use Rattle.hand_session.specs.Sessions.{is_named, names_among};
 ghost use Rattle.hand_session.specs.Visits.{IsOfHand, IsOfHands, row_at, row_names, rows_after_seat, rows_with, steps_of_names, steps_of_seat, visit_steps, with_names, with_row};
 
-use crate::lists::{SessionRow, Step};
 use crate::rows::{add_visit, new_row, push_steps};
+use crate::session_rows::SessionRow;
+use crate::steps::Step;
 use crate::visits::{Visit, visit_of};
 use card_set::Memory;
 use chip_ledger::Seat;

@@ -1,6 +1,6 @@
 -- The first stack, the gaps and the net of each row are its last stack.
 use Rattle.std.proofs.Common.{◌≡◌, map, pos, ◌+ℤ◌}
-use Rattle.hand_session.specs.declared.lists.SessionRow.{SessionRow}
+use Rattle.hand_session.specs.declared.session_rows.SessionRow.{SessionRow}
 use Rattle.hand_session.specs.Hands.{hand_of}
 use Rattle.hand_session.specs.Sessions.{names_of, row_of, session_of}
 use Rattle.hand_session.proofs.Stacks.{each_row, first_to_last}

@@ -3,8 +3,8 @@ use Rattle.std.proofs.Common.{◌≡◌, ℕ, ◌+◌, ◌-◌, ◌++◌, List, 
 use Rattle.std.proofs.lemmas.List.{append_assoc}
 use Rattle.std.specs.List.{list_any}
 use Rattle.chip_ledger.specs.Seat.{seats_of}
-use Rattle.hand_session.specs.declared.lists.SessionRow.{SessionRow}
-use Rattle.hand_session.specs.declared.lists.Step.{Step}
+use Rattle.hand_session.specs.declared.session_rows.SessionRow.{SessionRow}
+use Rattle.hand_session.specs.declared.steps.Step.{Step}
 use Rattle.hand_session.specs.Hands.{Seated, hand_of, seated_in}
 use Rattle.hand_session.specs.Sessions.{is_named, names_among}
 use Rattle.hand_session.specs.Visits.{IsOfHands, row_at, rows_after_seat, steps_of_names, steps_of_seat, with_names}

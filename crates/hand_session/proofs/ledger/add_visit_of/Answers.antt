@@ -1,8 +1,8 @@
 -- The row of the name gets the visit.
 use Rattle.std.proofs.Common.{◌≡◌, ℕ, ◌≤◌, ◌-◌, ◌++◌, List, slice_set, sym, ap, subst, ◌∙◌, arith}
 use Rattle.name_index.specs.Indexed.{AreIndexed}
-use Rattle.hand_session.specs.declared.lists.SessionRow.{SessionRow}
-use Rattle.hand_session.specs.declared.lists.Step.{Step}
+use Rattle.hand_session.specs.declared.session_rows.SessionRow.{SessionRow}
+use Rattle.hand_session.specs.declared.steps.Step.{Step}
 use Rattle.hand_session.specs.Visits.{IsOfHands, MOST_OF_HAND, row_at, row_names, visit_steps, with_row, with_visit}
 use Rattle.hand_session.proofs.RowPlaces.{IsRowOf, names_after, names_with, row_is}
 use Rattle.hand_session.proofs.ledger.add_visit_of.Goals as goal

@@ -2,7 +2,7 @@
 use Rattle.std.proofs.Common.{◌≡◌, ℕ, ◌+◌, ◌-◌, cond, List, [], ◌∷◌, ◌++◌, map, fold, sum_by, length, length-append, sym, ap, subst, ◌∙◌, arith}
 use Rattle.std.proofs.lemmas.List.{length-map, map-append}
 use Rattle.name_index.specs.Names.{with_name}
-use Rattle.hand_session.specs.declared.lists.Step.{Step}
+use Rattle.hand_session.specs.declared.steps.Step.{Step}
 use Rattle.hand_session.specs.Hands.{Hand, hand_of}
 use Rattle.hand_session.specs.Sessions.{names_among, names_of, row_of, steps_after}
 use Rattle.hand_session.specs.Visits.{IsOfHands, row_at, row_names, steps_of_names, visit_in, with_names, with_visit}

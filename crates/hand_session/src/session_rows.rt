@@ -1,28 +1,9 @@
-//! What a session holds: the steps of all names in order, a row for each name, and the rakes.
-ghost use Rattle.std.specs.Prelude.{◌≡◌, ◌<◌, [], ◌∷◌, ◌++◌, length, slice_get, Some, OnOk};
+//! What a session holds: a row for each name, the steps of all names, and the rakes.
+ghost use Rattle.std.specs.Prelude.{◌≡◌, ◌<◌, length, slice_get, Some};
 
-use card_set::Memory;
+use crate::steps::Steps;
 use first_fault::Text;
-use std::alloc::Global;
 use std::marker::Model;
-
-/// What a step tells of a name. Amounts are chips.
-#[derive(Clone, Copy, Debug, PartialEq, Eq)]
-pub enum StepKind {
-    /// It is new, and starts with so many chips.
-    Join(u64),
-    /// It starts with so many chips more than it finished its last hand with; fewer are below 0.
-    Gap(i64),
-}
-
-/// A step of a name: that it joins, or comes to a hand with other chips than it had.
-#[derive(Debug, Drop)]
-pub struct Step {
-    /// The number of the hand, from 1.
-    pub hand: u32,
-    pub name: Text,
-    pub kind: StepKind,
-}
 
 /// What a name came to over all hands. Amounts are chips, of all its seats together.
 #[derive(Debug, Drop)]
@@ -49,52 +30,6 @@ pub struct SessionRow {
     pub won: u32,
 }
 
-/// Steps, by hand and within a hand by the first seat of each name.
-#[derive(Debug, Drop)]
-pub struct Steps {
-    steps: Vec<Step>,
-}
-
-impl Model for Steps {
-    ghost use Rattle.std.specs.Prelude.{List};
-    ghost use Rattle.hand_session.specs.declared.lists.Step.{Step};
-
-    ghost Value = { List Step };
-
-    ghost view = { λ s. s.steps.items };
-}
-
-impl Steps {
-    /// These steps.
-    pub(crate) fn from_vec(steps: Vec<Step>) -> Self
-        ensures { result ≡ steps.items }
-    {
-        Steps { steps }
-    }
-
-    /// The step at this index, from 0. Ask first that the index is below `len`.
-    pub fn get(&self, index: usize) -> &Step
-        requires { index < length self.now }
-        ensures { slice_get self.now index ≡ Some result.now }
-    {
-        &self.steps[index]
-    }
-
-    /// How many steps there are.
-    pub fn len(&self) -> usize
-        ensures { result ≡ length self.now }
-    {
-        self.steps.len()
-    }
-
-    /// The steps, in order.
-    pub fn as_slice(&self) -> &[Step]
-        ensures { result.now ≡ self.now }
-    {
-        self.steps.as_slice()
-    }
-}
-
 /// The rows of all names, in the order in which they are first seen over hands and seats.
 #[derive(Debug, Drop)]
 pub struct SessionRows {
@@ -103,7 +38,7 @@ pub struct SessionRows {
 
 impl Model for SessionRows {
     ghost use Rattle.std.specs.Prelude.{List};
-    ghost use Rattle.hand_session.specs.declared.lists.SessionRow.{SessionRow};
+    ghost use Rattle.hand_session.specs.declared.session_rows.SessionRow.{SessionRow};
 
     ghost Value = { List SessionRow };
 
