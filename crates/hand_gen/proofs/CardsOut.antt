@@ -13,7 +13,7 @@ use Rattle.play_event.specs.Games.{board_cards_on, hole_cards_on, street_count}
 use Rattle.play_event.specs.Past.{Boarded, Dealt, Discarded, Move, Moved, Mucked, Past, Shown, moves_of}
 use Rattle.play_event.specs.Seats.{is_live}
 use Rattle.play_event.specs.Streets.{deck_of, has_draw}
-use Rattle.street_laws.specs.Seats.{IsSeat}
+use Rattle.chip_ledger.specs.Seat.{IsSeatOf}
 
 -- how many cards were dealt
 abbrev pub cards_out : Past → ℕ
@@ -68,7 +68,7 @@ more_if : (b : Bool) (n k : ℕ) → k ≤ (if b then n else 0) + k
 more_if b n k = omega arith
 
 -- a deal to a seat
-pub deal_few : (setup : Setup) (before : Past) (street seat : ℕ) (cards : List Slot) → IsFewDealt setup before → IsStreet setup street → IsSeat setup seat → length cards + hole_cards_dealt before street seat ≤ hole_few setup.code street → IsFewDealt setup (Dealt street seat cards ∷ before)
+pub deal_few : (setup : Setup) (before : Past) (street seat : ℕ) (cards : List Slot) → IsFewDealt setup before → IsStreet setup street → IsSeatOf setup.stacks.seats seat → length cards + hole_cards_dealt before street seat ≤ hole_few setup.code street → IsFewDealt setup (Dealt street seat cards ∷ before)
 deal_few setup before street seat cards few on in_hand fits = record {
   all =
       let own : ◌≡◌ {A = ℕ} (if (street == street) && (seat == seat) then length cards else 0) (length cards) =
@@ -174,7 +174,7 @@ less_if true b = one_if b
 less_if false b = omega arith
 
 -- one discard more, by a seat that did not draw on the street
-pub one_drawn : (setup : Setup) (before : Past) (street seat : ℕ) (cards : List Slot) → 1 ≤ street → street ≤ 5 → IsSeat setup seat → has_drawn before street seat ≡ false → all_drawn setup before + 1 ≤ all_drawn setup (Discarded street seat cards ∷ before)
+pub one_drawn : (setup : Setup) (before : Past) (street seat : ℕ) (cards : List Slot) → 1 ≤ street → street ≤ 5 → IsSeatOf setup.stacks.seats seat → has_drawn before street seat ≡ false → all_drawn setup before + 1 ≤ all_drawn setup (Discarded street seat cards ∷ before)
 one_drawn setup before street seat cards first five in_hand undrawn =
     sum_more (drawn_on setup (Discarded street seat cards ∷ before)) (drawn_on setup before) 1 5 street 1
     (λ s. sum_least (λ k. cond (has_drawn (Discarded street seat cards ∷ before) s k) 1 0) (λ k. cond (has_drawn before s k) 1 0) 1 setup.stacks.seats (λ k from. less_if ((street == s) && (seat == k)) (has_drawn before s k)))

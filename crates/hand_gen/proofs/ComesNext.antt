@@ -44,7 +44,6 @@ use Rattle.play_laws.proofs.FittingPasts.{has_movers, legal_moves}
 use Rattle.play_event.proofs.FloorLaws.{bet_unfinished}
 use Rattle.canon_blocks.proofs.CardEvents.{legal_at}
 use Rattle.canon_ranges.proofs.MoverSeats.{mover_in_hand}
-use Rattle.street_laws.specs.Seats.{IsSeat}
 use Rattle.hand_gen.specs.Coming.{call_of, ends_of, move_by, raise_of}
 use Rattle.hand_gen.specs.Stock.{Stock}
 use Rattle.hand_gen.proofs.CardsOut.{IsStreet}
@@ -52,6 +51,7 @@ use Rattle.hand_gen.proofs.GoingHands.{IsGoing, all_known, move_goes, on_street}
 use Rattle.hand_gen.proofs.KnownCards.{AreKnown, kept_known}
 use Rattle.hand_gen.proofs.MovesTake.{bring_in_takes, call_takes, fold_takes, raise_takes}
 use Rattle.hand_gen.proofs.RaisesAbove.{raises_above}
+use Rattle.chip_ledger.specs.Seat.{IsSeatOf}
 
 -- where no up-card is unknown it is never unknown whose turn it is
 found_turn : (found : Option ℕ) → in_turn found ≡ Undecided → ⊥
@@ -149,8 +149,8 @@ module _ (setup : Setup) (valid : IsValid setup) (four : setup.stacks.seats ≤ 
     known : is_undecided (turn_of street) ≡ false
     known = ap is_undecided who
 
-    in_hand : IsSeat setup seat
-    in_hand = let it = mover_in_hand setup (up_cards setup.code now) moves street seat who in record { first = it.0; last = it.1 }
+    in_hand : IsSeatOf setup.stacks.seats seat
+    in_hand = mover_in_hand setup (up_cards setup.code now) moves street seat who
 
     has_to : has_to_move setup moves street seat ≡ true
     has_to = mover_has_to_move setup (up_cards setup.code now) moves street seat who

@@ -35,7 +35,6 @@ use Rattle.play_laws.proofs.DueAtEvents.{turn_reaches}
 use Rattle.play_laws.proofs.LegalPlaces.{LegalPast, legal_past}
 use Rattle.play_laws.proofs.PastLawKept.{DrawsNext, is_next_to_draw}
 use Rattle.canon_blocks.proofs.CardEvents.{board_legal, board_placed, deal_legal, deal_placed, discard_legal, discard_placed}
-use Rattle.street_laws.specs.Seats.{IsSeat}
 use Rattle.hand_gen.specs.Coming.{held_by}
 use Rattle.hand_gen.specs.Stock.{Stock, after_cards, draw_of, full_deck, next_cards}
 use Rattle.hand_gen.proofs.CardsOut.{IsFewDealt, IsStreet, all_drawn, board_few, board_fits, cards_out, deal_few, deck_enough, discard_few, discards, move_few, none_dealt, one_drawn, owed_fits}
@@ -45,6 +44,7 @@ use Rattle.hand_gen.proofs.KnownCards.{AreKnown, borne, cards_known, deal_borne,
 use Rattle.hand_gen.proofs.MovesTake.{made_to}
 use Rattle.hand_gen.proofs.PriceRisen.{AreTaken}
 use Rattle.hand_gen.proofs.StockCounts.{all_in_deck, deck_length, once_in_deck, taken_counts, taken_length}
+use Rattle.chip_ledger.specs.Seat.{IsSeatOf}
 
 -- what holds of the past of a made hand, with the cards that are left in the deck
 pub record IsDealtFrom (setup : Setup) (past : Past) (deck : List Card) : Type 0 where
@@ -149,7 +149,7 @@ module _ (setup : Setup) (four : setup.stacks.seats ≤ 4) (events : List Said) 
   still_all count enough p = omega (arith, state.cards p, taken_counts p count stock enough, count_by-joined p state.dealt (next_cards count stock))
 
   -- a deal to a seat
-  pub hole_goes : (street : ℕ) (due : Due) (seat : ℕ) → turn setup now ≡ (street, due) → is_over due ≡ false → ((cards : List Slot) → is_due_kind setup.code due (said.Hole seat cards) ≡ true) → IsSeat setup seat → 0 < cards_owed setup now street seat
+  pub hole_goes : (street : ℕ) (due : Due) (seat : ℕ) → turn setup now ≡ (street, due) → is_over due ≡ false → ((cards : List Slot) → is_due_kind setup.code due (said.Hole seat cards) ≡ true) → IsSeatOf setup.stacks.seats seat → 0 < cards_owed setup now street seat
       → IsGoing setup (said.Hole seat (known_slots (next_cards (cards_owed setup now street seat) stock)) ∷ events) (after_cards (cards_owed setup now street seat) stock).deck
   hole_goes street due seat turned going_on kind in_hand some =
       let count : ℕ = cards_owed setup now street seat in
@@ -173,7 +173,7 @@ module _ (setup : Setup) (four : setup.stacks.seats ≤ 4) (events : List Said) 
         unmucked = state.unmucked;
       })
     where
-      owed_some : (count : ℕ) → IsSeat setup seat → 0 < cards_owed setup now street seat → is_owed_nothing setup now street seat ≡ false
+      owed_some : (count : ℕ) → IsSeatOf setup.stacks.seats seat → 0 < cards_owed setup now street seat → is_owed_nothing setup now street seat ≡ false
       owed_some count is_in owed =
           or_from (not (is_seat setup seat)) (cards_owed setup now street seat == 0)
           (ap not (ap (λ b. b && nat_le seat setup.stacks.seats) (le-leb 1 seat is_in.first) ∙ le-leb seat setup.stacks.seats is_in.last))
@@ -234,7 +234,7 @@ module _ (setup : Setup) (four : setup.stacks.seats ≤ 4) (events : List Said) 
       })
 
   -- a move
-  pub move_goes : (street seat : ℕ) (act : Act) (target : ℕ) (event : Said) → IsSeat setup seat → is_move event ≡ true → Takes setup (made_to setup (moves_of now) street seat act target) (moves_of now) → with_event setup event now ≡ Moved (made_to setup (moves_of now) street seat act target) ∷ now → why setup history_rules now event ≡ None → IsGoing setup (event ∷ events) stock.deck
+  pub move_goes : (street seat : ℕ) (act : Act) (target : ℕ) (event : Said) → IsSeatOf setup.stacks.seats seat → is_move event ≡ true → Takes setup (made_to setup (moves_of now) street seat act target) (moves_of now) → with_event setup event now ≡ Moved (made_to setup (moves_of now) street seat act target) ∷ now → why setup history_rules now event ≡ None → IsGoing setup (event ∷ events) stock.deck
   move_goes street seat act target event in_hand moving takes comes legal =
       let move : Move = made_to setup (moves_of now) street seat act target in
       more event (Moved move) stock.deck comes legal

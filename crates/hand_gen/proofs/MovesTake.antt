@@ -11,15 +11,15 @@ use Rattle.play_event.specs.Past.{Act, BroughtIn, Called, Folded, Move, Raised, 
 use Rattle.play_event.specs.Price.{owed, price}
 use Rattle.play_event.specs.Raising.{has_moved}
 use Rattle.play_event.specs.Seats.{able_count, is_able, is_live}
-use Rattle.street_laws.specs.Seats.{IsSeat}
 use Rattle.hand_gen.proofs.FewMoves.{Takes, chips, first, hand, opens}
 use Rattle.hand_gen.proofs.PriceRisen.{AreTaken, owes_since, within_price}
+use Rattle.chip_ledger.specs.Seat.{IsSeatOf}
 
 -- a move to a target
 abbrev pub made_to : Setup → List Move → ℕ → ℕ → Act → ℕ → Move
 made_to setup moves street seat act target = record { street = street; seat = seat; act = act; from = street_chips setup moves street seat; to = target }
 
-module _ (setup : Setup) (moves : List Move) (street seat : ℕ) (taken : AreTaken setup moves) (in_hand : IsSeat setup seat) (has_to : has_to_move setup moves street seat ≡ true) where
+module _ (setup : Setup) (moves : List Move) (street seat : ℕ) (taken : AreTaken setup moves) (in_hand : IsSeatOf setup.stacks.seats seat) (has_to : has_to_move setup moves street seat ≡ true) where
   parts : (is_able setup moves seat ≡ true) × ((if has_moved_since_rise setup moves street seat then false else (nat_lt 0 (owed setup moves street seat) || nat_le 2 (able_count setup moves))) ≡ true)
   parts = and_parts (is_able setup moves seat) (if has_moved_since_rise setup moves street seat then false else (nat_lt 0 (owed setup moves street seat) || nat_le 2 (able_count setup moves))) has_to
 

@@ -12,12 +12,12 @@ use Rattle.play_event.specs.Price.{price}
 use Rattle.play_event.specs.Raising.{has_moved}
 use Rattle.play_event.specs.Seats.{all_seats}
 use Rattle.play_event.proofs.FloorLaws.{greatest_reaches}
-use Rattle.street_laws.specs.Seats.{IsSeat}
+use Rattle.chip_ledger.specs.Seat.{IsSeatOf}
 
 -- a move is one of a seat of the hand, from the chips of the street that the seat had
 pub record IsTaken (setup : Setup) (move : Move) (before : List Move) : Type 0 where
   pub from : move.from ≡ street_chips setup before move.street move.seat
-  pub seat : IsSeat setup move.seat
+  pub seat : IsSeatOf setup.stacks.seats move.seat
 
 -- and so is each move
 abbrev pub AreTaken : Setup → List Move → Type 0
@@ -40,7 +40,7 @@ price_more : (setup : Setup) (move : Move) (moves : List Move) (street : ℕ) �
 price_more setup move moves street = greatest_less (street_chips setup moves street) (street_chips setup (move ∷ moves) street) (all_seats setup) (chips_more setup move moves street)
 
 -- no seat of the hand has more chips on a street than the price
-pub within_price : (setup : Setup) (moves : List Move) (street seat : ℕ) → IsSeat setup seat → street_chips setup moves street seat ≤ price setup moves street
+pub within_price : (setup : Setup) (moves : List Move) (street seat : ℕ) → IsSeatOf setup.stacks.seats seat → street_chips setup moves street seat ≤ price setup moves street
 within_price setup moves street seat in_hand = greatest_reaches (street_chips setup moves street) 1 setup.stacks.seats seat in_hand.first (omega (arith, in_hand.last))
 
 -- the chips of a seat on a street after a move there
@@ -57,7 +57,7 @@ reaches setup move before street taken here =
     omega (arith, from, chips_here setup move before street move.seat true here (eq-eqb move.seat move.seat refl), within_price setup (move ∷ before) street move.seat taken.seat)
 
 -- a seat that has moved, and not since the price rose, owes chips
-pub owes_since : (setup : Setup) (moves : List Move) (street seat : ℕ) → AreTaken setup moves → IsSeat setup seat → has_moved moves street seat ≡ true → has_moved_since_rise setup moves street seat ≡ false → street_chips setup moves street seat < price setup moves street
+pub owes_since : (setup : Setup) (moves : List Move) (street seat : ℕ) → AreTaken setup moves → IsSeatOf setup.stacks.seats seat → has_moved moves street seat ≡ true → has_moved_since_rise setup moves street seat ≡ false → street_chips setup moves street seat < price setup moves street
 owes_since setup [] street seat taken in_hand moved since = false_true moved
 owes_since setup (move ∷ before) street seat taken in_hand moved since =
     by_street (move.street == street) refl moved since (owes_since setup before street seat taken.1 in_hand)

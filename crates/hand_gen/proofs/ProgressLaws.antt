@@ -24,7 +24,6 @@ use Rattle.play_event.specs.Seats.{all_seats, is_live}
 use Rattle.play_event.specs.Streets.{has_draw}
 use Rattle.play_event.specs.ValidSetup.{IsValid}
 use Rattle.play_event.proofs.StreetLaws.{due_is_first}
-use Rattle.street_laws.specs.Seats.{IsSeat}
 use Rattle.street_laws.proofs.CardTurns.{deal_by, draw_by, none_dealt_in_draw}
 use Rattle.street_laws.proofs.DueStreets.{deal_street, draw_street}
 use Rattle.deal_core.specs.NextDeal.{first_owed}
@@ -32,6 +31,7 @@ use Rattle.hand_gen.specs.Coming.{Coming, bring_in_comes, coming, comes_at, deal
 use Rattle.hand_gen.specs.Stock.{Stock, after_cards, after_draw, draw_of, next_cards}
 use Rattle.hand_gen.proofs.ComesNext.{bring_in_good, move_good, the_mover}
 use Rattle.hand_gen.proofs.GoingHands.{IsGoing, board_goes, discard_goes, hole_goes, on_street}
+use Rattle.chip_ledger.specs.Seat.{IsSeatOf}
 
 some_of : (n m : ℕ) → 0 < n - m → nat_lt 0 n ≡ true
 some_of n m some = lt-ltb 0 n (omega (arith, some))
@@ -55,7 +55,7 @@ module _ (setup : Setup) (valid : IsValid setup) (four : setup.stacks.seats ≤ 
   goes_nowhere event is = absurd (some_is_none (sym is))
 
   -- who is owed cards, and who is not
-  owed_seat : (street seat : ℕ) → first_owed setup now street ≡ Some seat → (IsSeat setup seat) × (0 < cards_owed setup now street seat)
+  owed_seat : (street seat : ℕ) → first_owed setup now street ≡ Some seat → (IsSeatOf setup.stacks.seats seat) × (0 < cards_owed setup now street seat)
   owed_seat street seat is =
       let it = found_in_range (λ s. nat_lt 0 (cards_owed setup now street s)) 1 setup.stacks.seats seat is in
       (record { first = it.1.0; last = omega (arith, it.1.1) }, ltb-true 0 (cards_owed setup now street seat) it.0)

@@ -1,7 +1,7 @@
 -- What states and notes nothing is sound.
 use Rattle.std.proofs.Common.{◌≡◌, ℕ, ◌-◌, ◌≤◌, List, ◌++◌, find, slice_index_or, None, ap, ◌∙◌}
 use Rattle.card_set.specs.declared.card.Card.{Card}
-use Rattle.chip_ledger.specs.declared.rows.TheConstants.{MOST_AMOUNT}
+use Rattle.chip_ledger.specs.declared.seat_row.TheConstants.{MOST_AMOUNT}
 use Rattle.chip_ledger.specs.Fillers.{index-replicate}
 use Rattle.hand_records.specs.AllowedNotes.{AreAllowed}
 use Rattle.hand_records.specs.SoundRecord.{IsStatedFor}

@@ -24,7 +24,6 @@ use Rattle.play_event.specs.Streets.{limit_of}
 use Rattle.play_event.specs.Targets.{is_legal_target}
 use Rattle.play_event.specs.TurnTargets.{has_targets, is_bet_due}
 use Rattle.street_laws.specs.Dues.{is_move}
-use Rattle.street_laws.specs.Seats.{IsSeat}
 use Rattle.betting_numbers.specs.declared.running.RunningNumbers.{RunningNumbers}
 use Rattle.betting_numbers.specs.declared.targeting.Targets.{Targets}
 use Rattle.betting_numbers.specs.LegalMoves.{IsTurn}
@@ -39,13 +38,14 @@ use Rattle.hand_options.specs.Legal.{AreOptions, IsSetOf, bring_in_of, call_of, 
 use Rattle.hand_options.specs.Sets.{no_options, set_of}
 use Rattle.hand_options.proofs.LegalRaises.{no_raise, raise_by_target}
 use Rattle.hand_options.proofs.TargetSets.{form_is, set_is}
+use Rattle.chip_ledger.specs.Seat.{IsSeatOf}
 
 -- a seat is not another one than itself
 own : (seat : ℕ) (reason : Illegal) → is_none (if not (seat == seat) then Some reason else None) ≡ true
 own seat reason = ap (λ (same : Bool). is_none (if not same then Some reason else None)) (eq-eqb seat seat refl)
 
 module _ (b : RunningNumbers) (past : Past) (stands : StandsFor b past) (seat : Seat) (last : seat.number ≤ b.setup.stacks.seats) (turned : IsTurn b past (TheSeat seat.number)) where
-  in_hand : IsSeat b.setup seat.number
+  in_hand : IsSeatOf b.setup.stacks.seats seat.number
   in_hand = record { first = seat.first; last = last }
 
   seat_is : is_bet_due b.due ≡ true → seat_in_turn b.setup past ≡ Some seat.number

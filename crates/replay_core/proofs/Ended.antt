@@ -6,16 +6,15 @@ use Rattle.card_places.specs.declared.card_state.CardState.{CardState}
 use Rattle.play_event.specs.Held.{held_slots}
 use Rattle.card_set.specs.declared.row.CardRow.{CardRow}
 use Rattle.card_set.specs.Row.{cards_of}
-use Rattle.chip_ledger.specs.declared.rows.LiveRow.{LiveRow}
-use Rattle.chip_ledger.specs.declared.rows.SeatRow.{SeatRow}
+use Rattle.chip_ledger.specs.declared.live_row.LiveRow.{LiveRow}
+use Rattle.chip_ledger.specs.declared.seat_row.SeatRow.{SeatRow}
 use Rattle.chip_ledger.specs.LiveRow.{flag_of}
 use Rattle.chip_ledger.specs.SeatRow.{amount_of}
 use Rattle.deal_core.specs.Board.{board_cards}
 use Rattle.deal_core.specs.Standing as cards
-use Rattle.deal_core.specs.Standing.{IsSeatOf}
 use Rattle.canon_script.specs.PlayedScript.{IsPlayed}
 use Rattle.replay_core.specs.Together.{StandTogether}
-use Rattle.play_event.specs.declared.card_rows.HandRow.{HandRow}
+use Rattle.play_event.specs.declared.hands.HandRow.{HandRow}
 use Rattle.play_event.specs.declared.code.Code.{Code}
 use Rattle.play_event.specs.declared.reason.Due.{Due}
 use Rattle.play_event.specs.declared.setup.Rules.{Rules}
@@ -31,11 +30,11 @@ use Rattle.play_event.specs.Seats.{is_live}
 use Rattle.play_event.specs.Showing.{has_mucked}
 use Rattle.play_event.specs.Table.{places_of}
 use Rattle.play_event.specs.Trace.{has_unknown_card}
-use Rattle.street_laws.specs.Seats.{IsSeat}
 use Rattle.replay_core.specs.AtEnd.{StandAtEnd}
 use Rattle.replay_core.specs.EndRows.{is_shown_by}
 use Rattle.replay_core.proofs.ShownHands.{IsEnd}
 use Rattle.play_event.proofs.ScriptLaws.{at_end}
+use Rattle.chip_ledger.specs.Seat.{IsSeatOf}
 
 -- after all events of a script, where it may end there, the machines stand at its end
 pub ended : (setup : Setup) (rules : Rules) (script : List Said) (first b : RunningNumbers) (t : CardState) (due : Due) → first.setup ≡ setup → first.rules ≡ rules → b.setup ≡ first.setup
@@ -59,25 +58,25 @@ module _ (setup : Setup) (rules : Rules) (script : List Said) (b : RunningNumber
   seats_are : b.setup.stacks.seats ≡ setup.stacks.seats
   seats_are = ap (λ (s : Setup). s.stacks.seats) ends.same_setup
 
-  seat_of : (seat : ℕ) → 1 ≤ seat → seat ≤ setup.stacks.seats → IsSeat b.setup seat
+  seat_of : (seat : ℕ) → 1 ≤ seat → seat ≤ setup.stacks.seats → IsSeatOf b.setup.stacks.seats seat
   seat_of seat low high = record { first = low; last = omega (arith, high, seats_are) }
 
   card_seat : (seat : ℕ) → 1 ≤ seat → seat ≤ setup.stacks.seats → IsSeatOf t.seats seat
   card_seat seat low high = record { first = low; last = omega (arith, high, seats_are, ends.stands.seats) }
 
-  pub puts_as : (puts : SeatRow) → ((p : Past) → betting.StandsFor b p → (seat : ℕ) → IsSeat b.setup seat → amount_of puts seat ≡ chips_put b.setup (moves_of p) seat) → (seat : ℕ) → 1 ≤ seat → seat ≤ setup.stacks.seats → amount_of puts seat ≡ chips_put setup (moves_of past) seat
+  pub puts_as : (puts : SeatRow) → ((p : Past) → betting.StandsFor b p → (seat : ℕ) → IsSeatOf b.setup.stacks.seats seat → amount_of puts seat ≡ chips_put b.setup (moves_of p) seat) → (seat : ℕ) → 1 ≤ seat → seat ≤ setup.stacks.seats → amount_of puts seat ≡ chips_put setup (moves_of past) seat
   puts_as puts told seat low high =
       told past ends.stands.betting seat (seat_of seat low high) ∙ ap (λ (s : Setup). chips_put s (moves_of past) seat) ends.same_setup
 
-  pub left_as : (left : SeatRow) → ((p : Past) → betting.StandsFor b p → (seat : ℕ) → IsSeat b.setup seat → amount_of left seat ≡ chips_left b.setup (moves_of p) seat) → (seat : ℕ) → 1 ≤ seat → seat ≤ setup.stacks.seats → amount_of left seat ≡ chips_left setup (moves_of past) seat
+  pub left_as : (left : SeatRow) → ((p : Past) → betting.StandsFor b p → (seat : ℕ) → IsSeatOf b.setup.stacks.seats seat → amount_of left seat ≡ chips_left b.setup (moves_of p) seat) → (seat : ℕ) → 1 ≤ seat → seat ≤ setup.stacks.seats → amount_of left seat ≡ chips_left setup (moves_of past) seat
   left_as left told seat low high =
       told past ends.stands.betting seat (seat_of seat low high) ∙ ap (λ (s : Setup). chips_left s (moves_of past) seat) ends.same_setup
 
-  pub lives_as : (live : LiveRow) → ((p : Past) → betting.StandsFor b p → (seat : ℕ) → IsSeat b.setup seat → flag_of live seat ≡ is_live (moves_of p) seat) → (seat : ℕ) → 1 ≤ seat → seat ≤ setup.stacks.seats → flag_of live seat ≡ is_live (moves_of past) seat
+  pub lives_as : (live : LiveRow) → ((p : Past) → betting.StandsFor b p → (seat : ℕ) → IsSeatOf b.setup.stacks.seats seat → flag_of live seat ≡ is_live (moves_of p) seat) → (seat : ℕ) → 1 ≤ seat → seat ≤ setup.stacks.seats → flag_of live seat ≡ is_live (moves_of past) seat
   lives_as live told seat low high = told past ends.stands.betting seat (seat_of seat low high)
 
   pub is_end : (code : Code) (live mucked unknown shown : LiveRow) (hands : HandRow) (board : CardRow) → setup.code ≡ code → live.seats ≡ b.setup.stacks.seats → shown.seats ≡ live.seats
-      → ((p : Past) → betting.StandsFor b p → (seat : ℕ) → IsSeat b.setup seat → flag_of live seat ≡ is_live (moves_of p) seat)
+      → ((p : Past) → betting.StandsFor b p → (seat : ℕ) → IsSeatOf b.setup.stacks.seats seat → flag_of live seat ≡ is_live (moves_of p) seat)
       → ((p : Past) (seat : ℕ) → cards.StandsFor t p → IsSeatOf t.seats seat → flag_of mucked seat ≡ has_mucked p seat)
       → ((s : Setup) (p : Past) (seat : ℕ) → s.code ≡ code → cards.StandsFor t p → IsSeatOf t.seats seat → flag_of unknown seat ≡ has_unknown_card s p seat)
       → ((seat : ℕ) → 1 ≤ seat → seat ≤ live.seats → flag_of shown seat ≡ is_shown_by live mucked unknown seat)

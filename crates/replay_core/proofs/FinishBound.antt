@@ -5,8 +5,8 @@ use Rattle.std.proofs.lemmas.List.Sums.{sum_by-cons}
 use Rattle.list_laws.proofs.Sums.{sum_by-map, sum_by-plus}
 use Rattle.chip_ledger.specs.declared.pots.Pot.{Pot}
 use Rattle.chip_ledger.specs.declared.pots.PotRow.{PotRow}
-use Rattle.chip_ledger.specs.declared.pots.ShareRow.{ShareRow}
-use Rattle.chip_ledger.specs.declared.rows.SeatRow.{SeatRow}
+use Rattle.chip_ledger.specs.declared.shares.ShareRow.{ShareRow}
+use Rattle.chip_ledger.specs.declared.seat_row.SeatRow.{SeatRow}
 use Rattle.chip_ledger.specs.PotRow.{plain, plain_pots, pots_in, shared_in, shares_in}
 use Rattle.chip_ledger.specs.Pots.{PlainPot}
 use Rattle.chip_ledger.specs.RakeRow.{rake_of}
@@ -16,7 +16,7 @@ use Rattle.chip_ledger.specs.SeatRow.{amount_of, total_of}
 use Rattle.play_event.specs.declared.setup.Setup.{Setup}
 use Rattle.replay_core.proofs.Counted.{all_within}
 use Rattle.list_laws.proofs.NumbersOfRange.{one_of_sum, sum_agree}
-use Rattle.chip_ledger.specs.declared.rows.TheConstants.{MOST_AMOUNT}
+use Rattle.chip_ledger.specs.declared.seat_row.TheConstants.{MOST_AMOUNT}
 use Rattle.chip_ledger.specs.declared.numbers.TheConstants.{MOST_CHIPS}
 
 amount_within : (row : SeatRow) (n : ℕ) → 1 ≤ n → n ≤ row.seats → amount_of row n ≤ total_of row

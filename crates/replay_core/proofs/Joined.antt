@@ -1,6 +1,6 @@
 -- What one of betting and cards asks for, by what the other says.
 use Rattle.std.proofs.Common.{◌≡◌, ℕ, ◌≤◌, Bool, true, false, None, refl, sym, ap, subst, ◌∙◌}
-use Rattle.chip_ledger.specs.declared.rows.LiveRow.{LiveRow}
+use Rattle.chip_ledger.specs.declared.live_row.LiveRow.{LiveRow}
 use Rattle.chip_ledger.specs.LiveRow.{flag_of}
 use Rattle.play_event.specs.declared.reason.Due.{Due}
 use Rattle.play_event.specs.declared.reason.Due.TheVariants as dues
@@ -13,7 +13,7 @@ use Rattle.play_event.specs.Scripts.{with_event}
 use Rattle.play_event.specs.Seats.{is_live}
 use Rattle.betting_numbers.specs.declared.running.RunningNumbers.{RunningNumbers}
 use Rattle.betting_numbers.specs.UpSeen.{HoldsUps}
-use Rattle.play_event.specs.declared.card_rows.UpRow.{UpRow}
+use Rattle.play_event.specs.declared.up_cards.UpRow.{UpRow}
 use Rattle.play_event.specs.declared.code.Code.{Code}
 use Rattle.play_event.specs.SeatSlots.{ups_of}
 use Rattle.play_event.specs.Table.{up_cards}
@@ -21,15 +21,15 @@ use Rattle.betting_numbers.specs.Standing.{StandsFor}
 use Rattle.betting_numbers.specs.UpTo.{StandsUpTo}
 use Rattle.betting_numbers.proofs.LegalCards.{card_kept, card_ended}
 use Rattle.card_places.specs.declared.card_state.CardState.{CardState}
-use Rattle.deal_core.specs.Standing.{IsNow, IsSeatOf}
+use Rattle.deal_core.specs.Standing.{IsNow}
 use Rattle.deal_core.specs.Standing as cards
 use Rattle.street_laws.specs.CardEvents.{is_card_said}
 use Rattle.street_laws.specs.Done.{is_done}
-use Rattle.street_laws.specs.Seats.{IsSeat}
 use Rattle.replay_core.specs.Together.{StandTogether, StandUpToDue}
+use Rattle.chip_ledger.specs.Seat.{IsSeatOf}
 
 -- what the cards ask of a past, by the views of the betting
-pub now_of : (b : RunningNumbers) (t : CardState) (live : LiveRow) (past : Past) → StandTogether b t past → ((seat : ℕ) → IsSeat b.setup seat → flag_of live seat ≡ is_live (moves_of past) seat) → IsNow t b.due live b.setup past
+pub now_of : (b : RunningNumbers) (t : CardState) (live : LiveRow) (past : Past) → StandTogether b t past → ((seat : ℕ) → IsSeatOf b.setup.stacks.seats seat → flag_of live seat ≡ is_live (moves_of past) seat) → IsNow t b.due live b.setup past
 now_of b t live past both lives = record {
   code_is = both.code_is;
   seats = both.seats;
@@ -46,21 +46,21 @@ ups_of_past code b t up past code_is both row = λ seat low high.
     ∙ ap (λ game. up_cards game past seat) (sym code_is)
 
 -- the same, where this is the due that the betting tells
-pub now_at : (b : RunningNumbers) (t : CardState) (due : Due) (live : LiveRow) (past : Past) → StandTogether b t past → due ≡ b.due → ((seat : ℕ) → IsSeat b.setup seat → flag_of live seat ≡ is_live (moves_of past) seat) → IsNow t due live b.setup past
+pub now_at : (b : RunningNumbers) (t : CardState) (due : Due) (live : LiveRow) (past : Past) → StandTogether b t past → due ≡ b.due → ((seat : ℕ) → IsSeatOf b.setup.stacks.seats seat → flag_of live seat ≡ is_live (moves_of past) seat) → IsNow t due live b.setup past
 now_at b t due live past both is lives = subst (λ (d : Due). IsNow t d live b.setup past) (sym is) (now_of b t live past both lives)
 
 -- which seats are live, whether what is due is complete or not
 lives_by : (b : RunningNumbers) (t : CardState) (live : LiveRow) (past : Past) → StandUpToDue b t past
-    → (StandsFor b past → (seat : ℕ) → IsSeat b.setup seat → flag_of live seat ≡ is_live (moves_of past) seat)
-    → (StandsUpTo b past → (seat : ℕ) → IsSeat b.setup seat → flag_of live seat ≡ is_live (moves_of past) seat)
-    → (done : Bool) → is_done b.setup past b.due ≡ done → (seat : ℕ) → IsSeat b.setup seat → flag_of live seat ≡ is_live (moves_of past) seat
+    → (StandsFor b past → (seat : ℕ) → IsSeatOf b.setup.stacks.seats seat → flag_of live seat ≡ is_live (moves_of past) seat)
+    → (StandsUpTo b past → (seat : ℕ) → IsSeatOf b.setup.stacks.seats seat → flag_of live seat ≡ is_live (moves_of past) seat)
+    → (done : Bool) → is_done b.setup past b.due ≡ done → (seat : ℕ) → IsSeatOf b.setup.stacks.seats seat → flag_of live seat ≡ is_live (moves_of past) seat
 lives_by b t live past half stands up_to true is = up_to (half.ended is)
 lives_by b t live past half stands up_to false is = stands (half.kept is)
 
 -- what the cards ask of a past where what is due may be complete
 pub now_up_to : (b : RunningNumbers) (t : CardState) (live : LiveRow) (past : Past) → StandUpToDue b t past
-    → (StandsFor b past → (seat : ℕ) → IsSeat b.setup seat → flag_of live seat ≡ is_live (moves_of past) seat)
-    → (StandsUpTo b past → (seat : ℕ) → IsSeat b.setup seat → flag_of live seat ≡ is_live (moves_of past) seat)
+    → (StandsFor b past → (seat : ℕ) → IsSeatOf b.setup.stacks.seats seat → flag_of live seat ≡ is_live (moves_of past) seat)
+    → (StandsUpTo b past → (seat : ℕ) → IsSeatOf b.setup.stacks.seats seat → flag_of live seat ≡ is_live (moves_of past) seat)
     → IsNow t (turn b.setup past).1 live b.setup past
 now_up_to b t live past half stands up_to = record {
   code_is = half.code_is;

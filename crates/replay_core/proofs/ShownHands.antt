@@ -12,7 +12,7 @@ use Rattle.card_set.specs.declared.row.CardRow.{CardRow}
 use Rattle.card_set.specs.Different.{AllDifferent}
 use Rattle.card_set.specs.Known.{known_cards}
 use Rattle.card_set.specs.Row.{cards_of}
-use Rattle.chip_ledger.specs.declared.rows.LiveRow.{LiveRow}
+use Rattle.chip_ledger.specs.declared.live_row.LiveRow.{LiveRow}
 use Rattle.chip_ledger.specs.LiveRow.{flag_of, flagged}
 use Rattle.chip_ledger.specs.Seat.{seats_of}
 use Rattle.deal_core.specs.Board.{board_cards}
@@ -20,7 +20,7 @@ use Rattle.deal_core.proofs.Boards.{board_held}
 use Rattle.hand_canon.specs.LegalHand.{showdown_in}
 use Rattle.canon_script.specs.TraceCore.{core_of}
 use Rattle.card_set.specs.declared.pick.Pick.{Pick}
-use Rattle.play_event.specs.declared.card_rows.HandRow.{HandRow}
+use Rattle.play_event.specs.declared.hands.HandRow.{HandRow}
 use Rattle.play_event.specs.declared.setup.Rules.{Rules}
 use Rattle.play_event.specs.declared.setup.Setup.{Setup}
 use Rattle.play_event.specs.Due.{is_unfinished, turn}

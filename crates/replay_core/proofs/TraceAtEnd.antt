@@ -1,9 +1,9 @@
 -- The rows of a hand at its end, with its pots and their shares, are its trace.
 use Rattle.std.proofs.Common.{◌≡◌, ℕ, ◌+◌, ◌≤◌, All, List, refl, sum_by, sym, ap, subst, ◌∙◌, arith}
 use Rattle.chip_ledger.specs.declared.pots.PotRow.{PotRow}
-use Rattle.chip_ledger.specs.declared.pots.ShareRow.{ShareRow}
+use Rattle.chip_ledger.specs.declared.shares.ShareRow.{ShareRow}
 use Rattle.chip_ledger.specs.declared.pots.Pot.{Pot}
-use Rattle.chip_ledger.specs.declared.rows.SeatRow.{SeatRow}
+use Rattle.chip_ledger.specs.declared.seat_row.SeatRow.{SeatRow}
 use Rattle.chip_ledger.specs.PotRow.{plain_pots, plain_shares, pots_in, shares_in}
 use Rattle.chip_ledger.specs.Pots.{PlainPot}
 use Rattle.chip_ledger.specs.Rakes.{first_rake_above, nets_of}

@@ -1,8 +1,8 @@
 -- Rows of the end of a hand: what they say of its past.
 use Rattle.std.specs.Prelude.{◌≡◌, ℕ, ◌≤◌, ◌&&◌, Bool, not, nat_le, count_by, List}
 use Rattle.chip_ledger.specs.declared.pots.PotRow.{PotRow}
-use Rattle.chip_ledger.specs.declared.rows.LiveRow.{LiveRow}
-use Rattle.chip_ledger.specs.declared.rows.SeatRow.{SeatRow}
+use Rattle.chip_ledger.specs.declared.live_row.LiveRow.{LiveRow}
+use Rattle.chip_ledger.specs.declared.seat_row.SeatRow.{SeatRow}
 use Rattle.chip_ledger.specs.LiveRow.{flag_of}
 use Rattle.chip_ledger.specs.PotRow.{plain_pots}
 use Rattle.chip_ledger.specs.Seat.{seats_of}

@@ -9,7 +9,7 @@ use Rattle.play_event.specs.Past.{Past, moves_of}
 use Rattle.play_event.specs.Played.{move_said}
 use Rattle.play_event.specs.Said.{Said}
 use Rattle.play_event.specs.Trace.{TracedMove, traced_moves}
-use Rattle.street_laws.specs.Seats.{IsSeat}
+use Rattle.chip_ledger.specs.Seat.{IsSeatOf}
 
 -- after each past for which both stand
 abbrev pub WhereTogether : RunningNumbers → CardState → (Past → Type 0) → Type 0
@@ -20,7 +20,8 @@ WhereTogether b t P = (past : Past) → StandTogether b t past → P past
 pub record TellsOfHand (count : ℕ) (b : RunningNumbers) (t : CardState) (P : Past → ℕ → Type 0)
     : Type 0 where
   pub seats : count ≡ b.setup.stacks.seats
-  pub each : WhereTogether b t (λ past. (seat : ℕ) → IsSeat b.setup seat → P past seat)
+  pub each : WhereTogether b t (λ past.
+      (seat : ℕ) → IsSeatOf b.setup.stacks.seats seat → P past seat)
 
 -- a move that is told, if one is
 abbrev pub moves_told : Option rows.Move → List TracedMove

@@ -238,7 +238,6 @@ fn lay<V: Variant>(
 ) -> Result<(), Illegal>
     requires kind { is_card_said (said_of event.now) ≡ true }
     requires due { IsDueWithin V.STREETS due }
-    requires live { live.now.seats ≡ cards.old.seats }
     ensures { IsAnswered cards.old cards.new due live.now (IsSettledAs settled)
         (said_of event.now) result }
 {

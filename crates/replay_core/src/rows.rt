@@ -8,8 +8,6 @@ use chip_ledger::{LiveRow, Seat};
 /// Which seats are shown: the live seats of a contested hand that did not muck, and all of whose
 /// cards are known.
 pub fn shown_row(live: &LiveRow, mucked: &LiveRow, unknown: &LiveRow) -> LiveRow
-    requires mucked { mucked.now.seats ≡ live.now.seats }
-    requires unknown { unknown.now.seats ≡ live.now.seats }
     ensures seats { result.seats ≡ live.now.seats }
     ensures flags { (n : ℕ) → 1 ≤ n → n ≤ live.now.seats
         → flag_of result n ≡ is_shown_by live.now mucked.now unknown.now n }
@@ -28,7 +26,6 @@ pub fn shown_row(live: &LiveRow, mucked: &LiveRow, unknown: &LiveRow) -> LiveRow
 
 /// Which seats muck: the live seats of a contested hand that are not shown.
 pub fn mucked_row(live: &LiveRow, shown: &LiveRow) -> LiveRow
-    requires { shown.now.seats ≡ live.now.seats }
     ensures seats { result.seats ≡ live.now.seats }
     ensures flags { (n : ℕ) → 1 ≤ n → n ≤ live.now.seats
         → flag_of result n ≡ is_mucked_by live.now shown.now n }

@@ -4,7 +4,7 @@ ghost use Rattle.chip_ledger.specs.LiveRow.{flagged};
 ghost use Rattle.chip_ledger.specs.PotRow.{pots_in};
 ghost use Rattle.chip_ledger.specs.Pots.{counted};
 ghost use Rattle.chip_ledger.specs.SeatRow.{amount_of, total_of};
-ghost use Rattle.chip_ledger.specs.declared.rows.TheConstants.{MOST_AMOUNT};
+ghost use Rattle.chip_ledger.specs.declared.seat_row.TheConstants.{MOST_AMOUNT};
 ghost use Rattle.play_event.specs.Past.{Past, moves_of};
 ghost use Rattle.play_event.specs.Stakes.{dead_antes_of};
 ghost use Rattle.play_event.specs.ValidSetup.{IsValid};
