@@ -4,7 +4,7 @@ use Rattle.std.specs.List.{list_any}
 use Rattle.std.proofs.lemmas.Bool.{and_from, eq-eqb}
 use Rattle.std.proofs.lemmas.Slice.Eq.{bytes_eq-Decides}
 use Rattle.chip_ledger.specs.Greatest.{greatest}
-use Rattle.chip_ledger.specs.declared.rows.SeatRow.{SeatRow}
+use Rattle.chip_ledger.specs.declared.seat_row.SeatRow.{SeatRow}
 use Rattle.play_event.specs.declared.setup.Setup.{Setup}
 use Rattle.hand_records.specs.declared.writing.Unspelled.{Unspelled}
 use Rattle.hand_records.specs.declared.writing.Unspelled.TheVariants as facts

@@ -12,7 +12,7 @@ use Rattle.chip_ledger.proofs.Flags.{flag-from_flagged}
 use Rattle.chip_ledger.proofs.SeatLists.{none_at}
 use Rattle.chip_ledger.specs.LiveRow.{flag_of, flagged}
 use Rattle.chip_ledger.specs.Seat.{seats_of}
-use Rattle.chip_ledger.specs.declared.rows.LiveRow.{LiveRow}
+use Rattle.chip_ledger.specs.declared.live_row.LiveRow.{LiveRow}
 use Rattle.list_laws.proofs.Any.{list_any-filter, list_any-map}
 use Rattle.list_laws.proofs.NumbersOfRange.{is_in}
 use Rattle.play_event.specs.Games.{street_count}

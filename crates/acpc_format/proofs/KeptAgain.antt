@@ -1,5 +1,5 @@
 -- What is read again of notes is what a line spells.
-use Rattle.std.proofs.Common.{◌≡◌, ℕ, take, ◌-◌, Bool, true, false, cond, bytes_eq, decimal, List, [], ◌∷◌, map, Option, Some, None, option_and_then, refl, sym, ap, ◌∙◌}
+use Rattle.std.proofs.Common.{◌≡◌, ℕ, take, Bool, true, false, cond, bytes_eq, decimal, List, [], ◌∷◌, map, Option, Some, None, option_and_then, refl, sym, ap, ◌∙◌}
 use Rattle.acpc_format.specs.Again.{kept_hand, kept_name, name_again}
 use Rattle.acpc_writing.specs.Names.{is_spelled_hand}
 use Rattle.acpc_reading.specs.RecordView.{NotesNames}

@@ -9,8 +9,8 @@ use Rattle.std.proofs.lemmas.List.{append-nil}
 use Rattle.std.proofs.lemmas.Slice.Eq.{bytes_eq-Decides}
 use Rattle.std.proofs.lemmas.Str.Parse.{digit_from_value, digits_value_short}
 use Rattle.chip_ledger.specs.SeatRow.{amount_of}
-use Rattle.chip_ledger.specs.declared.rows.SeatRow.{SeatRow}
-use Rattle.chip_ledger.specs.declared.rows.TheConstants.{MOST_AMOUNT}
+use Rattle.chip_ledger.specs.declared.seat_row.SeatRow.{SeatRow}
+use Rattle.chip_ledger.specs.declared.seat_row.TheConstants.{MOST_AMOUNT}
 use Rattle.first_fault.specs.Digits.{are_digits, number_of}
 use Rattle.acpc_text.specs.Parts.{parts_of}
 use Rattle.acpc_text.specs.declared.fault.LineFault.{LineFault}

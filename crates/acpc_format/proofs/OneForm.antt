@@ -1,5 +1,5 @@
 -- Hands that are the same are written as the same lines, and what is written as the same lines are the same hands.
-use Rattle.std.proofs.Common.{◌≡◌, ℕ, sum_by, zero, suc, ◌+◌, ◌-◌, ◌≤◌, ◌<◌, ◌^◌, ◌&&◌, ◌||◌, ◌==◌, nat_le, not, Bool, true, false, cond, bytes_eq, codes, decimal, List, [], ◌∷◌, ◌++◌, length, map, slice_index, Option, Some, None, is_some, option_and_then, unwrap_or, Ok, refl, sym, ap, ap₂, subst, ◌∙◌, arith}
+use Rattle.std.proofs.Common.{◌≡◌, ℕ, sum_by, zero, suc, ◌+◌, ◌≤◌, ◌<◌, ◌^◌, ◌&&◌, ◌||◌, ◌==◌, nat_le, not, Bool, true, false, cond, bytes_eq, codes, decimal, List, [], ◌∷◌, ◌++◌, length, map, slice_index, Option, Some, None, is_some, option_and_then, unwrap_or, Ok, refl, sym, ap, ap₂, subst, ◌∙◌, arith}
 use Rattle.std.specs.List.{AllByRecursion}
 use Rattle.std.proofs.lemmas.Bool.{eqb-true, eq-eqb, le-leb}
 use Rattle.std.proofs.lemmas.Fmt.{decimal_digit, first_decimal, length-decimal-le}

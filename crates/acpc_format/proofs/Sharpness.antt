@@ -17,7 +17,7 @@ use Rattle.chip_ledger.proofs.Flags.{flagged-from_flag}
 use Rattle.chip_ledger.specs.LiveRow.{flag_of, flagged}
 use Rattle.chip_ledger.specs.PotRow.{shares_in}
 use Rattle.chip_ledger.specs.Seat.{seats_of}
-use Rattle.chip_ledger.specs.declared.rows.LiveRow.{LiveRow}
+use Rattle.chip_ledger.specs.declared.live_row.LiveRow.{LiveRow}
 use Rattle.list_laws.proofs.Any.{list_any-filter, list_any-map}
 use Rattle.list_laws.proofs.Finding.{list_any-push}
 use Rattle.list_laws.proofs.NumbersOfRange.{any_none, is_in}

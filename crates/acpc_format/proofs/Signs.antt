@@ -4,14 +4,11 @@ use Rattle.std.specs.Str.Parse.{AllDigits}
 use Rattle.std.proofs.lemmas.Bool.{and_parts}
 use Rattle.std.proofs.lemmas.Fmt.{decimal_is_IsNumeral}
 use Rattle.std.proofs.lemmas.Str.Parse.{digit_from_value}
-use Rattle.card_set.specs.declared.card.Rank.{Rank}
-use Rattle.card_set.specs.declared.card.Rank.TheVariants as ranks
-use Rattle.card_set.specs.declared.card.Suit.{Suit}
-use Rattle.card_set.specs.declared.card.Suit.TheVariants as suits
 use Rattle.card_set.specs.declared.card.Slot.{Slot}
 use Rattle.card_set.specs.declared.card.Slot.TheVariants as slots
 use Rattle.card_set.specs.Spelling.{rank_letter, slot_spelling, spelling, suit_letter}
 use Rattle.acpc_writing.specs.Names.{may_stand}
+use Rattle.card_set.proofs.Letters.{each_rank, each_suit}
 use Rattle.acpc_format.proofs.Splits.{Passes, passes_both, passes_more, passes_none}
 use Rattle.chip_ledger.specs.SeatsSaid.{default_name}
 
@@ -50,32 +47,11 @@ digits_plain (digit ∷ digits) all =
 pub decimal_plain : (n : ℕ) → n < 2 ^ 64 → Passes is_plain (decimal n)
 decimal_plain n small = digits_plain (decimal n) (decimal_is_IsNumeral n small).0.1
 
-rank_plain : (rank : Rank) → is_plain (rank_letter rank) ≡ true
-rank_plain ranks.Two = refl
-rank_plain ranks.Three = refl
-rank_plain ranks.Four = refl
-rank_plain ranks.Five = refl
-rank_plain ranks.Six = refl
-rank_plain ranks.Seven = refl
-rank_plain ranks.Eight = refl
-rank_plain ranks.Nine = refl
-rank_plain ranks.Ten = refl
-rank_plain ranks.Jack = refl
-rank_plain ranks.Queen = refl
-rank_plain ranks.King = refl
-rank_plain ranks.Ace = refl
-
-suit_plain : (suit : Suit) → is_plain (suit_letter suit) ≡ true
-suit_plain suits.C = refl
-suit_plain suits.D = refl
-suit_plain suits.H = refl
-suit_plain suits.S = refl
-
 slot_plain : (slot : Slot) → Passes is_plain (slot_spelling slot)
 slot_plain slots.Unknown = record { all = refl }
 slot_plain (slots.Known card) =
-    passes_more is_plain (rank_letter card.rank) (suit_letter card.suit ∷ []) (rank_plain card.rank)
-    (passes_more is_plain (suit_letter card.suit) [] (suit_plain card.suit) (passes_none is_plain))
+    passes_more is_plain (rank_letter card.rank) (suit_letter card.suit ∷ []) (each_rank is_plain refl card.rank)
+    (passes_more is_plain (suit_letter card.suit) [] (each_suit is_plain refl card.suit) (passes_none is_plain))
 
 pub cards_plain : (cards : List Slot) → Passes is_plain (spelling cards)
 cards_plain [] = passes_none is_plain

@@ -214,13 +214,10 @@ other_cards entries = (
     ∷ (not (are_four 0 3 1 1 (numbers_at keys.NumBoardCards entries)), keys.NumBoardCards)
     ∷ []
 
--- chips that are not played; each with the key that shows them
-abbrev pub other_chips : List EntrySaid → List (Bool × GameKey)
-other_chips entries = (
-  has_short_stack (stacks_at entries) (numbers_at keys.Blind entries),
-  if has_key keys.Stack entries then keys.Stack else keys.Blind,
-)
-    ∷ (is_reversed (numbers_at keys.Blind entries), keys.Blind)
+-- blinds, a first player or sizes that are not played; each with the key that shows them
+abbrev pub other_blinds : List EntrySaid → List (Bool × GameKey)
+other_blinds entries =
+    (is_reversed (numbers_at keys.Blind entries), keys.Blind)
     ∷ (
       not
           (are_four (first_player (numbers_at keys.Blind entries)) 1 1 1
@@ -240,6 +237,14 @@ other_chips entries = (
       keys.RaiseSize,
     )
     ∷ []
+
+-- chips that are not played; each with the key that shows them
+abbrev pub other_chips : List EntrySaid → List (Bool × GameKey)
+other_chips entries = (
+  has_short_stack (stacks_at entries) (numbers_at keys.Blind entries),
+  if has_key keys.Stack entries then keys.Stack else keys.Blind,
+)
+    ∷ other_blinds entries
 
 -- the key that shows that the game is not played
 unfoldable pub first_unsupported : List EntrySaid → Option GameKey

@@ -8,6 +8,7 @@ ghost use Rattle.acpc_text.specs.Parts.{lines_of};
 ghost use Rattle.first_fault.specs.Words.{words_of};
 ghost use Rattle.acpc_game.specs.Entries.{entry_said};
 ghost use Rattle.acpc_game.specs.GameFile.{entries_after_line, entries_in, entries_said, may_stand as may_stand_said, number_said, numbers_after, says_no_limit as says_no_limit_said};
+ghost use Rattle.acpc_game.specs.Keys.{most_of};
 
 use crate::entry::Entry;
 use crate::form::{is_passed_over, read_form};
@@ -83,7 +84,7 @@ fn take_line(
     if !may_stand(entries.as_slice(), form.key) {
         return Err(wrong(LineFaultKind::GameShape, line));
     }
-    let numbers = read_numbers(alloc, line, form.key.most(), form.numbers)?;
+    let numbers = read_numbers(alloc, line, form.key, form.numbers)?;
     entries.push(Entry {
         key: form.key,
         line,
@@ -102,25 +103,24 @@ fn may_stand(entries: &[Entry], key: GameKey) -> bool
     }
 }
 
-// The numbers that the words of a text say.
+// The numbers that the words of a text say behind a key.
 fn read_numbers(
     alloc: Global,
     line: u64,
-    most: u64,
+    key: GameKey,
     text: &[u8],
 ) -> Result<Vec<u64>, Stop<AcpcFault>>
-    requires digits { list_all are_digits (words_of text.now) ≡ true }
-    requires small { most ≤ 1000000000000000000 }
+    requires { list_all are_digits (words_of text.now) ≡ true }
     ensures said { Gives (λ numbers. numbers.items) result
-        (numbers_after line most [] (words_of text.now)) }
+        (numbers_after line (most_of key) [] (words_of text.now)) }
     ensures count { IfOk result (λ numbers. length numbers.items ≡ length (words_of text.now)) }
     ensures bounded { IfOk result
-        (λ numbers. list_all (λ number. nat_le number most) numbers.items ≡ true) }
+        (λ numbers. list_all (λ number. nat_le number (most_of key)) numbers.items ≡ true) }
 {
     let mut numbers = Vec::new(alloc);
     let mut rest = text;
     while let Some((word, behind)) = next_word(rest) {
-        let number = read_number(line, most, word)?;
+        let number = read_number(line, key, word)?;
         numbers.push(number)?;
         rest = behind;
     }
@@ -129,13 +129,12 @@ fn read_numbers(
 
 // The number that a word says, if it is not too great for its key.
 #[tactic(auto, unfolding(crate::specs::GameFile::number_said))]
-fn read_number(line: u64, most: u64, word: &[u8]) -> Result<u64, Stop<AcpcFault>>
-    requires digits { IsTrue (are_digits word.now) }
-    requires small { most ≤ 1000000000000000000 }
-    ensures said { Gives (λ number. number) result (number_said line most word.now) }
-    ensures bounded { IfOk result (λ number. number ≤ most) }
+fn read_number(line: u64, key: GameKey, word: &[u8]) -> Result<u64, Stop<AcpcFault>>
+    requires { IsTrue (are_digits word.now) }
+    ensures said { Gives (λ number. number) result (number_said line (most_of key) word.now) }
+    ensures bounded { IfOk result (λ number. number ≤ most_of key) }
 {
-    match read_digits(word, most) {
+    match read_digits(word, key.most()) {
         Some(number) => Ok(number),
         None => Err(wrong(LineFaultKind::AmountLimit, line)),
     }

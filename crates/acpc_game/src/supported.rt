@@ -4,7 +4,7 @@ ghost use Rattle.std.specs.Prelude.{◌≡◌, ◌≤◌, ◌&&◌, nat_lt, leng
 ghost use Rattle.std.specs.List.{list_all};
 ghost use Rattle.chip_ledger.specs.Greatest.{greatest as greatest_said};
 ghost use Rattle.acpc_game.specs.Entries.{entry_said};
-ghost use Rattle.acpc_game.specs.GameFile.{are_four as are_four_said, are_sizes as are_sizes_said, end_line as end_line_said, first_unsupported as first_unsupported_said, has_no_limit as has_no_limit_said, has_short_stack as has_short_stack_said, is_reversed as is_reversed_said, is_whole as is_whole_said, last_place as last_place_said, needed, first_player, other_cards as other_cards_said, other_chips as other_chips_said, stacks_at, has_key as has_key_said};
+ghost use Rattle.acpc_game.specs.GameFile.{are_four as are_four_said, are_sizes as are_sizes_said, end_line as end_line_said, first_unsupported as first_unsupported_said, has_no_limit as has_no_limit_said, has_short_stack as has_short_stack_said, is_reversed as is_reversed_said, is_whole as is_whole_said, last_place as last_place_said, needed, first_player, other_cards as other_cards_said, other_blinds as other_blinds_said, stacks_at, has_key as has_key_said};
 ghost use Rattle.first_fault.specs.Conditions.{first_where};
 
 use crate::entry::Entry;
@@ -64,10 +64,17 @@ pub fn first_unsupported(entries: &[Entry], stacks: &[u64]) -> Option<GameKey>
     requires { stacks.now ≡ stacks_at (map entry_said entries.now) }
     ensures { result ≡ first_unsupported_said (map entry_said entries.now) }
 {
-    match other_cards(entries) {
-        Some(key) => Some(key),
-        None => other_chips(entries, stacks),
+    if let Some(key) = other_cards(entries) {
+        return Some(key);
     }
+    if has_short_stack(stacks, numbers_at(entries, GameKey::Blind)) {
+        return Some(if has_key(entries, GameKey::Stack) {
+            GameKey::Stack
+        } else {
+            GameKey::Blind
+        });
+    }
+    other_blinds(entries)
 }
 
 // The first number of players, rounds or cards that is not played.
@@ -96,22 +103,14 @@ fn other_cards(entries: &[Entry]) -> Option<GameKey>
     None
 }
 
-// The first chips that are not played.
-fn other_chips(entries: &[Entry], stacks: &[u64]) -> Option<GameKey>
-    requires { stacks.now ≡ stacks_at (map entry_said entries.now) }
-    ensures { result ≡ first_where (other_chips_said (map entry_said entries.now)) }
+// The first blinds, first player or sizes that are not played.
+fn other_blinds(entries: &[Entry]) -> Option<GameKey>
+    ensures { result ≡ first_where (other_blinds_said (map entry_said entries.now)) }
 {
     let blinds = numbers_at(entries, GameKey::Blind);
     let sizes = numbers_at(entries, GameKey::RaiseSize);
     let no_limit = has_no_limit(entries);
     let most = greatest(blinds);
-    if has_short_stack(stacks, blinds) {
-        return Some(if has_key(entries, GameKey::Stack) {
-            GameKey::Stack
-        } else {
-            GameKey::Blind
-        });
-    }
     if is_reversed(blinds) {
         return Some(GameKey::Blind);
     }

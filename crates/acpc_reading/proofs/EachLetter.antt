@@ -6,7 +6,7 @@ use Rattle.acpc_text.specs.declared.fault.LineFault.{LineFault}
 use Rattle.acpc_text.specs.Letters.{Letter, scan}
 use Rattle.acpc_text.proofs.Scan.{letter_at}
 use Rattle.acpc_game.proofs.Steps.{fails_first, fails_at}
-use Rattle.acpc_reading.specs.Betting.{Bets, letter_said, bets_after}
+use Rattle.acpc_reading.specs.Betting.{Bets, betting_said, letter_said, bets_after, no_bets}
 
 module _ (no_limit : Bool) where
   -- the letter at the front, and those behind it
@@ -16,6 +16,11 @@ module _ (no_limit : Bool) where
   front_letter bets at letter all text digits after whole digits_are rest_are begins =
       let cut : (scan all).1 ≡ (letter, digits) ∷ (scan after).1 = rw whole (letter_at letter text digits after digits_are rest_are (rw whole at begins)) in
       ap (λ (letters : List Letter). bets_after no_limit bets at letters) cut
+
+  -- a betting that begins with no digit is that of its letters
+  pub begins_bare : (file_moves at : ℕ) (text : List ℕ) → (scan text).0 ≡ [] → bets_after no_limit (no_bets file_moves) at (scan text).1 ≡ betting_said no_limit file_moves at text
+  unfolding betting_said
+  begins_bare file_moves at text none = rw none refl
 
   pub goes_on : (bets more : Bets) (at letter : ℕ) (all text digits after : List ℕ) (total : Result Bets LineFault)
       → all ≡ letter ∷ text → (scan text).0 ≡ digits → (scan text).1 ≡ (scan after).1 → (scan all).0 ≡ [] → letter_said no_limit bets at (letter, digits) ≡ Ok more

@@ -2,7 +2,7 @@
 use Rattle.std.specs.Prelude.{ℕ, ◌+◌, ◌==◌, ◌&&◌, Bool, true, false, nat_lt, if◌then◌else◌, List, [], ◌∷◌, ◌++◌, length, ℤ, pos, ◌-ℤ◌, Result, Ok}
 use Rattle.std.specs.List.{list_all}
 use Rattle.std.specs.Option.{option_map_or}
-use Rattle.chip_ledger.specs.declared.rows.TheConstants.{MOST_AMOUNT}
+use Rattle.chip_ledger.specs.declared.seat_row.TheConstants.{MOST_AMOUNT}
 use Rattle.first_fault.specs.Reading.{◌>>=◌}
 use Rattle.first_fault.specs.Digits.{are_digits, number_of}
 use Rattle.acpc_text.specs.declared.fault.LineFault.{LineFault}

@@ -3,22 +3,13 @@ ghost use Rattle.std.specs.Prelude.{◌≡◌, ◌≤◌, ◌<◌, ◌+◌, [], 
 ghost use Rattle.std.specs.List.{list_any};
 ghost use Rattle.card_set.specs.Row.{cards_of, slots_of};
 ghost use Rattle.card_set.specs.Known.{is_unknown, known_cards};
-ghost use Rattle.acpc_reading.specs.Cards.{board_said, hole_said, known_said};
+ghost use Rattle.acpc_reading.specs.Cards.{hole_said, known_said};
 
 use card_set::{CardRow, Slot, SlotRow, read_slots};
 
-/// So many cards of the board.
-pub fn read_board(count: u8, text: &[u8]) -> Option<CardRow>
-    requires { count ≤ 7 }
-    ensures { option_map cards_of result ≡ board_said count text.now }
-{
-    let slots = read_known(count, text)?;
-    Some(known_row(&slots))
-}
-
-// The known cards of a row, in order.
+/// The known cards of a row, in order.
 #[tactic(auto, using(card_set::proofs::KnownCards::one_known_more))]
-fn known_row(slots: &SlotRow) -> CardRow
+pub fn known_row(slots: &SlotRow) -> CardRow
     ensures { cards_of result ≡ known_cards (slots_of slots.now) }
 {
     let mut cards = CardRow::new();
@@ -54,9 +45,9 @@ pub fn read_hole(text: &[u8]) -> Option<SlotRow>
     Some(slots)
 }
 
-// So many known slots.
+/// So many known slots, which are at most seven.
 #[tactic(auto, using(crate::proofs::CardLaws::bad_known, crate::proofs::CardLaws::other_len, crate::proofs::CardLaws::some_unknown, crate::proofs::CardLaws::all_known))]
-fn read_known(count: u8, text: &[u8]) -> Option<SlotRow>
+pub fn read_known(count: u8, text: &[u8]) -> Option<SlotRow>
     requires { count ≤ 7 }
     ensures { option_map slots_of result ≡ known_said count text.now }
 {

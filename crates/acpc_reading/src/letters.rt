@@ -1,10 +1,9 @@
 //! The betting of a line is read letter by letter, or the first byte that doesn't fit is named.
-ghost use Rattle.std.specs.Prelude.{◌≡◌, ◌<◌, ◌+◌, ◌^◌, true, [], length, Ok, OnOk, IfErr};
+ghost use Rattle.std.specs.Prelude.{◌≡◌, ◌<◌, ◌+◌, ◌^◌, true, length, Ok, OnOk, IfErr};
 ghost use Rattle.std.specs.List.{list_all};
 ghost use Rattle.std.specs.Char.{is_digit};
 ghost use Rattle.first_fault.specs.Reading.{Fails};
-ghost use Rattle.acpc_text.specs.Letters.{scan};
-ghost use Rattle.acpc_reading.specs.Betting.{bare_said, bets_after, betting_said, letter_said, raise_said, stroke_said, with_move};
+ghost use Rattle.acpc_reading.specs.Betting.{bare_said, betting_said, letter_said, raise_said, stroke_said, with_move};
 ghost use Rattle.acpc_reading.specs.Views.{bets_in};
 
 use crate::betting::ReadBetting;
@@ -28,28 +27,11 @@ pub fn read_betting(
     ensures err { IfErr result (λ stop.
         Fails stop (betting_said no_limit betting.old.file_moves at text.now)) }
 {
-    let (digits, _after) = cut_digits(text);
-    if !digits.is_empty() {
+    let (front, _behind) = cut_digits(text);
+    if !front.is_empty() {
         return Err(wrong(LineFaultKind::BadBetting, at));
     }
     betting.begin();
-    read_letters(no_limit, betting, at, text)
-}
-
-// The letters of a text that begins with no digit.
-fn read_letters(
-    no_limit: bool,
-    betting: &mut ReadBetting,
-    at: u64,
-    text: &[u8],
-) -> Result<(), Stop<LineFault>>
-    requires few { at + length text.now < 2 ^ 64 }
-    requires begins { (scan text.now).0 ≡ [] }
-    ensures ok { OnOk result (bets_after no_limit (bets_in betting.old) at (scan text.now).1
-        ≡ Ok (bets_in betting.new)) }
-    ensures err { IfErr result (λ stop.
-        Fails stop (bets_after no_limit (bets_in betting.old) at (scan text.now).1)) }
-{
     let mut place = at;
     let mut rest = text;
     while let Some((letter, behind)) = cut_first(rest) {

@@ -134,7 +134,7 @@ fn read_line(
     let hand = read_hand(alloc, records.len(), hand_at, fields.hand)?;
     read_betting(game.no_limit, betting, betting_at, fields.betting)?;
     let steps = betting.steps.as_slice();
-    let script = read_script(alloc, players, steps, cards_at, fields.cards)?;
+    let script = read_script(alloc, game, steps, cards_at, fields.cards)?;
     let values = read_values(players, values_at, fields.values)?;
     let names = read_names(alloc, players, names_at, fields.names)?;
     records.push(record_of(game, script, values, names, hand))?;

@@ -1,36 +1,37 @@
 //! The script of a hand is written from its cards and its betting.
-ghost use Rattle.std.specs.Prelude.{◌≡◌, ◌≤◌, ◌<◌, ◌+◌, ◌-◌, ◌^◌, length, map, Ok, OnOk, IfOk, IfErr};
+ghost use Rattle.std.specs.Prelude.{◌≡◌, ℕ, ◌≤◌, ◌<◌, ◌+◌, ◌-◌, ◌^◌, None, length, map, Ok, OnOk, IfOk, IfErr, IfSome};
 ghost use Rattle.play_event.specs.Said.{kind_said, numbered};
 ghost use Rattle.first_fault.specs.Reading.{Fails, Gives};
 ghost use Rattle.acpc_text.specs.Parts.{parts_of};
-ghost use Rattle.acpc_reading.specs.Cards.{dealt, hole_after, holes_after, next_round, script_said, step_after, steps_said, with_letter};
+ghost use Rattle.acpc_reading.specs.Cards.{Written, dealt, hole_after, holes_after, next_round, script_said, step_after, steps_said, with_letter};
 ghost use Rattle.acpc_reading.specs.Left.{parts_left};
 ghost use Rattle.acpc_reading.specs.Scripts.{written_by};
 
-use crate::cards::{read_board, read_hole};
+use crate::cards::{known_row, read_hole, read_known};
 use crate::letters::wrong;
 use crate::parts::next_part;
 use crate::pending::Pending;
 use crate::step::BettingStep;
+use acpc_game::Game;
 use acpc_text::{LineFault, LineFaultKind, count_parts, cut_at, kept};
 use chip_ledger::Seat;
 use first_fault::Stop;
 use play_event::{Event, Kind, Script, Spelled};
 use std::alloc::Global;
 
-/// The script of a hand of so many players, from the cards field at this byte and the betting.
+/// The script of a hand of a game, from the cards field at this byte and the betting.
 #[tactic(auto, unfolding(crate::specs::Cards::script_said))]
 pub fn read_script(
     alloc: Global,
-    players: u8,
+    game: &Game,
     steps: &[BettingStep],
     at: u64,
     field: &[u8],
 ) -> Result<Script, Stop<LineFault>>
-    requires { players ≤ 10 }
     ensures { Gives (λ script. map numbered script) result
-        (script_said players steps.now at (parts_of 47 field.now)) }
+        (script_said game.now.stacks.seats steps.now at (parts_of 47 field.now)) }
 {
+    let players = game.stacks.seats;
     let (holes, boards) = cut_at(field, b'/');
     if count_parts(holes, b'|') != players as usize {
         return Err(wrong(LineFaultKind::SeatCount, at));
@@ -117,7 +118,7 @@ fn take_steps(
     }
 }
 
-// One more letter, or a board deal.
+// One more letter with its number, or a board deal.
 #[tactic(auto, unfolding(crate::specs::Cards::step_after))]
 fn take_step<'a>(
     script: &mut Script,
@@ -134,53 +135,43 @@ fn take_step<'a>(
     ensures err { IfErr result (λ stop.
         Fails stop (step_after at (written_by script.old pending.entry) step)) }
 {
-    match step {
-        BettingStep::Fold => take_letter(script, pending, Kind::Fold { actor: None }),
-        BettingStep::Call => {
-            let kind = Kind::Call {
-                actor: None,
-                stated: None,
-            };
-            take_letter(script, pending, kind)
-        }
-        BettingStep::Raise => {
-            let kind = Kind::Raise {
-                actor: None,
-                amount: Spelled::Unit,
-            };
-            take_letter(script, pending, kind)
-        }
-        BettingStep::RaiseTo(total) => {
-            let kind = Kind::Raise {
-                actor: None,
-                amount: Spelled::HandTotal(total),
-            };
-            take_letter(script, pending, kind)
-        }
-        BettingStep::NextRound => take_board(script, at, pending),
-    }
-}
-
-// One more letter with its number.
-fn take_letter<'a>(
-    script: &mut Script,
-    pending: Pending<'a>,
-    kind: Kind,
-) -> Result<Pending<'a>, Stop<LineFault>>
-    requires { pending.number < 2 ^ 64 - 1 }
-    ensures ok { IfOk result (λ next. written_by script.new next
-        ≡ with_letter (written_by script.old pending.entry) (kind_said kind)) }
-    ensures number { IfOk result (λ next. next.number ≡ pending.entry.number + 1) }
-    ensures size { IfOk result (λ next. next.size ≡ pending.entry.size) }
-    ensures err { IfErr result (λ stop. stop ≡ Stop.Memory) }
-{
-    let at = kept(pending.number);
-    script.push(Event { at, kind })?;
+    let Some(kind) = letter_of(step) else {
+        return take_board(script, at, pending);
+    };
+    script.push(Event {
+        at: kept(pending.number),
+        kind,
+    })?;
     Ok(Pending {
         number: pending.number + 1,
         size: pending.size,
         boards: pending.boards,
     })
+}
+
+// The move of a letter, which leaves its seat unsaid; `None` where the next round begins.
+#[tactic(auto, unfolding(crate::specs::Cards::step_after))]
+fn letter_of(step: BettingStep) -> Option<Kind>
+    ensures letter { IfSome result (λ kind. (at : ℕ) (so_far : Written)
+        → step_after at so_far step ≡ Ok (with_letter so_far (kind_said kind))) }
+    ensures none { result ≡ None → step ≡ BettingStep.NextRound }
+{
+    match step {
+        BettingStep::Fold => Some(Kind::Fold { actor: None }),
+        BettingStep::Call => Some(Kind::Call {
+            actor: None,
+            stated: None,
+        }),
+        BettingStep::Raise => Some(Kind::Raise {
+            actor: None,
+            amount: Spelled::Unit,
+        }),
+        BettingStep::RaiseTo(total) => Some(Kind::Raise {
+            actor: None,
+            amount: Spelled::HandTotal(total),
+        }),
+        BettingStep::NextRound => None,
+    }
 }
 
 // The board deal before the next round.
@@ -203,8 +194,9 @@ fn take_board<'a>(
         return Err(wrong(LineFaultKind::BadCards, at));
     };
     let (board, rest) = cut_at(left, b'/');
-    match read_board(pending.size, board) {
-        Some(cards) => {
+    match read_known(pending.size, board) {
+        Some(slots) => {
+            let cards = known_row(&slots);
             script.push(Event {
                 at: 0,
                 kind: Kind::Board { cards },

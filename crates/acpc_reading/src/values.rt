@@ -1,6 +1,6 @@
 //! What each seat won or lost is read as the line states it.
 ghost use Rattle.std.specs.Prelude.{◌≡◌, ◌≤◌, ◌<◌, ◌+◌, ◌-◌, ◌^◌, ◌∷◌, length, slice_set, IfOk};
-ghost use Rattle.chip_ledger.specs.declared.rows.TheConstants.{MOST_AMOUNT};
+ghost use Rattle.chip_ledger.specs.declared.seat_row.TheConstants.{MOST_AMOUNT};
 ghost use Rattle.first_fault.specs.Reading.{Gives};
 ghost use Rattle.acpc_text.specs.Parts.{parts_of};
 ghost use Rattle.acpc_reading.specs.Values.{are_zeros as are_zeros_said, signed as signed_said, unsigned_said, value_said, values_said, whole_said};

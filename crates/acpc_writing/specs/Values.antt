@@ -1,7 +1,7 @@
 -- The values of a line: what each seat won or lost.
 use Rattle.std.specs.Prelude.{ℕ, ◌-◌, nat_lt, if◌then◌else◌, List, ◌∷◌, decimal}
 use Rattle.chip_ledger.specs.SeatRow.{amount_of}
-use Rattle.chip_ledger.specs.declared.rows.SeatRow.{SeatRow}
+use Rattle.chip_ledger.specs.declared.seat_row.SeatRow.{SeatRow}
 use Rattle.acpc_writing.specs.Seats.{for_seats}
 
 -- what a seat ends with less what it began with: a loss has - in front

@@ -28,55 +28,61 @@ pub fn push_betting(
         ++ betting_text no_limit setup.now (map place_said places.now)
         (plain_moves (map move_said moves.now))) }
 {
-    push_letters(alloc, out, no_limit, setup, moves, 1)?;
-    push_round(alloc, out, no_limit, setup, moves, places, 2)?;
-    push_round(alloc, out, no_limit, setup, moves, places, 3)?;
-    push_round(alloc, out, no_limit, setup, moves, places, 4)
+    let betting = Betting {
+        no_limit,
+        setup,
+        moves,
+    };
+    betting.push_letters(alloc, out, 1)?;
+    betting.push_round(alloc, out, places, 2)?;
+    betting.push_round(alloc, out, places, 3)?;
+    betting.push_round(alloc, out, places, 4)
 }
 
-// The betting of a further round, if it was dealt.
-#[tactic(auto, unfolding(crate::specs::Betting::round_text))]
-fn push_round(
-    alloc: Global,
-    out: &mut Vec<u8>,
+// The moves of a hand behind its setup, as a game with a limit or none spells them.
+#[derive(Clone, Copy)]
+struct Betting<'a> {
     no_limit: bool,
-    setup: &Setup,
-    moves: &[Move],
-    places: &[Place],
-    street: u8,
-) -> Result<(), AllocError>
-    requires { HaveFewChips setup.now moves.now }
-    ensures { OnOk result (out.new.items ≡ out.old.items
-        ++ round_text no_limit setup.now (map place_said places.now)
-        (plain_moves (map move_said moves.now)) street) }
-{
-    if !has_board(places, street) {
-        return Ok(());
-    }
-    out.extend_from_slice(b"/")?;
-    push_letters(alloc, out, no_limit, setup, moves, street)
+    setup: &'a Setup,
+    moves: &'a [Move],
+    ghost few: { HaveFewChips setup.now moves.now },
 }
 
-// The letters of a street.
-fn push_letters(
-    alloc: Global,
-    out: &mut Vec<u8>,
-    no_limit: bool,
-    setup: &Setup,
-    moves: &[Move],
-    street: u8,
-) -> Result<(), AllocError>
-    requires { HaveFewChips setup.now moves.now }
-    ensures { OnOk result (out.new.items ≡ out.old.items
-        ++ letters_on no_limit setup.now street (plain_moves (map move_said moves.now))) }
-{
-    let mut put = posted_chips(setup);
-    for played in moves {
-        add(&mut put, *played);
-        let total = put[played.seat.number as usize - 1];
-        push_letter_on(alloc, out, no_limit, street, *played, total)?;
+impl Betting<'_> {
+    // The betting of a further round, if it was dealt.
+    #[tactic(auto, unfolding(crate::specs::Betting::round_text))]
+    fn push_round(
+        &self,
+        alloc: Global,
+        out: &mut Vec<u8>,
+        places: &[Place],
+        street: u8,
+    ) -> Result<(), AllocError>
+        ensures { OnOk result (out.new.items ≡ out.old.items
+            ++ round_text self.now.no_limit self.now.setup.now (map place_said places.now)
+            (plain_moves (map move_said self.now.moves.now)) street) }
+    {
+        if !has_board(places, street) {
+            return Ok(());
+        }
+        out.extend_from_slice(b"/")?;
+        self.push_letters(alloc, out, street)
     }
-    Ok(())
+
+    // The letters of a street.
+    fn push_letters(&self, alloc: Global, out: &mut Vec<u8>, street: u8) -> Result<(), AllocError>
+        ensures { OnOk result (out.new.items ≡ out.old.items
+            ++ letters_on self.now.no_limit self.now.setup.now street
+            (plain_moves (map move_said self.now.moves.now))) }
+    {
+        let mut put = posted_chips(self.setup);
+        for played in self.moves {
+            add(&mut put, *played);
+            let total = put[played.seat.number as usize - 1];
+            push_letter_on(alloc, out, self.no_limit, street, *played, total)?;
+        }
+        Ok(())
+    }
 }
 
 // The letter of a move, where it is one of a street.

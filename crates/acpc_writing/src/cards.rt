@@ -7,7 +7,7 @@ ghost use Rattle.canon_script.specs.CanonScript.{dealt_slots, is_dealt_to};
 ghost use Rattle.play_event.specs.Places.{is_same_owner as is_same_owner_said};
 ghost use Rattle.play_event.specs.Said.{seat_named};
 ghost use Rattle.hand_records.specs.TraceRows.{place_said};
-ghost use Rattle.acpc_writing.specs.Cards.{board_text, boards_text, cards_text, hole_text, holes_text};
+ghost use Rattle.acpc_writing.specs.Cards.{board_text, boards_text, cards_text, hole_text};
 ghost use Rattle.acpc_writing.specs.Rounds.{has_board as has_board_said};
 ghost use Rattle.acpc_writing.specs.Seats.{bar_before};
 
@@ -30,29 +30,18 @@ pub fn has_known(places: &[Place], owner: Option<Seat>, street: u8) -> bool
 }
 
 /// The cards of a hand of so many seats.
-#[tactic(auto, unfolding(crate::specs::Cards::cards_text))]
+#[tactic(auto, unfolding(crate::specs::Cards::cards_text, crate::specs::Cards::holes_text))]
 pub fn push_cards(out: &mut Vec<u8>, places: &[Place], seats: u8) -> Result<(), AllocError>
     requires { seats ≤ 10 }
     ensures { OnOk result (out.new.items
         ≡ out.old.items ++ cards_text (map place_said places.now) seats) }
-{
-    push_holes(out, places, seats)?;
-    push_boards(out, places)
-}
-
-// The hole cards of so many seats.
-#[tactic(auto, unfolding(crate::specs::Cards::holes_text))]
-fn push_holes(out: &mut Vec<u8>, places: &[Place], seats: u8) -> Result<(), AllocError>
-    requires { seats ≤ 10 }
-    ensures { OnOk result (out.new.items
-        ≡ out.old.items ++ holes_text (map place_said places.now) seats) }
 {
     for index in 0..seats {
         let seat = Seat { number: index + 1 };
         push_bar(out, seat)?;
         push_hole(out, places, seat)?;
     }
-    Ok(())
+    push_boards(out, places)
 }
 
 /// A bar, in front of each seat's text but the first.

@@ -4,7 +4,7 @@ ghost use Rattle.std.specs.List.{list_any};
 ghost use Rattle.chip_ledger.specs.Seat.{seats_of};
 ghost use Rattle.play_event.specs.Past.{is_fold as is_fold_said, is_raise as is_raise_said};
 ghost use Rattle.play_event.specs.Played.{act_said};
-ghost use Rattle.hand_records.specs.TraceRows.{place_said};
+ghost use Rattle.hand_records.specs.TraceRows.{core_said, place_said};
 ghost use Rattle.acpc_writing.specs.PlayFacts.{is_above_cap as is_above_cap_said, is_above_caps as is_above_caps_said, is_free_fold as is_free_fold_said, is_off_unit as is_off_unit_said, is_open_muck as is_open_muck_said, is_part_known as is_part_known_said, is_raise_on as is_raise_on_said, play_conditions};
 ghost use Rattle.first_fault.specs.Conditions.{first_where};
 
@@ -20,8 +20,6 @@ pub fn find_other_play(game: &Game, trace: &Trace) -> Option<Unspelled>
     ensures { result ≡ first_where (play_conditions game.now trace.now) }
 {
     let moves = trace.moves.as_slice();
-    let places = trace.places.as_slice();
-    let seats = trace.setup.stacks.seats;
     if has_free_fold(moves) {
         return Some(Unspelled::FreeFold);
     }
@@ -31,10 +29,10 @@ pub fn find_other_play(game: &Game, trace: &Trace) -> Option<Unspelled>
     if !game.no_limit && has_off_unit(moves) {
         return Some(Unspelled::RaiseTarget);
     }
-    if has_part_known(places, seats) {
+    if has_part_known(trace) {
         return Some(Unspelled::PartCards);
     }
-    if has_open_muck(places, &trace.mucked, seats) {
+    if has_open_muck(trace) {
         return Some(Unspelled::Muck);
     }
     if has_odd_chip(&trace.shares) {
@@ -144,13 +142,13 @@ fn is_raise(act: Act) -> bool
     }
 }
 
-// Whether this is so of one of so many seats.
-fn has_part_known(places: &[Place], seats: u8) -> bool
-    requires { seats ≤ 10 }
-    ensures { result ≡ list_any (is_part_known_said (map place_said places.now)) (seats_of seats) }
+// Whether this is so of one of the seats of a hand.
+fn has_part_known(trace: &Trace) -> bool
+    ensures { result ≡ list_any (is_part_known_said (core_said trace.now).places)
+        (seats_of trace.now.setup.stacks.seats) }
 {
-    for index in 0..seats {
-        if is_part_known(places, Seat { number: index + 1 }) {
+    for index in 0..trace.setup.stacks.seats {
+        if is_part_known(trace.places.as_slice(), Seat { number: index + 1 }) {
             return true;
         }
     }
@@ -164,14 +162,15 @@ fn is_part_known(places: &[Place], seat: Seat) -> bool
     has_unknown(places, Some(seat), 1) && has_known(places, Some(seat), 1)
 }
 
-// Whether this is so of one of so many seats.
-fn has_open_muck(places: &[Place], mucked: &LiveRow, seats: u8) -> bool
-    requires { seats ≤ 10 }
-    ensures { result ≡ list_any (is_open_muck_said (map place_said places.now) mucked.now)
-        (seats_of seats) }
+// Whether this is so of one of the seats of a hand.
+fn has_open_muck(trace: &Trace) -> bool
+    ensures { result
+        ≡ list_any (is_open_muck_said (core_said trace.now).places trace.now.mucked)
+        (seats_of trace.now.setup.stacks.seats) }
 {
-    for index in 0..seats {
-        if is_open_muck(places, mucked, Seat { number: index + 1 }) {
+    for index in 0..trace.setup.stacks.seats {
+        let seat = Seat { number: index + 1 };
+        if is_open_muck(trace.places.as_slice(), &trace.mucked, seat) {
             return true;
         }
     }

@@ -6,6 +6,7 @@ use Rattle.std.proofs.lemmas.List.Folds.{list_all-append}
 use Rattle.std.proofs.lemmas.Result.{err_from_is_err_and}
 use Rattle.first_fault.specs.Digits.{are_digits}
 use Rattle.acpc_game.specs.GameFile.{numbers_after}
+use Rattle.acpc_game.specs.Keys.{most_of}
 use Rattle.acpc_game.proofs.Steps.{word_read, word_fails, words_done}
 use Rattle.acpc_game.proofs.lines.read_numbers.Goals as goal
 use Rattle.first_fault.specs.Words.{words_of}
@@ -13,7 +14,7 @@ use Rattle.first_fault.specs.Words.{words_of}
 pub returns-in_err-number-clause-said : goal.returns-in_err-number-clause-said
 returns-in_err-number-clause-said c =
     let p = err_from_is_err_and c.from_residual.result c.from_residual.ensures.1 in
-    rw (p.1, p.2) (word_fails c.args.line c.args.most c.loop-word.numbers.items (words_of c.loop-word.rest.now) (numbers_after c.args.line c.args.most [] (words_of c.args.text.now)) c.in_err-number.field-0.0 c.in-Some.word.now (words_of c.in-Some.behind.now) c.in-Some.ensures.words c.in_err-number.ensures.said c.loop-word.invariant.read)
+    rw (p.1, p.2) (word_fails c.args.line (most_of c.args.key) c.loop-word.numbers.items (words_of c.loop-word.rest.now) (numbers_after c.args.line (most_of c.args.key) [] (words_of c.args.text.now)) c.in_err-number.field-0.0 c.in-Some.word.now (words_of c.in-Some.behind.now) c.in-Some.ensures.words c.in_err-number.ensures.said c.loop-word.invariant.read)
 
 pub loop-word-preserved : goal.loop-word-preserved
 loop-word-preserved c =
@@ -23,9 +24,9 @@ loop-word-preserved c =
     record {
       digits = parts.1;
       count = omega (arith, inv.count, ap length c.in-Some.ensures.words, ap length c.in_ok-push.ensures.items ∙ length-append c.loop-word.numbers.items (number ∷ []));
-      bounded = rw (c.in_ok-push.ensures.items, list_all-append (λ n. nat_le n c.args.most) c.loop-word.numbers.items (number ∷ []), inv.bounded, le-leb number c.args.most c.in_ok-number.ensures.bounded) refl;
-      read = rw c.in_ok-push.ensures.items (word_read c.args.line c.args.most c.loop-word.numbers.items (words_of c.loop-word.rest.now) (numbers_after c.args.line c.args.most [] (words_of c.args.text.now)) c.in-Some.word.now (words_of c.in-Some.behind.now) number c.in-Some.ensures.words c.in_ok-number.ensures.said inv.read);
+      bounded = rw (c.in_ok-push.ensures.items, list_all-append (λ n. nat_le n (most_of c.args.key)) c.loop-word.numbers.items (number ∷ []), inv.bounded, le-leb number (most_of c.args.key) c.in_ok-number.ensures.bounded) refl;
+      read = rw c.in_ok-push.ensures.items (word_read c.args.line (most_of c.args.key) c.loop-word.numbers.items (words_of c.loop-word.rest.now) (numbers_after c.args.line (most_of c.args.key) [] (words_of c.args.text.now)) c.in-Some.word.now (words_of c.in-Some.behind.now) number c.in-Some.ensures.words c.in_ok-number.ensures.said inv.read);
     }
 
 pub returns-clause-said : goal.returns-clause-said
-returns-clause-said c = words_done c.args.line c.args.most c.loop-word.numbers.items (words_of c.loop-word.rest.now) (numbers_after c.args.line c.args.most [] (words_of c.args.text.now)) c.in_default.ensures.words c.loop-word.invariant.read
+returns-clause-said c = words_done c.args.line (most_of c.args.key) c.loop-word.numbers.items (words_of c.loop-word.rest.now) (numbers_after c.args.line (most_of c.args.key) [] (words_of c.args.text.now)) c.in_default.ensures.words c.loop-word.invariant.read

@@ -1,6 +1,6 @@
 use Rattle.std.proofs.Common.{◌≡◌, ℕ, ◌≤◌, length, take, slice_index}
 use Rattle.acpc_game.proofs.reading.row_of.Given as goal
-use Rattle.chip_ledger.specs.declared.rows.TheConstants.{MOST_AMOUNT}
+use Rattle.chip_ledger.specs.declared.seat_row.TheConstants.{MOST_AMOUNT}
 
 -- the amounts so far are written, and zeros stand behind them
 abbrev pub invariant-loop-index : goal.invariant-loop-index

@@ -3,11 +3,11 @@ use Rattle.canon_script.specs.CanonScript.{plain_moves}
 use Rattle.play_event.specs.Played.{move_said}
 use Rattle.acpc_writing.specs.Betting.{letters_on}
 use Rattle.acpc_writing.specs.Puts.{HavePut}
-use Rattle.acpc_writing.proofs.betting.push_letters.Given as goal
+use Rattle.acpc_writing.proofs.betting.Betting.push_letters.Given as goal
 
 -- the moves so far are counted, and their letters are written
 abbrev pub invariant-loop-played : goal.invariant-loop-played
 invariant-loop-played l = record {
-  put : HavePut l.setup (plain_moves (map move_said (take l.played-index l.moves))) l.put;
-  written : l.out.items ≡ l.fn.out.items ++ letters_on l.no_limit l.setup l.street (plain_moves (map move_said (take l.played-index l.moves)));
+  put : HavePut l.self.setup.now (plain_moves (map move_said (take l.played-index l.self.moves.now))) l.put;
+  written : l.out.items ≡ l.fn.out.items ++ letters_on l.self.no_limit l.self.setup.now l.street (plain_moves (map move_said (take l.played-index l.self.moves.now)));
 }

@@ -3,7 +3,7 @@ use Rattle.std.proofs.Common.{map}
 use Rattle.hand_records.specs.TraceRows.{place_said}
 use Rattle.acpc_writing.specs.Cards.{hole_text}
 use Rattle.acpc_writing.proofs.SeatTexts.{text_more}
-use Rattle.acpc_writing.proofs.cards.push_holes.Goals as goal
+use Rattle.acpc_writing.proofs.cards.push_cards.Goals as goal
 
 pub loop-index-preserved : goal.loop-index-preserved
 loop-index-preserved c =
