@@ -6,8 +6,9 @@ use Rattle.card_set.specs.declared.card.Slot.{Slot}
 use Rattle.card_set.specs.declared.spelling.CardFault.{CardFault}
 use Rattle.card_set.specs.Spelling.{spelling, slots_spelled, HasFault}
 use Rattle.card_set.proofs.Spelled.{slots_spelled-spelling, spelling-slots_spelled, fault_spells_nothing}
+use Rattle.first_fault.specs.Forms.{or_fault}
 use Rattle.phh_actions.specs.declared.fault.ActionFault.TheVariants as faults
-use Rattle.phh_actions.specs.Action.{one_to, or_fault, slots_said}
+use Rattle.phh_actions.specs.Action.{one_to, slots_said}
 
 -- letters that spell slots say them, if they are one to so many
 pub slots_read : (most : ℕ) (word : List ℕ) (slots : List Slot) → word ≡ spelling slots → slots_said most word ≡ one_to most slots

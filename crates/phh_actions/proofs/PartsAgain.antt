@@ -8,20 +8,17 @@ use Rattle.std.proofs.lemmas.Fmt.{decimal_is_IsNumeral, decimal_injective}
 use Rattle.std.proofs.lemmas.List.{length-map}
 use Rattle.std.proofs.lemmas.Slice.Eq.{bytes_eq-Decides}
 use Rattle.card_set.specs.declared.card.Card.{Card}
-use Rattle.card_set.specs.declared.card.Rank.{Rank}
-use Rattle.card_set.specs.declared.card.Rank.TheVariants as ranks
-use Rattle.card_set.specs.declared.card.Suit.{Suit}
-use Rattle.card_set.specs.declared.card.Suit.TheVariants as suits
 use Rattle.card_set.specs.declared.card.Slot.{Slot}
 use Rattle.card_set.specs.declared.card.Slot.TheVariants as slots
 use Rattle.card_set.specs.Known.{is_unknown, known_slots}
-use Rattle.card_set.specs.Spelling.{rank_letter, spelling, suit_letter}
+use Rattle.card_set.specs.Spelling.{spelling}
 use Rattle.chip_ledger.specs.declared.numbers.TheConstants.{MOST_CHIPS}
 use Rattle.first_fault.specs.Digits.{are_digits, number_of}
 use Rattle.phh_actions.specs.Action.{amount_said, cards_said, seat_named, seat_said, slots_said}
 use Rattle.phh_actions.proofs.CardLaws.{slots_read}
 use Rattle.phh_actions.proofs.WordsAgain.{IsWord, is_plain}
 use Rattle.card_set.proofs.KnownCards.{all_known}
+use Rattle.card_set.proofs.Letters.{each_rank, each_suit}
 use Rattle.list_laws.proofs.Digits.{of_digits}
 use Rattle.chip_ledger.specs.SeatsSaid.{default_name}
 
@@ -44,30 +41,9 @@ pub name_word : (seat : ℕ) → seat ≤ 10 → IsWord (default_name seat)
 name_word seat few =
     record { some = omega arith; plain = digits_plain (decimal seat) (decimal_is_IsNumeral seat (omega (arith, few))).0.1 }
 
-rank_plain : (rank : Rank) → is_plain (rank_letter rank) ≡ true
-rank_plain ranks.Two = refl
-rank_plain ranks.Three = refl
-rank_plain ranks.Four = refl
-rank_plain ranks.Five = refl
-rank_plain ranks.Six = refl
-rank_plain ranks.Seven = refl
-rank_plain ranks.Eight = refl
-rank_plain ranks.Nine = refl
-rank_plain ranks.Ten = refl
-rank_plain ranks.Jack = refl
-rank_plain ranks.Queen = refl
-rank_plain ranks.King = refl
-rank_plain ranks.Ace = refl
-
-suit_plain : (suit : Suit) → is_plain (suit_letter suit) ≡ true
-suit_plain suits.C = refl
-suit_plain suits.D = refl
-suit_plain suits.H = refl
-suit_plain suits.S = refl
-
 spelling_plain : (cards : List Slot) → list_all is_plain (spelling cards) ≡ true
 spelling_plain [] = refl
-spelling_plain (slots.Known card ∷ rest) = rw (rank_plain card.rank, suit_plain card.suit, spelling_plain rest) refl
+spelling_plain (slots.Known card ∷ rest) = rw (each_rank is_plain refl card.rank, each_suit is_plain refl card.suit, spelling_plain rest) refl
 spelling_plain (slots.Unknown ∷ rest) = spelling_plain rest
 
 spelling_some : (cards : List Slot) → 1 ≤ length cards → 0 < length (spelling cards)

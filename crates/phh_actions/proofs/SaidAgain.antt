@@ -41,7 +41,7 @@ show_word : IsWord (codes "sm")
 show_word = record { some = omega arith; plain = refl }
 
 seat_word : (seats seat : ℕ) → seats ≤ 10 → IsSeatOf seats seat → IsWord (default_name seat)
-seat_word seats seat few is = name_word seat (omega (arith, few, is.1))
+seat_word seats seat few is = name_word seat (omega (arith, few, is.last))
 
 -- each word of an event is a word
 are_words : (seats : ℕ) (event : Said) → seats ≤ 10 → IsInRange seats event → AllByRecursion IsWord (event_words event)
@@ -67,16 +67,16 @@ are_words seats (said.BringIn None) few can = absurd can
 -- the words of an event say that event
 words_back : (seats : ℕ) (event : Said) → seats ≤ 10 → IsInRange seats event → words_say seats (event_words event) ≡ Ok (Some event)
 unfolding words_say two_say three_say four_say act_said act_with_said
-words_back seats (said.Hole seat slots) few can = rw (seat_again seats seat few can.0.0 can.0.1, slots_again 7 slots can.1 can.2) refl
+words_back seats (said.Hole seat slots) few can = rw (seat_again seats seat few can.0.first can.0.last, slots_again 7 slots can.1 can.2) refl
 words_back seats (said.Board cards) few can = rw (cards_again 5 cards can.0 can.1) refl
-words_back seats (said.Fold (Some seat)) few can = rw (seat_again seats seat few can.0 can.1) refl
-words_back seats (said.Call (Some seat) None) few can = rw (seat_again seats seat few can.0 can.1) refl
-words_back seats (said.Raise (Some seat) (spelled.To amount)) few can = rw (seat_again seats seat few can.0.0 can.0.1, amount_again amount can.1) refl
-words_back seats (said.BringIn (Some seat)) few can = rw (seat_again seats seat few can.0 can.1) refl
-words_back seats (said.Discard seat []) few can = rw (seat_again seats seat few can.0.0 can.0.1) refl
-words_back seats (said.Discard seat (slot ∷ rest)) few can = rw (seat_again seats seat few can.0.0 can.0.1, slots_again 5 (slot ∷ rest) (omega arith) can.1) refl
-words_back seats (said.Show seat cards) few can = rw (seat_again seats seat few can.0.0 can.0.1, cards_again 7 cards can.1 can.2) refl
-words_back seats (said.Muck seat) few can = rw (seat_again seats seat few can.0 can.1) refl
+words_back seats (said.Fold (Some seat)) few can = rw (seat_again seats seat few can.first can.last) refl
+words_back seats (said.Call (Some seat) None) few can = rw (seat_again seats seat few can.first can.last) refl
+words_back seats (said.Raise (Some seat) (spelled.To amount)) few can = rw (seat_again seats seat few can.0.first can.0.last, amount_again amount can.1) refl
+words_back seats (said.BringIn (Some seat)) few can = rw (seat_again seats seat few can.first can.last) refl
+words_back seats (said.Discard seat []) few can = rw (seat_again seats seat few can.0.first can.0.last) refl
+words_back seats (said.Discard seat (slot ∷ rest)) few can = rw (seat_again seats seat few can.0.first can.0.last, slots_again 5 (slot ∷ rest) (omega arith) can.1) refl
+words_back seats (said.Show seat cards) few can = rw (seat_again seats seat few can.0.first can.0.last, cards_again 7 cards can.1 can.2) refl
+words_back seats (said.Muck seat) few can = rw (seat_again seats seat few can.first can.last) refl
 words_back seats (said.Fold None) few can = absurd can
 words_back seats (said.Call None stated) few can = absurd can
 words_back seats (said.Call (Some seat) (Some chips)) few can = absurd can

@@ -8,6 +8,7 @@ use Rattle.card_set.specs.Spelling.{slots_spelled}
 use Rattle.chip_ledger.specs.declared.numbers.TheConstants.{MOST_CHIPS}
 use Rattle.chip_ledger.specs.Seat.{seats_of}
 use Rattle.first_fault.specs.Digits.{are_digits, number_of}
+use Rattle.first_fault.specs.Forms.{or_fault}
 use Rattle.first_fault.specs.Reading.{◌>>=◌}
 use Rattle.play_event.specs.declared.event.Spelled.TheVariants as spelled
 use Rattle.play_event.specs.Said as said
@@ -26,11 +27,6 @@ Read A = Result A ActionFault
 abbrev pub seen_by : {X Y : Type 0} → (X → Y) → Read X → Read Y
 seen_by view (Ok value) = Ok (view value)
 seen_by view (Err fault) = Err fault
-
--- a value that is there, or else this fault
-abbrev pub or_fault : {A : Type 0} → ActionFault → Option A → Read A
-or_fault fault (Some value) = Ok value
-or_fault fault None = Err fault
 
 -- the seat with this name, in a hand with so many seats
 unfoldable pub seat_named : ℕ → List ℕ → Option ℕ

@@ -1,9 +1,9 @@
 //! The parts of an action: the name of a seat, an amount of chips, and cards.
-ghost use Rattle.std.specs.Prelude.{◌≡◌, ◌≤◌, bytes_eq, length, option_map};
+ghost use Rattle.std.specs.Prelude.{◌≡◌, ◌≤◌, bytes_eq, length};
 ghost use Rattle.std.specs.List.{list_any};
-ghost use Rattle.card_set.specs.Known.{is_unknown, known_cards};
+ghost use Rattle.card_set.specs.Known.{is_unknown, known_cards as known_cards_said};
 ghost use Rattle.card_set.specs.Row.{cards_of, slots_of};
-ghost use Rattle.phh_actions.specs.Action.{amount_said, cards_said, has_fraction, one_to, seat_named, seat_said, seen_by, slots_said};
+ghost use Rattle.phh_actions.specs.Action.{all_known, amount_said, has_fraction, one_to, seat_said, seen_by, slots_said};
 ghost use Rattle.chip_ledger.specs.SeatsSaid.{default_name};
 
 use crate::fault::ActionFault;
@@ -13,29 +13,17 @@ use chip_ledger::{MOST_CHIPS, Seat};
 use first_fault::{are_digits, place_of, read_digits};
 
 /// The seat of the hand that a word names.
-#[tactic(auto, unfolding(crate::specs::Action::seat_said))]
+#[tactic(auto, unfolding(crate::specs::Action::seat_said, crate::specs::Action::seat_named))]
 pub fn read_seat(seats: u8, name: &[u8]) -> Result<Seat, ActionFault>
     requires { seats ≤ 10 }
     ensures { seen_by (λ seat. seat.number) result ≡ seat_said seats name.now }
 {
-    match find_seat(seats, name) {
-        Some(seat) => Ok(seat),
-        None => Err(ActionFault::BadAction),
-    }
-}
-
-// The seat of the hand that a word names, if it names one.
-#[tactic(auto, unfolding(crate::specs::Action::seat_named))]
-fn find_seat(seats: u8, name: &[u8]) -> Option<Seat>
-    requires { seats ≤ 10 }
-    ensures { option_map (λ seat. seat.number) result ≡ seat_named seats name.now }
-{
     for index in 0..seats {
         if names_seat(name, index + 1) {
-            return Seat::new(index + 1);
+            return Seat::new(index + 1).ok_or(ActionFault::BadAction);
         }
     }
-    None
+    Err(ActionFault::BadAction)
 }
 
 // Whether the word is p and this number.
@@ -81,13 +69,10 @@ fn is_fraction(word: &[u8]) -> bool
     are_digits(&word[..len]) && are_digits(&word[len + 1..])
 }
 
-/// One to so many cards, each of them known.
-#[tactic(auto, unfolding(crate::specs::Action::cards_said))]
-pub fn read_cards(most: u8, word: &[u8]) -> Result<CardRow, ActionFault>
-    requires { most ≤ 7 }
-    ensures { seen_by cards_of result ≡ cards_said most word.now }
+/// The cards of the slots, if each of them is known.
+pub fn known_cards(slots: SlotRow) -> Result<CardRow, ActionFault>
+    ensures { seen_by cards_of result ≡ all_known (slots_of slots) }
 {
-    let slots = read_slots(most, word)?;
     if has_unknown(slots.as_slice()) {
         return Err(ActionFault::BadAction);
     }
@@ -133,7 +118,7 @@ fn has_unknown(slots: &[Slot]) -> bool
 // The known cards of up to seven slots.
 fn known_row(slots: &[Slot]) -> CardRow
     requires { length slots.now ≤ 7 }
-    ensures { cards_of result ≡ known_cards slots.now }
+    ensures { cards_of result ≡ known_cards_said slots.now }
 {
     let mut row = CardRow::new();
     for slot in slots {

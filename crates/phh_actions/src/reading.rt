@@ -5,7 +5,7 @@ ghost use Rattle.phh_actions.specs.Action.{action_said, act_said, act_with_said,
 ghost use Rattle.first_fault.specs.Words.{words_of};
 
 use crate::fault::ActionFault;
-use crate::parts::{read_amount, read_cards, read_seat, read_slots};
+use crate::parts::{known_cards, read_amount, read_seat, read_slots};
 use crate::words::{before_commentary, is_word};
 use card_set::SlotRow;
 use chip_ledger::Seat;
@@ -20,44 +20,87 @@ pub fn read_action(text: &str, seats: u8) -> Result<Option<Kind>, ActionFault>
     requires { seats ≤ 10 }
     ensures { seen_by (option_map kind_said) result ≡ action_said seats text.now }
 {
-    read_words(seats, before_commentary(text.as_bytes()))
+    ActionReader { seats }.read_words(before_commentary(text.as_bytes()))
 }
 
-// What the words of an action say: two are a seat and what it does, three have cards or an amount
-// besides or deal to the board, and four deal to a seat.
-#[tactic(auto, unfolding(crate::specs::Action::words_say))]
-fn read_words(seats: u8, text: &[u8]) -> Result<Option<Kind>, ActionFault>
-    requires { seats ≤ 10 }
-    ensures { seen_by (option_map kind_said) result ≡ words_say seats (words_of text.now) }
-{
-    let Some((first, rest)) = next_word(text) else {
-        return Ok(None);
-    };
-    let Some((second, rest)) = next_word(rest) else {
-        return Err(ActionFault::BadAction);
-    };
-    let Some((third, rest)) = next_word(rest) else {
-        return Ok(Some(read_two(seats, first, second)?));
-    };
-    let Some((fourth, rest)) = next_word(rest) else {
-        return Ok(Some(read_three(seats, first, second, third)?));
-    };
-    match next_word(rest) {
-        None => Ok(Some(read_four(seats, first, second, third, fourth)?)),
-        Some(_) => Err(ActionFault::BadAction),
+// The words of the actions of a hand with so many seats are read by it.
+#[derive(Clone, Copy)]
+struct ActionReader {
+    seats: u8,
+    ghost few: { seats ≤ 10 },
+}
+
+impl ActionReader {
+    // What the words of an action say: two are a seat and what it does, three have cards or an
+    // amount besides or deal to the board, and four deal to a seat.
+    #[tactic(auto, unfolding(crate::specs::Action::words_say))]
+    fn read_words(self, text: &[u8]) -> Result<Option<Kind>, ActionFault>
+        ensures { seen_by (option_map kind_said) result
+            ≡ words_say self.seats (words_of text.now) }
+    {
+        let Some((first, rest)) = next_word(text) else {
+            return Ok(None);
+        };
+        let Some((second, rest)) = next_word(rest) else {
+            return Err(ActionFault::BadAction);
+        };
+        let Some((third, rest)) = next_word(rest) else {
+            return Ok(Some(self.read_two(first, second)?));
+        };
+        let Some((fourth, rest)) = next_word(rest) else {
+            return Ok(Some(self.read_three(first, second, third)?));
+        };
+        match next_word(rest) {
+            None => Ok(Some(self.read_four(first, second, third, fourth)?)),
+            Some(_) => Err(ActionFault::BadAction),
+        }
+    }
+
+    // A seat, and what it does.
+    #[tactic(auto, unfolding(crate::specs::Action::two_say))]
+    fn read_two(self, first: &[u8], second: &[u8]) -> Result<Kind, ActionFault>
+        ensures { seen_by kind_said result ≡ two_say self.seats first.now second.now }
+    {
+        let seat = read_seat(self.seats, first)?;
+        read_act(seat, second)
+    }
+
+    // A deal to the board, or what a seat does in two words.
+    #[tactic(auto, unfolding(crate::specs::Action::three_say, crate::specs::Action::cards_said))]
+    fn read_three(self, first: &[u8], second: &[u8], third: &[u8]) -> Result<Kind, ActionFault>
+        ensures { seen_by kind_said result
+            ≡ three_say self.seats first.now second.now third.now }
+    {
+        if is_word(first, "d") && is_word(second, "db") {
+            let cards = known_cards(read_slots(5, third)?)?;
+            return Ok(Kind::Board { cards });
+        }
+        let seat = read_seat(self.seats, first)?;
+        read_act_with(seat, second, third)
+    }
+
+    // Hole cards for a seat.
+    #[tactic(auto, unfolding(crate::specs::Action::four_say))]
+    fn read_four(
+        self,
+        first: &[u8],
+        second: &[u8],
+        third: &[u8],
+        fourth: &[u8],
+    ) -> Result<Kind, ActionFault>
+        ensures { seen_by kind_said result
+            ≡ four_say self.seats first.now second.now third.now fourth.now }
+    {
+        if !(is_word(first, "d") && is_word(second, "dh")) {
+            return Err(ActionFault::BadAction);
+        }
+        let seat = read_seat(self.seats, third)?;
+        let cards = read_slots(7, fourth)?;
+        Ok(Kind::Hole { seat, cards })
     }
 }
 
 // What a seat does, in one word.
-#[tactic(auto, unfolding(crate::specs::Action::two_say))]
-fn read_two(seats: u8, first: &[u8], second: &[u8]) -> Result<Kind, ActionFault>
-    requires { seats ≤ 10 }
-    ensures { seen_by kind_said result ≡ two_say seats first.now second.now }
-{
-    let seat = read_seat(seats, first)?;
-    read_act(seat, second)
-}
-
 #[tactic(auto, unfolding(crate::specs::Action::act_said))]
 fn read_act(seat: Seat, act: &[u8]) -> Result<Kind, ActionFault>
     ensures { seen_by kind_said result ≡ act_said seat.number act.now }
@@ -82,22 +125,8 @@ fn read_act(seat: Seat, act: &[u8]) -> Result<Kind, ActionFault>
     }
 }
 
-// A deal to the board, or what a seat does in two words.
-#[tactic(auto, unfolding(crate::specs::Action::three_say))]
-fn read_three(seats: u8, first: &[u8], second: &[u8], third: &[u8]) -> Result<Kind, ActionFault>
-    requires { seats ≤ 10 }
-    ensures { seen_by kind_said result ≡ three_say seats first.now second.now third.now }
-{
-    if is_word(first, "d") && is_word(second, "db") {
-        let cards = read_cards(5, third)?;
-        return Ok(Kind::Board { cards });
-    }
-    let seat = read_seat(seats, first)?;
-    read_act_with(seat, second, third)
-}
-
 // What a seat does, in two words.
-#[tactic(auto, unfolding(crate::specs::Action::act_with_said))]
+#[tactic(auto, unfolding(crate::specs::Action::act_with_said, crate::specs::Action::cards_said))]
 fn read_act_with(seat: Seat, act: &[u8], more: &[u8]) -> Result<Kind, ActionFault>
     ensures { seen_by kind_said result ≡ act_with_said seat.number act.now more.now }
 {
@@ -109,30 +138,9 @@ fn read_act_with(seat: Seat, act: &[u8], more: &[u8]) -> Result<Kind, ActionFaul
         let cards = read_slots(5, more)?;
         Ok(Kind::Discard { seat, cards })
     } else if is_word(act, "sm") {
-        let cards = read_cards(7, more)?;
+        let cards = known_cards(read_slots(7, more)?)?;
         Ok(Kind::Show { seat, cards })
     } else {
         Err(ActionFault::BadAction)
     }
-}
-
-// Hole cards for a seat.
-#[tactic(auto, unfolding(crate::specs::Action::four_say))]
-fn read_four(
-    seats: u8,
-    first: &[u8],
-    second: &[u8],
-    third: &[u8],
-    fourth: &[u8],
-) -> Result<Kind, ActionFault>
-    requires { seats ≤ 10 }
-    ensures { seen_by kind_said result
-        ≡ four_say seats first.now second.now third.now fourth.now }
-{
-    if !(is_word(first, "d") && is_word(second, "dh")) {
-        return Err(ActionFault::BadAction);
-    }
-    let seat = read_seat(seats, third)?;
-    let cards = read_slots(7, fourth)?;
-    Ok(Kind::Hole { seat, cards })
 }

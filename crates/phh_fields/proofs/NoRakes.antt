@@ -1,7 +1,7 @@
 -- Where there are no rakes, none is above the greatest amount.
 use Rattle.std.proofs.Common.{◌≡◌, ℕ, ◌-◌, ◌≤◌, sym, subst, arith}
 use Rattle.chip_ledger.specs.declared.rakes.RakeRow.{RakeRow}
-use Rattle.chip_ledger.specs.declared.rows.TheConstants.{MOST_AMOUNT}
+use Rattle.chip_ledger.specs.declared.seat_row.TheConstants.{MOST_AMOUNT}
 use Rattle.chip_ledger.specs.Fillers.{index-replicate}
 use Rattle.chip_ledger.specs.RakeRow.{rake_of, no_rakes}
 

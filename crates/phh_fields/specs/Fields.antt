@@ -1,7 +1,8 @@
 -- The fields of a hand, each read in its form or refused with its place.
-use Rattle.std.specs.Prelude.{ℕ, ◌==◌, Bool, nat_le, ◌&&◌, if◌then◌else◌, List, [], ◌∷◌, ◌++◌, length, codes, Option, Some, None, ℤ, pos, negsuc, Result, Ok, Err}
+use Rattle.std.specs.Prelude.{ℕ, ◌==◌, Bool, if◌then◌else◌, List, [], ◌∷◌, ◌++◌, length, codes, Option, Some, None, Result, Ok, Err}
 use Rattle.std.specs.Fmt.{decimal}
 use Rattle.toml.specs.Data.{Data, string, integer, float, boolean, array, Items, no_items, item, Members, get_member}
+use Rattle.first_fault.specs.Forms.{Numeral, Fraction, NoNumber, NumberFaults, or_fault, whole_numeral, whole_within}
 use Rattle.first_fault.specs.Reading.{◌>>=◌}
 use Rattle.phh_fields.specs.declared.fault.FieldKey.{FieldKey}
 use Rattle.phh_fields.specs.declared.fault.FieldKey.TheVariants as keys
@@ -53,13 +54,16 @@ place_text place =
     else (key_text place.key ++ (codes " " ++ decimal place.item))
 
 -- a fault at a place
+abbrev pub fault_at : FieldFaultKind → FieldPlace → FieldFault
+fault_at what place = record { what = what; place = place }
+
+-- what is wrong at a place
 abbrev pub wrong : {A : Type 0} → FieldFaultKind → FieldPlace → Result A FieldFault
-wrong what place = Err (record { what = what; place = place })
+wrong what place = Err (fault_at what place)
 
 -- a value that is there, or else a fault
 abbrev pub or_wrong : {A : Type 0} → FieldFaultKind → FieldPlace → Option A → Result A FieldFault
-or_wrong what place (Some x) = Ok x
-or_wrong what place None = wrong what place
+or_wrong what place found = or_fault (fault_at what place) found
 
 -- the value at a key, if there is one
 abbrev pub field : FieldKey → Members → Option Data
@@ -69,25 +73,37 @@ field key members = get_member (key_text key) members
 unfoldable pub needed : FieldKey → Members → Result Data FieldFault
 needed key members = or_wrong whats.MissingField (at_key key) (field key members)
 
+-- the text that a value is
+abbrev pub text_of : Data → Option (List ℕ)
+text_of (string text) = Some text
+text_of _ = None
+
 -- a text
 unfoldable pub text_said : FieldPlace → Data → Result (List ℕ) FieldFault
-text_said place (string text) = Ok text
-text_said place _ = wrong whats.WrongType place
+text_said place value = or_wrong whats.WrongType place (text_of value)
+
+-- the truth value that a value is
+abbrev pub flag_of : Data → Option Bool
+flag_of (boolean flag) = Some flag
+flag_of _ = None
 
 -- a truth value
 unfoldable pub flag_said : FieldPlace → Data → Result Bool FieldFault
-flag_said place (boolean flag) = Ok flag
-flag_said place _ = wrong whats.WrongType place
+flag_said place value = or_wrong whats.WrongType place (flag_of value)
 
 -- the items of a list, in order
 abbrev pub listed : Items → List Data
 listed no_items = []
 listed (item value rest) = value ∷ listed rest
 
+-- the list that a value is, as its items
+abbrev pub list_of : Data → Option (List Data)
+list_of (array items) = Some (listed items)
+list_of _ = None
+
 -- a list
 unfoldable pub list_said : FieldPlace → Data → Result (List Data) FieldFault
-list_said place (array items) = Ok (listed items)
-list_said place _ = wrong whats.WrongType place
+list_said place value = or_wrong whats.WrongType place (list_of value)
 
 -- a list with one item for each of so many seats
 unfoldable pub items_said : ℕ → FieldKey → Data → Result (List Data) FieldFault
@@ -95,19 +111,36 @@ items_said seats key value = do
   items ← list_said (at_key key) value
   if length items == seats then Ok items else wrong whats.ListLength (at_key key)
 
--- a number from least to most
-unfoldable pub kept_within : ℕ → ℕ → FieldPlace → ℤ → Result ℕ FieldFault
-kept_within least most place (pos number) =
-    if nat_le least number && nat_le number most then Ok number else wrong whats.AmountLimit place
-kept_within least most place (negsuc number) = wrong whats.AmountLimit place
+-- the number that a value is
+abbrev pub numeral_of : Data → Numeral
+numeral_of (integer number) = whole_numeral number
+numeral_of (float number) = Fraction
+numeral_of _ = NoNumber
+
+-- the faults of an amount at a place
+abbrev pub amount_faults : FieldPlace → NumberFaults FieldFault
+amount_faults place =
+    record {
+      out_of_range = fault_at whats.AmountLimit place;
+      not_whole = fault_at whats.AmountNotWhole place;
+      no_number = fault_at whats.WrongType place;
+    }
 
 -- an amount from least to most: a whole number of chips
 unfoldable pub amount_said : ℕ → ℕ → FieldPlace → Data → Result ℕ FieldFault
-amount_said least most place (integer number) = kept_within least most place number
-amount_said least most place (float number) = wrong whats.AmountNotWhole place
-amount_said least most place _ = wrong whats.WrongType place
+amount_said least most place value =
+    whole_within (amount_faults place) least most (numeral_of value)
+
+-- the faults of a number that is no amount: with a fraction it is of another kind
+abbrev pub number_faults : FieldPlace → NumberFaults FieldFault
+number_faults place =
+    record {
+      out_of_range = fault_at whats.AmountLimit place;
+      not_whole = fault_at whats.WrongType place;
+      no_number = fault_at whats.WrongType place;
+    }
 
 -- a whole number from least to most that is no amount
 unfoldable pub number_said : ℕ → ℕ → FieldPlace → Data → Result ℕ FieldFault
-number_said least most place (integer number) = kept_within least most place number
-number_said least most place _ = wrong whats.WrongType place
+number_said least most place value =
+    whole_within (number_faults place) least most (numeral_of value)

@@ -1,7 +1,7 @@
 //! A list of amounts is read as a row: one for each seat, or one for each pot.
 ghost use Rattle.std.specs.Prelude.{◌≡◌, ℕ, ◌<◌, ◌≤◌, length, map, slice_index, take, IfOk};
 ghost use Rattle.toml.specs.View.{view};
-ghost use Rattle.chip_ledger.specs.declared.rows.TheConstants.{MOST_AMOUNT};
+ghost use Rattle.chip_ledger.specs.declared.seat_row.TheConstants.{MOST_AMOUNT};
 ghost use Rattle.chip_ledger.specs.RakeRow.{rake_of};
 ghost use Rattle.play_event.specs.ValidSetup.{IsSize};
 ghost use Rattle.first_fault.specs.Reading.{Gives};
@@ -10,9 +10,9 @@ ghost use Rattle.phh_fields.specs.Rows.{AreHeld, amounts_said, antes_from, ante_
 ghost use Rattle.chip_ledger.specs.SeatRow.{amounts_in};
 
 use crate::fault::{FieldFault, FieldFaultKind, FieldKey, FieldPlace};
-use crate::values::{has_count, read_amount, read_items, read_list, wrong};
+use crate::values::{read_amount, read_items, read_list, wrong};
 use chip_ledger::{MOST_AMOUNT, MOST_CHIPS, RakeRow, SeatRow};
-use first_fault::Stop;
+use first_fault::{Stop, has_count};
 use toml::Value;
 
 /// A row of so many seats, each with an amount of up to `most` chips.

@@ -1,11 +1,11 @@
 //! A value of a document is read in one form, or refused with its place.
-ghost use Rattle.std.specs.Prelude.{◌≡◌, ◌≤◌, ◌&&◌, nat_le, length, map, option_map, IfOk};
+ghost use Rattle.std.specs.Prelude.{◌≡◌, ◌≤◌, length, map, option_map, IfOk};
 ghost use Rattle.toml.specs.View.{array_view, table_view, view};
 ghost use Rattle.first_fault.specs.Reading.{Gives};
-ghost use Rattle.phh_fields.specs.Fields.{amount_said, field as field_said, flag_said, items_said, kept_within, list_said, listed, needed as needed_said, number_said, text_said};
+ghost use Rattle.phh_fields.specs.Fields.{amount_said, field as field_said, flag_said, items_said, list_said, listed, needed as needed_said, number_said, text_said};
 
 use crate::fault::{FieldFault, FieldFaultKind, FieldKey, FieldPlace};
-use first_fault::Stop;
+use first_fault::{Stop, keep_within};
 use toml::{Table, Value};
 
 /// The value at a key that is needed.
@@ -47,14 +47,6 @@ pub fn read_flag(value: &Value, place: FieldPlace) -> Result<bool, Stop<FieldFau
         Value::Boolean(flag) => Ok(*flag),
         _ => Err(wrong(FieldFaultKind::WrongType, place)),
     }
-}
-
-/// Whether there are so many values.
-pub fn has_count(values: &[Value], least: usize, most: usize) -> bool
-    ensures { result ≡ (nat_le least (length (map view values.now))
-        && nat_le (length (map view values.now)) most) }
-{
-    least <= values.len() && values.len() <= most
 }
 
 /// The values of a list with one for each of so many seats.
@@ -107,7 +99,13 @@ pub fn read_amount(
         (amount_said least most place (view value.now)) }
 {
     match value {
-        Value::Integer(number) => keep_within(*number, least, most, place),
+        Value::Integer(number) => {
+            if *number < 0 {
+                return Err(wrong(FieldFaultKind::AmountLimit, place));
+            }
+            let what = FieldFaultKind::AmountLimit;
+            keep_within(*number as u64, least, most, FieldFault { what, place })
+        }
         Value::Float(_) => Err(wrong(FieldFaultKind::AmountNotWhole, place)),
         _ => Err(wrong(FieldFaultKind::WrongType, place)),
     }
@@ -125,32 +123,14 @@ pub fn read_number(
     ensures said { Gives (λ number. number) result
         (number_said least most place (view value.now)) }
 {
-    match value {
-        Value::Integer(number) => keep_within(*number, least, most, place),
-        _ => Err(wrong(FieldFaultKind::WrongType, place)),
-    }
-}
-
-// A number from least to most.
-#[tactic(auto, unfolding(crate::specs::Fields::kept_within))]
-fn keep_within(
-    number: i64,
-    least: u64,
-    most: u64,
-    place: FieldPlace,
-) -> Result<u64, Stop<FieldFault>>
-    ensures within { IfOk result (λ number. (least ≤ number) × (number ≤ most)) }
-    ensures said { Gives (λ number. number) result (kept_within least most place number) }
-{
-    if number < 0 {
+    let Value::Integer(number) = value else {
+        return Err(wrong(FieldFaultKind::WrongType, place));
+    };
+    if *number < 0 {
         return Err(wrong(FieldFaultKind::AmountLimit, place));
     }
-    let number = number as u64;
-    if least <= number && number <= most {
-        Ok(number)
-    } else {
-        Err(wrong(FieldFaultKind::AmountLimit, place))
-    }
+    let what = FieldFaultKind::AmountLimit;
+    keep_within(*number as u64, least, most, FieldFault { what, place })
 }
 
 /// A fault at a place.

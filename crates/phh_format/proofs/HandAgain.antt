@@ -4,7 +4,7 @@ use Rattle.std.specs.List.{list_any}
 use Rattle.std.proofs.lemmas.Bool.{cases_lt, le-leb}
 use Rattle.std.proofs.lemmas.List.{length-map, length-take-le}
 use Rattle.toml.specs.Data.{Data, string, integer, Members}
-use Rattle.chip_ledger.specs.declared.rows.TheConstants.{MOST_AMOUNT}
+use Rattle.chip_ledger.specs.declared.seat_row.TheConstants.{MOST_AMOUNT}
 use Rattle.play_event.specs.declared.setup.Setup.{Setup}
 use Rattle.first_fault.specs.Reading.{◌>>=◌, read_if}
 use Rattle.hand_records.specs.declared.trace.Play.{Play}

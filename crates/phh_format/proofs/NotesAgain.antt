@@ -12,7 +12,7 @@ use Rattle.first_fault.specs.declared.limits.TheConstants.{MOST_TEXT_BYTES}
 use Rattle.hand_records.specs.declared.notes.Clock.{Clock}
 use Rattle.hand_records.specs.AllowedNotes.{IsNoteText, IsTime, IsWithin, days_in_month}
 use Rattle.phh_fields.specs.declared.fault.FieldPlace.{FieldPlace}
-use Rattle.phh_fields.specs.Fields.{number_said, kept_within, text_said}
+use Rattle.phh_fields.specs.Fields.{number_said, text_said}
 use Rattle.phh_fields.specs.NoteFields.{clock_said, is_in_calendar, label_said, note_said, or_zero, text_note_said, time_said}
 use Rattle.phh_writing.specs.HandFields.{hand_field, label, local_time, number_field, number_written}
 use Rattle.list_laws.proofs.Tests.{implied}
@@ -78,7 +78,7 @@ name_again at place (Some name) is = go (bytes_eq name (decimal at)) refl
     go false other = label_again (decimal at) name place is other
 
 pub number_again : (least most number : ℕ) (place : FieldPlace) → IsWithin least most number → number_said least most place (integer (pos number)) ≡ Ok number
-unfolding number_said kept_within
+unfolding number_said
 number_again least most number place is = rw (le-leb least number is.0, le-leb number most is.1) refl
 
 pub said_again : (least most : ℕ) (place : FieldPlace) (said : Option ℕ) → IfSome said (IsWithin least most) → read_if (number_said least most place) (number_field said) ≡ Ok said

@@ -5,12 +5,12 @@ use Rattle.std.proofs.lemmas.Bool.{le-leb, eq-eqb}
 use Rattle.std.proofs.lemmas.List.{length-map, length-take}
 use Rattle.toml.specs.Data.{Data, integer}
 use Rattle.toml.specs.View.{items_of}
-use Rattle.chip_ledger.specs.declared.rows.SeatRow.{SeatRow}
+use Rattle.chip_ledger.specs.declared.seat_row.SeatRow.{SeatRow}
 use Rattle.chip_ledger.specs.SeatRow.{amount_of, amounts_in}
 use Rattle.first_fault.specs.Reading.{each_from}
 use Rattle.phh_fields.specs.declared.fault.FieldKey.{FieldKey}
 use Rattle.phh_fields.specs.declared.fault.FieldPlace.{FieldPlace}
-use Rattle.phh_fields.specs.Fields.{amount_said, at_item, items_said, kept_within, list_said, listed}
+use Rattle.phh_fields.specs.Fields.{amount_said, at_item, items_said, list_said, listed}
 use Rattle.phh_fields.specs.Rows.{amounts_said, row_said}
 use Rattle.phh_writing.specs.HandFields.{numbers}
 use Rattle.list_laws.proofs.Entries.{each_taken}
@@ -26,7 +26,7 @@ abbrev pub number_data : List ℕ → List Data
 number_data all = map (λ number. integer (pos number)) all
 
 pub amount_again : (least most number : ℕ) (place : FieldPlace) → least ≤ number → number ≤ most → amount_said least most place (integer (pos number)) ≡ Ok number
-unfolding amount_said kept_within
+unfolding amount_said
 amount_again least most number place low high = rw (le-leb least number low, le-leb number most high) refl
 
 amounts_from : (least most : ℕ) (key : FieldKey) (n : ℕ) (all : List ℕ) → AllByRecursion (IsWithin least most) all

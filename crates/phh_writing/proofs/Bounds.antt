@@ -4,7 +4,7 @@ use Rattle.std.specs.Str.Parse.{digits_value}
 use Rattle.std.proofs.lemmas.Bool.{leb-true}
 use Rattle.first_fault.specs.Digits.{number_of}
 use Rattle.chip_ledger.specs.declared.rakes.RakeRow.{RakeRow}
-use Rattle.chip_ledger.specs.declared.rows.TheConstants.{MOST_AMOUNT}
+use Rattle.chip_ledger.specs.declared.seat_row.TheConstants.{MOST_AMOUNT}
 use Rattle.chip_ledger.specs.RakeRow.{rake_of}
 
 -- a number within the greatest is no greater

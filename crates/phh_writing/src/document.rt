@@ -50,8 +50,7 @@ pub fn write(alloc: Global, plays: &[Play], keep: Keep) -> Result<Vec<u8>, Write
 
 // The document of some plays. The tables of several hands are put in from the last to the first.
 fn make_document(alloc: Global, plays: &[Play]) -> Result<Table, Memory>
-    requires few { length plays.now ≤ MOST_HANDS }
-    requires sound { AllByRecursion IsSound plays.now }
+    requires { AllByRecursion IsSound plays.now }
     ensures { IfOk result (λ table. table_view table ≡ document plays.now) }
 {
     if let [play] = plays {

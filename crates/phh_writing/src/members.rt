@@ -2,7 +2,7 @@
 ghost use Rattle.std.specs.Prelude.{ℕ, ◌≡◌, ◌≤◌, ◌<◌, ◌^◌, pos, length, take, slice_index, string_bytes, OnOk};
 ghost use Rattle.toml.specs.Data.{integer, string};
 ghost use Rattle.toml.specs.View.{table_view, view};
-ghost use Rattle.chip_ledger.specs.declared.rows.TheConstants.{MOST_AMOUNT};
+ghost use Rattle.chip_ledger.specs.declared.seat_row.TheConstants.{MOST_AMOUNT};
 ghost use Rattle.phh_writing.specs.Members.{put as put_said};
 ghost use Rattle.phh_writing.specs.HandFields.{numbers};
 ghost use Rattle.chip_ledger.specs.SeatRow.{amounts_in};
@@ -26,15 +26,6 @@ pub fn text(text: String) -> Value
     ensures { view result ≡ string (string_bytes text) }
 {
     Value::String(text)
-}
-
-/// Puts a whole number under a key.
-pub fn put_number(alloc: Global, table: &mut Table, key: &str, amount: u64) -> Result<(), Memory>
-    requires { amount < 2 ^ 63 }
-    ensures { OnOk result (table_view table.new
-        ≡ put_said key.now (integer (pos amount)) (table_view table.old)) }
-{
-    put(alloc, table, key, number(amount))
 }
 
 /// Puts the amounts of a row under a key.

@@ -8,7 +8,7 @@ ghost use Rattle.phh_writing.specs.Members.{put as put_said, put_if, with_fields
 ghost use Rattle.phh_writing.specs.HandFields.{fraction as fraction_said, hand_field, label, local_time as time_said, names_field, note_fields, number_field, number_written, numbers};
 ghost use Rattle.hand_records.specs.AllowedNotes.{name_written};
 
-use crate::members::{number, put, put_number, put_text, text};
+use crate::members::{number, put, put_text, text};
 use card_set::Memory;
 use first_fault::{Text, are_digits, read_digits};
 use hand_records::{Clock, Notes};
@@ -33,7 +33,7 @@ pub fn put_notes(
     put_time(alloc, table, notes.time)?;
     put_said(alloc, table, "day", widened(notes.day))?;
     put_said(alloc, table, "month", widened(notes.month))?;
-    put_said(alloc, table, "year", year_of(notes.year))?;
+    put_said(alloc, table, "year", notes.year)?;
     put_note(alloc, table, "currency", &notes.currency)?;
     put_note(alloc, table, "venue", &notes.venue)?;
     put_table_name(alloc, table, &notes.table)?;
@@ -89,31 +89,22 @@ fn fraction(nano: u32) -> Option<u32>
 }
 
 // Puts a number under a key, where one is said.
-fn put_said(alloc: Global, table: &mut Table, key: &str, said: Option<u32>) -> Result<(), Memory>
+fn put_said(alloc: Global, table: &mut Table, key: &str, said: Option<u16>) -> Result<(), Memory>
     ensures { OnOk result (table_view table.new
         ≡ put_if key.now (number_field said) (table_view table.old)) }
 {
     match said {
-        Some(number) => put_number(alloc, table, key, u64::from(number)),
+        Some(said) => put(alloc, table, key, number(u64::from(said))),
         None => Ok(()),
     }
 }
 
 // The same number in more bits.
-fn widened(said: Option<u8>) -> Option<u32>
+fn widened(said: Option<u8>) -> Option<u16>
     ensures { result ≡ said }
 {
     match said {
-        Some(number) => Some(u32::from(number)),
-        None => None,
-    }
-}
-
-fn year_of(said: Option<u16>) -> Option<u32>
-    ensures { result ≡ said }
-{
-    match said {
-        Some(number) => Some(u32::from(number)),
+        Some(number) => Some(u16::from(number)),
         None => None,
     }
 }
@@ -155,7 +146,7 @@ fn put_label(alloc: Global, table: &mut Table, key: &str, text: &str) -> Result<
         ≡ put_said key.now (label text.now) (table_view table.old)) }
 {
     match number_of(text.as_bytes()) {
-        Some(number) => put_number(alloc, table, key, number),
+        Some(said) => put(alloc, table, key, number(said)),
         None => put_text(alloc, table, key, text),
     }
 }
@@ -212,8 +203,12 @@ fn put_names(alloc: Global, table: &mut Table, count: u8, notes: &Notes) -> Resu
     if !has_name(&notes.names[..count as usize]) {
         return Ok(());
     }
-    let names = names_of(alloc, notes, count)?;
-    put(alloc, table, "players", Value::Array(names))
+    let mut values = Vec::new(alloc);
+    for index in 0..count {
+        let name = name_of(alloc, notes, index + 1)?;
+        values.push(text(name))?;
+    }
+    put(alloc, table, "players", Value::Array(values))
 }
 
 // Whether one of the names is said.
@@ -226,20 +221,6 @@ fn has_name(names: &[Option<Text>]) -> bool
         }
     }
     false
-}
-
-// The names of so many players, as values.
-fn names_of(alloc: Global, notes: &Notes, count: u8) -> Result<Vec<Value>, Memory>
-    requires { count ≤ 10 }
-    ensures { IfOk result (λ values. map view values.items
-        ≡ map string (map (name_written notes.now) (range_with_len 1 count))) }
-{
-    let mut values = Vec::new(alloc);
-    for index in 0..count {
-        let name = name_of(alloc, notes, index + 1)?;
-        values.push(text(name))?;
-    }
-    Ok(values)
 }
 
 // The name of a seat's player, or its default where none is said.

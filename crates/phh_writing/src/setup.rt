@@ -6,7 +6,7 @@ ghost use Rattle.phh_writing.specs.Members.{put_if, with_fields};
 ghost use Rattle.phh_writing.specs.HandFields.{blinds_field, setup_fields, size_field};
 
 use crate::games::{is_fixed, is_stud};
-use crate::members::{put, put_amounts, put_number, put_row, put_text};
+use crate::members::{number, put, put_amounts, put_row, put_text};
 use card_set::Memory;
 use play_event::Setup;
 use std::alloc::Global;
@@ -50,7 +50,7 @@ fn put_size(
         ≡ put_if key.now (size_field used size) (table_view table.old)) }
 {
     if used {
-        put_number(alloc, table, key, size)
+        put(alloc, table, key, number(size))
     } else {
         Ok(())
     }

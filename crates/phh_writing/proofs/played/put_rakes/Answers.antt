@@ -1,5 +1,5 @@
 use Rattle.std.proofs.Common.{◌≤◌, ℕ, List, slice_index, subst, sym}
-use Rattle.chip_ledger.specs.declared.rows.TheConstants.{MOST_AMOUNT}
+use Rattle.chip_ledger.specs.declared.seat_row.TheConstants.{MOST_AMOUNT}
 use Rattle.phh_writing.proofs.Bounds.{rake_within}
 use Rattle.phh_writing.proofs.played.put_rakes.Goals as goal
 

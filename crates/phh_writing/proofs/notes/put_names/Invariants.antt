@@ -2,7 +2,7 @@ use Rattle.std.proofs.Common.{◌≡◌, map}
 use Rattle.std.specs.List.{range_with_len}
 use Rattle.toml.specs.Data.{string}
 use Rattle.toml.specs.View.{view}
-use Rattle.phh_writing.proofs.notes.names_of.Given as goal
+use Rattle.phh_writing.proofs.notes.put_names.Given as goal
 use Rattle.hand_records.specs.AllowedNotes.{name_written}
 
 -- the names so far are values

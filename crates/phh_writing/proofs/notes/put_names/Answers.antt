@@ -4,7 +4,7 @@ use Rattle.std.proofs.lemmas.List.{map_push}
 use Rattle.toml.specs.Data.{Data, string}
 use Rattle.toml.specs.View.{view}
 use Rattle.list_laws.proofs.Ranges.{range_more}
-use Rattle.phh_writing.proofs.notes.names_of.Goals as goal
+use Rattle.phh_writing.proofs.notes.put_names.Goals as goal
 use Rattle.hand_records.specs.AllowedNotes.{name_written}
 
 pub loop-index-preserved : goal.loop-index-preserved

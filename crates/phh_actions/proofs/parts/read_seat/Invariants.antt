@@ -1,7 +1,7 @@
 use Rattle.std.proofs.Common.{◌≡◌, ◌+◌, ◌-◌, bytes_eq, find}
 use Rattle.std.specs.List.{range_with_len}
 use Rattle.phh_actions.specs.Action.{seat_named}
-use Rattle.phh_actions.proofs.parts.find_seat.Given as goal
+use Rattle.phh_actions.proofs.parts.read_seat.Given as goal
 use Rattle.chip_ledger.specs.SeatsSaid.{default_name}
 
 -- no seat so far has the name
