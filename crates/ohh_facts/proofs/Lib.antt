@@ -3,3 +3,4 @@ pub mod Nine
 pub mod NamesFrom
 pub mod Dated
 pub mod PaidSame
+pub mod UnusualNotes

@@ -3,10 +3,10 @@
 use Rattle.std.specs.Prelude.{◌≡◌, ◌≤◌, ℕ, ◌+◌, nat_le, nat_lt, ◌&&◌, if◌then◌else◌, List, [], ◌∷◌, ◌++◌, length, map, Option, Some, None, option_map, unwrap_or, ℤ, Result, Ok}
 use Rattle.std.specs.Option.{ForSome}
 use Rattle.serde_json.specs.Data.{Data}
-use Rattle.chip_ledger.specs.declared.rows.TheConstants.{MOST_AMOUNT}
+use Rattle.chip_ledger.specs.declared.seat_row.TheConstants.{MOST_AMOUNT}
 use Rattle.chip_ledger.specs.RakeRow.{rake_of}
 use Rattle.chip_ledger.specs.Seat.{seats_of}
-use Rattle.first_fault.specs.Reading.{◌>>=◌, read_if}
+use Rattle.first_fault.specs.Reading.{◌>>=◌, added_from, read_if}
 use Rattle.ohh_members.specs.declared.fault.PotMember.{PotMember}
 use Rattle.ohh_members.specs.declared.fault.PotMember.TheVariants as members
 use Rattle.ohh_members.specs.declared.fault.WinMember.{WinMember}
@@ -18,7 +18,7 @@ use Rattle.ohh_members.specs.declared.fault.MemberFault.{MemberFault}
 use Rattle.ohh_facts.specs.declared.listed_pots.ListedPots.{ListedPots}
 use Rattle.ohh_facts.specs.declared.listed_pots.Paid.{Paid}
 use Rattle.ohh_facts.specs.PotSums.{PlainListedPot, plain_listed_pot, all_of, rakes_said}
-use Rattle.ohh_members.specs.Values.{wrong, field, needed, object_said, list_said, number_said, player_said, added_from}
+use Rattle.ohh_members.specs.Values.{wrong, field, needed, object_said, list_said, number_said, player_said}
 use Rattle.ohh_facts.specs.Won.{PlainWin, plain_win, won_by}
 use Rattle.chip_ledger.specs.SeatRow.{amounts_in}
 

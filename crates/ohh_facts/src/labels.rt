@@ -59,23 +59,15 @@ pub fn read_labels(
 }
 
 // How many seats the table has, if that is said.
+#[tactic(auto, unfolding(crate::specs::Notes::seat_count_said))]
 fn seat_count_at(ohh: &Value, seats: u8) -> Result<Option<u8>, Stop<MemberFault>>
     ensures said { Gives (λ count. count) result
         (or_none (seat_count_said seats) (field_said paths.TableSize (view ohh.now))) }
     ensures allowed { IfOk result (λ count. IfSome count (IsSeatCount seats)) }
 {
-    match field(ohh, Path::TableSize) {
-        Some(value) => read_seat_count(value, seats),
-        None => Ok(None),
-    }
-}
-
-// How many seats the table has.
-#[tactic(auto, unfolding(crate::specs::Notes::seat_count_said))]
-fn read_seat_count(value: &Value, seats: u8) -> Result<Option<u8>, Stop<MemberFault>>
-    ensures said { Gives (λ count. count) result (seat_count_said seats (view value.now)) }
-    ensures allowed { IfOk result (λ count. IfSome count (IsSeatCount seats)) }
-{
+    let Some(value) = field(ohh, Path::TableSize) else {
+        return Ok(None);
+    };
     let count = read_number(value, 1, 255, Path::TableSize)? as u8;
     if count == seats {
         Ok(None)

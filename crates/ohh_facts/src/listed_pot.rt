@@ -1,6 +1,6 @@
 //! A pot of a hand, as it is listed.
 ghost use Rattle.std.specs.Prelude.{◌≤◌};
-ghost use Rattle.chip_ledger.specs.declared.rows.TheConstants.{MOST_AMOUNT};
+ghost use Rattle.chip_ledger.specs.declared.seat_row.TheConstants.{MOST_AMOUNT};
 
 /// A pot, in chips.
 #[derive(Clone, Copy, Debug, PartialEq, Eq)]

@@ -1,6 +1,6 @@
 //! The pots that are listed, what they are together, and what they state of a hand.
 ghost use Rattle.std.specs.Prelude.{◌≡◌, ◌≤◌, map};
-ghost use Rattle.chip_ledger.specs.declared.rows.TheConstants.{MOST_AMOUNT};
+ghost use Rattle.chip_ledger.specs.declared.seat_row.TheConstants.{MOST_AMOUNT};
 ghost use Rattle.ohh_facts.specs.PotSums.{all_of, plain_listed_pot};
 
 use crate::listed_pot::ListedPot;

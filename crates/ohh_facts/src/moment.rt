@@ -1,11 +1,11 @@
 //! When a hand was played is read from a text: a day of the calendar and a time of the day, in
 //! universal time.
-ghost use Rattle.std.specs.Prelude.{◌≡◌, ◌≤◌, ◌+◌, ◌-◌, length, IfOk};
+ghost use Rattle.std.specs.Prelude.{◌≡◌, ◌≤◌, length, IfOk};
 ghost use Rattle.serde_json.specs.View.{view};
 ghost use Rattle.hand_records.specs.AllowedNotes.{IsTime, IsWithin};
 ghost use Rattle.first_fault.specs.Reading.{Gives};
 ghost use Rattle.ohh_facts.specs.MomentRanges.{IsDay, IsMoment};
-ghost use Rattle.ohh_facts.specs.Moments.{clock_said, day_said, digits_in_front as digits_in_front_said, digits_said, fraction_of, fraction_said, has_point as has_point_said, has_signs as has_signs_said, is_universal as is_universal_said, moment_in, moment_said, nine_of, part as part_said, parts_said, zoned};
+ghost use Rattle.ohh_facts.specs.Moments.{clock_said, day_said, digits_in_front as digits_in_front_said, digits_said, fraction_said, has_point as has_point_said, has_signs as has_signs_said, is_universal as is_universal_said, moment_said, nine_of, part as part_said, zoned};
 
 use first_fault::{Stop, are_digits, read_digits};
 use hand_records::{CivilDate, Clock, Moment, has_day};
@@ -14,25 +14,20 @@ use ohh_members::values::{read_text, wrong};
 use serde_json::Value;
 
 /// The moment at which a hand began.
+#[tactic(auto, unfolding(crate::specs::Moments::moment_in, crate::specs::Moments::parts_said))]
 pub fn read_moment(value: &Value) -> Result<Moment, Stop<MemberFault>>
     ensures said { Gives (λ moment. moment) result (moment_said (view value.now)) }
     ensures moment { IfOk result IsMoment }
 {
-    let text = read_text(value, Path::StartDate)?;
-    moment_of(text.as_bytes())
-}
-
-// The moment that a text says.
-#[tactic(auto, unfolding(crate::specs::Moments::moment_in))]
-fn moment_of(text: &[u8]) -> Result<Moment, Stop<MemberFault>>
-    ensures said { Gives (λ moment. moment) result (moment_in text.now) }
-    ensures moment { IfOk result IsMoment }
-{
-    if has_signs(text) {
-        read_parts(text)
-    } else {
-        Err(no_moment())
+    let text = read_text(value, Path::StartDate)?.as_bytes();
+    if !has_signs(text) {
+        return Err(no_moment());
     }
+    let day = read_day(text)?;
+    let (_front, behind) = text.split_at(19);
+    let nano = read_fraction(behind)?;
+    let time = read_clock(text, nano)?;
+    Ok(Moment { day, time })
 }
 
 // Whether the signs between the numbers are those of a moment.
@@ -44,24 +39,9 @@ fn has_signs(text: &[u8]) -> bool
             && ((text[10] == b'T' || text[10] == b' ') && (text[13] == b':' && text[16] == b':')))
 }
 
-// The moment of a text with its signs.
-#[tactic(auto, unfolding(crate::specs::Moments::parts_said))]
-fn read_parts(text: &[u8]) -> Result<Moment, Stop<MemberFault>>
-    requires { 19 ≤ length text.now }
-    ensures said { Gives (λ moment. moment) result (parts_said text.now) }
-    ensures moment { IfOk result IsMoment }
-{
-    let day = read_day(text)?;
-    let (_front, behind) = text.split_at(19);
-    let nano = read_fraction(behind)?;
-    let time = read_clock(text, nano)?;
-    Ok(Moment { day, time })
-}
-
-// The day of a text of 19 signs or more.
+// The day of a text with its signs.
 #[tactic(auto, unfolding(crate::specs::Moments::day_said))]
 fn read_day(text: &[u8]) -> Result<CivilDate, Stop<MemberFault>>
-    requires { 19 ≤ length text.now }
     ensures said { Gives (λ day. day) result (day_said text.now) }
     ensures day { IfOk result IsDay }
 {
@@ -75,8 +55,9 @@ fn read_day(text: &[u8]) -> Result<CivilDate, Stop<MemberFault>>
     }
 }
 
-// What stands behind the seconds: a point and a fraction, or not, and the zone.
-#[tactic(auto, unfolding(crate::specs::Moments::fraction_said))]
+// What stands behind the seconds: a point and one to nine digits of a fraction, or not, and the
+// zone. The fraction is given in nanoseconds.
+#[tactic(auto, unfolding(crate::specs::Moments::fraction_said, crate::specs::Moments::fraction_of))]
 fn read_fraction(text: &[u8]) -> Result<u32, Stop<MemberFault>>
     ensures said { Gives (λ nano. nano) result (fraction_said text.now) }
     ensures most { IfOk result (λ nano. nano ≤ 999999999) }
@@ -85,7 +66,14 @@ fn read_fraction(text: &[u8]) -> Result<u32, Stop<MemberFault>>
         return read_zone(0, text);
     }
     let (_point, behind) = text.split_at(1);
-    read_digits_of_fraction(digits_in_front(behind), behind)
+    let count = digits_in_front(behind);
+    if count < 1 || count > 9 {
+        return Err(no_moment());
+    }
+    let (digits, zone) = behind.split_at(count);
+    let nine = nine(digits);
+    let nano = number_in(&nine, 0, 999_999_999)? as u32;
+    read_zone(nano, zone)
 }
 
 // Whether a point stands in front.
@@ -93,22 +81,6 @@ fn has_point(text: &[u8]) -> bool
     ensures { result ≡ has_point_said text.now }
 {
     !text.is_empty() && text[0] == b'.'
-}
-
-// One to nine digits in front of a text, in nanoseconds, where the zone stands behind them.
-#[tactic(auto, unfolding(crate::specs::Moments::fraction_of))]
-fn read_digits_of_fraction(count: usize, text: &[u8]) -> Result<u32, Stop<MemberFault>>
-    requires { count ≤ length text.now }
-    ensures said { Gives (λ nano. nano) result (fraction_of count text.now) }
-    ensures most { IfOk result (λ nano. nano ≤ 999999999) }
-{
-    if count < 1 || count > 9 {
-        return Err(no_moment());
-    }
-    let (digits, zone) = text.split_at(count);
-    let nine = nine(digits);
-    let nano = number_in(&nine, 0, 999_999_999)? as u32;
-    read_zone(nano, zone)
 }
 
 // Up to nine digits, and zeros behind them.
@@ -155,11 +127,10 @@ fn digits_in_front(text: &[u8]) -> usize
     text.len()
 }
 
-// The time of a text of 19 signs or more, with these nanoseconds.
+// The time of a text with its signs, with these nanoseconds.
 #[tactic(auto, unfolding(crate::specs::Moments::clock_said))]
 fn read_clock(text: &[u8], nano: u32) -> Result<Clock, Stop<MemberFault>>
-    requires long { 19 ≤ length text.now }
-    requires nano { nano ≤ 999999999 }
+    requires { nano ≤ 999999999 }
     ensures said { Gives (λ clock. clock) result (clock_said nano text.now) }
     ensures time { IfOk result IsTime }
 {
@@ -204,12 +175,11 @@ fn no_moment() -> Stop<MemberFault>
     wrong(MemberFaultKind::WrongType, Path::StartDate)
 }
 
-// So many signs of a text, from this place on.
+// So many signs of a text, from this place on, or as many as there are.
 fn part(text: &[u8], from: usize, count: usize) -> &[u8]
-    requires { from + count ≤ length text.now }
     ensures { result.now ≡ part_said from count text.now }
 {
-    let (_before, rest) = text.split_at(from);
-    let (part, _behind) = rest.split_at(count);
+    let (_before, rest) = text.split_at(from.min(text.len()));
+    let (part, _behind) = rest.split_at(count.min(rest.len()));
     part
 }

@@ -4,14 +4,14 @@ ghost use Rattle.std.specs.List.{range_with_len};
 ghost use Rattle.serde_json.specs.View.{view};
 ghost use Rattle.hand_records.specs.AllowedNotes.{AreAllowed, AreSeatNumbers, IsName, IsNoteText, IsWithin, unless_usual as unless_usual_said};
 ghost use Rattle.first_fault.specs.Reading.{Gives};
-ghost use Rattle.ohh_facts.specs.LabelRanges.{AreLabels};
-ghost use Rattle.ohh_facts.specs.Notes.{names_from, notes_of as notes_of_said, notes_said};
+ghost use Rattle.ohh_facts.specs.Notes.{names_from, notes_said};
 ghost use Rattle.hand_records.specs.AllowedNotes.{noted};
 ghost use Rattle.hand_records.specs.SaidNotes.{plain_notes};
 ghost use Rattle.ohh_members.specs.Players.{plain_player};
 ghost use Rattle.chip_ledger.specs.SeatsSaid.{default_name};
 
 use crate::labels::{Labels, read_labels};
+use crate::seated::Seated;
 use card_set::Memory;
 use first_fault::{Stop, Text};
 use hand_records::{Clock, Moment, Notes, keep_short};
@@ -36,20 +36,9 @@ pub fn read_notes(
         (notes_said place (map plain_player players.now) (view ohh.now)) }
     ensures allowed { IfOk result (AreAllowed (length players.now)) }
 {
+    let seated = &Seated { players };
     let labels = read_labels(alloc, ohh, place, players.len() as u8)?;
-    let notes = notes_of(alloc, players, labels)?;
-    Ok(notes)
-}
-
-// The notes that players and labels make.
-fn notes_of(alloc: Global, players: &[Player], labels: Labels) -> Result<Notes, Memory>
-    requires few { length players.now ≤ 10 }
-    requires fit { AreLabels (length players.now) labels }
-    ensures said { IfOk result (λ notes. plain_notes (length players.now) notes
-        ≡ notes_of_said (map plain_player players.now) labels) }
-    ensures allowed { IfOk result (AreAllowed (length players.now)) }
-{
-    let names = names_of(alloc, players)?;
+    let names = names_of(alloc, seated)?;
     let Labels {
         hand,
         table,
@@ -61,7 +50,7 @@ fn notes_of(alloc: Global, players: &[Player], labels: Labels) -> Result<Notes, 
     let zone = zone_of(alloc, moment)?;
     Ok(Notes {
         names,
-        seats: unless_usual(players),
+        seats: unless_usual(seated),
         seat_count,
         hand,
         table,
@@ -76,16 +65,17 @@ fn notes_of(alloc: Global, players: &[Player], labels: Labels) -> Result<Notes, 
 }
 
 // The names of players by their seats in the hand.
-fn names_of(alloc: Global, players: &[Player]) -> Result<[Option<Text>; 10], Memory>
-    requires { length players.now ≤ 10 }
-    ensures said { IfOk result (λ names. take (length players.now) names
-        ≡ names_from 1 (map plain_player players.now)) }
-    ensures each { IfOk result (λ names. (seat : ℕ) → 1 ≤ seat → seat ≤ length players.now
+fn names_of(alloc: Global, seated: &Seated) -> Result<[Option<Text>; 10], Memory>
+    ensures said { IfOk result (λ names. take (length seated.now.players.now) names
+        ≡ names_from 1 (map plain_player seated.now.players.now)) }
+    ensures each { IfOk result (λ names. (seat : ℕ) → 1 ≤ seat
+        → seat ≤ length seated.now.players.now
         → IfSome (slice_index_or names (seat - 1) None) (IsName seat)) }
-    ensures no_more { IfOk result (λ names. (index : ℕ) → length players.now ≤ index
+    ensures no_more { IfOk result (λ names. (index : ℕ) → length seated.now.players.now ≤ index
         → slice_index_or names index None ≡ None) }
 {
     let mut names = [None, None, None, None, None, None, None, None, None, None];
+    let players = seated.players;
     for (index, player) in players.iter().enumerate() {
         names[index] = name_of(alloc, player, index as u8 + 1)?;
     }
@@ -119,15 +109,14 @@ fn zone_of(alloc: Global, moment: Option<Moment>) -> Result<Option<Text>, Memory
 }
 
 // The seats of players at the table, unless they are 1, 2 and so on.
-fn unless_usual(players: &[Player]) -> Option<[u8; 10]>
-    requires { length players.now ≤ 10 }
-    ensures said { option_map (take (length players.now)) result
-        ≡ unless_usual_said (length (map plain_player players.now))
-        (map (λ player. player.seat) (map plain_player players.now)) }
-    ensures allowed { IfSome result (AreSeatNumbers (length players.now)) }
+fn unless_usual(seated: &Seated) -> Option<[u8; 10]>
+    ensures said { option_map (take (length seated.now.players.now)) result
+        ≡ unless_usual_said (length (map plain_player seated.now.players.now))
+        (map (λ player. player.seat) (map plain_player seated.now.players.now)) }
+    ensures allowed { IfSome result (AreSeatNumbers (length seated.now.players.now)) }
 {
-    let seats = seats_of(players);
-    if are_usual(seats, players.len()) {
+    let seats = seats_of(seated);
+    if are_usual(seats, seated.players.len()) {
         None
     } else {
         Some(seats)
@@ -135,15 +124,16 @@ fn unless_usual(players: &[Player]) -> Option<[u8; 10]>
 }
 
 // The seats of players at the table, by their seats in the hand.
-fn seats_of(players: &[Player]) -> [u8; 10]
-    requires { length players.now ≤ 10 }
-    ensures said { take (length players.now) result
-        ≡ map (λ player. player.seat) (map plain_player players.now) }
-    ensures each { (k : ℕ) → k < length players.now → IsWithin 1 255 (slice_index result k) }
-    ensures no_more { (k : ℕ) → length players.now ≤ k → slice_index result k ≡ 0 }
+fn seats_of(seated: &Seated) -> [u8; 10]
+    ensures said { take (length seated.now.players.now) result
+        ≡ map (λ player. player.seat) (map plain_player seated.now.players.now) }
+    ensures each { (k : ℕ) → k < length seated.now.players.now
+        → IsWithin 1 255 (slice_index result k) }
+    ensures no_more { (k : ℕ) → length seated.now.players.now ≤ k → slice_index result k ≡ 0 }
     ensures ten { length result ≡ 10 }
 {
     let mut seats = [0; 10];
+    let players = seated.players;
     for (index, player) in players.iter().enumerate() {
         seats[index] = player.seat;
     }

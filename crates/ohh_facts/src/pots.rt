@@ -4,15 +4,16 @@ ghost use Rattle.std.specs.Prelude.{◌≡◌, ◌≤◌, ◌+◌, length, map, 
 ghost use Rattle.std.specs.Option.{ForSome};
 ghost use Rattle.serde_json.specs.View.{view};
 ghost use Rattle.chip_ledger.specs.SeatRow.{amount_of};
-ghost use Rattle.chip_ledger.specs.declared.rows.TheConstants.{MOST_AMOUNT};
-ghost use Rattle.first_fault.specs.Reading.{Gives, read_if};
+ghost use Rattle.chip_ledger.specs.declared.seat_row.TheConstants.{MOST_AMOUNT};
+ghost use Rattle.first_fault.specs.Reading.{Gives, added_from, read_if};
 ghost use Rattle.ohh_facts.specs.PotSums.{plain_listed_pot};
 ghost use Rattle.ohh_facts.specs.Won.{plain_win};
 ghost use Rattle.ohh_facts.specs.Pots.{IsPaid, amount_said, no_pots, plain_found, plain_paid, pot_added, pots_said, rake_said, summed, win_added, win_said, wins_said};
-ghost use Rattle.ohh_members.specs.Values.{added_from, field as field_said, number_said};
+ghost use Rattle.ohh_members.specs.Values.{field as field_said, number_said};
 
 use crate::listed_pot::ListedPot;
 use crate::listed_pots::{ListedPots, Paid};
+use crate::player_ids::PlayerIds;
 use crate::won::{Win, Won};
 use chip_ledger::MOST_AMOUNT;
 use first_fault::Stop;
@@ -32,7 +33,7 @@ pub fn read_pots(alloc: Global, ids: &[i128], ohh: &Value) -> Result<Paid, Stop<
     match field(ohh, Path::Pots) {
         Some(value) => {
             let values = read_list(value, Path::Pots)?;
-            let found = add_pots(alloc, ids, values)?;
+            let found = add_pots(alloc, &PlayerIds { ids }, values)?;
             Ok(found.paid())
         }
         None => Ok(Paid::none()),
@@ -40,16 +41,18 @@ pub fn read_pots(alloc: Global, ids: &[i128], ohh: &Value) -> Result<Paid, Stop<
 }
 
 // The pots of a list, and what is won of them.
-fn add_pots(alloc: Global, ids: &[i128], values: &[Value]) -> Result<ListedPots, Stop<MemberFault>>
-    requires some { 2 ≤ length ids.now }
-    requires few { length ids.now ≤ 10 }
+fn add_pots(
+    alloc: Global,
+    players: &PlayerIds,
+    values: &[Value],
+) -> Result<ListedPots, Stop<MemberFault>>
     ensures said { Gives plain_found result
-        (added_from (pot_added ids.now) no_pots 0 (map view values.now)) }
-    ensures seats { IfOk result (λ found. found.won.sums.seats ≡ length ids.now) }
+        (added_from (pot_added players.now.ids.now) no_pots 0 (map view values.now)) }
+    ensures seats { IfOk result (λ found. found.won.sums.seats ≡ length players.now.ids.now) }
 {
-    let mut found = ListedPots::new(alloc, ids.len() as u8);
+    let mut found = ListedPots::new(alloc, players.ids.len() as u8);
     for (index, value) in values.iter().enumerate() {
-        found = add_pot(ids, found, index as u64, value)?;
+        found = add_pot(players.ids, found, index as u64, value)?;
     }
     Ok(found)
 }

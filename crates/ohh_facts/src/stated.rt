@@ -2,7 +2,7 @@
 //! what is taken of each.
 ghost use Rattle.std.specs.Prelude.{◌≡◌, ◌≤◌, ◌+◌, ◌++◌, ◌∷◌, [], ℕ, map, IfOk};
 ghost use Rattle.chip_ledger.specs.RakeRow.{rake_of};
-ghost use Rattle.chip_ledger.specs.declared.rows.TheConstants.{MOST_AMOUNT};
+ghost use Rattle.chip_ledger.specs.declared.seat_row.TheConstants.{MOST_AMOUNT};
 ghost use Rattle.ohh_facts.specs.PotSums.{plain_listed_pot, rake_at as rake_at_said, rakes_said};
 ghost use Rattle.ohh_facts.specs.Pots.{IsPaid, no_pots, none_paid, paid_of, plain_found, plain_paid};
 

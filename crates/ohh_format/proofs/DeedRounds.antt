@@ -10,7 +10,8 @@ use Rattle.ohh_members.specs.declared.fault.MemberFault.{MemberFault}
 use Rattle.ohh_writing.specs.Actions.{PlainAction, showings}
 use Rattle.ohh_writing.specs.Rounds.{PlainRound, board_round, board_round_on, first_actions, hand_rounds, moves_on, round, showdown_round}
 use Rattle.ohh_writing.specs.Tree.{round_trees}
-use Rattle.ohh_rounds.specs.Rounds.{SoFar, added_from, round_said}
+use Rattle.first_fault.specs.Reading.{added_from}
+use Rattle.ohh_rounds.specs.Rounds.{SoFar, round_said}
 use Rattle.ohh_rounds.specs.Setting.{PlainSetting}
 use Rattle.ohh_rounds.specs.Steps.{PlainStep}
 use Rattle.ohh_format.proofs.Deeds.{Deed, action_of, deal_deeds, deals_are, move_deeds, moves_are, post_deeds, posts_are, showing_deeds, showings_are}

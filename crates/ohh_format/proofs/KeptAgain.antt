@@ -1,5 +1,5 @@
 -- What is read again of notes is what has a spelling.
-use Rattle.std.proofs.Common.{◌≡◌, ℕ, ◌-◌, Bool, true, false, cond, bytes_eq, List, take, Option, Some, None, option_and_then, refl, sym, ap, ◌∙◌}
+use Rattle.std.proofs.Common.{◌≡◌, ℕ, Bool, true, false, cond, bytes_eq, List, take, Option, Some, None, option_and_then, refl, sym, ap, ◌∙◌}
 use Rattle.std.specs.List.{range_with_len}
 use Rattle.hand_records.specs.declared.notes.Notes.{Notes}
 use Rattle.ohh_format.specs.Again.{notes_again}

@@ -10,7 +10,7 @@ use Rattle.serde_json.specs.Data.{Data}
 use Rattle.serde_json.specs.View.{items_of}
 use Rattle.list_laws.proofs.Ranges.{range_more}
 use Rattle.chip_ledger.specs.declared.numbers.TheConstants.{MOST_CHIPS}
-use Rattle.chip_ledger.specs.declared.rows.SeatRow.{SeatRow}
+use Rattle.chip_ledger.specs.declared.seat_row.SeatRow.{SeatRow}
 use Rattle.chip_ledger.specs.Seat.{seats_of}
 use Rattle.chip_ledger.specs.SeatRow.{amount_of}
 use Rattle.first_fault.specs.declared.limits.TheConstants.{MOST_TEXT_BYTES}
@@ -18,7 +18,8 @@ use Rattle.hand_records.specs.AllowedNotes.{IsName, name_written}
 use Rattle.hand_records.specs.declared.notes.Notes.{Notes}
 use Rattle.ohh_members.specs.declared.fault.Path.TheVariants as paths
 use Rattle.ohh_members.specs.Players.{PlainPlayer, above, button_said, has_id, has_seat, id_said, lower, lowest, next_player, player_added, player_at, player_said, players_said, round_from, seat_said, seated, seated_said, short_text_said, stack_said}
-use Rattle.ohh_members.specs.Values.{added_from, field, integer_said, list_said, listed, needed, number_said, object_said, text_said}
+use Rattle.first_fault.specs.Reading.{added_from}
+use Rattle.ohh_members.specs.Values.{field, integer_said, list_said, listed, needed, number_said, object_said, text_said}
 use Rattle.ohh_writing.specs.Seating.{number_among}
 use Rattle.ohh_writing.specs.Tree.{player_tree, players, whole}
 use Rattle.ohh_format.proofs.CardLists.{listed_again}

@@ -41,7 +41,7 @@ module _ (setting : PlainSetting) (setup : Setup) (rules : Rules) (placed : List
       let range = ranges.0 in
       all_push (CanBeWritten setting) (traced_moves setup before) (traced_move setup move before) (written_moves before ranges.1 law.1)
       (record {
-        player = players move.seat range.seat.0 range.seat.1;
+        player = players move.seat range.seat.first range.seat.last;
         to = range.to;
         called = called_fits setup before move.street move.seat fits.event move fits.is_move fits.place;
       })

@@ -15,8 +15,8 @@ use Rattle.chip_ledger.specs.SeatRow.{amount_of, total_of}
 use Rattle.chip_ledger.specs.declared.numbers.TheConstants.{MOST_CHIPS}
 use Rattle.chip_ledger.specs.declared.pots.Pot.{Pot}
 use Rattle.chip_ledger.specs.declared.rakes.RakeRow.{RakeRow}
-use Rattle.chip_ledger.specs.declared.rows.SeatRow.{SeatRow}
-use Rattle.chip_ledger.specs.declared.rows.TheConstants.{MOST_AMOUNT}
+use Rattle.chip_ledger.specs.declared.seat_row.SeatRow.{SeatRow}
+use Rattle.chip_ledger.specs.declared.seat_row.TheConstants.{MOST_AMOUNT}
 use Rattle.canon_script.specs.TraceCore.{core_of}
 use Rattle.hand_canon.specs.LegalHand.{IsShareable, showdown_in}
 use Rattle.hand_canon.specs.WholeTrace.{IsTraceOf}

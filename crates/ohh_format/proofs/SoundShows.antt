@@ -8,7 +8,7 @@ use Rattle.canon_laws.proofs.SameCore.{plain_again}
 use Rattle.canon_script.specs.CanonScript.{held_slots, plain_moves, showdown_said, showing_said}
 use Rattle.canon_script.specs.TraceCore.{TraceCore}
 use Rattle.chip_ledger.specs.LiveRow.{flag_of, flagged}
-use Rattle.chip_ledger.specs.declared.rows.LiveRow.{LiveRow}
+use Rattle.chip_ledger.specs.declared.live_row.LiveRow.{LiveRow}
 use Rattle.hand_canon.specs.WholeTrace.{IsTraceOf}
 use Rattle.hand_records.specs.TraceRows.{core_said}
 use Rattle.hand_records.specs.declared.trace.Trace.{Trace}

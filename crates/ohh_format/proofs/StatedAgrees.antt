@@ -4,7 +4,7 @@ use Rattle.std.specs.List.{range_with_len}
 use Rattle.std.proofs.lemmas.List.{get_or-take, length-map, length-take-le}
 use Rattle.std.proofs.lemmas.List.FromFn.{length-range_with_len}
 use Rattle.chip_ledger.specs.SeatRow.{amount_of, amounts_in}
-use Rattle.chip_ledger.specs.declared.rows.SeatRow.{SeatRow}
+use Rattle.chip_ledger.specs.declared.seat_row.SeatRow.{SeatRow}
 use Rattle.play_event.specs.Seats.{all_seats}
 use Rattle.hand_records.specs.declared.record.NetRow.{NetRow}
 use Rattle.hand_records.specs.declared.record.Stated.{Stated}

@@ -12,7 +12,7 @@ use Rattle.chip_ledger.specs.declared.numbers.TheConstants.{MOST_CHIPS}
 use Rattle.canon_script.specs.PlayedScript.{is_move}
 use Rattle.canon_script.specs.declared.limits.TheConstants.{MOST_MOVES, MOST_OTHER_EVENTS}
 use Rattle.first_fault.specs.declared.limits.TheConstants.{MOST_FILE_MOVES}
-use Rattle.first_fault.specs.Reading.{◌>>=◌}
+use Rattle.first_fault.specs.Reading.{◌>>=◌, added_from}
 use Rattle.play_event.specs.declared.event.Spelled.TheVariants as spelled
 use Rattle.play_event.specs.Said as said
 use Rattle.play_event.specs.Said.{Said}
@@ -28,7 +28,7 @@ use Rattle.ohh_posts.specs.declared.post.PostKind.{PostKind}
 use Rattle.ohh_posts.specs.declared.post.PostKind.TheVariants as kinds
 use Rattle.ohh_posts.specs.NamedBlinds.{seat_count}
 use Rattle.ohh_rounds.specs.Actions.{at_action, called, chips_said, dealt_cards, deed_said, event_counted, listed_cards, members_said, posted, raise_by, raised, seat_said, shown, step_said, word_said}
-use Rattle.ohh_rounds.specs.Rounds.{action_added, added_from}
+use Rattle.ohh_rounds.specs.Rounds.{action_added}
 use Rattle.ohh_rounds.specs.Setting.{PlainSetting}
 use Rattle.ohh_rounds.specs.Steps.{PlainDeed, PlainStep, Posted, Dealt, Happened, dealt_to, has_folded, is_action, moves_in, next_number, others_in}
 use Rattle.ohh_members.specs.Words.{word_named}

@@ -6,11 +6,12 @@ use Rattle.std.proofs.lemmas.Bool.Decides.{nat_tests}
 use Rattle.std.proofs.lemmas.List.{append-nil}
 use Rattle.std.proofs.lemmas.List.Elements.{filter-append}
 use Rattle.serde_json.specs.Data.{Data}
-use Rattle.chip_ledger.specs.declared.rows.SeatRow.{SeatRow}
-use Rattle.chip_ledger.specs.declared.rows.TheConstants.{MOST_AMOUNT}
+use Rattle.chip_ledger.specs.declared.seat_row.SeatRow.{SeatRow}
+use Rattle.chip_ledger.specs.declared.seat_row.TheConstants.{MOST_AMOUNT}
 use Rattle.chip_ledger.specs.Seat.{seats_of}
 use Rattle.chip_ledger.specs.SeatRow.{amount_of}
-use Rattle.ohh_members.specs.Values.{added_from, needed, number_said, integer_said, object_said, player_said, seat_from, seat_of}
+use Rattle.first_fault.specs.Reading.{added_from}
+use Rattle.ohh_members.specs.Values.{needed, number_said, integer_said, object_said, player_said, seat_from, seat_of}
 use Rattle.ohh_facts.specs.Pots.{summed, win_added, win_said}
 use Rattle.ohh_facts.specs.Won.{PlainWin, won_by}
 use Rattle.ohh_format.proofs.SameNumbers.{other_number}

@@ -2,5 +2,4 @@
 pub mod Lists
 pub mod Cards
 pub mod EachIndex
-pub mod Added
 pub mod Round

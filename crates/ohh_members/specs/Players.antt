@@ -6,7 +6,8 @@ use Rattle.serde_json.specs.Data.{Data}
 use Rattle.chip_ledger.specs.declared.numbers.TheConstants.{MOST_CHIPS}
 use Rattle.first_fault.specs.declared.limits.TheConstants.{MOST_TEXT_BYTES}
 use Rattle.first_fault.specs.declared.limits.Quantity.TheVariants as quantities
-use Rattle.first_fault.specs.Reading.{◌>>=◌, read_if}
+use Rattle.first_fault.specs.Forms.{few}
+use Rattle.first_fault.specs.Reading.{◌>>=◌, added_from, read_if}
 use Rattle.ohh_members.specs.declared.fault.PlayerMember.{PlayerMember}
 use Rattle.ohh_members.specs.declared.fault.PlayerMember.TheVariants as members
 use Rattle.ohh_members.specs.declared.fault.MemberFaultKind.TheVariants as whats
@@ -14,7 +15,7 @@ use Rattle.ohh_members.specs.declared.fault.Path.{Path}
 use Rattle.ohh_members.specs.declared.fault.Path.TheVariants as paths
 use Rattle.ohh_members.specs.declared.fault.MemberFault.{MemberFault}
 use Rattle.ohh_members.specs.declared.player.Player.{Player}
-use Rattle.ohh_members.specs.Values.{wrong, or_wrong, field, needed, text_said, object_said, list_said, number_said, integer_said, added_from}
+use Rattle.ohh_members.specs.Values.{fault_at, wrong, or_wrong, field, needed, text_said, object_said, list_said, number_said, integer_said}
 
 -- a player: who it is, its seat at the table, its name if it has one, and its starting stack
 pub record PlainPlayer : Type 0 where
@@ -60,11 +61,9 @@ seat_said earlier index player = do
 
 -- a text of at most 255 bytes
 unfoldable pub short_text_said : Path → Data → Result (List ℕ) MemberFault
-short_text_said path value = do
-  text ← text_said path value
-  if nat_le (length text) MOST_TEXT_BYTES
-      then Ok text
-      else wrong (whats.TooMany quantities.TextBytes) path
+short_text_said path value =
+    text_said path value
+    >>= few MOST_TEXT_BYTES (fault_at (whats.TooMany quantities.TextBytes) path)
 
 -- the name of a player, if it has one
 abbrev pub name_said : ℕ → Data → Result (Option (List ℕ)) MemberFault

@@ -1,5 +1,5 @@
 -- The values of members, each read in its form or refused with the path of its member.
-use Rattle.std.specs.Prelude.{ℕ, ◌+◌, ◌-◌, nat_le, ◌&&◌, if◌then◌else◌, List, [], ◌∷◌, length, Option, Some, None, ℤ, pos, Result, Ok, Err}
+use Rattle.std.specs.Prelude.{ℕ, ◌+◌, ◌-◌, if◌then◌else◌, List, [], ◌∷◌, Option, Some, None, ℤ, Result, Err}
 use Rattle.std.specs.Ordering.{int_eq}
 use Rattle.serde_json.specs.Data.{Data, number, string, array, object, unsigned, negative, float, Items, no_items, item}
 use Rattle.serde_json.specs.Find.{get}
@@ -7,6 +7,7 @@ use Rattle.card_set.specs.declared.card.Card.{Card}
 use Rattle.card_set.specs.declared.card.Slot.{Slot}
 use Rattle.card_set.specs.declared.card.Slot.TheVariants as slots
 use Rattle.card_set.specs.Spelling.{slot_spelled}
+use Rattle.first_fault.specs.Forms.{Numeral, Natural, BelowZero, Fraction, NoNumber, NumberFaults, few, or_fault, whole, whole_within}
 use Rattle.first_fault.specs.Reading.{◌>>=◌, each_from}
 use Rattle.ohh_members.specs.declared.fault.MemberFaultKind.{MemberFaultKind}
 use Rattle.ohh_members.specs.declared.fault.MemberFaultKind.TheVariants as whats
@@ -15,13 +16,16 @@ use Rattle.ohh_members.specs.declared.fault.MemberFault.{MemberFault}
 use Rattle.ohh_members.specs.Paths.{member_name, card_path}
 
 -- a fault at a path
+abbrev pub fault_at : MemberFaultKind → Path → MemberFault
+fault_at what path = record { what = what; path = path }
+
+-- what is wrong at a path
 abbrev pub wrong : {A : Type 0} → MemberFaultKind → Path → Result A MemberFault
-wrong what path = Err (record { what = what; path = path })
+wrong what path = Err (fault_at what path)
 
 -- a value that is there, or else a fault
 abbrev pub or_wrong : {A : Type 0} → MemberFaultKind → Path → Option A → Result A MemberFault
-or_wrong what path (Some x) = Ok x
-or_wrong what path None = wrong what path
+or_wrong what path found = or_fault (fault_at what path) found
 
 -- the value of the member that a path ends with, if the object has one
 abbrev pub field : Path → Data → Option Data
@@ -31,40 +35,62 @@ field path value = get (member_name path) value
 unfoldable pub needed : Path → Data → Result Data MemberFault
 needed path value = or_wrong whats.MissingMember path (field path value)
 
+-- the text that a value is
+abbrev pub text_of : Data → Option (List ℕ)
+text_of (string text) = Some text
+text_of _ = None
+
 -- a text
 unfoldable pub text_said : Path → Data → Result (List ℕ) MemberFault
-text_said path (string text) = Ok text
-text_said path _ = wrong whats.WrongType path
+text_said path value = or_wrong whats.WrongType path (text_of value)
+
+-- the object that a value is
+abbrev pub object_of : Data → Option Data
+object_of (object members) = Some (object members)
+object_of _ = None
 
 -- an object, in which members are looked up
 unfoldable pub object_said : Path → Data → Result Data MemberFault
-object_said path (object members) = Ok (object members)
-object_said path _ = wrong whats.WrongType path
+object_said path value = or_wrong whats.WrongType path (object_of value)
 
 -- the items of a list, in order
 abbrev pub listed : Items → List Data
 listed no_items = []
 listed (item value rest) = value ∷ listed rest
 
+-- the list that a value is, as its items
+abbrev pub list_of : Data → Option (List Data)
+list_of (array items) = Some (listed items)
+list_of _ = None
+
 -- a list
 unfoldable pub list_said : Path → Data → Result (List Data) MemberFault
-list_said path (array items) = Ok (listed items)
-list_said path _ = wrong whats.WrongType path
+list_said path value = or_wrong whats.WrongType path (list_of value)
+
+-- the number that a value is
+abbrev pub numeral_of : Data → Numeral
+numeral_of (number (unsigned n)) = Natural n
+numeral_of (number (negative z)) = BelowZero z
+numeral_of (number (float x)) = Fraction
+numeral_of _ = NoNumber
+
+-- the faults of a number at a path
+abbrev pub number_faults : Path → NumberFaults MemberFault
+number_faults path =
+    record {
+      out_of_range = fault_at whats.AmountLimit path;
+      not_whole = fault_at whats.AmountNotWhole path;
+      no_number = fault_at whats.WrongType path;
+    }
 
 -- a whole number from least to most: an amount, or another number
 unfoldable pub number_said : ℕ → ℕ → Path → Data → Result ℕ MemberFault
-number_said least most path (number (unsigned n)) =
-    if nat_le least n && nat_le n most then Ok n else wrong whats.AmountLimit path
-number_said least most path (number (negative z)) = wrong whats.AmountLimit path
-number_said least most path (number (float x)) = wrong whats.AmountNotWhole path
-number_said least most path _ = wrong whats.WrongType path
+number_said least most path value =
+    whole_within (number_faults path) least most (numeral_of value)
 
 -- any whole number
 unfoldable pub integer_said : Path → Data → Result ℤ MemberFault
-integer_said path (number (unsigned n)) = Ok (pos n)
-integer_said path (number (negative z)) = Ok z
-integer_said path (number (float x)) = wrong whats.AmountNotWhole path
-integer_said path _ = wrong whats.WrongType path
+integer_said path value = whole (number_faults path) (numeral_of value)
 
 -- the seat of the player with this id, where the first of the ids is that of this seat, and the
 -- next one's seat follows
@@ -108,21 +134,12 @@ card_said path value =
 
 -- a list of at most seven cards, before its items are looked at
 unfoldable pub few_said : Path → Data → Result (List Data) MemberFault
-few_said path value = do
-  items ← list_said path value
-  if nat_le (length items) 7 then Ok items else wrong whats.WrongType path
+few_said path value = list_said path value >>= few 7 (fault_at whats.WrongType path)
 
 -- items one after the other, each read in a form that is told its index in the list, from 0
 abbrev pub each_item : {D A : Type 0} → (ℕ → D → Result A MemberFault) → List D
     → Result (List A) MemberFault
 each_item form items = each_from (λ n. form (n - 1)) 1 items
-
--- items one after the other, from this index on, each added to what was read before it
-unfoldable pub added_from : {D S : Type 0} → (S → ℕ → D → Result S MemberFault) → S → ℕ → List D
-    → Result S MemberFault
-added_from form before index [] = Ok before
-added_from form before index (value ∷ rest) =
-    form before index value >>= λ after. added_from form after (index + 1) rest
 
 -- the cards of a list at a path, each known or unknown
 abbrev pub slots_from : Path → List Data → Result (List Slot) MemberFault

@@ -4,7 +4,7 @@ ghost use Rattle.serde_json.specs.View.{view};
 ghost use Rattle.chip_ledger.specs.declared.numbers.TheConstants.{MOST_CHIPS};
 ghost use Rattle.first_fault.specs.Reading.{Gives, read_if};
 ghost use Rattle.ohh_members.specs.declared.fault.Path.TheVariants as paths;
-ghost use Rattle.ohh_members.specs.Blinds.{blind_said, blinds_said, fitting, is_fixed_game as is_fixed_game_said};
+ghost use Rattle.ohh_members.specs.Blinds.{blind_said, blinds_said, is_fixed_game as is_fixed_game_said};
 ghost use Rattle.ohh_members.specs.Values.{field as field_said, number_said};
 
 use crate::fault::{MemberFault, MemberFaultKind, Path};
@@ -22,7 +22,7 @@ pub struct Blinds {
 }
 
 /// The blinds of a hand. The ante is examined for its form alone: what is posted counts.
-#[tactic(auto, unfolding(crate::specs::Blinds::blinds_said))]
+#[tactic(auto, unfolding(crate::specs::Blinds::blinds_said, crate::specs::Blinds::fitting))]
 pub fn read_blinds(ohh: &Value, code: Code) -> Result<Blinds, Stop<MemberFault>>
     ensures said { Gives (λ blinds. blinds) result (blinds_said code (view ohh.now)) }
     ensures least { IfOk result (λ blinds. 1 ≤ blinds.small) }
@@ -34,7 +34,13 @@ pub fn read_blinds(ohh: &Value, code: Code) -> Result<Blinds, Stop<MemberFault>>
     let _ante = read_ante(ohh)?;
     let small = read_blind(ohh, Path::SmallBlindAmount)?;
     let big = read_blind(ohh, Path::BigBlindAmount)?;
-    fit(code, small, big)
+    if small > big {
+        return Err(wrong(MemberFaultKind::BadPost, Path::SmallBlindAmount));
+    }
+    if is_fixed_game(code) && 2 * big > MOST_CHIPS {
+        return Err(wrong(MemberFaultKind::AmountLimit, Path::BigBlindAmount));
+    }
+    Ok(Blinds { small, big })
 }
 
 // The ante, if it is said.
@@ -55,26 +61,6 @@ fn read_blind(ohh: &Value, path: Path) -> Result<u64, Stop<MemberFault>>
     ensures within { IfOk result (λ blind. (1 ≤ blind) × (blind ≤ MOST_CHIPS)) }
 {
     read_number(needed(ohh, path)?, 1, MOST_CHIPS, path)
-}
-
-// The blinds, where the small one is at most the big one, and twice the big one is a bet that may
-// be made.
-#[tactic(auto, unfolding(crate::specs::Blinds::fitting))]
-fn fit(code: Code, small: u64, big: u64) -> Result<Blinds, Stop<MemberFault>>
-    requires { big ≤ MOST_CHIPS }
-    ensures said { Gives (λ blinds. blinds) result (fitting code small big) }
-    ensures values { IfOk result (λ blinds. (blinds.small ≡ small) × (blinds.big ≡ big)) }
-    ensures order { IfOk result (λ blinds. blinds.small ≤ blinds.big) }
-    ensures fixed { IfOk result (λ blinds. is_fixed_game_said code ≡ true
-        → 2 * blinds.big ≤ MOST_CHIPS) }
-{
-    if small > big {
-        return Err(wrong(MemberFaultKind::BadPost, Path::SmallBlindAmount));
-    }
-    if is_fixed_game(code) && 2 * big > MOST_CHIPS {
-        return Err(wrong(MemberFaultKind::AmountLimit, Path::BigBlindAmount));
-    }
-    Ok(Blinds { small, big })
 }
 
 /// Whether the game is played in fixed limit. Ask for one of the games that are read.

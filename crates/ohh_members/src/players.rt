@@ -4,17 +4,16 @@ ghost use Rattle.std.specs.Option.{ForSome};
 ghost use Rattle.serde_json.specs.View.{view};
 ghost use Rattle.chip_ledger.specs.declared.numbers.TheConstants.{MOST_CHIPS};
 ghost use Rattle.first_fault.specs.declared.limits.TheConstants.{MOST_TEXT_BYTES};
-ghost use Rattle.first_fault.specs.Reading.{Gives};
+ghost use Rattle.first_fault.specs.Reading.{Gives, added_from};
 ghost use Rattle.ohh_members.specs.Players.{has_id as has_id_said, has_seat as has_seat_said, id_said, name_said, plain_player, player_added, player_said, players_said, seat_said, short_text_said, stack_said};
-ghost use Rattle.ohh_members.specs.Values.{added_from};
 
 use crate::fault::{MemberFault, MemberFaultKind, Path, PlayerMember};
 use crate::player::Player;
 use crate::values::{
-    field, has_count, needed, read_integer, read_list, read_number, read_object, read_text, wrong,
+    field, needed, read_integer, read_list, read_number, read_object, read_text, wrong,
 };
 use chip_ledger::MOST_CHIPS;
-use first_fault::{MOST_TEXT_BYTES, Quantity, Stop};
+use first_fault::{MOST_TEXT_BYTES, Quantity, Stop, has_count};
 use serde_json::Value;
 use std::alloc::Global;
 

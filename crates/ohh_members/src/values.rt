@@ -1,15 +1,15 @@
 //! The values of members are read, each in its form.
-ghost use Rattle.std.specs.Prelude.{◌≡◌, ◌≤◌, ◌&&◌, map, length, nat_le, IfOk, IfSome, option_map};
+ghost use Rattle.std.specs.Prelude.{◌≡◌, ◌≤◌, map, length, IfOk, IfSome, option_map};
 ghost use Rattle.serde_json.specs.Find.{get};
 ghost use Rattle.serde_json.specs.View.{items_view, view};
 ghost use Rattle.card_set.specs.Row.{cards_of, slots_of};
 ghost use Rattle.first_fault.specs.Reading.{Gives};
-ghost use Rattle.ohh_members.specs.Values.{cards_from, cards_said, card_said, few_said, field as field_said, integer_said, known_in as known_in_said, listed, list_said, needed as needed_said, number_said, object_said, one_slot, player_said, seat_of as seat_of_said, slot_in as slot_in_said, slot_said, slots_from, slots_said, text_said};
+ghost use Rattle.ohh_members.specs.Values.{cards_said, card_said, few_said, field as field_said, integer_said, known_in as known_in_said, listed, list_said, needed as needed_said, number_said, object_said, one_slot, player_said, seat_of as seat_of_said, slot_in as slot_in_said, slot_said, slots_said, text_said};
 
 use crate::fault::{MemberFault, MemberFaultKind, Path};
 use card_set::{Card, CardRow, Slot, SlotRow};
 use chip_ledger::Seat;
-use first_fault::Stop;
+use first_fault::{Stop, keep_within};
 use serde_json::Value;
 
 /// The value of a member that is needed.
@@ -48,14 +48,6 @@ pub fn read_object(value: &Value, path: Path) -> Result<&Value, Stop<MemberFault
     }
 }
 
-/// Whether there are so many values.
-pub fn has_count(values: &[Value], least: usize, most: usize) -> bool
-    ensures { result ≡ (nat_le least (length (map view values.now))
-        && nat_le (length (map view values.now)) most) }
-{
-    least <= values.len() && values.len() <= most
-}
-
 /// A whole number from `least` to `most`.
 #[tactic(auto, unfolding(crate::specs::Values::number_said))]
 pub fn read_number(
@@ -71,10 +63,8 @@ pub fn read_number(
     match value {
         Value::Number(number) => {
             if let Some(number) = number.as_u64() {
-                if least <= number && number <= most {
-                    return Ok(number);
-                }
-                return Err(wrong(MemberFaultKind::AmountLimit, path));
+                let what = MemberFaultKind::AmountLimit;
+                return keep_within(number, least, most, MemberFault { what, path });
             }
             if number.is_f64() {
                 return Err(wrong(MemberFaultKind::AmountNotWhole, path));
@@ -93,22 +83,24 @@ pub fn read_player(value: &Value, ids: &[i128], path: Path) -> Result<Seat, Stop
         (player_said ids.now path (view value.now)) }
     ensures seated { IfOk result (λ seat. seat.number ≤ length ids.now) }
 {
-    match seat_of(ids, read_integer(value, path)?) {
-        Some(seat) => Ok(seat),
-        None => Err(wrong(MemberFaultKind::BadPlayer, path)),
+    let id = read_integer(value, path)?;
+    if let Some(number) = seat_of(ids, id) {
+        if let Some(seat) = Seat::new(number as u8) {
+            return Ok(seat);
+        }
     }
+    Err(wrong(MemberFaultKind::BadPlayer, path))
 }
 
-/// The seat of the player with this id, where the ids are those of the players in the order of
-/// their seats.
-pub fn seat_of(ids: &[i128], id: i128) -> Option<Seat>
-    requires { length ids.now ≤ 10 }
-    ensures said { option_map (λ seat. seat.number) result ≡ seat_of_said ids.now id }
-    ensures seated { IfSome result (λ seat. seat.number ≤ length ids.now) }
+// The number of the seat of the player with this id, where the ids are those of the players in the
+// order of their seats.
+fn seat_of(ids: &[i128], id: i128) -> Option<usize>
+    ensures said { result ≡ seat_of_said ids.now id }
+    ensures seated { IfSome result (λ seat. (1 ≤ seat) × (seat ≤ length ids.now)) }
 {
     for (index, other) in ids.iter().enumerate() {
         if id == *other {
-            return Seat::new(index as u8 + 1);
+            return Some(index + 1);
         }
     }
     None
@@ -139,14 +131,6 @@ pub fn read_cards(value: &Value, path: Path) -> Result<CardRow, Stop<MemberFault
     ensures { Gives cards_of result (cards_said path (view value.now)) }
 {
     let values = read_few(value, path)?;
-    fill_cards(values, path)
-}
-
-// The known cards of a list.
-fn fill_cards(values: &[Value], path: Path) -> Result<CardRow, Stop<MemberFault>>
-    requires { length values.now ≤ 7 }
-    ensures { Gives cards_of result (cards_from path (map view values.now)) }
-{
     let mut row = CardRow::new();
     for (index, value) in values.iter().enumerate() {
         let card = read_card(value, path.card(index as u64))?;
@@ -182,14 +166,6 @@ pub fn read_slots(value: &Value, path: Path) -> Result<SlotRow, Stop<MemberFault
     ensures { Gives slots_of result (slots_said path (view value.now)) }
 {
     let values = read_few(value, path)?;
-    fill_slots(values, path)
-}
-
-// The cards of a list, each known or unknown.
-fn fill_slots(values: &[Value], path: Path) -> Result<SlotRow, Stop<MemberFault>>
-    requires { length values.now ≤ 7 }
-    ensures { Gives slots_of result (slots_from path (map view values.now)) }
-{
     let mut row = SlotRow::new();
     for (index, value) in values.iter().enumerate() {
         let slot = read_slot(value, path.card(index as u64))?;

@@ -1,10 +1,9 @@
 //! The posts of a hand give its antes and its blinds.
 ghost use Rattle.std.specs.Prelude.{◌≡◌, ◌≤◌, ◌&&◌, ℕ, List, map, not};
-ghost use Rattle.std.specs.Option.{option_map_or};
 ghost use Rattle.chip_ledger.specs.declared.numbers.TheConstants.{MOST_CHIPS};
 ghost use Rattle.chip_ledger.specs.SeatRow.{amount_of};
 ghost use Rattle.ohh_posts.specs.Conditions.{has_all_antes};
-ghost use Rattle.ohh_posts.specs.Posts.{AreFirst, PlainPost, first_straddle, plain_post};
+ghost use Rattle.ohh_posts.specs.Posts.{AreFirst, PlainPost, plain_post};
 ghost use Rattle.ohh_posts.specs.AntesAndBlinds.{AreAntesAndBlindsFor, antes_and_blinds_said, has_amount, held_ante, named_blind, plain_antes_and_blinds};
 ghost use Rattle.ohh_posts.specs.NamedBlinds.{plain_named_blinds};
 
@@ -96,15 +95,6 @@ fn named(table: &NamedBlinds, firsts: &FirstPosts, seat: Seat) -> u64
     if seat.number == table.big_blind_seat() {
         return table.big_blind;
     }
-    straddle_or_zero(firsts, seat)
-}
-
-// The first straddle of a seat, or 0 where it has none.
-fn straddle_or_zero(firsts: &FirstPosts, seat: Seat) -> u64
-    ensures straddle { (posts : List PlainPost) → AreFirst posts firsts.now
-        → result ≡ option_map_or (λ straddle. straddle) (first_straddle seat.number posts) 0 }
-    ensures most { result ≤ MOST_CHIPS }
-{
     match firsts.straddle(seat) {
         Some(straddle) => straddle.number,
         None => 0,

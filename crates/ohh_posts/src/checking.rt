@@ -1,14 +1,14 @@
 //! The conditions of posts are tried one after the other, each over all posts.
-ghost use Rattle.std.specs.Prelude.{◌≡◌, List, [], map};
+ghost use Rattle.std.specs.Prelude.{◌≡◌, List, map};
 ghost use Rattle.ohh_posts.specs.Conditions as conditions;
-ghost use Rattle.ohh_posts.specs.Conditions.{AreFacts, first_breaking, has_blinds, holds, left_of, posts_checked};
+ghost use Rattle.ohh_posts.specs.Conditions.{AreFacts, has_blinds, holds, left_of, posts_checked};
 ghost use Rattle.ohh_posts.specs.Posts.{AreFirst, PlainPost, ante_of, plain_post};
 ghost use Rattle.ohh_posts.specs.NamedBlinds.{plain_named_blinds};
 
 use crate::antes::{all_post, ante_or_zero, greatest, lesser};
 use crate::firsts::FirstPosts;
 use crate::named_blinds::NamedBlinds;
-use crate::post::{ActionPlace, Post, PostFault, PostKind};
+use crate::post::{Post, PostFault, PostKind};
 use chip_ledger::Seat;
 
 /// A condition that each post of a hand meets.
@@ -96,26 +96,14 @@ fn hold(condition: Condition, facts: &Facts, posts: &[Post]) -> Result<(), PostF
     ensures { result
         ≡ holds condition (plain_named_blinds facts.now.table) (map plain_post posts.now) }
 {
-    match first_break(condition, facts, posts) {
-        Some(place) => Err(PostFault::At(place)),
-        None => Ok(()),
-    }
-}
-
-// Where the first post stands that breaks a condition.
-fn first_break(condition: Condition, facts: &Facts, posts: &[Post]) -> Option<ActionPlace>
-    requires { AreFacts (map plain_post posts.now) facts.now }
-    ensures { result ≡ first_breaking condition (plain_named_blinds facts.now.table)
-        (map plain_post posts.now) [] (map plain_post posts.now) }
-{
     let mut before = FirstPosts::none();
     for post in posts {
         if is_breaking(condition, facts, &before, post) {
-            return Some(post.place);
+            return Err(PostFault::At(post.place));
         }
         before.note(post);
     }
-    None
+    Ok(())
 }
 
 // Whether a post breaks a condition, where these were posted before it.

@@ -2,6 +2,4 @@
 pub mod Lengths
 pub mod OneMore
 pub mod OneStep
-pub mod Adding
-pub mod FailsThen
 pub mod Counts

@@ -3,7 +3,7 @@ use Rattle.std.specs.Prelude.{ℕ, ◌+◌, ◌==◌, if◌then◌else◌, List,
 use Rattle.serde_json.specs.Data.{Data}
 use Rattle.card_set.specs.declared.card.Card.{Card}
 use Rattle.play_event.specs.Said as said
-use Rattle.first_fault.specs.Reading.{◌>>=◌}
+use Rattle.first_fault.specs.Reading.{◌>>=◌, added_from}
 use Rattle.ohh_members.specs.declared.fault.RoundMember.{RoundMember}
 use Rattle.ohh_members.specs.declared.fault.RoundMember.TheVariants as members
 use Rattle.ohh_members.specs.declared.fault.Path.{Path}
@@ -16,13 +16,6 @@ use Rattle.ohh_rounds.specs.Streets.{has_board_cards, street_after}
 use Rattle.ohh_rounds.specs.Steps.{PlainStep, Happened}
 use Rattle.ohh_rounds.specs.Setting.{PlainSetting}
 use Rattle.ohh_rounds.specs.Actions.{event_counted, step_said}
-
--- items one after the other, the first of which has this index; each adds to what stands before it
-unfoldable pub added_from : {D S : Type 0} → (S → ℕ → D → Result S MemberFault) → S → ℕ → List D
-    → Result S MemberFault
-added_from form before index [] = Ok before
-added_from form before index (item ∷ rest) =
-    form before index item >>= λ after. added_from form after (index + 1) rest
 
 -- the path of a member of a round
 abbrev pub at_round : ℕ → RoundMember → Path

@@ -1,12 +1,14 @@
 //! An action of a round is read: its word, its player, and then its amount or its cards.
-ghost use Rattle.std.specs.Prelude.{◌≡◌, IfOk, map};
+ghost use Rattle.std.specs.Prelude.{◌≡◌, ◌≤◌, ◌+◌, IfOk, length, map};
 ghost use Rattle.serde_json.specs.View.{view};
+ghost use Rattle.card_set.specs.Row.{slots_of};
 ghost use Rattle.play_event.specs.Said.{kind_said};
 ghost use Rattle.canon_script.specs.PlayedScript.{is_move as is_move_said};
 ghost use Rattle.first_fault.specs.Reading.{Gives};
-ghost use Rattle.ohh_rounds.specs.Actions.{at_action, called, chips_said, counted_said, dealt_cards, deed_counted, deed_said, event_counted, mucked, posted, raise_by, raised, seat_said, shown, step_said, word_said};
+ghost use Rattle.ohh_rounds.specs.Actions.{at_action, called, chips_said, dealt_cards, deed_counted, deed_said, event_counted, mucked, posted, raise_by, raised, seat_said, shown, step_said, word_said};
 ghost use Rattle.ohh_rounds.specs.Setting.{plain_setting};
-ghost use Rattle.ohh_rounds.specs.Steps.{Happened, HasRoom, IsWithin, LeavesFew, plain_deed, plain_step};
+ghost use Rattle.ohh_posts.specs.Posts.{plain_post};
+ghost use Rattle.ohh_rounds.specs.Steps.{Dealt, Happened, HasRoom, IsWithin, LeavesFew, Posted, dealt_to, plain_deed, plain_step};
 
 use crate::step::{Deed, RoundStep, is_move};
 use crate::told::Told;
@@ -25,8 +27,8 @@ use ohh_posts::{ActionPlace, Post, PostKind};
 use play_event::{Kind, Spelled};
 use serde_json::Value;
 
-/// An action after what was told.
-#[tactic(auto, unfolding(crate::specs::Actions::step_said))]
+/// An action after what was told; it passes no limit.
+#[tactic(auto, unfolding(crate::specs::Actions::step_said, crate::specs::Actions::members_said))]
 pub fn read_step(
     told: &Told,
     place: ActionPlace,
@@ -40,27 +42,14 @@ pub fn read_step(
         told.now.setting.file_moves (map plain_step told.now.steps.items)
         (plain_deed step.deed)) }
 {
-    let action = read_object(value, path_of(place, ActionMember::Itself))?;
-    let deed = read_counted(told, place, action)?;
-    let number = told.next;
-    Ok(RoundStep { number, deed })
-}
-
-// The members of an action that passes no limit.
-#[tactic(auto, unfolding(crate::specs::Actions::members_said))]
-fn read_counted(told: &Told, place: ActionPlace, action: &Value) -> Result<Deed, Stop<MemberFault>>
-    ensures said { Gives plain_deed result (counted_said (plain_setting told.now.setting)
-        (map plain_step told.now.steps.items) place (view action.now)) }
-    ensures few { IfOk result (λ deed. LeavesFew (map plain_step told.now.steps.items)
-        (plain_deed deed)) }
-    ensures within { IfOk result (λ deed. IsWithin told.now.setting.table.stacks.seats
-        told.now.setting.file_moves (map plain_step told.now.steps.items) (plain_deed deed)) }
-{
+    let path = path_of(place, ActionMember::Itself);
+    let action = read_object(value, path)?;
     let word = read_word(place, action)?;
     let seat = read_seat(told, place, action)?;
     let deed = read_deed(told, place, seat, action, word)?;
-    count_deed(told, path_of(place, ActionMember::Itself), deed)?;
-    Ok(deed)
+    count_deed(told, path, deed)?;
+    let number = told.next;
+    Ok(RoundStep { number, deed })
 }
 
 // The word of an action.
@@ -105,11 +94,26 @@ fn read_deed(
 {
     let actor = Some(seat);
     let deed = match word {
-        Word::PostAnte => read_post(PostKind::Ante, told, place, seat, action)?,
-        Word::PostSmallBlind => read_post(PostKind::SmallBlind, told, place, seat, action)?,
-        Word::PostBigBlind => read_post(PostKind::BigBlind, told, place, seat, action)?,
-        Word::Straddle => read_post(PostKind::Straddle, told, place, seat, action)?,
-        Word::DealtCards => read_dealt(told, place, seat, action)?,
+        Word::PostAnte => Deed::Posted(read_post(PostKind::Ante, told, place, seat, action)?),
+        Word::PostSmallBlind => Deed::Posted(read_post(
+            PostKind::SmallBlind,
+            told,
+            place,
+            seat,
+            action,
+        )?),
+        Word::PostBigBlind => Deed::Posted(read_post(
+            PostKind::BigBlind,
+            told,
+            place,
+            seat,
+            action,
+        )?),
+        Word::Straddle => Deed::Posted(read_post(PostKind::Straddle, told, place, seat, action)?),
+        Word::DealtCards => Deed::Dealt {
+            seat,
+            cards: read_dealt(told, place, seat, action)?,
+        },
         Word::Fold => Deed::Happened(Kind::Fold { actor }),
         Word::Check => Deed::Happened(Kind::Call {
             actor,
@@ -133,21 +137,19 @@ fn read_post(
     place: ActionPlace,
     seat: Seat,
     action: &Value,
-) -> Result<Deed, Stop<MemberFault>>
-    ensures said { Gives plain_deed result
+) -> Result<Post, Stop<MemberFault>>
+    ensures { Gives (λ post. Posted (plain_post post)) result
         (posted kind (map plain_step told.now.steps.items) place seat.number (view action.now)) }
-    ensures few { IfOk result (λ deed. LeavesFew (map plain_step told.now.steps.items)
-        (plain_deed deed)) }
 {
     let amount = read_chips(place, action)?;
     let early = place.round == 0 && told.moves == 0;
-    Ok(Deed::Posted(Post {
+    Ok(Post {
         kind,
         seat,
         amount,
         early,
         place,
-    }))
+    })
 }
 
 // Hole cards, or none where they lack.
@@ -157,24 +159,23 @@ fn read_dealt(
     place: ActionPlace,
     seat: Seat,
     action: &Value,
-) -> Result<Deed, Stop<MemberFault>>
-    ensures said { Gives plain_deed result
+) -> Result<SlotRow, Stop<MemberFault>>
+    ensures said { Gives (λ cards. Dealt seat.number (slots_of cards)) result
         (dealt_cards (map plain_step told.now.steps.items) place seat.number (view action.now)) }
-    ensures few { IfOk result (λ deed. LeavesFew (map plain_step told.now.steps.items)
-        (plain_deed deed)) }
+    ensures few { IfOk result (λ cards. length (dealt_to seat.number
+        (map plain_step told.now.steps.items)) + length (slots_of cards) ≤ 7) }
 {
     let path = path_of(place, ActionMember::Cards);
     let dealt = told.cards_dealt(seat);
     let Some(listed) = field(action, path) else {
-        let cards = SlotRow::new();
-        return Ok(Deed::Dealt { seat, cards });
+        return Ok(SlotRow::new());
     };
     let values = read_few(listed, path)?;
     if dealt + values.len() > 7 {
         return Err(wrong(MemberFaultKind::WrongType, path));
     }
     let cards = read_slots(listed, path)?;
-    Ok(Deed::Dealt { seat, cards })
+    Ok(cards)
 }
 
 // A call that states the chips that it adds.

@@ -1,10 +1,10 @@
 //! Each step tells something of one seat at most.
-ghost use Rattle.std.specs.Prelude.{◌≡◌, ◌≤◌, ◌+◌, ◌∷◌, ◌++◌, [], Some, length, map, option_map, true};
+ghost use Rattle.std.specs.Prelude.{◌≡◌, ◌≤◌, ◌+◌, ◌∷◌, ◌++◌, [], Some, map, option_map, true};
 ghost use Rattle.std.specs.Option.{option_or};
 ghost use Rattle.card_set.specs.Row.{slots_of};
 ghost use Rattle.ohh_rounds.specs.Kept.{AreTold};
 ghost use Rattle.play_event.specs.Said.{kind_said};
-ghost use Rattle.ohh_rounds.specs.Steps.{Dealt, IsFoldBy, LeavesFew, folder as folder_said, plain_deed, plain_step};
+ghost use Rattle.ohh_rounds.specs.Steps.{LeavesFew, folder as folder_said, plain_deed, plain_step};
 
 use crate::seat_told::SeatTold;
 use crate::step::{Deed, RoundStep};
@@ -13,7 +13,11 @@ use chip_ledger::Seat;
 use play_event::Kind;
 
 /// What is told of each seat, with one step more.
-pub fn seats_after(seats: [SeatTold; 10], step: RoundStep, steps: &[RoundStep]) -> [SeatTold; 10]
+pub fn seats_after(
+    mut seats: [SeatTold; 10],
+    step: RoundStep,
+    steps: &[RoundStep],
+) -> [SeatTold; 10]
     requires told { AreTold (map plain_step steps.now) seats }
     requires few { LeavesFew (map plain_step steps.now) (plain_deed step.deed) }
     ensures { AreTold (map plain_step steps.now ++ plain_step step ∷ []) result }
@@ -21,35 +25,34 @@ pub fn seats_after(seats: [SeatTold; 10], step: RoundStep, steps: &[RoundStep]) 
     match step.deed {
         Deed::Posted(_) => seats,
         Deed::Passed => seats,
-        Deed::Dealt { seat, cards } => after_deal(seats, seat, cards, step.number, steps),
+        Deed::Dealt { seat, cards } => {
+            let index = seat.number as usize - 1;
+            seats[index] = with_deal(seats[index], cards, step.number);
+            seats
+        }
         Deed::Happened(kind) => match folder(kind) {
-            Some(seat) => after_fold(seats, seat, step, steps),
+            Some(seat) => {
+                let index = seat.number as usize - 1;
+                seats[index] = with_fold(seats[index]);
+                seats
+            }
             None => seats,
         },
     }
 }
 
-// What is told of each seat, after a step that deals hole cards to this seat.
-fn after_deal(
-    mut seats: [SeatTold; 10],
-    seat: Seat,
-    cards: SlotRow,
-    number: u32,
-    steps: &[RoundStep],
-) -> [SeatTold; 10]
-    requires told { AreTold (map plain_step steps.now) seats }
-    requires few { LeavesFew (map plain_step steps.now) (Dealt seat.number (slots_of cards)) }
-    ensures { AreTold (map plain_step steps.now
-        ++ record { number = number; deed = Dealt seat.number (slots_of cards) } ∷ []) result }
+// The seat was dealt more cards, in the step with this number.
+fn with_deal(told: SeatTold, cards: SlotRow, number: u32) -> SeatTold
+    requires { told.cards.len + cards.len ≤ 7 }
+    ensures folded { result.folded ≡ told.folded }
+    ensures cards { slots_of result.cards ≡ slots_of told.cards ++ slots_of cards }
+    ensures first_deal { result.first_deal ≡ option_or told.first_deal (Some number) }
 {
-    let index = seat.number as usize - 1;
-    let told = seats[index];
-    seats[index] = SeatTold {
+    SeatTold {
         folded: told.folded,
         cards: joined(told.cards, cards),
         first_deal: first_of(told.first_deal, number),
-    };
-    seats
+    }
 }
 
 // Cards and more cards behind them.
@@ -82,22 +85,6 @@ fn folder(kind: Kind) -> Option<Seat>
         Kind::Fold { actor } => actor,
         _ => None,
     }
-}
-
-// What is told of each seat, after a step in which this seat folds.
-fn after_fold(
-    mut seats: [SeatTold; 10],
-    seat: Seat,
-    step: RoundStep,
-    steps: &[RoundStep],
-) -> [SeatTold; 10]
-    requires told { AreTold (map plain_step steps.now) seats }
-    requires folds { IsFoldBy seat.number (plain_deed step.deed) }
-    ensures { AreTold (map plain_step steps.now ++ plain_step step ∷ []) result }
-{
-    let index = seat.number as usize - 1;
-    seats[index] = with_fold(seats[index]);
-    seats
 }
 
 // The seat folded.

@@ -1,5 +1,5 @@
 //! The posts of a hand are checked, and its script is put together.
-ghost use Rattle.std.specs.Prelude.{◌≡◌, ◌≤◌, ◌+◌, ◌++◌, IfOk, OnOk, count_by, length, map};
+ghost use Rattle.std.specs.Prelude.{◌≡◌, ◌≤◌, ◌+◌, ◌++◌, IfOk, OnOk, count_by, map};
 ghost use Rattle.serde_json.specs.View.{view};
 ghost use Rattle.canon_script.specs.PlayedScript.{IsWithinLimits, is_move};
 ghost use Rattle.card_set.specs.Row.{slots_of};

@@ -3,7 +3,7 @@ ghost use Rattle.std.specs.Prelude.{◌≡◌, Some, IfOk, map};
 ghost use Rattle.serde_json.specs.View.{view};
 ghost use Rattle.card_set.specs.Row.{cards_of};
 ghost use Rattle.first_fault.specs.Reading.{Gives};
-ghost use Rattle.ohh_rounds.specs.Rounds.{actions_said, at_round, board_dealt, board_said, no_cards, opening_said, round_said, rounds_listed, steps_said, street_said};
+ghost use Rattle.ohh_rounds.specs.Rounds.{actions_said, at_round, board_dealt, board_said, no_cards, round_said, rounds_listed, steps_said, street_said};
 ghost use Rattle.ohh_rounds.specs.Setting.{plain_setting};
 ghost use Rattle.ohh_rounds.specs.Steps.{plain_step};
 
@@ -56,7 +56,7 @@ fn read_listed(ohh: &Value) -> Result<&[Value], Stop<MemberFault>>
 }
 
 // One more round is told.
-#[tactic(auto, unfolding(crate::specs::Rounds::round_said))]
+#[tactic(auto, unfolding(crate::specs::Rounds::round_said, crate::specs::Rounds::opening_said))]
 fn read_round(
     told: &mut Told,
     last: Option<StreetName>,
@@ -69,27 +69,10 @@ fn read_round(
     ensures setting { told.new.setting ≡ told.old.setting }
 {
     let round = read_object(value, path_of(index, RoundMember::Itself))?;
-    let street = read_opening(told, last, index, round)?;
-    read_actions(told, index, round)?;
-    Ok(street)
-}
-
-// The street and the cards of a round.
-#[tactic(auto, unfolding(crate::specs::Rounds::opening_said))]
-fn read_opening(
-    told: &mut Told,
-    last: Option<StreetName>,
-    index: u64,
-    round: &Value,
-) -> Result<StreetName, Stop<MemberFault>>
-    ensures said { Gives (λ street. (street, map plain_step told.new.steps.items)) result
-        (opening_said (plain_setting told.old.setting)
-        (last, map plain_step told.old.steps.items) index (view round.now)) }
-    ensures setting { told.new.setting ≡ told.old.setting }
-{
     let street = read_street(last, index, round)?;
     let cards = read_board(street, index, round)?;
     deal_board(told, index, cards)?;
+    read_actions(told, index, round)?;
     Ok(street)
 }
 

@@ -23,6 +23,7 @@ use crate::pots::pot_values;
 use crate::rounds::hand_rounds;
 use crate::seating::{number_among, numbers_spelled};
 use crate::setup::{big_blind, greatest_ante};
+use crate::tidy_trace::TidyTrace;
 use crate::trees::round_values;
 use card_set::Memory;
 use first_fault::Text;
@@ -184,7 +185,7 @@ fn put_play(
         (put_said (codes "pots") (pots trace.now) (members_view ohh.old.entries))) }
 {
     put_value(alloc, ohh, "pots", pot_values(alloc, trace)?)?;
-    let rounds = hand_rounds(alloc, dialect, trace)?;
+    let rounds = hand_rounds(alloc, dialect, &TidyTrace { trace })?;
     let rounds = Value::Array(round_values(alloc, rounds.as_slice())?);
     put_value(alloc, ohh, "rounds", rounds)?;
     Ok(())

@@ -19,6 +19,7 @@ mod seating;
 mod setup;
 mod shows;
 mod spelled;
+mod tidy_trace;
 mod trees;
 
 pub use laws::law_of_lines;

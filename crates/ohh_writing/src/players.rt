@@ -1,5 +1,5 @@
 //! The players of a hand, each with its seat at the table and its stack.
-ghost use Rattle.std.specs.Prelude.{◌≡◌, ◌≤◌, codes, string_bytes, IfOk, OnOk};
+ghost use Rattle.std.specs.Prelude.{◌≡◌, codes, string_bytes, IfOk, OnOk};
 ghost use Rattle.serde_json.specs.Data.{put as put_said, string};
 ghost use Rattle.serde_json.specs.View.{view, members_view};
 ghost use Rattle.hand_records.specs.AllowedNotes.{name_written};
@@ -9,7 +9,7 @@ use crate::members::{put_number, put_value};
 use crate::posts::amount_at;
 use crate::seating::number_among;
 use card_set::Memory;
-use chip_ledger::SeatRow;
+use chip_ledger::{Seat, SeatRow};
 use hand_records::Notes;
 use serde_json::{Map, Value};
 use std::alloc::Global;
@@ -26,7 +26,8 @@ pub fn player_values(
 {
     let mut values = Vec::new(alloc);
     for index in 0..stacks.seats {
-        values.push(player_value(alloc, stacks, notes, numbers, index + 1)?)?;
+        let seat = Seat { number: index + 1 };
+        values.push(player_value(alloc, stacks, notes, numbers, seat)?)?;
     }
     Ok(Value::Array(values))
 }
@@ -37,16 +38,15 @@ fn player_value(
     stacks: &SeatRow,
     notes: &Notes,
     numbers: Option<[u8; 10]>,
-    seat: u8,
+    seat: Seat,
 ) -> Result<Value, Memory>
-    requires first { 1 ≤ seat }
-    requires last { seat ≤ 10 }
-    ensures { IfOk result (λ value. view value ≡ player_tree stacks.now notes.now numbers seat) }
+    ensures { IfOk result (λ value.
+        view value ≡ player_tree stacks.now notes.now numbers seat.number) }
 {
-    let number = number_among(numbers, seat);
-    let stack = amount_at(stacks, seat);
+    let number = number_among(numbers, seat.number);
+    let stack = amount_at(stacks, seat.number);
     let mut members = Map::new(alloc);
-    put_number(alloc, &mut members, "id", seat as u64)?;
+    put_number(alloc, &mut members, "id", seat.number as u64)?;
     put_name(alloc, &mut members, notes, seat)?;
     put_number(alloc, &mut members, "seat", number as u64)?;
     put_number(alloc, &mut members, "starting_stack", stack)?;
@@ -58,12 +58,10 @@ fn put_name(
     alloc: Global,
     members: &mut Map<String, Value>,
     notes: &Notes,
-    seat: u8,
+    seat: Seat,
 ) -> Result<(), Memory>
-    requires first { 1 ≤ seat }
-    requires last { seat ≤ 10 }
     ensures { OnOk result (members_view members.new.entries
-        ≡ put_said (codes "name") (string (name_written notes.now seat))
+        ≡ put_said (codes "name") (string (name_written notes.now seat.number))
         (members_view members.old.entries)) }
 {
     put_value(
@@ -76,13 +74,12 @@ fn put_name(
 }
 
 // The name of a seat's player, or its default where none is said.
-fn name_of(alloc: Global, notes: &Notes, seat: u8) -> Result<String, Memory>
-    requires first { 1 ≤ seat }
-    requires last { seat ≤ 10 }
-    ensures { IfOk result (λ name. string_bytes name ≡ name_written notes.now seat) }
+fn name_of(alloc: Global, notes: &Notes, seat: Seat) -> Result<String, Memory>
+    ensures { IfOk result (λ name. string_bytes name ≡ name_written notes.now seat.number) }
 {
-    match &notes.names[seat as usize - 1] {
+    let number = seat.number;
+    match &notes.names[number as usize - 1] {
         Some(name) => Ok(String::from_str(alloc, name.as_str())?),
-        None => Ok(format!(in alloc; "p{seat}")?),
+        None => Ok(format!(in alloc; "p{number}")?),
     }
 }

@@ -2,12 +2,12 @@
 ghost use Rattle.std.specs.Prelude.{◌≡◌, ◌≤◌, ◌<◌, ◌++◌, ◌+◌, codes, map, IfOk, OnOk};
 ghost use Rattle.serde_json.specs.Data.{put as put_said};
 ghost use Rattle.serde_json.specs.View.{view, members_view};
-ghost use Rattle.ohh_writing.specs.Tree.{pot_tree, pots as pots_said, share_at as share_said, win_object, win_tree, wins_of};
+ghost use Rattle.ohh_writing.specs.Tree.{pot_tree, pots as pots_said, win_object, win_tree, wins_of};
 
 use crate::members::{put_number, put_value};
 use crate::posts::amount_at;
 use card_set::Memory;
-use chip_ledger::{Pot, SeatRow};
+use chip_ledger::{Pot, Seat, SeatRow};
 use hand_records::Trace;
 use serde_json::{Map, Value};
 use std::alloc::Global;
@@ -29,15 +29,11 @@ fn pot_value(alloc: Global, trace: &Trace, place: u8, pot: &Pot) -> Result<Value
     ensures { IfOk result (λ value. view value ≡ pot_tree trace.now place pot.now) }
 {
     let rake = trace.setup.rakes.rakes[place as usize];
+    let share = &trace.shares.shares[place as usize];
     let mut members = Map::new(alloc);
     put_number(alloc, &mut members, "amount", pot.chips)?;
     put_number(alloc, &mut members, "number", place as u64)?;
-    put_wins(
-        alloc,
-        &mut members,
-        share_at(trace, place),
-        trace.setup.stacks.seats,
-    )?;
+    put_wins(alloc, &mut members, share, trace.setup.stacks.seats)?;
     put_number(alloc, &mut members, "rake", rake)?;
     Ok(Value::Object(members))
 }
@@ -68,25 +64,23 @@ fn win_values(alloc: Global, share: &SeatRow, seats: u8) -> Result<Value, Memory
     requires { seats ≤ 10 }
     ensures { IfOk result (λ value. view value ≡ wins_of share.now seats) }
 {
-    let mut values = Vec::new(alloc);
+    let mut wins = Vec::new(alloc);
     for index in 0..seats {
-        push_win(alloc, &mut values, share, index + 1)?;
+        push_win(alloc, &mut wins, share, Seat { number: index + 1 })?;
     }
-    Ok(Value::Array(values))
+    Ok(Value::Array(wins))
 }
 
 // Puts what a seat wins of a pot behind other wins, where it wins something.
-fn push_win(alloc: Global, values: &mut Vec<Value>, share: &SeatRow, seat: u8) -> Result<(), Memory>
-    requires first { 1 ≤ seat }
-    requires last { seat ≤ 10 }
-    ensures { OnOk result (map view values.new.items
-        ≡ map view values.old.items ++ win_tree share.now seat) }
+fn push_win(alloc: Global, wins: &mut Vec<Value>, share: &SeatRow, seat: Seat) -> Result<(), Memory>
+    ensures { OnOk result (map view wins.new.items
+        ≡ map view wins.old.items ++ win_tree share.now seat.number) }
 {
-    let amount = amount_at(share, seat);
+    let amount = amount_at(share, seat.number);
     if amount == 0 {
         return Ok(());
     }
-    values.push(win_value(alloc, seat, amount)?)?;
+    wins.push(win_value(alloc, seat.number, amount)?)?;
     Ok(())
 }
 
@@ -98,12 +92,4 @@ fn win_value(alloc: Global, seat: u8, amount: u64) -> Result<Value, Memory>
     put_number(alloc, &mut members, "player_id", seat as u64)?;
     put_number(alloc, &mut members, "win_amount", amount)?;
     Ok(Value::Object(members))
-}
-
-// The shares of the pot at a place.
-fn share_at(trace: &Trace, place: u8) -> &SeatRow
-    requires { place < 11 }
-    ensures { result.now ≡ share_said trace.now place }
-{
-    &trace.shares.shares[place as usize]
 }

@@ -1,7 +1,5 @@
 //! A hand is a list of rounds: those of its streets, and the showdown.
 ghost use Rattle.std.specs.Prelude.{◌≡◌, None, [], ◌++◌, map, IfOk, OnOk};
-ghost use Rattle.canon_script.specs.Tidy.{HasTidyCards};
-ghost use Rattle.hand_records.specs.TraceRows.{core_said};
 ghost use Rattle.ohh_writing.specs.Actions.{action_said, showings};
 ghost use Rattle.ohh_writing.specs.Rounds.{board_round_on, first_actions, hand_rounds as hand_rounds_said, moves_on as moves_on_said, round, round_said, showdown_round};
 ghost use Rattle.ohh_members.specs.declared.street.StreetName.TheVariants as streets;
@@ -11,6 +9,7 @@ use crate::cards::dealt_cards;
 use crate::moves::push_moves;
 use crate::posts::push_posts;
 use crate::shows::{push_deals, push_showings};
+use crate::tidy_trace::TidyTrace;
 use card_set::{Memory, SlotRow};
 use hand_records::Trace;
 use ohh_members::Dialect;
@@ -19,29 +18,28 @@ use std::alloc::Global;
 
 /// The rounds of a hand.
 #[tactic(auto, unfolding(crate::specs::Rounds::hand_rounds))]
-pub fn hand_rounds(alloc: Global, dialect: Dialect, trace: &Trace) -> Result<Vec<Round>, Memory>
-    requires { HasTidyCards (core_said trace.now) }
+pub fn hand_rounds(alloc: Global, dialect: Dialect, tidy: &TidyTrace) -> Result<Vec<Round>, Memory>
     ensures { IfOk result (λ rounds. map round_said rounds.items
-        ≡ hand_rounds_said dialect trace.now) }
+        ≡ hand_rounds_said dialect tidy.now.trace.now) }
 {
     let mut rounds = Vec::new(alloc);
-    rounds.push(first_round(alloc, dialect, trace)?)?;
-    push_board_round(alloc, &mut rounds, dialect, trace, StreetName::Flop, 2)?;
-    push_board_round(alloc, &mut rounds, dialect, trace, StreetName::Turn, 3)?;
-    push_board_round(alloc, &mut rounds, dialect, trace, StreetName::River, 4)?;
-    push_showdown(alloc, &mut rounds, trace)?;
+    rounds.push(first_round(alloc, dialect, tidy)?)?;
+    push_board_round(alloc, &mut rounds, dialect, tidy, StreetName::Flop, 2)?;
+    push_board_round(alloc, &mut rounds, dialect, tidy, StreetName::Turn, 3)?;
+    push_board_round(alloc, &mut rounds, dialect, tidy, StreetName::River, 4)?;
+    push_showdown(alloc, &mut rounds, tidy)?;
     Ok(rounds)
 }
 
 // The round of the first street.
-fn first_round(alloc: Global, dialect: Dialect, trace: &Trace) -> Result<Round, Memory>
-    requires { HasTidyCards (core_said trace.now) }
+fn first_round(alloc: Global, dialect: Dialect, tidy: &TidyTrace) -> Result<Round, Memory>
     ensures { IfOk result (λ made. round_said made
-        ≡ round streets.Preflop [] (first_actions dialect trace.now)) }
+        ≡ round streets.Preflop [] (first_actions dialect tidy.now.trace.now)) }
 {
+    let trace = tidy.trace;
     let mut actions = Vec::new(alloc);
     push_posts(&mut actions, &trace.setup)?;
-    push_deals(&mut actions, trace)?;
+    push_deals(&mut actions, tidy)?;
     push_moves(
         &mut actions,
         dialect,
@@ -61,19 +59,19 @@ fn push_board_round(
     alloc: Global,
     rounds: &mut Vec<Round>,
     dialect: Dialect,
-    trace: &Trace,
+    tidy: &TidyTrace,
     street: StreetName,
     number: u8,
 ) -> Result<(), Memory>
-    requires { HasTidyCards (core_said trace.now) }
     ensures { OnOk result (map round_said rounds.new.items
-        ≡ map round_said rounds.old.items ++ board_round_on dialect trace.now street number) }
+        ≡ map round_said rounds.old.items
+        ++ board_round_on dialect tidy.now.trace.now street number) }
 {
-    let cards = dealt_cards(trace.places.as_slice(), None, number);
+    let cards = dealt_cards(tidy.trace.places.as_slice(), None, number);
     if cards.as_slice().is_empty() {
         return Ok(());
     }
-    let actions = moves_on(alloc, dialect, trace, number)?;
+    let actions = moves_on(alloc, dialect, tidy.trace, number)?;
     rounds.push(Round {
         street,
         cards,
@@ -104,13 +102,12 @@ fn moves_on(
 }
 
 // Puts the showdown behind other rounds, where there is one.
-fn push_showdown(alloc: Global, rounds: &mut Vec<Round>, trace: &Trace) -> Result<(), Memory>
-    requires { HasTidyCards (core_said trace.now) }
+fn push_showdown(alloc: Global, rounds: &mut Vec<Round>, tidy: &TidyTrace) -> Result<(), Memory>
     ensures { OnOk result (map round_said rounds.new.items
-        ≡ map round_said rounds.old.items ++ showdown_round (showings trace.now)) }
+        ≡ map round_said rounds.old.items ++ showdown_round (showings tidy.now.trace.now)) }
 {
     let mut actions = Vec::new(alloc);
-    push_showings(&mut actions, trace)?;
+    push_showings(&mut actions, tidy)?;
     if actions.is_empty() {
         return Ok(());
     }

@@ -23,8 +23,7 @@ pub fn numbers_spelled(count: u8, said: Option<[u8; 10]>) -> Option<[u8; 10]>
 
 // Whether numbers differ, and one step goes down when one goes round them.
 fn is_circular(numbers: &[u8]) -> bool
-    requires some { 1 ≤ length numbers.now }
-    requires few { length numbers.now ≤ 10 }
+    requires { 1 ≤ length numbers.now }
     ensures { result ≡ is_circular_said numbers.now }
 {
     if !has_no_repeat(numbers) {
@@ -61,8 +60,7 @@ fn has_number(numbers: &[u8], number: u8) -> bool
 }
 
 // How many steps go down, from each number to the next, and from the last one back.
-fn falls(back: u8, numbers: &[u8]) -> u8
-    requires few { length numbers.now ≤ 10 }
+fn falls(back: u8, numbers: &[u8]) -> usize
     ensures falls { result ≡ falls_said back numbers.now }
     ensures few { result ≤ length numbers.now }
 {
@@ -73,11 +71,11 @@ fn falls(back: u8, numbers: &[u8]) -> u8
 }
 
 // Whether a step goes down, as a number.
-fn fall(number: u8, next: u8) -> u8
+fn fall(number: u8, next: u8) -> usize
     ensures fall { result ≡ fall_said number next }
     ensures few { result ≤ 1 }
 {
-    u8::from(next < number)
+    usize::from(next < number)
 }
 
 // The first of some numbers, or this one behind the last.

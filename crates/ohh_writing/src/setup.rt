@@ -1,11 +1,12 @@
 //! Which setups the format spells.
-ghost use Rattle.std.specs.Prelude.{◌≡◌, ◌≤◌};
+ghost use Rattle.std.specs.Prelude.{◌≡◌};
 ghost use Rattle.std.specs.List.{list_all, list_any};
 ghost use Rattle.play_event.specs.Seats.{all_seats};
 ghost use Rattle.ohh_writing.specs.Spelled.{big_blind as big_blind_said, greatest_ante as greatest_ante_said, has_no_ante as has_no_ante_said, has_spelled_antes as has_antes_said, has_spelled_blinds as has_blinds_said, has_spelled_sizes as has_sizes_said, has_spelled_straddles as has_straddles_said, has_two_blinds as has_two_said, is_covered_straddle as is_covered_said, is_whole_ante as is_whole_said};
 
 use crate::games::is_fixed;
 use crate::posts::{amount_at, big_blind_seat};
+use chip_ledger::Seat;
 use play_event::Setup;
 
 /// Whether the bet sizes are those that follow from the big blind.
@@ -43,7 +44,7 @@ fn has_seat_without_ante(setup: &Setup) -> bool
     ensures { result ≡ list_any (has_no_ante_said setup.now) (all_seats setup.now) }
 {
     for index in 0..setup.stacks.seats {
-        if has_no_ante(setup, index + 1) {
+        if has_no_ante(setup, Seat { number: index + 1 }) {
             return true;
         }
     }
@@ -51,12 +52,10 @@ fn has_seat_without_ante(setup: &Setup) -> bool
 }
 
 // Whether a seat posts no ante.
-fn has_no_ante(setup: &Setup, seat: u8) -> bool
-    requires first { 1 ≤ seat }
-    requires last { seat ≤ 10 }
-    ensures { result ≡ has_no_ante_said setup.now seat }
+fn has_no_ante(setup: &Setup, seat: Seat) -> bool
+    ensures { result ≡ has_no_ante_said setup.now seat.number }
 {
-    amount_at(&setup.antes, seat) == 0
+    amount_at(&setup.antes, seat.number) == 0
 }
 
 // Whether each seat posts the greatest ante, as far as its stack goes.
@@ -65,7 +64,7 @@ fn has_whole_antes(setup: &Setup) -> bool
 {
     let greatest = greatest_ante(setup);
     for index in 0..setup.stacks.seats {
-        if !is_whole_ante(setup, greatest, index + 1) {
+        if !is_whole_ante(setup, greatest, Seat { number: index + 1 }) {
             return false;
         }
     }
@@ -86,13 +85,11 @@ pub fn greatest_ante(setup: &Setup) -> u64
 }
 
 // Whether a seat posts the greatest ante, as far as its stack goes.
-fn is_whole_ante(setup: &Setup, greatest: u64, seat: u8) -> bool
-    requires first { 1 ≤ seat }
-    requires last { seat ≤ 10 }
-    requires greatest { greatest ≡ greatest_ante_said setup.now }
-    ensures { result ≡ is_whole_said setup.now seat }
+fn is_whole_ante(setup: &Setup, greatest: u64, seat: Seat) -> bool
+    requires { greatest ≡ greatest_ante_said setup.now }
+    ensures { result ≡ is_whole_said setup.now seat.number }
 {
-    amount_at(&setup.antes, seat) == amount_at(&setup.stacks, seat).min(greatest)
+    amount_at(&setup.antes, seat.number) == amount_at(&setup.stacks, seat.number).min(greatest)
 }
 
 /// Whether the first two seats have the blinds, and the others straddles that their stacks cover.
@@ -127,7 +124,7 @@ fn has_covered_straddles(setup: &Setup) -> bool
     ensures { result ≡ list_all (is_covered_said setup.now) (all_seats setup.now) }
 {
     for index in 0..setup.stacks.seats {
-        if !is_covered_straddle(setup, index + 1) {
+        if !is_covered_straddle(setup, Seat { number: index + 1 }) {
             return false;
         }
     }
@@ -135,11 +132,10 @@ fn has_covered_straddles(setup: &Setup) -> bool
 }
 
 // Whether a straddle of the seat is no more than its stack without the ante.
-fn is_covered_straddle(setup: &Setup, seat: u8) -> bool
-    requires first { 1 ≤ seat }
-    requires last { seat ≤ 10 }
-    ensures { result ≡ is_covered_said setup.now seat }
+fn is_covered_straddle(setup: &Setup, seat: Seat) -> bool
+    ensures { result ≡ is_covered_said setup.now seat.number }
 {
-    let left = amount_at(&setup.stacks, seat).saturating_sub(amount_at(&setup.antes, seat));
-    seat <= 2 || amount_at(&setup.blinds, seat) <= left
+    let ante = amount_at(&setup.antes, seat.number);
+    let left = amount_at(&setup.stacks, seat.number).saturating_sub(ante);
+    seat.number <= 2 || amount_at(&setup.blinds, seat.number) <= left
 }

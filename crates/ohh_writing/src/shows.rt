@@ -2,27 +2,25 @@
 //! end.
 ghost use Rattle.std.specs.Prelude.{◌≡◌, ◌++◌, Some, map, OnOk};
 ghost use Rattle.card_set.specs.Row.{slots_of};
-ghost use Rattle.canon_script.specs.Tidy.{HasTidyCards};
 ghost use Rattle.hand_records.specs.TraceRows.{core_said};
 ghost use Rattle.ohh_writing.specs.Actions.{action_said, alone, deal_written, deals, showing, showings, with_cards};
 ghost use Rattle.ohh_members.specs.declared.words.Word.TheVariants as words;
 
 use crate::action::{Action, Detail};
 use crate::cards::{dealt_cards, has_known, held_cards};
+use crate::tidy_trace::TidyTrace;
 use card_set::{Memory, SlotRow};
 use chip_ledger::Seat;
-use hand_records::Trace;
 use ohh_members::words::Word;
 
 /// Puts the deals to the seats behind other actions, from p1 upward.
-pub fn push_deals(actions: &mut Vec<Action>, trace: &Trace) -> Result<(), Memory>
-    requires { HasTidyCards (core_said trace.now) }
+pub fn push_deals(actions: &mut Vec<Action>, tidy: &TidyTrace) -> Result<(), Memory>
     ensures { OnOk result (map action_said actions.new.items ≡ map action_said actions.old.items
-        ++ deals trace.now.setup (core_said trace.now).places) }
+        ++ deals tidy.now.trace.now.setup (core_said tidy.now.trace.now).places) }
 {
-    for index in 0..trace.setup.stacks.seats {
+    for index in 0..tidy.trace.setup.stacks.seats {
         let seat = Seat { number: index + 1 };
-        let cards = dealt_cards(trace.places.as_slice(), Some(seat), 1);
+        let cards = dealt_cards(tidy.trace.places.as_slice(), Some(seat), 1);
         push_deal(actions, seat, cards)?;
     }
     Ok(())
@@ -41,23 +39,22 @@ fn push_deal(actions: &mut Vec<Action>, seat: Seat, cards: SlotRow) -> Result<()
 }
 
 /// Puts the showdown behind other actions, from p1 upward.
-pub fn push_showings(actions: &mut Vec<Action>, trace: &Trace) -> Result<(), Memory>
-    requires { HasTidyCards (core_said trace.now) }
+pub fn push_showings(actions: &mut Vec<Action>, tidy: &TidyTrace) -> Result<(), Memory>
     ensures { OnOk result (map action_said actions.new.items
-        ≡ map action_said actions.old.items ++ showings trace.now) }
+        ≡ map action_said actions.old.items ++ showings tidy.now.trace.now) }
 {
-    for index in 0..trace.setup.stacks.seats {
-        push_showing(actions, trace, Seat { number: index + 1 })?;
+    for index in 0..tidy.trace.setup.stacks.seats {
+        push_showing(actions, tidy, Seat { number: index + 1 })?;
     }
     Ok(())
 }
 
 // Puts what a seat does at the showdown behind other actions, where it is in it.
-fn push_showing(actions: &mut Vec<Action>, trace: &Trace, seat: Seat) -> Result<(), Memory>
-    requires { HasTidyCards (core_said trace.now) }
+fn push_showing(actions: &mut Vec<Action>, tidy: &TidyTrace, seat: Seat) -> Result<(), Memory>
     ensures { OnOk result (map action_said actions.new.items
-        ≡ map action_said actions.old.items ++ showing trace.now seat.number) }
+        ≡ map action_said actions.old.items ++ showing tidy.now.trace.now seat.number) }
 {
+    let trace = tidy.trace;
     if trace.shown.flags[seat.number as usize - 1] {
         let cards = held_cards(trace.places.as_slice(), seat);
         actions.push(cards_action(Word::ShowsCards, seat, cards))?;

@@ -9,6 +9,7 @@ use crate::games::is_spelled_game;
 use crate::moment::moment_of;
 use crate::seating::numbers_spelled;
 use crate::setup::{has_spelled_antes, has_spelled_blinds, has_spelled_sizes};
+use chip_ledger::SeatRow;
 use hand_records::{Keep, NoteName, Notes, Play, Trace, Unspelled, WriteRefusal};
 use play_event::Move;
 
@@ -79,18 +80,16 @@ fn first_of_kept(play: &Play, keep: Keep) -> Option<Unspelled>
     ensures { result ≡ first_unspelled (kept_facts keep play.now) }
 {
     match keep {
-        Keep::All => first_of_notes(play.trace.setup.stacks.seats, &play.hand.notes),
+        Keep::All => first_of_notes(&play.trace.setup.stacks, &play.hand.notes),
         Keep::Spelled => None,
     }
 }
 
-// The first note of so many seats that is not spelled.
-fn first_of_notes(count: u8, notes: &Notes) -> Option<Unspelled>
-    requires least { 1 ≤ count }
-    requires greatest { count ≤ 10 }
-    ensures { result ≡ first_unspelled (note_facts count notes.now) }
+// The first note that is not spelled, of as many seats as there are stacks.
+fn first_of_notes(stacks: &SeatRow, notes: &Notes) -> Option<Unspelled>
+    ensures { result ≡ first_unspelled (note_facts stacks.now.seats notes.now) }
 {
-    if !has_spelled_numbers(count, notes) {
+    if !has_spelled_numbers(stacks, notes) {
         return Some(Unspelled::Note(NoteName::Seats));
     }
     if moment_of(notes).is_some() {
@@ -114,14 +113,12 @@ fn first_of_notes(count: u8, notes: &Notes) -> Option<Unspelled>
     None
 }
 
-// Whether the numbers of so many seats are not said, or go round the table.
-fn has_spelled_numbers(count: u8, notes: &Notes) -> bool
-    requires least { 1 ≤ count }
-    requires greatest { count ≤ 10 }
-    ensures { result ≡ has_numbers_said count notes.now }
+// Whether the numbers of the seats are not said, or go round the table.
+fn has_spelled_numbers(stacks: &SeatRow, notes: &Notes) -> bool
+    ensures { result ≡ has_numbers_said stacks.now.seats notes.now }
 {
     if notes.seats.is_none() {
         return true;
     }
-    numbers_spelled(count, notes.seats).is_some()
+    numbers_spelled(stacks.seats, notes.seats).is_some()
 }

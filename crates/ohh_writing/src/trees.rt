@@ -37,31 +37,11 @@ fn round_value(alloc: Global, number: u64, round: &Round) -> Result<Value, Memor
     ensures { IfOk result (λ value. view value ≡ round_tree number (round_said round.now)) }
 {
     let mut members = Map::new(alloc);
-    put_actions(alloc, &mut members, number, round.actions.as_slice())?;
+    let actions = action_values(alloc, number, round.actions.as_slice())?;
+    put_value(alloc, &mut members, "actions", actions)?;
     put_cards(alloc, &mut members, round.cards.as_slice())?;
     put_text(alloc, &mut members, "street", name_of(round.street))?;
     Ok(Value::Object(members))
-}
-
-// Puts actions, of which the first has this number, under their name.
-fn put_actions(
-    alloc: Global,
-    members: &mut Map<String, Value>,
-    first: u64,
-    actions: &[Action],
-) -> Result<(), Memory>
-    requires few { first + length actions.now ≤ 2 ^ 63 }
-    ensures { OnOk result (members_view members.new.entries
-        ≡ put_said (codes "actions") (list (action_trees first (map action_said actions.now)))
-        (members_view members.old.entries)) }
-{
-    put_value(
-        alloc,
-        members,
-        "actions",
-        action_values(alloc, first, actions)?,
-    )?;
-    Ok(())
 }
 
 // The trees of actions, of which the first has this number.

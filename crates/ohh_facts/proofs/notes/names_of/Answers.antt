@@ -18,11 +18,11 @@ loop-index-preserved c =
       each = set_each None (λ k name. k < l.index + 1 → IfSome name (IsName (k + 1))) l.names l.index x here (λ k other late. inv.each k (omega (arith, late, other))) (λ late. c.in_ok-names.ensures.allowed);
       none = set_each None (λ k name. l.index + 1 ≤ k → name ≡ None) l.names l.index x here (λ k other late. inv.none k (omega (arith, late))) (λ late. absurd (omega (arith, late)));
       read =
-          ap (λ (front : List (Option (List ℕ))). front ++ names_from (l.index + 1 + 1) (map plain_player (drop (l.index + 1) c.args.players.now))) (take_more_set l.names l.index x here)
-          ∙ name_read (take l.index l.names) c.args.players.now l.index c.index-players-index.result x (names_from 1 (map plain_player c.args.players.now)) c.loop-index-test.true (sym c.index-players-index.is) c.in_ok-names.ensures.said inv.read;
+          ap (λ (front : List (Option (List ℕ))). front ++ names_from (l.index + 1 + 1) (map plain_player (drop (l.index + 1) c.args.seated.now.players.now))) (take_more_set l.names l.index x here)
+          ∙ name_read (take l.index l.names) c.args.seated.now.players.now l.index c.index-players-index.result x (names_from 1 (map plain_player c.args.seated.now.players.now)) c.loop-index-test.true (sym c.index-players-index.is) c.in_ok-names.ensures.said inv.read;
     }
 
 pub returns-clause-said : goal.returns-clause-said
 returns-clause-said c =
-    let whole : c.loop-index.index ≡ length c.args.players.now = omega arith in
-    names_read (take (length c.args.players.now) c.loop-index.names) c.args.players.now c.loop-index.index (names_from 1 (map plain_player c.args.players.now)) c.loop-index-test.false (rw (sym whole) c.loop-index.invariant.read)
+    let whole : c.loop-index.index ≡ length c.args.seated.now.players.now = omega arith in
+    names_read (take (length c.args.seated.now.players.now) c.loop-index.names) c.args.seated.now.players.now c.loop-index.index (names_from 1 (map plain_player c.args.seated.now.players.now)) c.loop-index-test.false (rw (sym whole) c.loop-index.invariant.read)

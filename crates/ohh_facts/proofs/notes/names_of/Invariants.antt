@@ -10,5 +10,5 @@ invariant-loop-index l = record {
   ten : length l.names ≡ 10;
   each : (k : ℕ) → k < l.index → IfSome (slice_index_or l.names k None) (IsName (k + 1));
   none : (k : ℕ) → l.index ≤ k → slice_index_or l.names k None ≡ None;
-  read : take l.index l.names ++ names_from (l.index + 1) (map plain_player (drop l.index l.players)) ≡ names_from 1 (map plain_player l.players);
+  read : take l.index l.names ++ names_from (l.index + 1) (map plain_player (drop l.index l.seated.players.now)) ≡ names_from 1 (map plain_player l.seated.players.now);
 }

@@ -15,8 +15,8 @@ loop-index-preserved c =
       ten = omega (arith, inv.ten, length-set l.seats l.index p.seat);
       each = set_each 0 (λ k seat. k < l.index + 1 → IsWithin 1 255 seat) l.seats l.index p.seat here (λ k other late. inv.each k (omega (arith, late, other))) (λ late. (p.first_seat, p.last_seat));
       zeros = set_each 0 (λ k seat. l.index + 1 ≤ k → seat ≡ 0) l.seats l.index p.seat here (λ k other late. inv.zeros k (omega (arith, late))) (λ late. absurd (omega (arith, late)));
-      read = one_more_taken plain_player (λ player. player.seat) l.seats c.args.players.now l.index p here c.loop-index-test.true (sym c.index-players-index.is) inv.read;
+      read = one_more_taken plain_player (λ player. player.seat) l.seats c.args.seated.now.players.now l.index p here c.loop-index-test.true (sym c.index-players-index.is) inv.read;
     }
 
 pub returns-clause-said : goal.returns-clause-said
-returns-clause-said c = all_taken plain_player (λ player. player.seat) c.loop-index.seats c.args.players.now c.loop-index.index (omega arith) c.loop-index.invariant.read
+returns-clause-said c = all_taken plain_player (λ player. player.seat) c.loop-index.seats c.args.seated.now.players.now c.loop-index.index (omega arith) c.loop-index.invariant.read

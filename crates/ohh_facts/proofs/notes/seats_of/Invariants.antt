@@ -9,5 +9,5 @@ invariant-loop-index l = record {
   ten : length l.seats ≡ 10;
   each : (k : ℕ) → k < l.index → IsWithin 1 255 (slice_index l.seats k);
   zeros : (k : ℕ) → l.index ≤ k → slice_index l.seats k ≡ 0;
-  read : take l.index l.seats ≡ map (λ player. player.seat) (map plain_player (take l.index l.players));
+  read : take l.index l.seats ≡ map (λ player. player.seat) (map plain_player (take l.index l.seated.players.now));
 }

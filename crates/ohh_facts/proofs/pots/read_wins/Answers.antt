@@ -3,7 +3,7 @@ use Rattle.std.proofs.lemmas.Result.{err_from_is_err_and}
 use Rattle.serde_json.specs.View.{view}
 use Rattle.ohh_facts.specs.Pots.{win_added, wins_said}
 use Rattle.ohh_facts.specs.Won.{plain_win}
-use Rattle.ohh_members.proofs.Added.{added, not_added, all_added}
+use Rattle.first_fault.proofs.Added.{added, not_added, all_added}
 use Rattle.ohh_facts.proofs.pots.read_wins.Goals as goal
 
 pub returns-in_err-after-clause-said : goal.returns-in_err-after-clause-said

@@ -2,7 +2,7 @@ use Rattle.std.proofs.Common.{◌≡◌, map}
 use Rattle.serde_json.specs.View.{view}
 use Rattle.ohh_facts.specs.Pots.{win_added, wins_said}
 use Rattle.ohh_facts.specs.Won.{plain_win}
-use Rattle.ohh_members.proofs.Added.{add_left}
+use Rattle.first_fault.proofs.Added.{add_left}
 use Rattle.ohh_facts.proofs.pots.read_wins.Given as goal
 
 -- the wins so far, and those of the values that are left, are all of them

@@ -2,8 +2,8 @@ use Rattle.std.proofs.Common.{[], map, sym, arith}
 use Rattle.std.proofs.lemmas.Result.{err_from_is_err_and}
 use Rattle.serde_json.specs.View.{view}
 use Rattle.ohh_members.specs.Players.{plain_player, player_added}
-use Rattle.ohh_members.specs.Values.{added_from}
-use Rattle.ohh_members.proofs.Added.{added, not_added, all_added}
+use Rattle.first_fault.specs.Reading.{added_from}
+use Rattle.first_fault.proofs.Added.{added, not_added, all_added}
 use Rattle.ohh_members.proofs.players.add_players.Goals as goal
 
 pub returns-in_err-add_player-clause-said : goal.returns-in_err-add_player-clause-said

@@ -1,8 +1,8 @@
 use Rattle.std.proofs.Common.{◌≡◌, [], length, map}
 use Rattle.serde_json.specs.View.{view}
 use Rattle.ohh_members.specs.Players.{plain_player, player_added}
-use Rattle.ohh_members.specs.Values.{added_from}
-use Rattle.ohh_members.proofs.Added.{add_left}
+use Rattle.first_fault.specs.Reading.{added_from}
+use Rattle.first_fault.proofs.Added.{add_left}
 use Rattle.ohh_members.proofs.players.add_players.Given as goal
 
 -- the players so far, and those of the values that are left, are all of them

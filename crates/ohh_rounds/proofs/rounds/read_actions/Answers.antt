@@ -9,8 +9,8 @@ use Rattle.ohh_rounds.specs.Actions.{step_said}
 use Rattle.ohh_rounds.specs.Rounds.{action_added, actions_said}
 use Rattle.ohh_rounds.specs.Setting.{plain_setting}
 use Rattle.ohh_rounds.specs.Steps.{plain_step}
-use Rattle.ohh_rounds.proofs.Adding.{adding_ends, adds_on, all_added}
-use Rattle.ohh_rounds.proofs.FailsThen.{fails_then}
+use Rattle.first_fault.proofs.Added.{added, all_added, not_added}
+use Rattle.first_fault.proofs.FailsThen.{fails_then}
 use Rattle.ohh_rounds.proofs.rounds.read_actions.Goals as goal
 
 pub returns-in_err-step-clause-said : goal.returns-in_err-step-clause-said
@@ -22,7 +22,7 @@ returns-in_err-step-clause-said c =
     let place : ActionPlace = record { round = c.args.index; action = l.action } in
     let read = step_said (plain_setting setting) steps place (view c.index-values-action.result) in
     let fails = subst (λ (s : Setting). Fails c.in_err-step.field-0.0 (step_said (plain_setting s) steps place (view c.index-values-action.result))) l.invariant.setting c.in_err-step.ensures.said in
-    rw (p.1, p.2) (adding_ends view (action_added (plain_setting setting) c.args.index) c.in_err-step.field-0.0 steps c.in_ok-values.values.now l.action c.index-values-action.result (actions_said (plain_setting setting) c.args.index (map plain_step c.args.told.now.steps.items) (view c.args.round.now)) c.loop-action-test.true (sym c.index-values-action.is) (fails_then c.in_err-step.field-0.0 read (λ step. Ok (steps ++ step ∷ [])) fails) l.invariant.read)
+    rw (p.1, p.2) (not_added view (action_added (plain_setting setting) c.args.index) c.in_err-step.field-0.0 steps c.in_ok-values.values.now l.action c.index-values-action.result (actions_said (plain_setting setting) c.args.index (map plain_step c.args.told.now.steps.items) (view c.args.round.now)) c.loop-action-test.true (sym c.index-values-action.is) (fails_then c.in_err-step.field-0.0 read (λ step. Ok (steps ++ step ∷ [])) fails) l.invariant.read)
 
 pub loop-action-preserved : goal.loop-action-preserved
 loop-action-preserved c =
@@ -35,7 +35,7 @@ loop-action-preserved c =
     let items = ap (map plain_step) c.in_ok-push.ensures.steps ∙ map_push plain_step l.told.steps.items step in
     record {
       setting = c.push.ensures.setting ∙ l.invariant.setting;
-      read = rw items (adds_on view (action_added (plain_setting setting) c.args.index) steps (steps ++ plain_step step ∷ []) c.in_ok-values.values.now l.action c.index-values-action.result (actions_said (plain_setting setting) c.args.index (map plain_step c.args.told.now.steps.items) (view c.args.round.now)) c.loop-action-test.true (sym c.index-values-action.is) (ap (λ found. found >>= λ x. Ok (steps ++ x ∷ [])) read) l.invariant.read);
+      read = rw items (added view (action_added (plain_setting setting) c.args.index) steps (steps ++ plain_step step ∷ []) c.in_ok-values.values.now l.action c.index-values-action.result (actions_said (plain_setting setting) c.args.index (map plain_step c.args.told.now.steps.items) (view c.args.round.now)) c.loop-action-test.true (sym c.index-values-action.is) (ap (λ found. found >>= λ x. Ok (steps ++ x ∷ [])) read) l.invariant.read);
     }
 
 pub returns-clause-said : goal.returns-clause-said

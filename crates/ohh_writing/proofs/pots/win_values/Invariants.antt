@@ -7,4 +7,4 @@ use Rattle.ohh_writing.proofs.pots.win_values.Given as goal
 
 -- the trees of what the seats so far win
 abbrev pub invariant-loop-index : goal.invariant-loop-index
-invariant-loop-index l = map view l.values.items ≡ flat_map (win_tree l.share) (seats_of l.index)
+invariant-loop-index l = map view l.wins.items ≡ flat_map (win_tree l.share) (seats_of l.index)

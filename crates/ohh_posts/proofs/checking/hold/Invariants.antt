@@ -2,7 +2,7 @@ use Rattle.std.proofs.Common.{◌≡◌, [], map, take, drop}
 use Rattle.ohh_posts.specs.Conditions.{AreFacts, first_breaking}
 use Rattle.ohh_posts.specs.Posts.{AreFirst, plain_post}
 use Rattle.ohh_posts.specs.NamedBlinds.{plain_named_blinds}
-use Rattle.ohh_posts.proofs.checking.first_break.Given as goal
+use Rattle.ohh_posts.proofs.checking.hold.Given as goal
 
 -- no post so far breaks the condition
 abbrev pub invariant-loop-post : goal.invariant-loop-post

@@ -1,10 +1,10 @@
 use Rattle.ohh_facts.proofs.Dated.{year_within, month_within, day_within, date_within, time_within}
-use Rattle.ohh_facts.proofs.notes.notes_of.Goals as goal
+use Rattle.ohh_facts.proofs.notes.read_notes.Goals as goal
 
 pub returns-clause-allowed : goal.returns-clause-allowed
 returns-clause-allowed c =
-    let fit = c.requires.fit in
-    let moment = c.args.labels.moment in
+    let fit = c.in_ok-labels.ensures.fit in
+    let moment = c.in_ok-labels.labels.moment in
     record {
       names = c.in_ok-names.ensures.each;
       no_more_names = c.in_ok-names.ensures.no_more;

@@ -1,0 +1,13 @@
+//! A tidy trace has few cards: at most seven are dealt to one owner on a street, and at most seven
+//! are held by one seat.
+ghost use Rattle.canon_script.specs.Tidy.{HasTidyCards};
+ghost use Rattle.hand_records.specs.TraceRows.{core_said};
+
+use hand_records::Trace;
+
+/// A trace whose cards are tidy.
+#[derive(Clone, Copy)]
+pub struct TidyTrace<'a> {
+    pub trace: &'a Trace,
+    pub ghost cards: { HasTidyCards (core_said trace.now) },
+}
