@@ -1,6 +1,5 @@
 //! The calls of an object in memory are numbered from 0, and those fail whose number a list has.
 ghost use Rattle.std.specs.Prelude.{◌≡◌, ◌≤◌, ◌↔◌, IsErr, is_err};
-ghost use Rattle.host_io.specs.Faults.{counted_up};
 ghost use Rattle.host_io.specs.FaultPlan.{IsFresh, FailsNext, CountsCall};
 
 use crate::fault::{Failed, count_fault};
@@ -11,7 +10,7 @@ use crate::fault::{Failed, count_fault};
 pub(crate) struct FaultPlan {
     fail_at: Vec<u64>,
     calls: u64,
-    faults: u64,
+    pub(crate) faults: u64,
 }
 
 impl FaultPlan {
@@ -35,16 +34,8 @@ impl FaultPlan {
         let number = self.calls;
         self.calls = number.saturating_add(1);
         if self.fail_at.contains(&number) {
-            return Err(self.fail());
+            return Err(count_fault(&mut self.faults));
         }
         Ok(())
-    }
-
-    /// Fails the call that was begun last, whatever the list says.
-    pub(crate) fn fail(&mut self) -> Failed
-        ensures counted { self.new ≡ record self.old { faults = counted_up self.old.faults } }
-        ensures later { self.old.faults ≤ self.new.faults }
-    {
-        count_fault(&mut self.faults)
     }
 }

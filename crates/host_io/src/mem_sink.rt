@@ -6,7 +6,7 @@ ghost use Rattle.std.specs.Io.KnownBytes.{WriteAppends};
 ghost use Rattle.host_io.specs.Faults.{Rose};
 ghost use Rattle.host_io.specs.FaultPlan.{FailsNext, CountsCall};
 
-use crate::fault::Failed;
+use crate::fault::{Failed, count_fault};
 use crate::fault_plan::FaultPlan;
 use crate::sink::Sink;
 use card_set::Memory;
@@ -90,7 +90,7 @@ impl Sink for MemSink {
         self.plan.begin_call()?;
         let room = self.room - self.bytes.len();
         if room == 0 && !bytes.is_empty() {
-            return Err(self.plan.fail());
+            return Err(count_fault(&mut self.plan.faults));
         }
         let count = bytes.len().min(self.piece).min(room);
         push_reserved(&mut self.bytes, &bytes[..count]);
