@@ -3,7 +3,7 @@ use Rattle.std.proofs.Common.{◌≡◌, ℕ, ◌+◌, ◌-◌, ◌≤◌, ◌<�
 use Rattle.std.specs.Option.{option_map}
 use Rattle.std.proofs.lemmas.List.{append-nil, length-map, length-reverse, length-take-le, take_all}
 use Rattle.std.proofs.lemmas.Option.{slice_get-map}
-use Rattle.chip_ledger.specs.declared.rows.SeatRow.{SeatRow}
+use Rattle.chip_ledger.specs.declared.seat_row.SeatRow.{SeatRow}
 use Rattle.canon_script.specs.CanonScript.{move_named, plain_move}
 use Rattle.canon_script.specs.PlayedScript.{is_move}
 use Rattle.canon_script.specs.TraceCore.{TraceCore}

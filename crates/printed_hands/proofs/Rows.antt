@@ -1,7 +1,7 @@
 -- The amounts of a row are those of its seats, from the first on.
 use Rattle.std.proofs.Common.{◌≡◌, ℕ, ◌-◌, ◌≤◌, List, map, ◌∙◌, ap, append_assoc, codes, ◌++◌}
 use Rattle.chip_ledger.specs.SeatRow.{amount_of, amounts_in}
-use Rattle.chip_ledger.specs.declared.rows.SeatRow.{SeatRow}
+use Rattle.chip_ledger.specs.declared.seat_row.SeatRow.{SeatRow}
 use Rattle.play_event.specs.Chips.{chips_left, chips_put}
 use Rattle.play_event.specs.Past.{Move}
 use Rattle.play_event.specs.Seats.{all_seats}

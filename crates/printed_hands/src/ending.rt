@@ -1,6 +1,7 @@
 //! The last lines of a hand: what is returned, who gets what of each pot, and what each seat ends
 //! with.
 ghost use Rattle.std.specs.Prelude.{◌≡◌, ◌+◌, ◌++◌, ◌≤◌, length, OnOk, string_bytes};
+ghost use Rattle.chip_ledger.specs.SeatRow.{amounts_in};
 ghost use Rattle.printed_hands.specs.Ending.{divided, ending_lines, entries, listed_from, pot_line, pot_lines, rake_entry, return_line, return_lines};
 
 use crate::amounts::push_row;
@@ -13,8 +14,7 @@ pub fn push_ending(text: &mut String, trace: &Trace) -> Result<(), Memory>
     ensures { OnOk result (string_bytes text.new
         ≡ string_bytes text.old ++ ending_lines trace.now) }
 {
-    let returned = &trace.pots.returned;
-    push_returns(text, 1, &returned.amounts[..returned.seats as usize])?;
+    push_returns(text, &trace.pots.returned)?;
     push_pots(
         text,
         1,
@@ -28,20 +28,16 @@ pub fn push_ending(text: &mut String, trace: &Trace) -> Result<(), Memory>
     Ok(())
 }
 
-// Puts a line for each seat, from this one on, to which something is returned.
-fn push_returns(text: &mut String, seat: u8, amounts: &[u64]) -> Result<(), Memory>
-    requires { seat + length amounts.now ≤ 11 }
+// Puts a line for each seat to which something is returned.
+fn push_returns(text: &mut String, returned: &SeatRow) -> Result<(), Memory>
     ensures { OnOk result (string_bytes text.new
-        ≡ string_bytes text.old ++ return_lines seat amounts.now) }
+        ≡ string_bytes text.old ++ return_lines 1 (amounts_in returned.now)) }
 {
-    match amounts {
-        [] => Ok(()),
-        [first, others @ ..] => {
-            let amount = *first;
-            push_return(text, seat, amount)?;
-            push_returns(text, seat + 1, others)
-        }
+    for index in 0..returned.seats {
+        let amount = returned.amounts[index as usize];
+        push_return(text, index + 1, amount)?;
     }
+    Ok(())
 }
 
 // Puts the line of what is returned to a seat, if something is.

@@ -4,14 +4,12 @@ ghost use Rattle.std.specs.Fmt.{decimal};
 ghost use Rattle.canon_script.specs.CanonScript.{move_named, plain_move};
 ghost use Rattle.canon_script.specs.PlayedScript.{is_move as is_move_said};
 ghost use Rattle.hand_canon.specs.Sound.{IsSound};
-ghost use Rattle.hand_records.specs.SoundRecord.{script_said};
 ghost use Rattle.phh_actions.specs.Written.{event_text as text_of_event, has_words};
 ghost use Rattle.play_event.specs.Past.{Move as PlainMove};
 ghost use Rattle.play_event.specs.Played.{move_said};
 ghost use Rattle.play_event.specs.Said.{kind_said};
-ghost use Rattle.play_event.specs.Scripts.{past_at_end};
 ghost use Rattle.play_event.specs.ValidSetup.{IsValid};
-ghost use Rattle.printed_hands.specs.Steps.{HasPut, MayAdd, chips_text, head_lines, replay_lines, step_lines};
+ghost use Rattle.printed_hands.specs.Steps.{HasPut, MayAdd, chips_text, head_lines, replay_lines};
 
 use crate::chips::{add, posted_row, push_chips};
 use crate::ending::push_ending;
@@ -27,38 +25,15 @@ use std::alloc::Global;
 pub fn push_replay_lines(
     alloc: Global,
     text: &mut String,
-    number: u64,
+    hand: u64,
     play: &Play,
 ) -> Result<(), Memory>
     requires { IsSound play.now }
     ensures { OnOk result (string_bytes text.new
-        ≡ string_bytes text.old ++ replay_lines number play.now) }
-{
-    push_head(text, number, &play.hand.setup)?;
-    push_steps(alloc, text, play)?;
-    push_ending(text, &play.trace)
-}
-
-// Puts the first two lines of a hand: its number and its game, and what is posted.
-fn push_head(text: &mut String, number: u64, setup: &Setup) -> Result<(), Memory>
-    requires { IsValid setup.now }
-    ensures { OnOk result (string_bytes text.new
-        ≡ string_bytes text.old ++ head_lines number setup.now) }
-{
-    let code = setup.code.text();
-    write!(text, "hand {number} {code}\n0 posts")?;
-    push_chips(text, setup, &posted_row(setup))?;
-    Ok(())
-}
-
-// Puts the line of each event.
-fn push_steps(alloc: Global, text: &mut String, play: &Play) -> Result<(), Memory>
-    requires { IsSound play.now }
-    ensures { OnOk result (string_bytes text.new ≡ string_bytes text.old
-        ++ step_lines play.now.hand.setup
-        (past_at_end play.now.hand.setup (script_said play.now.hand))) }
+        ≡ string_bytes text.old ++ replay_lines hand play.now) }
 {
     let setup = &play.hand.setup;
+    push_head(text, hand, setup)?;
     let mut put = posted_row(setup);
     let mut cursor = play.hand.script.cursor();
     let mut number: u64 = 0;
@@ -73,6 +48,18 @@ fn push_steps(alloc: Global, text: &mut String, play: &Play) -> Result<(), Memor
             push_event(alloc, text, number, event.kind, setup, &put)?;
         }
     }
+    push_ending(text, &play.trace)
+}
+
+// Puts the first two lines of a hand: its number and its game, and what is posted.
+fn push_head(text: &mut String, number: u64, setup: &Setup) -> Result<(), Memory>
+    requires { IsValid setup.now }
+    ensures { OnOk result (string_bytes text.new
+        ≡ string_bytes text.old ++ head_lines number setup.now) }
+{
+    let code = setup.code.text();
+    write!(text, "hand {number} {code}\n0 posts")?;
+    push_chips(text, setup, &posted_row(setup))?;
     Ok(())
 }
 

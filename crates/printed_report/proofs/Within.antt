@@ -1,7 +1,7 @@
 -- Tallies grow by no more than a seat may hold.
 use Rattle.std.proofs.Common.{◌≡◌, ℕ, suc, ◌+◌, ◌-◌, ◌≤◌, ◌<◌, ◌==◌, Bool, true, false, cond, List, [], ◌∷◌, ◌++◌, length, ◌∙◌, map, bytes_eq, sym, ap, subst, arith}
 use Rattle.std.specs.List.{range_with_len}
-use Rattle.chip_ledger.specs.declared.rows.TheConstants.{MOST_AMOUNT}
+use Rattle.chip_ledger.specs.declared.seat_row.TheConstants.{MOST_AMOUNT}
 use Rattle.printed_report.specs.Report.{Hand, Seated}
 use Rattle.printed_report.specs.Tallies.{AreWithin, IsWithin, tally_at, with_hands, with_row, with_seat, with_seats}
 use Rattle.printed_report.specs.declared.tally.Tally.{Tally}

@@ -10,9 +10,10 @@ ghost use Rattle.printed_report.specs.Tallies.{IsRowWithin, row_line, rows_of};
 
 use crate::games::{Sums, add_to_sums, no_sums, push_sums};
 use crate::lines::push_name_line;
-use crate::names::tally_hand;
+use crate::names::tally_seat;
 use crate::tally::NamedTally;
 use card_set::Memory;
+use chip_ledger::Seat;
 use hand_records::Play;
 use indexmap::IndexMap;
 use name_index::NameIndex;
@@ -57,7 +58,17 @@ impl OpenReport {
             → OnOk result (IsReportSoFar self.new (before ++ play.now ∷ [])) }
     {
         let number = self.hands + 1;
-        tally_hand(alloc, &mut self.places, &mut self.tallies, number, play)?;
+        for index in 0..play.trace.setup.stacks.seats {
+            let seat = Seat { number: index + 1 };
+            tally_seat(
+                alloc,
+                &mut self.places,
+                &mut self.tallies,
+                number,
+                play,
+                seat,
+            )?;
+        }
         add_to_sums(&mut self.sums, play);
         self.hands = number;
         Ok(())

@@ -3,9 +3,6 @@ use Rattle.std.proofs.Common.{refl, arith}
 use Rattle.printed_hands.proofs.Moves.{has_put_more, has_put_same}
 use Rattle.printed_hands.proofs.chips.add.Goals as goal
 
-pub get-before-requires : goal.get-before-requires
-get-before-requires c = c.if-moved-put.true
-
 pub overflow_add-before : goal.overflow_add-before
 overflow_add-before c = rw (c.get-before.ensures, c.saturating_sub.ensures) (omega (arith, c.requires c.if-moved-put.true))
 

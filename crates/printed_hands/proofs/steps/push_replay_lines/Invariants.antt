@@ -1,10 +1,10 @@
 -- The events so far are printed.
 use Rattle.std.proofs.Common.{length, string_bytes}
 use Rattle.printed_hands.proofs.Printed.{ArePrinted}
-use Rattle.printed_hands.proofs.steps.push_steps.Given as goal
+use Rattle.printed_hands.proofs.steps.push_replay_lines.Given as goal
 
 abbrev pub decreases-loop-event : goal.decreases-loop-event
 decreases-loop-event l = length l.cursor
 
 abbrev pub invariant-loop-event : goal.invariant-loop-event
-invariant-loop-event l = ArePrinted l.play l.number l.made l.put l.cursor (string_bytes l.fn.text) (string_bytes l.text)
+invariant-loop-event l = ArePrinted l.play l.number l.made l.put l.cursor (string_bytes l.initial.text) (string_bytes l.text)
