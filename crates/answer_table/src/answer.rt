@@ -9,7 +9,7 @@ use std::alloc::Global;
 
 /// What a row's run came to.
 #[derive(Drop)]
-pub struct Answer {
+pub struct RowAnswer {
     pub status: Status,
     pub out: MemSink,
     pub diag: MemSink,
@@ -25,12 +25,12 @@ pub fn answer_to(alloc: Global, pieces: &Pieces, row: &str) -> Result<String, Me
 }
 
 /// Runs the program as the text of a row says.
-pub fn run_row(alloc: Global, pieces: &Pieces, row: &str) -> Result<Answer, Memory> {
+pub fn run_row(alloc: Global, pieces: &Pieces, row: &str) -> Result<RowAnswer, Memory> {
     run(alloc, read_row(alloc, pieces, row)?)
 }
 
 /// Runs the program as a row says.
-pub fn run(alloc: Global, row: Row) -> Result<Answer, Memory> {
+pub fn run(alloc: Global, row: Row) -> Result<RowAnswer, Memory> {
     let Row {
         words,
         input,
@@ -46,7 +46,7 @@ pub fn run(alloc: Global, row: Row) -> Result<Answer, Memory> {
     let mut out = MemSink::in_pieces(alloc, room, take, fails.write)?;
     let mut diag = MemSink::new(alloc, ROOM, fails.line)?;
     let status = run_on(alloc, &words, &mut source, &mut shelf, &mut out, &mut diag);
-    Ok(Answer {
+    Ok(RowAnswer {
         status,
         out,
         diag,
@@ -54,7 +54,7 @@ pub fn run(alloc: Global, row: Row) -> Result<Answer, Memory> {
     })
 }
 
-impl Answer {
+impl RowAnswer {
     /// The answer in words, with these bytes for its output.
     pub fn text(&self, alloc: Global, output: &[u8]) -> Result<String, Memory> {
         let status = self.status.number();

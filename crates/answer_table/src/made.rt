@@ -21,7 +21,7 @@ pub struct MadeFile {
 
 /// Why there is no file of made hands.
 #[derive(Clone, Copy, Debug, PartialEq, Eq)]
-pub enum NoFile {
+pub enum NotMade {
     /// The hand with this number is refused.
     Refused { hand: u32 },
     /// The hand with this number has a fact without a spelling.
@@ -29,13 +29,13 @@ pub enum NoFile {
     Memory,
 }
 
-impl NoFile {
+impl NotMade {
     /// The hand at fault, in words.
     pub fn text(&self, alloc: Global) -> Result<String, Memory> {
         match self {
-            NoFile::Refused { hand } => Ok(format!(in alloc; "refused: hand {hand}")?),
-            NoFile::Unspelled { hand } => Ok(format!(in alloc; "unspelled: hand {hand}")?),
-            NoFile::Memory => Err(Memory),
+            NotMade::Refused { hand } => Ok(format!(in alloc; "refused: hand {hand}")?),
+            NotMade::Unspelled { hand } => Ok(format!(in alloc; "unspelled: hand {hand}")?),
+            NotMade::Memory => Err(Memory),
         }
     }
 }
@@ -65,19 +65,19 @@ pub fn answer_to(alloc: Global, numbers: &str) -> Result<String, Memory> {
 ///
 /// Want of memory. Made hands are legal, and the format spells each of them, so that no hand is
 /// named.
-pub fn file_made(alloc: Global, seed: u64, count: u32) -> Result<MadeFile, NoFile>
+pub fn file_made(alloc: Global, seed: u64, count: u32) -> Result<MadeFile, NotMade>
     requires few { count ≤ MOST_HANDS }
 {
     let plays = match plays_made(alloc, seed, count) {
         Ok(plays) => plays,
-        Err(PlaysFault::Refused { hand, .. }) => return Err(NoFile::Refused { hand }),
-        Err(PlaysFault::Memory) => return Err(NoFile::Memory),
+        Err(PlaysFault::Refused { hand, .. }) => return Err(NotMade::Refused { hand }),
+        Err(PlaysFault::Memory) => return Err(NotMade::Memory),
     };
     let moves = moves_of(&plays);
     match phh_writing::write(alloc, &plays, Keep::All) {
         Ok(bytes) => Ok(MadeFile { bytes, moves }),
-        Err(WriteRefusal::Unspelled { hand, .. }) => Err(NoFile::Unspelled { hand }),
-        Err(WriteRefusal::Memory) => Err(NoFile::Memory),
+        Err(WriteRefusal::Unspelled { hand, .. }) => Err(NotMade::Unspelled { hand }),
+        Err(WriteRefusal::Memory) => Err(NotMade::Memory),
     }
 }
 

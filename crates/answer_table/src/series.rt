@@ -1,5 +1,5 @@
 //! A row with a series is answered for each of its numbers, and equal answers are told once.
-use crate::answer::{Answer, answer_to, run_row};
+use crate::answer::{RowAnswer, answer_to, run_row};
 use crate::pieces::{Pieces, parted};
 use card_set::Memory;
 use poker_cli::Status;
@@ -60,7 +60,7 @@ impl Series<'_> {
         &self,
         alloc: Global,
         pieces: &Pieces,
-        whole: &Answer,
+        whole: &RowAnswer,
         number: u32,
     ) -> Result<String, Memory> {
         let answer = self.run(alloc, pieces, number)?;
@@ -76,7 +76,7 @@ impl Series<'_> {
     }
 
     // Runs the row of a number.
-    fn run(&self, alloc: Global, pieces: &Pieces, number: u32) -> Result<Answer, Memory> {
+    fn run(&self, alloc: Global, pieces: &Pieces, number: u32) -> Result<RowAnswer, Memory> {
         let Series { before, behind, .. } = self;
         let row = format!(in alloc; "{before}{number}{behind}")?;
         run_row(alloc, pieces, &row)

@@ -1,5 +1,5 @@
 //! A conversion that goes by another notation is told beside the straight one.
-use crate::answer::{Answer, run};
+use crate::answer::{RowAnswer, run};
 use crate::pieces::{Pieces, parted};
 use crate::row::read_row;
 use card_set::Memory;
@@ -35,7 +35,7 @@ fn convert(
     from: &str,
     to: &str,
     input: &[u8],
-) -> Result<Answer, Memory> {
+) -> Result<RowAnswer, Memory> {
     let mut words = format!(in alloc; "convert --from {from} --to {to} @room=4000")?;
     if from == "acpc" || to == "acpc" {
         write!(words, " --game g @file=g:{game}")?;

@@ -9,7 +9,7 @@ use Rattle.clap.specs.declared.parser.matches.Found.{Found}
 use Rattle.command_words.specs.Requests.{IsSaidBy}
 use Rattle.clap.specs.Lexer.{strip_byte}
 use Rattle.clap.specs.Walk.{Text}
-use Rattle.command_words.specs.Options.{Options, no_options, options_said}
+use Rattle.command_words.specs.Options.{GivenOptions, no_options, options_said}
 use Rattle.command_words.specs.Words.{Request, request_by, request_said}
 use Rattle.std.proofs.lemmas.Option.{same_Some}
 
@@ -22,7 +22,7 @@ either : (word name : Text) (is : Bool) → Decides is (word ≡ name) → (aske
 either word name true decides asked others plain other some = subst BeginsPlain (sym (decides.0 refl)) plain
 either word name false decides asked others plain other some = other some
 
-begins_by : (word : Text) (options : Options) → is_some (request_by word options) ≡ true → BeginsPlain word
+begins_by : (word : Text) (options : GivenOptions) → is_some (request_by word options) ≡ true → BeginsPlain word
 begins_by word options =
     by (codes "check") _ _ refl (by (codes "replay") _ _ refl (by (codes "report") _ _ refl
     (by (codes "convert") _ _ refl (by (codes "game") _ _ refl (by (codes "load") _ _ refl
@@ -35,11 +35,11 @@ begins_by word options =
     by name asked others = either word name (bytes_eq word name) (bytes_eq-Decides word name) asked others
 
 pub record IsAsked (word : Text) (words : List Text) : Type 0 where
-  pub options : Options
+  pub options : GivenOptions
   pub said : options_said no_options words ≡ Some options
   pub plain : BeginsPlain word
 
-by_options : (word : Text) (words : List Text) (options : Option Options) → options_said no_options words ≡ options
+by_options : (word : Text) (words : List Text) (options : Option GivenOptions) → options_said no_options words ≡ options
     → is_some (option_and_then (request_by word) options) ≡ true → IsAsked word words
 by_options word words None said some = cc
 by_options word words (Some options) said some = record { options = options; said = said; plain = begins_by word options some }

@@ -16,7 +16,7 @@ use Rattle.clap.specs.declared.parser.matches.ValueSource.TheVariants.{CommandLi
 use Rattle.clap.specs.Simple.{Shape, built, filled, help_rule, is_simple, matches_of, new_rule, with_index}
 use Rattle.clap.proofs.OnLiterals.{clap_on_literals}
 use Rattle.command_words.specs.Requests.{flag_text}
-use Rattle.command_words.specs.Options.{Options, is_complete, is_flag, is_of_other, no_options, options_said, with_flag, with_new, with_option, with_other, with_word}
+use Rattle.command_words.specs.Options.{GivenOptions, is_complete, is_flag, is_of_other, no_options, options_said, with_flag, with_new, with_option, with_other, with_word}
 use Rattle.command_words.specs.Parser.{are_taken, flag_rule, handref, option_rule}
 use Rattle.command_words.proofs.Finds.{Hold, Named, at_row-end, given, has_row-named, hold_given, row_named}
 use Rattle.command_words.proofs.Walking.{IsBetween, IsFlag, IsOption, alone, alone_taken, apart, first, first_taken, joined, joined_taken, option_taken, value_taken}
@@ -62,7 +62,7 @@ abbrev flag_row : Text → Bool → Option Row
 flag_row name true = Some (given_row (flag name) (codes "true"))
 flag_row name false = None
 
-abbrev values : Text → Options → Named
+abbrev values : Text → GivenOptions → Named
 values first options =
     (codes "command", Some (given_row command first)) ∷ option_row (codes "from") options.from ∷ option_row (codes "to") options.to
     ∷ option_row (codes "game") options.game ∷ option_row (codes "seed") options.seed ∷ option_row (codes "hands") options.hands
@@ -70,13 +70,13 @@ values first options =
     ∷ option_row (codes "street") options.street ∷ option_row (codes "with") options.other_file
     ∷ option_row (codes "as") options.other_notation ∷ []
 
-abbrev named : Text → Options → Named
+abbrev named : Text → GivenOptions → Named
 named first options =
     (codes "drop-notes", flag_row (codes "drop-notes") options.drops_notes)
     ∷ (codes "no-notes", flag_row (codes "no-notes") options.ignores_notes) ∷ values first options
 
 -- A walk that stands between options, with the rows of a command's word and of some options.
-record IsAt (walk : Walk) (first : Text) (options : Options) : Type 0 where
+record IsAt (walk : Walk) (first : Text) (options : GivenOptions) : Type 0 where
   rows : List Row
   between : IsBetween arguments walk rows
   held : Hold (named first options) rows
@@ -89,7 +89,7 @@ set_last argument value rows action none =
     rw (action, without) (at_row-end argument.id (more_values CommandLine (value ∷ [])) (given_row argument value ∷ []) rows none)
 
 -- An option that stands besides others: its name had no row.
-record IsGiven (options : Options) (name value : Text) (more : Options) : Type 0 where
+record IsGiven (options : GivenOptions) (name value : Text) (more : GivenOptions) : Type 0 where
   argument : Rule
   stands : IsOption arguments name argument
   sets : action_of argument ≡ Set
@@ -101,7 +101,7 @@ option_once : (name value : Text) (rows : List Row) → has_row name rows ≡ fa
 unfolding clap_on_literals
 option_once name value rows none = rw none refl
 
-from_given : (options : Options) (value : Text) → options.from ≡ None → IsGiven options (codes "from") value (record options { from = Some value })
+from_given : (options : GivenOptions) (value : Text) → options.from ≡ None → IsGiven options (codes "from") value (record options { from = Some value })
 unfolding clap_on_literals
 from_given options value none = record {
   argument = option (codes "from");
@@ -111,7 +111,7 @@ from_given options value none = record {
   same = λ first. refl;
 }
 
-to_given : (options : Options) (value : Text) → options.to ≡ None → IsGiven options (codes "to") value (record options { to = Some value })
+to_given : (options : GivenOptions) (value : Text) → options.to ≡ None → IsGiven options (codes "to") value (record options { to = Some value })
 unfolding clap_on_literals
 to_given options value none = record {
   argument = option (codes "to");
@@ -121,7 +121,7 @@ to_given options value none = record {
   same = λ first. refl;
 }
 
-game_given : (options : Options) (value : Text) → options.game ≡ None → IsGiven options (codes "game") value (record options { game = Some value })
+game_given : (options : GivenOptions) (value : Text) → options.game ≡ None → IsGiven options (codes "game") value (record options { game = Some value })
 unfolding clap_on_literals
 game_given options value none = record {
   argument = option (codes "game");
@@ -131,7 +131,7 @@ game_given options value none = record {
   same = λ first. refl;
 }
 
-seed_given : (options : Options) (value : Text) → options.seed ≡ None → IsGiven options (codes "seed") value (record options { seed = Some value })
+seed_given : (options : GivenOptions) (value : Text) → options.seed ≡ None → IsGiven options (codes "seed") value (record options { seed = Some value })
 unfolding clap_on_literals
 seed_given options value none = record {
   argument = option (codes "seed");
@@ -141,7 +141,7 @@ seed_given options value none = record {
   same = λ first. refl;
 }
 
-hands_given : (options : Options) (value : Text) → options.hands ≡ None → IsGiven options (codes "hands") value (record options { hands = Some value })
+hands_given : (options : GivenOptions) (value : Text) → options.hands ≡ None → IsGiven options (codes "hands") value (record options { hands = Some value })
 unfolding clap_on_literals
 hands_given options value none = record {
   argument = option (codes "hands");
@@ -151,7 +151,7 @@ hands_given options value none = record {
   same = λ first. refl;
 }
 
-seat_given : (options : Options) (value : Text) → options.seat ≡ None → IsGiven options (codes "seat") value (record options { seat = Some value })
+seat_given : (options : GivenOptions) (value : Text) → options.seat ≡ None → IsGiven options (codes "seat") value (record options { seat = Some value })
 unfolding clap_on_literals
 seat_given options value none = record {
   argument = option (codes "seat");
@@ -161,7 +161,7 @@ seat_given options value none = record {
   same = λ first. refl;
 }
 
-hand_given : (options : Options) (value : Text) → options.hand ≡ None → IsGiven options (codes "hand") value (record options { hand = Some value })
+hand_given : (options : GivenOptions) (value : Text) → options.hand ≡ None → IsGiven options (codes "hand") value (record options { hand = Some value })
 unfolding clap_on_literals
 hand_given options value none = record {
   argument = option (codes "hand");
@@ -171,7 +171,7 @@ hand_given options value none = record {
   same = λ first. refl;
 }
 
-after_given : (options : Options) (value : Text) → options.after ≡ None → IsGiven options (codes "after") value (record options { after = Some value })
+after_given : (options : GivenOptions) (value : Text) → options.after ≡ None → IsGiven options (codes "after") value (record options { after = Some value })
 unfolding clap_on_literals
 after_given options value none = record {
   argument = option (codes "after");
@@ -181,7 +181,7 @@ after_given options value none = record {
   same = λ first. refl;
 }
 
-street_given : (options : Options) (value : Text) → options.street ≡ None → IsGiven options (codes "street") value (record options { street = Some value })
+street_given : (options : GivenOptions) (value : Text) → options.street ≡ None → IsGiven options (codes "street") value (record options { street = Some value })
 unfolding clap_on_literals
 street_given options value none = record {
   argument = option (codes "street");
@@ -191,7 +191,7 @@ street_given options value none = record {
   same = λ first. refl;
 }
 
-with_given : (options : Options) (value : Text) → options.other_file ≡ None
+with_given : (options : GivenOptions) (value : Text) → options.other_file ≡ None
     → IsGiven options (codes "with") value (record options { other_file = Some value })
 unfolding clap_on_literals
 with_given options value none = record {
@@ -202,7 +202,7 @@ with_given options value none = record {
   same = λ first. refl;
 }
 
-as_given : (options : Options) (value : Text) → options.other_notation ≡ None
+as_given : (options : GivenOptions) (value : Text) → options.other_notation ≡ None
     → IsGiven options (codes "as") value (record options { other_notation = Some value })
 unfolding clap_on_literals
 as_given options value none = record {
@@ -214,12 +214,12 @@ as_given options value none = record {
 }
 
 -- an option is this one, or one of the others
-either : (options more taken : Options) (name own value : Text) (kept : Option Text) (others : Option Options) (is free : Bool)
+either : (options more taken : GivenOptions) (name own value : Text) (kept : Option Text) (others : Option GivenOptions) (is free : Bool)
     → Decides is (name ≡ own) → (free ≡ true → kept ≡ None) → (kept ≡ None → IsGiven options own value taken)
     → (others ≡ Some more → IsGiven options name value more) → (if is && free then Some taken else others) ≡ Some more
     → IsGiven options name value more
 either options more taken name own value kept others true true decides none here there e =
-    subst (λ (o : Options). IsGiven options name value o) (same_Some _ _ e)
+    subst (λ (o : GivenOptions). IsGiven options name value o) (same_Some _ _ e)
     (subst (λ (n : Text). IsGiven options n value taken) (sym (decides.0 refl)) (here (none refl)))
 either options more taken name own value kept others true false decides none here there e = there e
 either options more taken name own value kept others false free decides none here there e = there e
@@ -230,13 +230,13 @@ past_hyphen : {A : Type 0} (x : Option A) {B : Type 0} (others : Option B) (more
 past_hyphen None others more e = (refl, e)
 past_hyphen (Some x) others more e = cc
 
-is_given : (options more : Options) (name value : Text) → with_option options name value ≡ Some more
+is_given : (options more : GivenOptions) (name value : Text) → with_option options name value ≡ Some more
     → (strip_byte 45 value ≡ None) × IsGiven options name value more
 is_given options more name value e =
     let past = past_hyphen (strip_byte 45 value) _ more e in
     (past.0, either_kind (is_of_other name) past.1)
   where
-    by : (own : Text) (kept : Option Text) (taken : Options) (others : Option Options) → (kept ≡ None → IsGiven options own value taken)
+    by : (own : Text) (kept : Option Text) (taken : GivenOptions) (others : Option GivenOptions) → (kept ≡ None → IsGiven options own value taken)
         → (others ≡ Some more → IsGiven options name value more)
         → (if bytes_eq name own && not (is_some kept) then Some taken else others) ≡ Some more → IsGiven options name value more
     by own kept taken others here there =
@@ -263,7 +263,7 @@ abbrev over : Walk → List Text → Walk
 over walk words = fold (walked arguments []) walk words
 
 -- the option is held besides
-held_more : (first name value : Text) (options more : Options) (rows : List Row) → (is : IsGiven options name value more)
+held_more : (first name value : Text) (options more : GivenOptions) (rows : List Row) → (is : IsGiven options name value more)
     → Hold (named first options) rows → Hold (named first more) (used is.argument (value ∷ []) rows)
 held_more first name value options more rows is held =
     let none = is.empty first rows held in
@@ -272,7 +272,7 @@ held_more first name value options more rows is held =
     (hold_given (named first options) rows (given_row is.argument value) none held))
 
 -- A walk over words that the parser takes ends between options, where it takes what is behind them.
-record Goes (walk : Walk) (words : List Text) (first : Text) (options : Options) : Type 0 where
+record Goes (walk : Walk) (words : List Text) (first : Text) (options : GivenOptions) : Type 0 where
   at : IsAt (over walk words) first options
   taken : (others : List Text) → walk_passes shape [] (over walk words) others ≡ true → walk_passes shape [] walk (words ++ others) ≡ true
 
@@ -280,18 +280,18 @@ record Goes (walk : Walk) (words : List Text) (first : Text) (options : Options)
 new_name : (name : Text) (rows : List Row) → row_named name rows ≡ None → has_row name rows ≡ false
 new_name name rows none = has_row-named name rows ∙ ap is_some none
 
-one_turn : (walk : Walk) (word first : Text) (options : Options) → turn_passes shape [] walk word ≡ true → IsAt (over walk (word ∷ [])) first options
+one_turn : (walk : Walk) (word first : Text) (options : GivenOptions) → turn_passes shape [] walk word ≡ true → IsAt (over walk (word ∷ [])) first options
     → Goes walk (word ∷ []) first options
 unfolding walk_passes
 one_turn walk word first options turn at = record { at = at; taken = λ others passes. rw turn passes }
 
-two_turns : (walk : Walk) (word value first : Text) (options : Options) → turn_passes shape [] walk word ≡ true
+two_turns : (walk : Walk) (word value first : Text) (options : GivenOptions) → turn_passes shape [] walk word ≡ true
     → turn_passes shape [] (walked arguments [] walk word) value ≡ true → IsAt (over walk (word ∷ value ∷ [])) first options
     → Goes walk (word ∷ value ∷ []) first options
 unfolding walk_passes
 two_turns walk word value first options turn next at = record { at = at; taken = λ others passes. rw (turn, next) passes }
 
-one_joined : (walk : Walk) (first word name value : Text) (options more : Options) → IsAt walk first options
+one_joined : (walk : Walk) (first word name value : Text) (options more : GivenOptions) → IsAt walk first options
     → long_of word ≡ Some (name, Some value) → IsGiven options name value more → Goes walk (word ∷ []) first more
 one_joined walk first word name value options more at is new =
     one_turn walk word first more
@@ -303,7 +303,7 @@ one_joined walk first word name value options more at is new =
       held = held_more first name value options more at.rows new at.held;
     })
 
-one_apart : (walk : Walk) (first word name value : Text) (options more : Options) → IsAt walk first options
+one_apart : (walk : Walk) (first word name value : Text) (options more : GivenOptions) → IsAt walk first options
     → long_of word ≡ Some (name, None) → strip_byte 45 value ≡ None → IsGiven options name value more
     → Goes walk (word ∷ value ∷ []) first more
 one_apart walk first word name value options more at is plain new =
@@ -318,7 +318,7 @@ one_apart walk first word name value options more at is plain new =
     })
 
 -- A flag that stands besides others: it did not stand yet.
-record IsSet (options : Options) (name : Text) (more : Options) : Type 0 where
+record IsSet (options : GivenOptions) (name : Text) (more : GivenOptions) : Type 0 where
   argument : Rule
   stands : IsFlag arguments name argument
   empty : (first : Text) (rows : List Row) → Hold (named first options) rows → row_named argument.id rows ≡ None
@@ -336,7 +336,7 @@ flag_once : (name : Text) (rows : List Row) → has_row name rows ≡ false → 
 unfolding clap_on_literals
 flag_once name rows none = rw none refl
 
-drop_notes_set : (options : Options) → options.drops_notes ≡ false → IsSet options (codes "drop-notes") (record options { drops_notes = true })
+drop_notes_set : (options : GivenOptions) → options.drops_notes ≡ false → IsSet options (codes "drop-notes") (record options { drops_notes = true })
 unfolding clap_on_literals
 drop_notes_set options off = record {
   argument = flag (codes "drop-notes");
@@ -350,7 +350,7 @@ drop_notes_set options off = record {
     empty : (first : Text) (rows : List Row) → Hold (named first options) rows → row_named (codes "drop-notes") rows ≡ None
     empty first rows held = held.0 ∙ ap (flag_row (codes "drop-notes")) off
 
-no_notes_set : (options : Options) → options.ignores_notes ≡ false → IsSet options (codes "no-notes") (record options { ignores_notes = true })
+no_notes_set : (options : GivenOptions) → options.ignores_notes ≡ false → IsSet options (codes "no-notes") (record options { ignores_notes = true })
 unfolding clap_on_literals
 no_notes_set options off = record {
   argument = flag (codes "no-notes");
@@ -365,27 +365,27 @@ no_notes_set options off = record {
     empty first rows held = held.1.0 ∙ ap (flag_row (codes "no-notes")) off
 
 -- a flag is this one, or one of the others
-either_flag : (options more taken : Options) (name own : Text) (stood : Bool) (others : Option Options) (is : Bool)
+either_flag : (options more taken : GivenOptions) (name own : Text) (stood : Bool) (others : Option GivenOptions) (is : Bool)
     → Decides is (name ≡ own) → (stood ≡ false → IsSet options own taken) → (others ≡ Some more → IsSet options name more)
     → (if is && not stood then Some taken else others) ≡ Some more → IsSet options name more
 either_flag options more taken name own false others true decides here there e =
-    subst (λ (o : Options). IsSet options name o) (same_Some _ _ e)
+    subst (λ (o : GivenOptions). IsSet options name o) (same_Some _ _ e)
     (subst (λ (n : Text). IsSet options n taken) (sym (decides.0 refl)) (here refl))
 either_flag options more taken name own true others true decides here there e = there e
 either_flag options more taken name own stood others false decides here there e = there e
 
-is_set : (options more : Options) (name : Text) → with_flag options name ≡ Some more → IsSet options name more
+is_set : (options more : GivenOptions) (name : Text) → with_flag options name ≡ Some more → IsSet options name more
 is_set options more name e =
     by (codes "drop-notes") options.drops_notes _ _ (drop_notes_set options)
     (by (codes "no-notes") options.ignores_notes _ _ (no_notes_set options) (λ none. cc)) e
   where
-    by : (own : Text) (stood : Bool) (taken : Options) (others : Option Options) → (stood ≡ false → IsSet options own taken)
+    by : (own : Text) (stood : Bool) (taken : GivenOptions) (others : Option GivenOptions) → (stood ≡ false → IsSet options own taken)
         → (others ≡ Some more → IsSet options name more) → (if bytes_eq name own && not stood then Some taken else others) ≡ Some more
         → IsSet options name more
     by own stood taken others here there =
         either_flag options more taken name own stood others (bytes_eq name own) (bytes_eq-Decides name own) here there
 
-one_flag : (walk : Walk) (first word name : Text) (options more : Options) → IsAt walk first options
+one_flag : (walk : Walk) (first word name : Text) (options more : GivenOptions) → IsAt walk first options
     → long_of word ≡ Some (name, None) → with_flag options name ≡ Some more → Goes walk (word ∷ []) first more
 one_flag walk first word name options more at is e =
     let new = is_set options more name e in
@@ -399,21 +399,21 @@ one_flag walk first word name options more at is e =
     })
 
 -- what holds at the end of a walk over some words, from wherever it starts with these options
-abbrev Reaches : List Text → Text → Options → Type 0
-Reaches words first more = (walk : Walk) (options : Options) → IsAt walk first options → options_said options words ≡ Some more
+abbrev Reaches : List Text → Text → GivenOptions → Type 0
+Reaches words first more = (walk : Walk) (options : GivenOptions) → IsAt walk first options → options_said options words ≡ Some more
     → Goes walk words first more
 
-behind_one : (walk : Walk) (word : Text) (words : List Text) (first : Text) (options more : Options) → Goes walk (word ∷ []) first options
+behind_one : (walk : Walk) (word : Text) (words : List Text) (first : Text) (options more : GivenOptions) → Goes walk (word ∷ []) first options
     → Goes (over walk (word ∷ [])) words first more → Goes walk (word ∷ words) first more
 behind_one walk word words first options more one others =
     record { at = others.at; taken = λ rest passes. one.taken (words ++ rest) (others.taken rest passes) }
 
-behind_two : (walk : Walk) (word value : Text) (words : List Text) (first : Text) (options more : Options) → Goes walk (word ∷ value ∷ []) first options
+behind_two : (walk : Walk) (word value : Text) (words : List Text) (first : Text) (options more : GivenOptions) → Goes walk (word ∷ value ∷ []) first options
     → Goes (over walk (word ∷ value ∷ [])) words first more → Goes walk (word ∷ value ∷ words) first more
 behind_two walk word value words first options more two others =
     record { at = others.at; taken = λ rest passes. two.taken (words ++ rest) (others.taken rest passes) }
 
-last : (walk : Walk) (first word : Text) (options more : Options) (found : Option (Text × Option Text)) → IsAt walk first options
+last : (walk : Walk) (first word : Text) (options more : GivenOptions) (found : Option (Text × Option Text)) → IsAt walk first options
     → long_of word ≡ found → with_word options found None ≡ Some more → Goes walk (word ∷ []) first more
 last walk first word options more None at is e = cc
 last walk first word options more (Some (name, Some value)) at is e =
@@ -424,7 +424,7 @@ last walk first word options more (Some (name, None)) at is e = go (is_flag name
     go true e = one_flag walk first word name options more at is e
     go false e = cc
 
-next : (walk : Walk) (first word value : Text) (words : List Text) (options more : Options) (found : Option (Text × Option Text))
+next : (walk : Walk) (first word value : Text) (words : List Text) (options more : GivenOptions) (found : Option (Text × Option Text))
     → Reaches (value ∷ words) first more → Reaches words first more → IsAt walk first options → long_of word ≡ found
     → option_and_then (λ some. if is_complete found then options_said some (value ∷ words) else options_said some words)
     (with_word options found (Some value)) ≡ Some more
@@ -451,10 +451,10 @@ next walk first word value words options more (Some (name, None)) from_value fro
         let two = one_apart walk first word name value options step.0 at is new.0 new.1 in
         behind_two walk word value words first step.0 more two (from_words (over walk (word ∷ value ∷ [])) step.0 two.at step.1.1)
 
-reaches : (words : List Text) (first : Text) (more : Options) → Reaches words first more
+reaches : (words : List Text) (first : Text) (more : GivenOptions) → Reaches words first more
 unfolding options_said
 reaches [] first more walk options at e =
-    record { at = subst (λ (o : Options). IsAt walk first o) (same_Some _ _ e) at; taken = λ others passes. passes }
+    record { at = subst (λ (o : GivenOptions). IsAt walk first o) (same_Some _ _ e) at; taken = λ others passes. passes }
 reaches (word ∷ []) first more walk options at e = last walk first word options more (long_of word) at refl e
 reaches (word ∷ value ∷ words) first more walk options at e =
     next walk first word value words options more (long_of word) (reaches (value ∷ words) first more) (reaches words first more) at refl e
@@ -476,7 +476,7 @@ begins word plain =
     })
 
 -- a walk over all words of a command
-whole : (word : Text) (words : List Text) (options : Options) → strip_byte 45 word ≡ None → options_said no_options words ≡ Some options
+whole : (word : Text) (words : List Text) (options : GivenOptions) → strip_byte 45 word ≡ None → options_said no_options words ≡ Some options
     → Goes (walk_from nothing_held) (word ∷ words) word options
 whole word words options plain said =
     let one = begins word plain in
@@ -490,7 +490,7 @@ unfolding clap_on_literals
 asks_no_more end rows between = rw between.passes refl
 
 -- the parser takes the words of a command
-pub takes_words : (word : Text) (words : List Text) (options : Options) → strip_byte 45 word ≡ None → options_said no_options words ≡ Some options
+pub takes_words : (word : Text) (words : List Text) (options : GivenOptions) → strip_byte 45 word ≡ None → options_said no_options words ≡ Some options
     → are_taken (word ∷ words) ≡ true
 unfolding are_taken walk_passes
 takes_words word words options plain said =
@@ -531,17 +531,17 @@ last_flag_row name true = given_row (flag name) (codes "true")
 last_flag_row name false = row_of (flag name) DefaultValue (codes "false")
 
 -- what is found where the first flag is settled, and where both are
-abbrev first_settled : Text → Options → Named
+abbrev first_settled : Text → GivenOptions → Named
 first_settled first options =
     (codes "drop-notes", Some (last_flag_row (codes "drop-notes") options.drops_notes))
     ∷ (codes "no-notes", flag_row (codes "no-notes") options.ignores_notes) ∷ values first options
 
-abbrev both_settled : Text → Options → Named
+abbrev both_settled : Text → GivenOptions → Named
 both_settled first options =
     (codes "drop-notes", Some (last_flag_row (codes "drop-notes") options.drops_notes))
     ∷ (codes "no-notes", Some (last_flag_row (codes "no-notes") options.ignores_notes)) ∷ values first options
 
-drop_notes_settled : (first : Text) (options : Options) (rows : List Row) → Hold (named first options) rows
+drop_notes_settled : (first : Text) (options : GivenOptions) (rows : List Row) → Hold (named first options) rows
     → Hold (first_settled first options) (with_default rows (flag (codes "drop-notes")))
 unfolding clap_on_literals
 drop_notes_settled first options rows held = go options.drops_notes held
@@ -560,7 +560,7 @@ drop_notes_settled first options rows held = go options.drops_notes held
         rw (none, at_row-end (codes "drop-notes") (more_values DefaultValue (codes "false" ∷ [])) (row ∷ []) rows held.0)
         (hold_given ((codes "drop-notes", None) ∷ others) rows row held.0 held)
 
-no_notes_settled : (first : Text) (options : Options) (rows : List Row) → Hold (first_settled first options) rows
+no_notes_settled : (first : Text) (options : GivenOptions) (rows : List Row) → Hold (first_settled first options) rows
     → Hold (both_settled first options) (with_default rows (flag (codes "no-notes")))
 unfolding clap_on_literals
 no_notes_settled first options rows held = go options.ignores_notes held
@@ -581,7 +581,7 @@ no_notes_settled first options rows held = go options.ignores_notes held
         (hold_given (before ∷ (codes "no-notes", None) ∷ values first options) rows row held.1.0 held)
 
 -- what the parser finds in a first word that begins with no hyphen, and in options behind it
-pub record IsFound (first : Text) (options : Options) (rows : List Row) : Type 0 where
+pub record IsFound (first : Text) (options : GivenOptions) (rows : List Row) : Type 0 where
   pub command : first_of (codes "command") rows ≡ Some first
   pub from : first_of (codes "from") rows ≡ options.from
   pub to : first_of (codes "to") rows ≡ options.to
@@ -610,7 +610,7 @@ unfolding clap_on_literals
 text_of_flag name true = refl
 text_of_flag name false = refl
 
-found_in : (first : Text) (options : Options) (rows : List Row) → Hold (both_settled first options) rows → IsFound first options rows
+found_in : (first : Text) (options : GivenOptions) (rows : List Row) → Hold (both_settled first options) rows → IsFound first options rows
 found_in first options rows held = record {
   command = ap (option_and_then (λ (row : Row). slice_get row.values 0)) held.1.1.0;
   from = value_of_option (codes "from") rows options.from held.1.1.1.0;
@@ -641,7 +641,7 @@ two_have_defaults rows = two_defaults
     (flag (codes "drop-notes")) (flag (codes "no-notes")) (filled help_rule ∷ []) rows
     (refl, (refl, (refl, (refl, (refl, (refl, (refl, (refl, (refl, (refl, (refl, (refl, _)))))))))))) (refl, _)
 
-pub finds : (word : Text) (words : List Text) (options : Options) → strip_byte 45 word ≡ None → options_said no_options words ≡ Some options
+pub finds : (word : Text) (words : List Text) (options : GivenOptions) → strip_byte 45 word ≡ None → options_said no_options words ≡ Some options
     → IsFound word options (rows_found (word ∷ words))
 unfolding rows_found
 finds word words options plain said =

@@ -5,7 +5,7 @@ use Rattle.std.specs.Str.{bytes_eq}
 use Rattle.clap.specs.Lexer.{long_of, strip_byte}
 
 -- the values of the options that are given
-pub record Options : Type 0 where
+pub record GivenOptions : Type 0 where
   -- the notation of the input
   pub from : Option (List ℕ)
   -- the notation of the output
@@ -34,7 +34,7 @@ pub record Options : Type 0 where
   pub ignores_notes : Bool
 
 -- no options
-abbrev pub no_options : Options
+abbrev pub no_options : GivenOptions
 no_options = record {
   from = None;
   to = None;
@@ -52,28 +52,28 @@ no_options = record {
 }
 
 -- neither a notation nor a game is given
-abbrev pub lack_names : Options → Bool
+abbrev pub lack_names : GivenOptions → Bool
 lack_names options = is_none options.from && is_none options.to && is_none options.game
 
 -- nothing is given of hands that are made
-abbrev pub lack_counts : Options → Bool
+abbrev pub lack_counts : GivenOptions → Bool
 lack_counts options = is_none options.seed && is_none options.hands
 
 -- neither a seat nor a hand is given, nor a place in a hand
-abbrev pub lack_places : Options → Bool
+abbrev pub lack_places : GivenOptions → Bool
 lack_places options =
     is_none options.seat && is_none options.hand && is_none options.after && is_none options.street
 
 -- nothing is given of another file
-abbrev pub lack_other : Options → Bool
+abbrev pub lack_other : GivenOptions → Bool
 lack_other options = is_none options.other_file && is_none options.other_notation
 
 -- no flag stands
-abbrev pub lack_flags : Options → Bool
+abbrev pub lack_flags : GivenOptions → Bool
 lack_flags options = not options.drops_notes && not options.ignores_notes
 
 -- none of them is given
-abbrev pub are_none : Options → Bool
+abbrev pub are_none : GivenOptions → Bool
 are_none options =
     lack_names options && lack_counts options && lack_places options && lack_other options
     && lack_flags options
@@ -87,7 +87,7 @@ abbrev pub is_of_other : List ℕ → Bool
 is_of_other name = bytes_eq name (codes "with") || bytes_eq name (codes "as")
 
 -- the options with one more of the other file, which stands once
-abbrev pub with_other : Options → List ℕ → List ℕ → Option Options
+abbrev pub with_other : GivenOptions → List ℕ → List ℕ → Option GivenOptions
 with_other options name value =
     if is_new name (codes "with") options.other_file
     then Some (record options { other_file = Some value })
@@ -96,7 +96,7 @@ with_other options name value =
     else None
 
 -- the options with one more of a seat or of a place in a hand, which stands once
-abbrev pub with_place : Options → List ℕ → List ℕ → Option Options
+abbrev pub with_place : GivenOptions → List ℕ → List ℕ → Option GivenOptions
 with_place options name value =
     if is_new name (codes "seat") options.seat then Some (record options { seat = Some value })
     else if is_new name (codes "hand") options.hand then Some (record options { hand = Some value })
@@ -107,7 +107,7 @@ with_place options name value =
     else None
 
 -- the options with one more of this name and value; each stands once
-abbrev pub with_new : Options → List ℕ → List ℕ → Option Options
+abbrev pub with_new : GivenOptions → List ℕ → List ℕ → Option GivenOptions
 with_new options name value =
     if is_new name (codes "from") options.from then Some (record options { from = Some value })
     else if is_new name (codes "to") options.to then Some (record options { to = Some value })
@@ -118,14 +118,14 @@ with_new options name value =
     else with_place options name value
 
 -- the same, where the value is one: none begins with a hyphen
-abbrev pub with_option : Options → List ℕ → List ℕ → Option Options
+abbrev pub with_option : GivenOptions → List ℕ → List ℕ → Option GivenOptions
 with_option options name value =
     if is_some (strip_byte 45 value) then None
     else if is_of_other name then with_other options name value
     else with_new options name value
 
 -- the options with the flag of this name; each stands once
-abbrev pub with_flag : Options → List ℕ → Option Options
+abbrev pub with_flag : GivenOptions → List ℕ → Option GivenOptions
 with_flag options name =
     if bytes_eq name (codes "drop-notes") && not options.drops_notes
     then Some (record options { drops_notes = true })
@@ -138,13 +138,13 @@ abbrev pub is_flag : List ℕ → Bool
 is_flag name = bytes_eq name (codes "drop-notes") || bytes_eq name (codes "no-notes")
 
 -- what a name gives whose value may stand behind it
-abbrev pub with_value : Options → List ℕ → Option (List ℕ) → Option Options
+abbrev pub with_value : GivenOptions → List ℕ → Option (List ℕ) → Option GivenOptions
 with_value options name None = None
 with_value options name (Some value) = with_option options name value
 
 -- what a word gives as an option, with the value that stands in it, or else with this value
-abbrev pub with_word : Options → Option (List ℕ × Option (List ℕ)) → Option (List ℕ)
-    → Option Options
+abbrev pub with_word : GivenOptions → Option (List ℕ × Option (List ℕ)) → Option (List ℕ)
+    → Option GivenOptions
 with_word options None behind = None
 with_word options (Some (name, Some value)) behind = with_option options name value
 with_word options (Some (name, None)) behind =
@@ -157,7 +157,7 @@ is_complete (Some (name, value)) = is_some value || is_flag name
 
 -- The options with those of these words. An option is the word --name=value, or the word --name and
 -- its value behind it, or a flag.
-unfoldable pub options_said : Options → List (List ℕ) → Option Options
+unfoldable pub options_said : GivenOptions → List (List ℕ) → Option GivenOptions
 options_said options [] = Some options
 options_said options (word ∷ []) = with_word options (long_of word) None
 options_said options (word ∷ value ∷ words) = option_and_then

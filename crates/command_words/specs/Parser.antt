@@ -1,6 +1,7 @@
 -- The parser of the words of a command: the command's word, options with a value, and flags.
-use Rattle.std.specs.Prelude.{Bool, true, List, [], ◌∷◌, Some, codes, fold}
-use Rattle.clap.specs.Words.{App, Rule, Text, new_app, new_rule, takes, with_rule}
+use Rattle.std.specs.Prelude.{◌≡◌, Bool, true, false, List, [], ◌∷◌, Some, codes, fold}
+use Rattle.clap.specs.Words.{App, Rule, Text, new_app, new_rule, rule_of, takes, with_rule}
+use Rattle.clap.specs.declared.builder.arg.Arg.{Arg}
 use Rattle.clap.specs.declared.builder.action.ArgAction.TheVariants.{SetTrue}
 
 -- an option has a name and a value
@@ -16,6 +17,11 @@ abbrev pub without_own_name : App
 without_own_name =
     let named = new_app (codes "handref") in
     record named { top = record named.top { no_binary_name = true } }
+
+-- an argument has a rule, and is not handed on to commands below
+pub record IsArgument (arg : Arg) (its : Rule) : Type 0 where
+  pub rule : rule_of arg ≡ its
+  pub local : arg.global ≡ false
 
 -- the parser
 abbrev pub handref : App

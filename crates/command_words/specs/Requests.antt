@@ -6,14 +6,14 @@ use Rattle.clap.specs.declared.parser.matches.Found.{Found}
 use Rattle.command_words.specs.Options as words
 use Rattle.command_words.specs.Options.{no_options, options_said}
 use Rattle.command_words.specs.Words as said
-use Rattle.command_words.specs.declared.options.Options.{Options}
+use Rattle.command_words.specs.declared.options.GivenOptions.{GivenOptions}
 use Rattle.command_words.specs.declared.request.Request.{Request}
 use Rattle.command_words.specs.declared.request.Request.TheVariants as requests
 use Rattle.command_words.specs.declared.request.Sides.{Sides}
 use Rattle.command_words.specs.declared.request.Sides.TheVariants as sides_are
 
 -- the values of options, as texts
-abbrev pub options_in : Options → words.Options
+abbrev pub options_in : GivenOptions → words.GivenOptions
 options_in options = record {
   from = option_map (λ text. text.now) options.from;
   to = option_map (λ text. text.now) options.to;
@@ -48,7 +48,7 @@ flag_text true = codes "true"
 flag_text false = codes "false"
 
 -- A parser of command lines found these options.
-pub record AreFound (found : Found) (options : words.Options) : Type 0 where
+pub record AreFound (found : Found) (options : words.GivenOptions) : Type 0 where
   pub from : first_value found (codes "from") ≡ options.from
   pub to : first_value found (codes "to") ≡ options.to
   pub game : first_value found (codes "game") ≡ options.game
@@ -66,6 +66,6 @@ pub record AreFound (found : Found) (options : words.Options) : Type 0 where
 -- What a parser of command lines found is what words say: the word of the command, and the options.
 pub record IsSaidBy (said : List (List ℕ)) (found : Found) : Type 0 where
   pub command : first_value found (codes "command") ≡ slice_get said 0
-  pub options : words.Options
+  pub options : words.GivenOptions
   pub given : options_said no_options (drop 1 said) ≡ Some options
   pub values : AreFound found options

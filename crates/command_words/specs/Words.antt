@@ -4,7 +4,7 @@ use Rattle.std.specs.Prelude.{Option, Some, None, option_and_then}
 use Rattle.std.specs.Str.{bytes_eq}
 use Rattle.command_words.specs.Numbers.{events_said, hand_said, hands_said, seat_said}
 use Rattle.command_words.specs.Numbers.{seed_said, street_said}
-use Rattle.command_words.specs.Options.{Options, are_none, no_options, options_said}
+use Rattle.command_words.specs.Options.{GivenOptions, are_none, no_options, options_said}
 use Rattle.command_words.specs.declared.command.Command.TheVariants as commands
 use Rattle.command_words.specs.declared.notation.NotationName.{NotationName}
 use Rattle.command_words.specs.declared.notation.NotationName.TheVariants as names
@@ -14,8 +14,8 @@ use Rattle.command_words.specs.declared.request.Logs.{Logs}
 use Rattle.command_words.specs.declared.request.Logs.TheVariants as logs_are
 use Rattle.command_words.specs.declared.task.Question.{Question}
 use Rattle.command_words.specs.declared.task.Question.TheVariants as questions
-use Rattle.command_words.specs.declared.task.Task.{Task}
-use Rattle.command_words.specs.declared.task.Task.TheVariants as tasks
+use Rattle.command_words.specs.declared.task.NamedTask.{NamedTask}
+use Rattle.command_words.specs.declared.task.NamedTask.TheVariants as tasks
 use Rattle.chip_ledger.specs.declared.numbers.Seat.{Seat}
 use Rattle.hand_records.specs.declared.writing.Keep.{Keep}
 use Rattle.hand_records.specs.declared.writing.Keep.TheVariants as keeps
@@ -32,7 +32,7 @@ pub data Sides : Type 0 where
 -- with this name; others have none.
 pub data Request : Type 0 where
   Load : (seed hands : ℕ) → Request
-  Plain : PlainNotation → Task PlainNotation → Request
+  Plain : PlainNotation → NamedTask PlainNotation → Request
   Under : (game : List ℕ) → Logs → Request
   Compare : Sides → (file : List ℕ) → (notes : Bool) → Request
 
@@ -51,8 +51,8 @@ notation_named name = option_and_then notation_of_name name
 
 -- What is made of hands in a notation: plain ones stand without a game, and logs under the game
 -- that is given, whose name is not empty.
-abbrev pub reading_of : NotationName → (game : Option (List ℕ)) → Task PlainNotation
-    → Task NotationName → Option Request
+abbrev pub reading_of : NotationName → (game : Option (List ℕ)) → NamedTask PlainNotation
+    → NamedTask NotationName → Option Request
 reading_of (names.Plain from) None plain logs = Some (Plain from plain)
 reading_of (names.Plain from) (Some game) plain logs = None
 reading_of names.Acpc None plain logs = None
@@ -104,18 +104,18 @@ with_both give (Some x) None = None
 with_both give (Some x) (Some y) = give x y
 
 -- a question about the hands that are read, in the notation that is given
-abbrev pub asked : Options → Question → Option Request
+abbrev pub asked : GivenOptions → Question → Option Request
 asked options question =
     option_and_then (λ from. reading_of from options.game (tasks.Ask question) (tasks.Ask question))
     (notation_named options.from)
 
 -- `check`, `replay`, `report` and `session` take --from, and --game for logs
-abbrev pub question_asked : Question → Options → Option Request
+abbrev pub question_asked : Question → GivenOptions → Option Request
 question_asked question options =
     if are_none (record options { from = None; game = None }) then asked options question else None
 
 -- `judge` takes --from, and --game for logs
-abbrev pub judge_asked : Options → Option Request
+abbrev pub judge_asked : GivenOptions → Option Request
 judge_asked options =
     if are_none (record options { from = None; game = None })
     then option_and_then (λ from. reading_of from options.game tasks.Judge tasks.Judge)
@@ -127,7 +127,7 @@ abbrev pub keep_said : Bool → Keep
 keep_said drops_notes = if drops_notes then keeps.Spelled else keeps.All
 
 -- `convert` takes --from, --to, --game for logs, and the flag
-abbrev pub conversion_asked : Options → Option Request
+abbrev pub conversion_asked : GivenOptions → Option Request
 conversion_asked options =
     if are_none (record options { from = None; to = None; game = None; drops_notes = false })
     then with_both (λ from to. conversion_of from to options.game (keep_said options.drops_notes))
@@ -135,12 +135,12 @@ conversion_asked options =
     else None
 
 -- `game` takes --from, which is not of logs: they have no game without a file
-abbrev pub game_asked : Options → Option Request
+abbrev pub game_asked : GivenOptions → Option Request
 game_asked options =
     if are_none (record options { from = None }) then asked options questions.GameFile else None
 
 -- `load` takes --seed and --hands
-abbrev pub load_asked : Options → Option Request
+abbrev pub load_asked : GivenOptions → Option Request
 load_asked options =
     if are_none (record options { seed = None; hands = None })
     then with_both (λ seed hands. Some (Load seed hands))
@@ -148,7 +148,7 @@ load_asked options =
     else None
 
 -- `views` takes --from, which is of logs, --game and --seat
-abbrev pub views_asked : Options → Option Request
+abbrev pub views_asked : GivenOptions → Option Request
 views_asked options =
     if are_none (record options { from = None; game = None; seat = None })
     then with_both (λ from seat. views_of from options.game seat)
@@ -156,7 +156,7 @@ views_asked options =
     else None
 
 -- `options` takes --from, --game for logs, --hand and --after
-abbrev pub options_asked : Options → Option Request
+abbrev pub options_asked : GivenOptions → Option Request
 options_asked options =
     if are_none (record options { from = None; game = None; hand = None; after = None })
     then with_both (λ hand events. asked options (questions.Options hand events))
@@ -164,7 +164,7 @@ options_asked options =
     else None
 
 -- `equity` takes --from, --game for logs, --hand and --street
-abbrev pub equity_asked : Options → Option Request
+abbrev pub equity_asked : GivenOptions → Option Request
 equity_asked options =
     if are_none (record options { from = None; game = None; hand = None; street = None })
     then with_both (λ hand street. asked options (questions.Equity hand street))
@@ -173,7 +173,7 @@ equity_asked options =
 
 -- `compare` takes --from, --with, --as, --game where one of them is of logs, and the flag by which
 -- notes are not looked at
-abbrev pub comparison_asked : Options → Option Request
+abbrev pub comparison_asked : GivenOptions → Option Request
 comparison_asked options =
     if are_none (record options
     { from = None; game = None; other_file = None; other_notation = None; ignores_notes = false })
@@ -184,7 +184,7 @@ comparison_asked options =
     else None
 
 -- what the word of a command asks for with these options
-abbrev pub request_by : List ℕ → Options → Option Request
+abbrev pub request_by : List ℕ → GivenOptions → Option Request
 request_by word options =
     if bytes_eq word (codes "check") then question_asked (questions.Show commands.Check) options
     else if bytes_eq word (codes "replay")

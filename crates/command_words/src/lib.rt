@@ -14,4 +14,4 @@ pub use notation::{NotationName, PlainNotation};
 pub use numbers::HandCount;
 pub use reading::read_words;
 pub use request::{Logs, Request, Sides};
-pub use task::{Question, Task};
+pub use task::{NamedTask, Question};

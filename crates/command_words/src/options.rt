@@ -6,7 +6,7 @@ ghost use Rattle.command_words.specs.Options.{is_flag as is_flag_said, is_of_oth
 
 /// The values of the options that are given.
 #[derive(Clone, Copy, Debug, PartialEq, Eq)]
-pub struct Options<'a> {
+pub struct GivenOptions<'a> {
     /// The notation of the input.
     pub from: Option<&'a str>,
     /// The notation of the output.
@@ -37,10 +37,10 @@ pub struct Options<'a> {
 
 /// The options that the words say, or `None` where one of them is none, or stands twice.
 #[tactic(auto, unfolding(crate::specs::Options::options_said))]
-pub fn read_options(words: &[String]) -> Option<Options<'_>>
+pub fn read_options(words: &[String]) -> Option<GivenOptions<'_>>
     ensures { option_map options_in result ≡ options_said no_options (map string_bytes words.now) }
 {
-    let mut options = Options {
+    let mut options = GivenOptions {
         from: None,
         to: None,
         game: None,
@@ -105,7 +105,11 @@ fn split_value(text: &str) -> (&str, Option<&str>)
 }
 
 // The options with one more, whose value begins with no hyphen.
-fn with_option<'a>(options: Options<'a>, name: &str, value: &'a str) -> Option<Options<'a>>
+fn with_option<'a>(
+    options: GivenOptions<'a>,
+    name: &str,
+    value: &'a str,
+) -> Option<GivenOptions<'a>>
     ensures { option_map options_in result
         ≡ with_option_said (options_in options.entry) name.now value.now }
 {
@@ -126,29 +130,29 @@ fn is_of_other(name: &str) -> bool
 }
 
 // The options with one more that does not stand yet.
-fn with_new<'a>(options: Options<'a>, name: &str, value: &'a str) -> Option<Options<'a>>
+fn with_new<'a>(options: GivenOptions<'a>, name: &str, value: &'a str) -> Option<GivenOptions<'a>>
     ensures { option_map options_in result
         ≡ with_new_said (options_in options.entry) name.now value.now }
 {
     let given = Some(value);
     match name {
-        "from" if options.from.is_none() => Some(Options {
+        "from" if options.from.is_none() => Some(GivenOptions {
             from: given,
             ..options
         }),
-        "to" if options.to.is_none() => Some(Options {
+        "to" if options.to.is_none() => Some(GivenOptions {
             to: given,
             ..options
         }),
-        "game" if options.game.is_none() => Some(Options {
+        "game" if options.game.is_none() => Some(GivenOptions {
             game: given,
             ..options
         }),
-        "seed" if options.seed.is_none() => Some(Options {
+        "seed" if options.seed.is_none() => Some(GivenOptions {
             seed: given,
             ..options
         }),
-        "hands" if options.hands.is_none() => Some(Options {
+        "hands" if options.hands.is_none() => Some(GivenOptions {
             hands: given,
             ..options
         }),
@@ -157,25 +161,25 @@ fn with_new<'a>(options: Options<'a>, name: &str, value: &'a str) -> Option<Opti
 }
 
 // The options with one more of a seat or of a place in a hand that does not stand yet.
-fn with_place<'a>(options: Options<'a>, name: &str, value: &'a str) -> Option<Options<'a>>
+fn with_place<'a>(options: GivenOptions<'a>, name: &str, value: &'a str) -> Option<GivenOptions<'a>>
     ensures { option_map options_in result
         ≡ with_place_said (options_in options.entry) name.now value.now }
 {
     let value = Some(value);
     match name {
-        "seat" if options.seat.is_none() => Some(Options {
+        "seat" if options.seat.is_none() => Some(GivenOptions {
             seat: value,
             ..options
         }),
-        "hand" if options.hand.is_none() => Some(Options {
+        "hand" if options.hand.is_none() => Some(GivenOptions {
             hand: value,
             ..options
         }),
-        "after" if options.after.is_none() => Some(Options {
+        "after" if options.after.is_none() => Some(GivenOptions {
             after: value,
             ..options
         }),
-        "street" if options.street.is_none() => Some(Options {
+        "street" if options.street.is_none() => Some(GivenOptions {
             street: value,
             ..options
         }),
@@ -184,17 +188,17 @@ fn with_place<'a>(options: Options<'a>, name: &str, value: &'a str) -> Option<Op
 }
 
 // The options with one more of the other file that does not stand yet.
-fn with_other<'a>(options: Options<'a>, name: &str, value: &'a str) -> Option<Options<'a>>
+fn with_other<'a>(options: GivenOptions<'a>, name: &str, value: &'a str) -> Option<GivenOptions<'a>>
     ensures { option_map options_in result
         ≡ with_other_said (options_in options.entry) name.now value.now }
 {
     let value = Some(value);
     match name {
-        "with" if options.other_file.is_none() => Some(Options {
+        "with" if options.other_file.is_none() => Some(GivenOptions {
             other_file: value,
             ..options
         }),
-        "as" if options.other_notation.is_none() => Some(Options {
+        "as" if options.other_notation.is_none() => Some(GivenOptions {
             other_notation: value,
             ..options
         }),
@@ -210,15 +214,15 @@ fn is_flag(name: &str) -> bool
 }
 
 // The options with the flag of this name, which does not stand yet.
-fn with_flag<'a>(options: Options<'a>, name: &str) -> Option<Options<'a>>
+fn with_flag<'a>(options: GivenOptions<'a>, name: &str) -> Option<GivenOptions<'a>>
     ensures { option_map options_in result ≡ with_flag_said (options_in options.entry) name.now }
 {
     match name {
-        "drop-notes" if !options.drops_notes => Some(Options {
+        "drop-notes" if !options.drops_notes => Some(GivenOptions {
             drops_notes: true,
             ..options
         }),
-        "no-notes" if !options.ignores_notes => Some(Options {
+        "no-notes" if !options.ignores_notes => Some(GivenOptions {
             ignores_notes: true,
             ..options
         }),

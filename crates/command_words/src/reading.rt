@@ -1,15 +1,15 @@
 //! The words of a command are read by a parser of command lines.
-ghost use Rattle.std.specs.Prelude.{◌≡◌, map, option_map, string_bytes, IfErr, IfOk, Ok, None, Some, is_some, true, false};
+ghost use Rattle.std.specs.Prelude.{◌≡◌, map, option_map, string_bytes, IfErr, IfOk, Ok, None, Some, is_some, true};
 ghost use Rattle.clap.specs.Simple.{new_rule};
-ghost use Rattle.clap.specs.Words.{app_of, found_of, kind_of, rule_of};
+ghost use Rattle.clap.specs.Words.{app_of, found_of, kind_of};
 ghost use Rattle.clap.specs.declared.builder.action.ArgAction.TheVariants.{SetTrue};
 ghost use Rattle.clap.specs.declared.error.kind.ErrorKind.TheVariants.{OutOfMemory};
 ghost use Rattle.command_words.specs.Requests.{AreFound, IsSaidBy, options_in, request_in};
-ghost use Rattle.command_words.specs.Options.{Options as OptionsSaid};
-ghost use Rattle.command_words.specs.Parser.{are_taken, handref};
+ghost use Rattle.command_words.specs.Options.{GivenOptions as OptionsSaid};
+ghost use Rattle.command_words.specs.Parser.{IsArgument, are_taken, handref};
 ghost use Rattle.command_words.specs.Words.{request_said};
 
-use crate::options::{Options, read_options};
+use crate::options::{GivenOptions, read_options};
 use crate::request::{Request, request_of};
 use card_set::Memory;
 use clap::{Arg, ArgAction, ArgMatches};
@@ -90,27 +90,25 @@ fn parser<'a>(alloc: Global) -> Result<clap::Command<'a>, AllocError>
 
 // An option of this name.
 fn option<'a>(alloc: Global, name: &'a str) -> Arg<'a>
-    ensures rule { rule_of result ≡ record (new_rule name.now) { long = Some name.now } }
-    ensures local { result.global ≡ false }
+    ensures { IsArgument result (record (new_rule name.now) { long = Some name.now }) }
 {
     Arg::new(alloc, name).long(name)
 }
 
 // A flag of this name.
 fn flag<'a>(alloc: Global, name: &'a str) -> Arg<'a>
-    ensures rule { rule_of result
-        ≡ record (new_rule name.now) { long = Some name.now; action = Some SetTrue } }
-    ensures local { result.global ≡ false }
+    ensures { IsArgument result
+        (record (new_rule name.now) { long = Some name.now; action = Some SetTrue }) }
 {
     option(alloc, name).action(ArgAction::SetTrue)
 }
 
 // The options that the parser found.
-fn options_found<'a>(matches: &ArgMatches<'a>) -> Options<'a>
+fn options_found<'a>(matches: &ArgMatches<'a>) -> GivenOptions<'a>
     ensures { (options : OptionsSaid) → AreFound (found_of matches.now) options
         → options_in result ≡ options }
 {
-    Options {
+    GivenOptions {
         from: matches.get_str("from"),
         to: matches.get_str("to"),
         game: matches.get_str("game"),

@@ -9,8 +9,8 @@ use crate::notation::{NotationName, PlainNotation, notation_named};
 use crate::numbers::{
     HandCount, read_count, read_events, read_hand, read_seat, read_seed, read_street,
 };
-use crate::options::Options;
-use crate::task::{Question, Task};
+use crate::options::GivenOptions;
+use crate::task::{NamedTask, Question};
 use chip_ledger::Seat;
 use hand_records::Keep;
 
@@ -25,7 +25,7 @@ pub enum Request<'a> {
     /// What is made of hands without a game: neither notation is that of logs.
     Plain {
         from: PlainNotation,
-        task: Task<PlainNotation>,
+        task: NamedTask<PlainNotation>,
     },
     /// What is made of hands where logs are under the game of the file with this name.
     Under {
@@ -61,7 +61,7 @@ pub enum Sides<'a> {
 #[derive(Clone, Copy, Debug, PartialEq, Eq)]
 pub enum Logs {
     /// Logs are read, and this is made of their hands.
-    Read(Task<NotationName>),
+    Read(NamedTask<NotationName>),
     /// Logs are read, and the messages that a seat received are told.
     Viewed { seat: Seat },
     /// Hands in another notation are written as logs, with so many of their notes.
@@ -69,7 +69,7 @@ pub enum Logs {
 }
 
 /// What a command's word asks for with these options, or `None` where that is no command.
-pub fn request_of<'a>(word: &str, options: Options<'a>) -> Option<Request<'a>>
+pub fn request_of<'a>(word: &str, options: GivenOptions<'a>) -> Option<Request<'a>>
     ensures { option_map request_in result ≡ request_by word.now (options_in options.entry) }
 {
     match word {
@@ -90,10 +90,10 @@ pub fn request_of<'a>(word: &str, options: Options<'a>) -> Option<Request<'a>>
 }
 
 // A question to which the notation and the game are the only options.
-fn question_alone<'a>(question: Question, options: Options<'a>) -> Option<Request<'a>>
+fn question_alone<'a>(question: Question, options: GivenOptions<'a>) -> Option<Request<'a>>
     ensures { option_map request_in result ≡ question_asked question (options_in options.entry) }
 {
-    let others = Options {
+    let others = GivenOptions {
         from: None,
         game: None,
         ..options
@@ -105,10 +105,10 @@ fn question_alone<'a>(question: Question, options: Options<'a>) -> Option<Reques
 }
 
 // The verdict on each hand, to which the notation and the game are the only options.
-fn judgement<'a>(options: Options<'a>) -> Option<Request<'a>>
+fn judgement<'a>(options: GivenOptions<'a>) -> Option<Request<'a>>
     ensures { option_map request_in result ≡ judge_asked (options_in options.entry) }
 {
-    let others = Options {
+    let others = GivenOptions {
         from: None,
         game: None,
         ..options
@@ -117,14 +117,14 @@ fn judgement<'a>(options: Options<'a>) -> Option<Request<'a>>
         return None;
     }
     let from = notation_named(options.from)?;
-    reading_of(from, options.game, Task::Judge, Task::Judge)
+    reading_of(from, options.game, NamedTask::Judge, NamedTask::Judge)
 }
 
 // A game file is made of hands that have none.
-fn game_file<'a>(options: Options<'a>) -> Option<Request<'a>>
+fn game_file<'a>(options: GivenOptions<'a>) -> Option<Request<'a>>
     ensures { option_map request_in result ≡ game_asked (options_in options.entry) }
 {
-    let others = Options {
+    let others = GivenOptions {
         from: None,
         ..options
     };
@@ -135,10 +135,10 @@ fn game_file<'a>(options: Options<'a>) -> Option<Request<'a>>
 }
 
 // What a seat saw, of logs alone.
-fn views<'a>(options: Options<'a>) -> Option<Request<'a>>
+fn views<'a>(options: GivenOptions<'a>) -> Option<Request<'a>>
     ensures { option_map request_in result ≡ views_asked (options_in options.entry) }
 {
-    let others = Options {
+    let others = GivenOptions {
         from: None,
         game: None,
         seat: None,
@@ -167,10 +167,10 @@ fn views_of<'a>(from: NotationName, game: Option<&'a str>, seat: Seat) -> Option
 }
 
 // The legal moves at a point of a hand.
-fn legal_moves<'a>(options: Options<'a>) -> Option<Request<'a>>
+fn legal_moves<'a>(options: GivenOptions<'a>) -> Option<Request<'a>>
     ensures { option_map request_in result ≡ options_asked (options_in options.entry) }
 {
-    let others = Options {
+    let others = GivenOptions {
         from: None,
         game: None,
         hand: None,
@@ -186,10 +186,10 @@ fn legal_moves<'a>(options: Options<'a>) -> Option<Request<'a>>
 }
 
 // How often each live hand would win from a street on.
-fn equity<'a>(options: Options<'a>) -> Option<Request<'a>>
+fn equity<'a>(options: GivenOptions<'a>) -> Option<Request<'a>>
     ensures { option_map request_in result ≡ equity_asked (options_in options.entry) }
 {
-    let others = Options {
+    let others = GivenOptions {
         from: None,
         game: None,
         hand: None,
@@ -205,19 +205,24 @@ fn equity<'a>(options: Options<'a>) -> Option<Request<'a>>
 }
 
 // A question about the hands that are read, in the notation that is given.
-fn asked<'a>(options: Options<'a>, question: Question) -> Option<Request<'a>>
+fn asked<'a>(options: GivenOptions<'a>, question: Question) -> Option<Request<'a>>
     ensures { option_map request_in result ≡ asked_said (options_in options.entry) question }
 {
     let from = notation_named(options.from)?;
-    reading_of(from, options.game, Task::Ask(question), Task::Ask(question))
+    reading_of(
+        from,
+        options.game,
+        NamedTask::Ask(question),
+        NamedTask::Ask(question),
+    )
 }
 
 // What is made of hands in a notation, of which logs are under the game that is given.
 fn reading_of<'a>(
     from: NotationName,
     game: Option<&'a str>,
-    plain: Task<PlainNotation>,
-    logs: Task<NotationName>,
+    plain: NamedTask<PlainNotation>,
+    logs: NamedTask<NotationName>,
 ) -> Option<Request<'a>>
     ensures { option_map request_in result
         ≡ reading_of_said from (option_map (λ s. s.now) game.entry) plain logs }
@@ -233,10 +238,10 @@ fn reading_of<'a>(
 }
 
 // Hands of one notation are written in another.
-fn conversion<'a>(options: Options<'a>) -> Option<Request<'a>>
+fn conversion<'a>(options: GivenOptions<'a>) -> Option<Request<'a>>
     ensures { option_map request_in result ≡ conversion_asked (options_in options.entry) }
 {
-    let others = Options {
+    let others = GivenOptions {
         from: None,
         to: None,
         game: None,
@@ -264,7 +269,7 @@ fn conversion_of<'a>(
     match (from, to, game) {
         (NotationName::Plain(from), NotationName::Plain(to), None) => Some(Request::Plain {
             from,
-            task: Task::Convert { to, keep },
+            task: NamedTask::Convert { to, keep },
         }),
         (NotationName::Plain(from), NotationName::Acpc, Some(game)) if !game.is_empty() => {
             Some(Request::Under {
@@ -274,7 +279,7 @@ fn conversion_of<'a>(
         }
         (NotationName::Acpc, to, Some(game)) if !game.is_empty() => Some(Request::Under {
             game,
-            logs: Logs::Read(Task::Convert { to, keep }),
+            logs: Logs::Read(NamedTask::Convert { to, keep }),
         }),
         _ => None,
     }
@@ -292,10 +297,10 @@ fn keep_of(drops_notes: bool) -> Keep
 }
 
 // Whether hands are the same as those of another file.
-fn comparison<'a>(options: Options<'a>) -> Option<Request<'a>>
+fn comparison<'a>(options: GivenOptions<'a>) -> Option<Request<'a>>
     ensures { option_map request_in result ≡ comparison_asked (options_in options.entry) }
 {
-    let others = Options {
+    let others = GivenOptions {
         from: None,
         game: None,
         other_file: None,
@@ -341,10 +346,10 @@ fn file_named(name: Option<&str>) -> Option<&str>
 }
 
 // Hands are made from a seed.
-fn load<'a>(options: Options<'a>) -> Option<Request<'a>>
+fn load<'a>(options: GivenOptions<'a>) -> Option<Request<'a>>
     ensures { option_map request_in result ≡ load_asked (options_in options.entry) }
 {
-    let others = Options {
+    let others = GivenOptions {
         seed: None,
         hands: None,
         ..options
@@ -358,7 +363,7 @@ fn load<'a>(options: Options<'a>) -> Option<Request<'a>>
 }
 
 // Whether no option is given.
-fn are_none(options: Options<'_>) -> bool
+fn are_none(options: GivenOptions<'_>) -> bool
     ensures { result ≡ are_none_said (options_in options.entry) }
 {
     lack_names(options)
@@ -369,35 +374,35 @@ fn are_none(options: Options<'_>) -> bool
 }
 
 // Whether neither a notation nor a game is given.
-fn lack_names(options: Options<'_>) -> bool
+fn lack_names(options: GivenOptions<'_>) -> bool
     ensures { result ≡ lack_names_said (options_in options.entry) }
 {
     options.from.is_none() && options.to.is_none() && options.game.is_none()
 }
 
 // Whether nothing is given of hands that are made.
-fn lack_counts(options: Options<'_>) -> bool
+fn lack_counts(options: GivenOptions<'_>) -> bool
     ensures { result ≡ lack_counts_said (options_in options.entry) }
 {
     options.seed.is_none() && options.hands.is_none()
 }
 
 // Whether nothing is given of another file.
-fn lack_other(options: Options<'_>) -> bool
+fn lack_other(options: GivenOptions<'_>) -> bool
     ensures { result ≡ lack_other_said (options_in options.entry) }
 {
     options.other_file.is_none() && options.other_notation.is_none()
 }
 
 // Whether no flag stands.
-fn lack_flags(options: Options<'_>) -> bool
+fn lack_flags(options: GivenOptions<'_>) -> bool
     ensures { result ≡ lack_flags_said (options_in options.entry) }
 {
     !options.drops_notes && !options.ignores_notes
 }
 
 // Whether neither a seat nor a hand is given, nor a place in a hand.
-fn lack_places(options: Options<'_>) -> bool
+fn lack_places(options: GivenOptions<'_>) -> bool
     ensures { result ≡ lack_places_said (options_in options.entry) }
 {
     options.seat.is_none()

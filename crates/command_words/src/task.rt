@@ -17,7 +17,7 @@ pub enum Question {
 
 /// What is made of the hands that are read, where `N` names a notation.
 #[derive(Clone, Copy, Debug, PartialEq, Eq)]
-pub enum Task<N> {
+pub enum NamedTask<N> {
     /// The answer to a question.
     Ask(Question),
     /// The verdict on each hand: whether it is legal, and why it is not.

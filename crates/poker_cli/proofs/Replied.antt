@@ -4,7 +4,7 @@ use Rattle.acpc_game.specs.declared.game.Game.{Game}
 use Rattle.command_words.specs.Words.{Compare, Plain, Sides, Under}
 use Rattle.command_words.specs.declared.notation.PlainNotation.{PlainNotation}
 use Rattle.command_words.specs.declared.request.Logs.{Logs}
-use Rattle.command_words.specs.declared.task.Task.{Task}
+use Rattle.command_words.specs.declared.task.NamedTask.{NamedTask}
 use Rattle.host_io.specs.Faults.{Rose}
 use Rattle.poker_cli.specs.Answer.{Files, GivesGame, IsComparisonOf}
 use Rattle.poker_cli.specs.Lacking.{ComesFirst}
@@ -30,7 +30,7 @@ keeps_read input read reads asks (Err whys.ShelfFault) of rose alone = absurd (a
 keeps_read input read reads asks (Err whys.GameMissing) of rose alone = absurd (alone tt)
 keeps_read input read reads asks (Err whys.FileMissing) of rose alone = absurd (alone tt)
 
-pub none_of_plain : (from : PlainNotation) (task : Task PlainNotation) (left : Option (List ℕ)) (told : Option Files) (why : NoAnswer)
+pub none_of_plain : (from : PlainNotation) (task : NamedTask PlainNotation) (left : Option (List ℕ)) (told : Option Files) (why : NoAnswer)
     → (ComesFirst why → ⊥) → HasNoAnswer (Plain from task) left told why
 none_of_plain from task left told whys.ReadFault alone = (tt, λ lacks. lacks)
 none_of_plain from task left told whys.Memory alone = tt

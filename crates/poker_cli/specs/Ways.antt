@@ -6,8 +6,8 @@ use Rattle.command_words.specs.declared.notation.PlainNotation.{PlainNotation}
 use Rattle.command_words.specs.declared.notation.PlainNotation.TheVariants as plain_notations
 use Rattle.command_words.specs.declared.request.Logs.{Logs}
 use Rattle.command_words.specs.declared.request.Logs.TheVariants as logs_are
-use Rattle.command_words.specs.declared.task.Task.{Task as NamedTask}
-use Rattle.command_words.specs.declared.task.Task.TheVariants as named
+use Rattle.command_words.specs.declared.task.NamedTask.{NamedTask}
+use Rattle.command_words.specs.declared.task.NamedTask.TheVariants as named
 use Rattle.ohh_members.specs.declared.dialect.Dialect.TheVariants as dialects
 use Rattle.poker_cli.specs.declared.task.Format.{Format}
 use Rattle.poker_cli.specs.declared.task.Format.TheVariants as readers

@@ -4,7 +4,7 @@ ghost use Rattle.poker_cli.specs.Ways as definition;
 
 use crate::task::{Format, Task, Way};
 use acpc_game::Game;
-use command_words::{Logs, NotationName, PlainNotation, Task as NamedTask};
+use command_words::{Logs, NamedTask, NotationName, PlainNotation};
 use ohh_members::Dialect;
 
 /// How hands without a game are read, and what is made of them.

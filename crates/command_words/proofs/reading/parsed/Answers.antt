@@ -3,7 +3,7 @@ use Rattle.std.proofs.Common.{ap, refl, sym, ◌≡◌, ◌∙◌, codes, true, 
 use Rattle.std.proofs.lemmas.Result.{IfErr-weaker, IfOk-weaker}
 use Rattle.clap.specs.Words.{App, Row, Text, app_of, first_of, found_of, is_simple, matches_of, one_of, rows_of, takes}
 use Rattle.clap.proofs.WalkLemmas.{first_value-rows, one_text-rows}
-use Rattle.command_words.specs.Options.{Options, no_options, options_said}
+use Rattle.command_words.specs.Options.{GivenOptions, no_options, options_said}
 use Rattle.command_words.specs.Parser.{are_taken, handref}
 use Rattle.command_words.specs.Words.{request_said}
 use Rattle.command_words.proofs.Asked.{is_asked}
@@ -14,7 +14,7 @@ use Rattle.command_words.proofs.reading.parsed.Goals as goal
 -- what the parser finds in the words of a request
 record IsFoundIn (words : List Text) : Type 0 where
   word : Text
-  options : Options
+  options : GivenOptions
   first : slice_get words 0 ≡ Some word
   said : options_said no_options (drop 1 words) ≡ Some options
   found : IsFound word options (rows_found words)
