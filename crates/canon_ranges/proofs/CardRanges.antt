@@ -96,7 +96,7 @@ module _ (setup : Setup) (rules : Rules) (events : List Said) (legal : AreLegal 
         arith,
         ap (λ l. length l) (discarded_same finals seat street),
         length-map (filter (is_out_of street seat) finals) (λ (p : Place). p.slot),
-        ap (λ (l : List Place). length l) (out_finals setup rules events street seat count legal some (omega (arith, within)) in_hand.0 in_hand.1),
+        ap (λ (l : List Place). length l) (out_finals setup rules events street seat count legal some (omega (arith, within)) in_hand.first in_hand.last),
         out_few seat street some draws,
       )
 
@@ -104,10 +104,10 @@ module _ (setup : Setup) (rules : Rules) (events : List Said) (legal : AreLegal 
   pub shown_whole : (seat : ℕ) → IsSeatOf setup.stacks.seats seat → nat_le 2 (live_count setup (moves_of past)) ≡ true → is_unfinished (turn setup past).1 ≡ false → list_any (λ other. other == seat) core.shown ≡ true
       → length (known_cards (held_slots core.places seat)) ≡ (game_of setup.code).hole
   shown_whole seat in_hand contested finished shown =
-      let is : is_shown setup past seat ≡ true = sym (is_in (is_shown setup past) 1 setup.stacks.seats seat in_hand.0 (omega (arith, in_hand.1))) ∙ shown in
+      let is : is_shown setup past seat ≡ true = sym (is_in (is_shown setup past) 1 setup.stacks.seats seat in_hand.first (omega (arith, in_hand.last))) ∙ shown in
       let live : is_live (moves_of past) seat ≡ true = (shown_parts setup past seat is).live in
       let several : nat_le (live_count setup (moves_of past)) 1 ≡ false = lt-leb (live_count setup (moves_of past)) 1 (omega (arith, leb-true 2 (live_count setup (moves_of past)) contested)) in
       let ends : EndContested setup rules events = record { legal = legal; several = several; finished = finished } in
       all_known_length (held_slots core.places seat) ((tidy_cards setup rules events legal).shown_known seat shown)
-      ∙ (ap (λ l. length l) (discarded_same finals seat 0 ∙ held_script setup rules events seat legal in_hand.0 in_hand.1 live)
-      ∙ whole_hands setup rules events seat ends (record { least = in_hand.0; most = in_hand.1; live = live }))
+      ∙ (ap (λ l. length l) (discarded_same finals seat 0 ∙ held_script setup rules events seat legal in_hand.first in_hand.last live)
+      ∙ whole_hands setup rules events seat ends (record { least = in_hand.first; most = in_hand.last; live = live }))

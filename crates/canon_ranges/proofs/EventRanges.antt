@@ -45,7 +45,7 @@ row first count behind few = from first count first (omega arith) few
 hand_seats : (setup : Setup) → AllByRecursion (IsSeatOf setup.stacks.seats) (all_seats setup)
 hand_seats setup =
     subst (AllByRecursion (IsSeatOf setup.stacks.seats)) (map_same (all_seats setup))
-    (each_mapped (IsBetween 1 (setup.stacks.seats + 1)) (IsSeatOf setup.stacks.seats) (λ seat. seat) (λ seat within. (within.0, omega (arith, within.1))) (all_seats setup) (row 1 setup.stacks.seats (setup.stacks.seats + 1) (omega arith)))
+    (each_mapped (IsBetween 1 (setup.stacks.seats + 1)) (IsSeatOf setup.stacks.seats) (λ seat. seat) (λ seat within. record { first = within.0; last = omega (arith, within.1) }) (all_seats setup) (row 1 setup.stacks.seats (setup.stacks.seats + 1) (omega arith)))
   where
     map_same : (xs : List ℕ) → map (λ seat. seat) xs ≡ xs
     map_same [] = refl

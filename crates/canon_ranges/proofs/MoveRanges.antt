@@ -98,7 +98,7 @@ each_move setup rules placed (move ∷ older) valid law within =
     let before = within_before setup move older within in
     let seat = in_turn_in_hand setup placed older move.street move.seat fits.in_turn in
     let far = reaches setup rules older move.street move.seat fits.event move fits.due fits.is_move fits.none fits.place in
-    let stack = valid.stacks move.seat seat.0 seat.1 in (
+    let stack = valid.stacks move.seat seat.first seat.last in (
       record { seat = seat; to = omega (arith, far, all_in_within setup older move.street move.seat before, stack.1) },
       each_move setup rules placed older valid law.1 before,
     )

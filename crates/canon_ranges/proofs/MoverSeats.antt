@@ -91,12 +91,14 @@ pub mover_in_hand : (setup : Setup) (ups : UpCards) (moves : List Move) (street 
 mover_in_hand setup ups moves street seat is =
     let opener : InTurn = opener_by (opener_of setup.code) setup ups moves street in
     let able = and_parts (is_live moves seat) (nat_lt 0 (chips_left setup moves seat)) (mover_is_able setup ups moves street seat is) in
-    let some : 0 < chips_left setup moves seat = ltb-true 0 (chips_left setup moves seat) able.1 in (
-      subst IsFromOne is
+    let some : 0 < chips_left setup moves seat = ltb-true 0 (chips_left setup moves seat) able.1 in
+    record {
+      first =
+          subst IsFromOne is
           (first_from_one setup (has_to_move setup moves street) (next_in_turn setup opener (moves_on street moves))
-          (next_from_one setup opener (moves_on street moves) (from_one_by (opener_of setup.code) setup ups moves street))),
-      elim (cases_lt setup.stacks.seats seat) [
+          (next_from_one setup opener (moves_on street moves) (from_one_by (opener_of setup.code) setup ups moves street)));
+      last = elim (cases_lt setup.stacks.seats seat) [
         | inl past ↦ absurd (let none = setup.stacks.filler (seat - 1) (omega (arith, past)) in omega (arith, some, none))
         | inr within ↦ within
-      ],
-    )
+      ];
+    }

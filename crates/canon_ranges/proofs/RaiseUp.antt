@@ -131,6 +131,6 @@ raise_up setup rules events seat target valid legal_before legal =
     let none = none_hold (move_reasons setup rules moves (turn setup past) (in_turn_after setup past) event) (sym (why_move setup rules past event (raise_said (Some seat) (spelled.To target))) ∙ legal) in
     let in_hand = mover_in_hand setup _ moves street seat (named_in_turn setup rules past event seat (raise_said (Some seat) (spelled.To target)) refl legal) in
     let below = none.1.1.1.1.1.1.1.1.1.0 in
-    goes_up (limit_of setup.code) rules.reopen setup moves street seat target (within_price setup moves street seat in_hand.0 in_hand.1)
+    goes_up (limit_of setup.code) rules.reopen setup moves street seat target (within_price setup moves street seat in_hand.first in_hand.last)
     (λ unfixed. omega (arith, above_price setup rules events valid unfixed legal_before rules.reopen street))
     (is_target_in (limit_of setup.code) rules.reopen setup moves street seat target) refl below

@@ -12,7 +12,7 @@ use Rattle.convert_core.specs.declared.format_fault.FormatFault.{FormatFault}
 use Rattle.convert_core.specs.declared.format_fault.FormatFault.TheVariants as formats
 use Rattle.hand_records.specs.Histories.{IsHistory}
 use Rattle.hand_records.specs.Moves.{moves_of}
-use Rattle.hand_records.specs.PlainHands.{PlainHand, plain}
+use Rattle.hand_records.specs.PlainHands.{plain}
 
 -- bytes say these records: they are what the bytes read as, each as a reader gives it, and no more
 -- than a file may have

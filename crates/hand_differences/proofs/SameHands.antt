@@ -9,7 +9,7 @@ use Rattle.list_laws.proofs.Tests.{not_not}
 use Rattle.chip_ledger.proofs.Same.{live_row_same_by_seats}
 use Rattle.chip_ledger.specs.LiveRow.{flag_of}
 use Rattle.chip_ledger.specs.Seat.{seats_of}
-use Rattle.chip_ledger.specs.declared.rows.LiveRow.{LiveRow}
+use Rattle.chip_ledger.specs.declared.live_row.LiveRow.{LiveRow}
 use Rattle.hand_canon.specs.Sound.{IsSound}
 use Rattle.hand_records.proofs.NoteLaws.{notes_same}
 use Rattle.hand_records.specs.SaidNotes.{SaidNotes, notes_of}

@@ -5,7 +5,7 @@ use Rattle.std.specs.Option.{option_or}
 use Rattle.chip_ledger.specs.LiveRow.{flag_of}
 use Rattle.chip_ledger.specs.Seat.{seats_of}
 use Rattle.chip_ledger.specs.SeatRow.{amounts_in}
-use Rattle.chip_ledger.specs.declared.rows.LiveRow.{LiveRow}
+use Rattle.chip_ledger.specs.declared.live_row.LiveRow.{LiveRow}
 use Rattle.hand_records.specs.SaidNotes.{SaidNotes, notes_of}
 use Rattle.hand_records.specs.declared.notes.NoteName.{NoteName}
 use Rattle.hand_records.specs.declared.notes.NoteName.TheVariants as names

@@ -1,7 +1,7 @@
 //! Facts that are stated of the end of a hand: `finish=99,98,103 wins=0,0,5 pots=5 values=-1,-2,3`.
 ghost use Rattle.std.specs.Prelude.{◌≡◌, ◌≤◌, IsTrue};
 ghost use Rattle.std.specs.Option.{ForSome};
-ghost use Rattle.chip_ledger.specs.declared.rows.TheConstants.{MOST_AMOUNT};
+ghost use Rattle.chip_ledger.specs.declared.seat_row.TheConstants.{MOST_AMOUNT};
 ghost use Rattle.hand_records.specs.SoundRecord.{IsStatedFor};
 
 use chip_ledger::{MOST_AMOUNT, Seat, SeatRow};

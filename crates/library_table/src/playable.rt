@@ -3,7 +3,7 @@ ghost use Rattle.std.specs.Prelude.{◌≡◌, ◌≢◌, ◌≤◌, ◌++◌, [
 ghost use Rattle.card_set.specs.declared.set.CardSet.{CardSet};
 ghost use Rattle.card_set.specs.Different.{AllDifferent, Lacks};
 ghost use Rattle.card_set.specs.Row.{cards_of};
-ghost use Rattle.chip_ledger.specs.declared.rows.TheConstants.{MOST_AMOUNT};
+ghost use Rattle.chip_ledger.specs.declared.seat_row.TheConstants.{MOST_AMOUNT};
 ghost use Rattle.chip_ledger.specs.LiveRow.{flagged};
 ghost use Rattle.hand_equity.specs.Equity.{CanComplete, plays_board};
 ghost use Rattle.hand_equity.specs.Rest.{standing_of};

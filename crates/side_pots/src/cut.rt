@@ -1,7 +1,7 @@
 //! The chips that are left are cut into pots, the lowest first, and dead chips join the lowest pot
 //! or make one of their own.
 ghost use Rattle.std.specs.Prelude.{◌≡◌, ◌+◌, ◌<◌, ◌≤◌, ◌∷◌, [], ◌++◌, if◌then◌else◌, map, nat_lt, All};
-ghost use Rattle.chip_ledger.specs.declared.rows.TheConstants.{MOST_AMOUNT};
+ghost use Rattle.chip_ledger.specs.declared.seat_row.TheConstants.{MOST_AMOUNT};
 ghost use Rattle.chip_ledger.specs.PotRow.{plain, pots_in};
 ghost use Rattle.side_pots.specs.Stakes.{stakes_in};
 ghost use Rattle.chip_ledger.specs.Pots.{layers, levels, pots_at, with_chips, with_dead};

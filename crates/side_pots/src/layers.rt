@@ -1,8 +1,8 @@
 //! A level's pot has every seat's chips between the level below and it, for the live seats that
 //! reach it.
 ghost use Rattle.std.specs.Prelude.{◌≡◌, ◌+◌, ◌*◌, ◌≤◌, ◌&&◌, ℕ, nat_le};
-ghost use Rattle.chip_ledger.specs.declared.rows.LiveRow.{LiveRow};
-ghost use Rattle.chip_ledger.specs.declared.rows.TheConstants.{MOST_AMOUNT};
+ghost use Rattle.chip_ledger.specs.declared.live_row.LiveRow.{LiveRow};
+ghost use Rattle.chip_ledger.specs.declared.seat_row.TheConstants.{MOST_AMOUNT};
 ghost use Rattle.chip_ledger.specs.LiveRow.{flag_of};
 ghost use Rattle.chip_ledger.specs.SeatRow.{amount_of};
 ghost use Rattle.chip_ledger.specs.PotRow.{stakes_of};

@@ -1,6 +1,6 @@
 //! A live seat gets back the chips by which it put more than every other seat.
 ghost use Rattle.std.specs.Prelude.{◌≡◌, ◌-◌, ◌≤◌, ℕ};
-ghost use Rattle.chip_ledger.specs.declared.rows.LiveRow.{LiveRow};
+ghost use Rattle.chip_ledger.specs.declared.live_row.LiveRow.{LiveRow};
 ghost use Rattle.chip_ledger.specs.SeatRow.{amount_of};
 ghost use Rattle.chip_ledger.specs.PotRow.{stake_of, stakes_of};
 ghost use Rattle.chip_ledger.specs.Pots.{greatest_other, returned};

@@ -1,9 +1,9 @@
 -- Whole traces of one core are one trace.
 use Rattle.std.proofs.Common.{◌≡◌, ◌↔◌, ◌≤◌, List, map, refl, sym, ap, ◌∙◌, subst, arith}
 use Rattle.chip_ledger.specs.declared.pots.PotRow.{PotRow}
-use Rattle.chip_ledger.specs.declared.pots.ShareRow.{ShareRow}
-use Rattle.chip_ledger.specs.declared.rows.LiveRow.{LiveRow}
-use Rattle.chip_ledger.specs.declared.rows.SeatRow.{SeatRow}
+use Rattle.chip_ledger.specs.declared.shares.ShareRow.{ShareRow}
+use Rattle.chip_ledger.specs.declared.live_row.LiveRow.{LiveRow}
+use Rattle.chip_ledger.specs.declared.seat_row.SeatRow.{SeatRow}
 use Rattle.chip_ledger.specs.PotRow.{plain_shares, shares_in}
 use Rattle.chip_ledger.specs.Rakes.{nets_of}
 use Rattle.chip_ledger.specs.Seat.{seats_of}

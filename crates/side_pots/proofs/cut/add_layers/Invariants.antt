@@ -1,6 +1,6 @@
 -- The pots so far and those that are left to be cut are all pots.
 use Rattle.std.proofs.Common.{◌≡◌, ◌+◌, ◌≤◌, ◌++◌, All, length, map}
-use Rattle.chip_ledger.specs.declared.rows.TheConstants.{MOST_AMOUNT}
+use Rattle.chip_ledger.specs.declared.seat_row.TheConstants.{MOST_AMOUNT}
 use Rattle.chip_ledger.specs.PotRow.{plain, pots_in, stakes_of}
 use Rattle.side_pots.specs.Levels.{levels_above}
 use Rattle.side_pots.proofs.Cutting.{left_to_cut}

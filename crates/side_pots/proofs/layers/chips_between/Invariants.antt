@@ -1,7 +1,7 @@
 -- The chips so far are those of the seats so far.
 use Rattle.std.proofs.Common.{◌≡◌, ◌*◌, ◌≤◌}
-use Rattle.chip_ledger.specs.declared.rows.LiveRow.{LiveRow}
-use Rattle.chip_ledger.specs.declared.rows.TheConstants.{MOST_AMOUNT}
+use Rattle.chip_ledger.specs.declared.live_row.LiveRow.{LiveRow}
+use Rattle.chip_ledger.specs.declared.seat_row.TheConstants.{MOST_AMOUNT}
 use Rattle.chip_ledger.specs.Pots.{between}
 use Rattle.chip_ledger.proofs.Stakes.{stakes_upto}
 use Rattle.side_pots.proofs.layers.chips_between.Given as goal
