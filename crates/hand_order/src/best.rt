@@ -5,7 +5,7 @@ ghost use Rattle.card_set.specs.declared.card.Card.{Card};
 ghost use Rattle.card_set.specs.CardSet.{count_of, is_in, is_one_of, IsListing};
 ghost use Rattle.card_set.specs.Row.{cards_of};
 ghost use Rattle.card_set.specs.Different.{AllDifferent};
-ghost use Rattle.hand_order.specs.Choices.{AreAlike, AreHeld, CanJoin, CanPick, IsAmong, allowed, choices, choices_of_both};
+ghost use Rattle.hand_order.specs.Choices.{AreAlike, AreHeld, CanJoin, CanPick, IsAmong, allowed, choices};
 ghost use Rattle.hand_order.specs.Best.{HasNoHand, IsPointsOfBest};
 ghost use Rattle.hand_order.specs.Points.{better, greatest};
 

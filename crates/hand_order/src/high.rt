@@ -6,7 +6,6 @@ ghost use Rattle.card_set.specs.CardSet.{count_of, IsListing};
 ghost use Rattle.card_set.specs.Ranks.{high_ace};
 ghost use Rattle.card_set.specs.Row.{cards_of};
 ghost use Rattle.hand_order.specs.Choices.{AreHeld, choices};
-ghost use Rattle.hand_order.specs.Digits.{class_above};
 ghost use Rattle.hand_order.specs.Ladder.{ladder_points};
 ghost use Rattle.hand_order.specs.Patterns.{OfRanks};
 ghost use Rattle.hand_order.specs.Points.{greatest};

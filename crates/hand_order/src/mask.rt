@@ -1,5 +1,5 @@
 //! The bits of a mask of ranks.
-ghost use Rattle.std.specs.Prelude.{◌≡◌, ◌<◌, ◌≤◌, ℕ, ◌==◌, if◌then◌else◌, ◌+◌, ◌*◌, ◌-◌, ◌^◌, ◌%◌, ◌++◌, length};
+ghost use Rattle.std.specs.Prelude.{◌≡◌, ◌<◌, ◌≤◌, ℕ, ◌==◌, if◌then◌else◌, ◌+◌, ◌*◌, ◌-◌, ◌^◌, ◌%◌};
 ghost use Rattle.std.specs.Int.{bit_at, bit_not, w16};
 ghost use lib.Bits.{bit_and};
 ghost use Rattle.hand_order.specs.Digits.{with_digits};

@@ -21,24 +21,18 @@ pub fn best_pattern(all: u16, two: u16, three: u16, four: u16) -> RankPattern
 {
     if four != 0 {
         let first = top(four);
-        return RankPattern {
-            class: 7,
-            number: with_top_digits(first + 2, clear(all, first), 1),
-        };
+        let number = with_top_digits(first + 2, clear(all, first), 1);
+        return RankPattern { class: 7, number };
     }
     if three != 0 {
         let first = top(three);
         let more = clear(two, first);
         if more != 0 {
-            return RankPattern {
-                class: 6,
-                number: (first + 2) * 16 + top(more) + 2,
-            };
+            let number = (first + 2) * 16 + top(more) + 2;
+            return RankPattern { class: 6, number };
         }
-        return RankPattern {
-            class: 3,
-            number: with_top_digits(first + 2, clear(all, first), 2),
-        };
+        let number = with_top_digits(first + 2, clear(all, first), 2);
+        return RankPattern { class: 3, number };
     }
     if two != 0 {
         let first = top(two);
@@ -46,18 +40,12 @@ pub fn best_pattern(all: u16, two: u16, three: u16, four: u16) -> RankPattern
         if more != 0 {
             let second = top(more);
             let rest = clear(clear(all, first), second);
-            return RankPattern {
-                class: 2,
-                number: with_top_digits((first + 2) * 16 + second + 2, rest, 1),
-            };
+            let number = with_top_digits((first + 2) * 16 + second + 2, rest, 1);
+            return RankPattern { class: 2, number };
         }
-        return RankPattern {
-            class: 1,
-            number: with_top_digits(first + 2, clear(all, first), 3),
-        };
+        let number = with_top_digits(first + 2, clear(all, first), 3);
+        return RankPattern { class: 1, number };
     }
-    RankPattern {
-        class: 0,
-        number: with_top_digits(0, all, 5),
-    }
+    let number = with_top_digits(0, all, 5);
+    RankPattern { class: 0, number }
 }

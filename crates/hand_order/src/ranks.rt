@@ -56,17 +56,17 @@ fn push_occurring(row: &mut RankRow, cards: &CardRow, ace: Ace, occurrences: usi
     }
 }
 
-// All heights, from the greatest.
+/// All heights, from the greatest: that of an ace to that of an ace that is low.
 #[tactic(auto, unfolding(card_set::specs::Ranks::falling_heights))]
-fn all_heights() -> [u8; 14]
+pub fn all_heights() -> [u8; 14]
     ensures { result ≡ falling_heights }
 {
     [14, 13, 12, 11, 10, 9, 8, 7, 6, 5, 4, 3, 2, 1]
 }
 
-// How many of the cards have this height.
+/// How many of the cards have this height.
 #[tactic(auto, unfolding(card_set::specs::Ranks::times))]
-fn times_of(cards: &CardRow, ace: Ace, height: u8) -> usize
+pub fn times_of(cards: &CardRow, ace: Ace, height: u8) -> usize
     ensures { result ≡ times (height_with ace) (cards_of cards.now) height }
 {
     cards

@@ -2,7 +2,7 @@
 ghost use Rattle.std.specs.Prelude.{false, ◌≡◌, ◌+◌, ◌*◌, ◌<◌, ◌≤◌, ◌++◌, length};
 ghost use Rattle.std.specs.List.{list_any};
 ghost use Rattle.card_set.specs.Deck as deck;
-ghost use Rattle.card_set.specs.Ranks.{falling_heights, occurring, ranks_of, times};
+ghost use Rattle.card_set.specs.Ranks.{occurring, ranks_of};
 ghost use Rattle.card_set.specs.Row.{cards_of, slots_of};
 ghost use Rattle.card_set.specs.UpCards as up_cards;
 ghost use Rattle.hand_order.specs.Height.{height_with};
@@ -16,7 +16,7 @@ ghost use Rattle.up_card_order.specs.UpClass.{high_class_by, low_class_by};
 
 use crate::heights::Heights;
 use card_set::{CardRow, Slot, SlotRow, place_in_deck, place_of_suit};
-use hand_order::{Ace, count_of_ranks, height_of};
+use hand_order::{Ace, all_heights, count_of_ranks, height_of, times_of};
 use play_event::Opener;
 
 /// One of the slots is unknown.
@@ -282,26 +282,6 @@ fn push_occurring(row: &mut Heights, cards: &CardRow, ace: Ace, occurrences: usi
             row.push(height);
         }
     }
-}
-
-// All heights, from the greatest.
-#[tactic(auto, unfolding(card_set::specs::Ranks::falling_heights))]
-fn all_heights() -> [u8; 14]
-    ensures { result ≡ falling_heights }
-{
-    [14, 13, 12, 11, 10, 9, 8, 7, 6, 5, 4, 3, 2, 1]
-}
-
-// How many of the cards have this height.
-#[tactic(auto, unfolding(card_set::specs::Ranks::times))]
-fn times_of(cards: &CardRow, ace: Ace, height: u8) -> usize
-    ensures { result ≡ times (height_with ace) (cards_of cards.now) height }
-{
-    cards
-        .as_slice()
-        .iter()
-        .filter(|card| height_of(card.rank, ace) == height)
-        .count()
 }
 
 // At the first place where the heights differ the left one is lower, or it alone goes on.
