@@ -8,9 +8,9 @@ use Rattle.play_event.specs.declared.reason.Due.TheVariants as dues
 use Rattle.play_event.specs.declared.reason.Illegal.{Illegal}
 use Rattle.play_event.specs.declared.setup.Setup.{Setup}
 use Rattle.play_event.specs.declared.limit.Opener.TheVariants as openers
-use Rattle.play_event.specs.Streets.{opener_of}
+use Rattle.play_event.specs.Streets.{opener_of, limit_of, is_stud, is_opened_by_up_cards}
 use Rattle.play_event.specs.Said.{Said}
-use Rattle.play_event.specs.Past.{Past, Move, moves_of}
+use Rattle.play_event.specs.Past.{Past, Move, moves_of, Moved, Folded, Called, Raised, BroughtIn}
 use Rattle.play_event.specs.Seats.{all_seats}
 use Rattle.play_event.specs.Due.{turn}
 use Rattle.play_event.specs.Openers.{InTurn, NoSeat, TheSeat, Undecided, in_turn, seat_after, blinds_opener, opener_by}
@@ -21,19 +21,17 @@ use Rattle.betting_numbers.specs.declared.running.RunningNumbers.{RunningNumbers
 use Rattle.street_laws.specs.Dues.{is_move}
 use Rattle.play_event.specs.TurnTargets.{is_bet_due}
 use Rattle.betting_numbers.specs.TurnSaid.{turn_of}
-use Rattle.betting_numbers.specs.Seen.{after_last, last_seen, mover_seen, has_to_move_seen, is_move_due_seen}
+use Rattle.betting_numbers.specs.Seen.{after_last, last_seen, mover_seen, has_to_move_seen, is_move_due_seen, owed_seen, all_in_seen}
 use Rattle.betting_numbers.specs.Standing.{Standing, StandsFor}
 use Rattle.chip_ledger.specs.SeatRow.{amount_of}
 use Rattle.play_event.specs.declared.reason.Illegal.TheVariants as reasons
-use Rattle.play_event.specs.Past.{Moved, Folded, Called, Raised, BroughtIn}
 use Rattle.play_event.specs.Chips.{street_chips}
-use Rattle.play_event.specs.Price.{price}
+use Rattle.play_event.specs.Price.{price, starting_price}
 use Rattle.play_event.specs.Amounts.{call_target, raise_target, bring_in_target}
 use Rattle.play_event.specs.MoveReasons.{actor_of, is_other_seat}
 use Rattle.play_event.specs.Scripts.{with_event, resolved_on, resolved_by}
-use Rattle.betting_numbers.specs.Seen.{owed_seen, all_in_seen}
 use Rattle.betting_numbers.specs.LegalMoves.{IsLegalMove, IsTurn, move_of}
-use Rattle.betting_numbers.proofs.Bridge.{price_is, all_in_is}
+use Rattle.betting_numbers.proofs.Bridge.{price_is, all_in_is, mover_is, move_due_is, StartsIn}
 use Rattle.betting_numbers.specs.Why.{is_unable, unknown_why, bring_in_seen, bring_in_why, ceiling_seen, fulls_seen, greatest_seen, is_legal_seen, is_another, call_seen, stated_why, target_seen, may_raise_seen, raise_to_why, now_why, fold_why, call_why, raise_why, floor_by}
 use Rattle.betting_numbers.proofs.WhyMove.{why_fold, why_call, why_bring_in, fold_undecided, call_undecided, bring_in_undecided, able_anywhere}
 use Rattle.betting_numbers.proofs.WhyRaise.{why_raise, raise_undecided, target_is}
@@ -41,12 +39,8 @@ use Rattle.play_event.specs.declared.event.Spelled.{Spelled}
 use Rattle.play_event.specs.Said as said
 use Rattle.play_event.specs.declared.limit.Limit.{Limit}
 use Rattle.play_event.specs.declared.limit.Limit.TheVariants as limits
-use Rattle.play_event.specs.Streets.{limit_of, is_stud, is_opened_by_up_cards}
-use Rattle.play_event.specs.Price.{starting_price}
-use Rattle.list_laws.proofs.Finding.{some_found}
-use Rattle.betting_numbers.proofs.Bridge.{mover_is, move_due_is, StartsIn}
+use Rattle.list_laws.proofs.Finding.{some_found, range_split}
 use Rattle.street_laws.proofs.Unsettled.{move_is_due, bring_in_is_due}
-use Rattle.list_laws.proofs.Finding.{range_split}
 use Rattle.std.proofs.lemmas.List.Folds.{list_any-append}
 use Rattle.std.proofs.Math.Bool.{or_comm}
 use Rattle.chip_ledger.specs.SeatsSaid.{seat_said}

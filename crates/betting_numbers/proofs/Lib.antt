@@ -12,6 +12,7 @@ pub mod Carded
 pub mod WhyMove
 pub mod WhyRaise
 pub mod InTurn
+pub mod Answered
 pub mod Leading
 pub mod Behind
 pub mod FirstMoves

@@ -8,24 +8,21 @@ use Rattle.play_event.specs.declared.reason.Due.TheVariants as dues
 use Rattle.play_event.specs.declared.setup.Setup.{Setup}
 use Rattle.play_event.specs.Games.{street_count}
 use Rattle.play_event.specs.Streets as streets
-use Rattle.play_event.specs.Past.{Past, Move, Act, Moved, moves_of}
-use Rattle.play_event.specs.Seats.{is_live, is_able, live_count, all_seats}
+use Rattle.play_event.specs.Past.{Past, Move, Act, Moved, moves_of, moves_on}
+use Rattle.play_event.specs.Seats.{is_live, is_able, live_count, all_seats, able_count}
 use Rattle.play_event.specs.Showing.{has_to_show, has_shown, has_mucked}
 use Rattle.std.specs.List.{list_any}
 use Rattle.play_event.specs.Streets.{is_stud}
-use Rattle.play_event.specs.Seats.{able_count}
-use Rattle.play_event.specs.Past.{moves_on}
 use Rattle.play_event.specs.Due.{has_opened_betting, turn, is_bring_in_due, is_move_due}
 use Rattle.betting_numbers.specs.declared.running.RunningNumbers.{RunningNumbers}
 use Rattle.betting_numbers.specs.Seen.{live_count_seen, is_move_due_seen}
 use Rattle.betting_numbers.specs.Moving.{IsMoved, IsNextStreet}
 use Rattle.betting_numbers.specs.Standing.{Standing, StandsFor}
-use Rattle.street_laws.specs.Walk.{has_nothing_later}
+use Rattle.street_laws.specs.Walk.{has_nothing_later, street_cards, turn_after}
 use Rattle.play_event.specs.ValidSetup.{IsValid}
 use Rattle.street_laws.specs.Dues.{is_move}
 use Rattle.play_event.specs.TurnTargets.{is_bet_due}
 use Rattle.betting_numbers.specs.Turn.{may_come_at, with_turn, IsSettledTo}
-use Rattle.street_laws.specs.Walk.{street_cards, turn_after}
 use Rattle.betting_numbers.proofs.Bridge.{live_count_is, move_due_is}
 use Rattle.betting_numbers.proofs.AfterMove.{the_move, standing_after, on_street}
 use Rattle.list_laws.proofs.Counting.{counts_fewer}

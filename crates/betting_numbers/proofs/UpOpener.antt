@@ -32,10 +32,9 @@ use Rattle.list_laws.proofs.Earliest.{first_exists}
 use Rattle.play_event.proofs.OpenerOrder.{opens_not, opens_trans}
 use Rattle.betting_numbers.proofs.InTurn.{Passed, passed, nobody_by, found_turn}
 use Rattle.chip_ledger.proofs.SeatLists.{any_seats}
-use Rattle.list_laws.proofs.Finding.{find_agree}
+use Rattle.list_laws.proofs.Finding.{find_agree, find-filter, found_passes}
 use Rattle.street_laws.proofs.Unsettled.{move_is_due, due_after_cards, bring_in_by}
 use Rattle.list_laws.proofs.Any.{list_any-filter, list_any-weaker}
-use Rattle.list_laws.proofs.Finding.{find-filter, found_passes}
 use Rattle.betting_numbers.proofs.FirstMoves.{all_true, no_moves, none_since_start, opener_turn}
 use Rattle.chip_ledger.specs.SeatsSaid.{seat_said}
 use Rattle.chip_ledger.specs.Seat.{IsSeatOf}

@@ -4,18 +4,16 @@ use Rattle.chip_ledger.specs.declared.numbers.Seat.{Seat}
 use Rattle.play_event.specs.declared.up_cards.UpRow.{UpRow}
 use Rattle.play_event.specs.declared.reason.Illegal.{Illegal}
 use Rattle.play_event.specs.Chips.{street_chips}
-use Rattle.play_event.specs.Mover.{mover}
 use Rattle.play_event.specs.Openers.{InTurn}
 use Rattle.play_event.specs.Past.{Moved, Act, Past, Move, moves_of}
 use Rattle.play_event.specs.Played.{act_said}
 use Rattle.play_event.specs.Reasons.{why}
 use Rattle.play_event.specs.Said.{Said}
 use Rattle.play_event.specs.Scripts.{with_event}
-use Rattle.play_event.specs.Table.{up_cards}
 use Rattle.play_event.specs.TurnTargets.{is_bet_due}
 use Rattle.betting_numbers.specs.declared.legal_moves.LegalMove.{LegalMove}
 use Rattle.betting_numbers.specs.declared.running.RunningNumbers.{RunningNumbers}
-use Rattle.betting_numbers.specs.TurnSaid.{turn_of}
+use Rattle.betting_numbers.specs.TurnSaid.{in_turn_on, turn_of}
 use Rattle.betting_numbers.specs.Seen.{all_in_seen}
 use Rattle.betting_numbers.specs.Standing.{StandsFor}
 use Rattle.betting_numbers.specs.Turn.{may_come_at}
@@ -45,8 +43,7 @@ pub record IsLegalMove (b : RunningNumbers) (past : Past) (event : Said) (seat :
 
 -- the turn is this after a past
 abbrev pub IsTurn : RunningNumbers → Past → InTurn → Type 0
-IsTurn b past in_turn =
-    in_turn ≡ mover b.setup (up_cards b.setup.code past) (moves_of past) b.street
+IsTurn b past in_turn = in_turn ≡ in_turn_on b.setup past b.street
 
 -- after each past for which the state stands, and after which this is the turn if a bring-in or a
 -- move is due

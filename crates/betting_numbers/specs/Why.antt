@@ -1,6 +1,7 @@
 -- Why a move is refused, by the running numbers, where it is known whose turn it is.
-use Rattle.std.specs.Prelude.{ℕ, ◌+◌, ◌-◌, ◌*◌, Bool, true, false, ◌&&◌, ◌||◌, ◌==◌, nat_lt, nat_le, not, min, max, if◌then◌else◌, List, [], ◌∷◌, slice_index, Option, Some, None}
+use Rattle.std.specs.Prelude.{ℕ, ◌+◌, ◌-◌, ◌*◌, Bool, true, false, ◌&&◌, ◌||◌, ◌==◌, nat_lt, nat_le, not, min, max, if◌then◌else◌, List, [], ◌∷◌, slice_index, Option, Some, None, Result, Ok, Err}
 use Rattle.std.specs.Option.{option_map_or}
+use Rattle.chip_ledger.specs.declared.numbers.Seat.{Seat}
 use Rattle.chip_ledger.specs.LiveRow.{flag_of}
 use Rattle.chip_ledger.specs.SeatRow.{amount_of, total_of}
 use Rattle.play_event.specs.declared.event.Spelled.{Spelled}
@@ -159,6 +160,18 @@ is_unable b (Some seat) = not (is_able_seen b seat)
 -- why a move is refused where it is not known whose turn it is
 abbrev pub unknown_why : RunningNumbers → Option ℕ → Illegal
 unknown_why b named = if is_unable b named then reasons.WrongSeat else reasons.UpCardUnknown
+
+-- the seat in turn, or why a move is refused where it is not known
+abbrev pub turn_or_why : RunningNumbers → Option ℕ → Option Seat → Result Seat Illegal
+turn_or_why b named None = Err (unknown_why b named)
+turn_or_why b named (Some seat) = Ok seat
+
+-- the seat that is to move, or why a move is refused where it may not come now or where it is not
+-- known whose turn it is
+abbrev pub mover_or_why : RunningNumbers → Option ℕ → Option Seat → Option Illegal
+    → Result Seat Illegal
+mover_or_why b named in_turn (Some reason) = Err reason
+mover_or_why b named in_turn None = turn_or_why b named in_turn
 
 -- where a bring-in goes
 abbrev pub bring_in_seen : RunningNumbers → ℕ → ℕ

@@ -4,7 +4,7 @@ ghost use Rattle.chip_ledger.specs.declared.numbers.Seat.{Seat};
 ghost use Rattle.play_event.specs.Said as said;
 ghost use Rattle.play_event.specs.Streets.{limit_of, unit};
 ghost use Rattle.betting_numbers.specs.LegalMoves.{IsAnswered};
-ghost use Rattle.betting_numbers.specs.Why.{is_unable, now_why, unknown_why};
+ghost use Rattle.betting_numbers.specs.Why.{is_unable, mover_or_why, now_why, unknown_why};
 ghost use Rattle.chip_ledger.specs.SeatsSaid.{seat_said};
 
 use crate::raising::Raiser;
@@ -35,26 +35,15 @@ impl Turn<'_> {
         ensures { IsAnswered self.now.numbers.now self.now.seat (said.Fold (seat_said actor))
             result }
     {
-        let numbers = self.numbers;
-        if let Some(reason) = not_now(numbers.due, true, false) {
+        let seat = self.seat_to_move(true, false, actor)?;
+        if let Some(reason) = self.numbers.against_fold(actor, seat) {
             return Err(reason);
         }
-        match self.seat {
-            None => Err(numbers.unknown(actor)),
-            Some(seat) => {
-                match numbers.against_fold(actor, seat) {
-                    Some(reason) => Err(reason),
-                    None => {
-                        let target = numbers.bets.get(seat);
-                        Ok(LegalMove {
-                            seat,
-                            act: Act::Fold,
-                            target,
-                        })
-                    }
-                }
-            }
-        }
+        Ok(LegalMove {
+            seat,
+            act: Act::Fold,
+            target: self.numbers.bets.get(seat),
+        })
     }
 
     /// The call or check that an event says, if it is legal.
@@ -62,26 +51,15 @@ impl Turn<'_> {
         ensures { IsAnswered self.now.numbers.now self.now.seat
             (said.Call (seat_said actor) stated) result }
     {
-        let numbers = self.numbers;
-        if let Some(reason) = not_now(numbers.due, true, false) {
+        let seat = self.seat_to_move(true, false, actor)?;
+        if let Some(reason) = self.numbers.against_call(actor, stated, seat) {
             return Err(reason);
         }
-        match self.seat {
-            None => Err(numbers.unknown(actor)),
-            Some(seat) => {
-                match numbers.against_call(actor, stated, seat) {
-                    Some(reason) => Err(reason),
-                    None => {
-                        let target = numbers.call_target(seat);
-                        Ok(LegalMove {
-                            seat,
-                            act: Act::Call,
-                            target,
-                        })
-                    }
-                }
-            }
-        }
+        Ok(LegalMove {
+            seat,
+            act: Act::Call,
+            target: self.numbers.call_target(seat),
+        })
     }
 
     /// The bet or raise that an event says, if it is legal, where bets have this size.
@@ -98,32 +76,22 @@ impl Turn<'_> {
             (said.Raise (seat_said actor) amount) result }
     {
         let numbers = self.numbers;
-        if let Some(reason) = not_now(numbers.due, true, true) {
+        let seat = self.seat_to_move(true, true, actor)?;
+        let raiser = Raiser {
+            numbers,
+            seat,
+            limit,
+            size,
+        };
+        let floor = numbers.floor(numbers.start_price());
+        if let Some(reason) = raiser.against(floor, actor, amount) {
             return Err(reason);
         }
-        match self.seat {
-            None => Err(numbers.unknown(actor)),
-            Some(seat) => {
-                let raiser = Raiser {
-                    numbers,
-                    seat,
-                    limit,
-                    size,
-                };
-                let floor = numbers.floor(numbers.start_price());
-                match raiser.against(floor, actor, amount) {
-                    Some(reason) => Err(reason),
-                    None => {
-                        let target = raiser.target(amount) as u64;
-                        Ok(LegalMove {
-                            seat,
-                            act: Act::Raise,
-                            target,
-                        })
-                    }
-                }
-            }
-        }
+        Ok(LegalMove {
+            seat,
+            act: Act::Raise,
+            target: raiser.target(amount) as u64,
+        })
     }
 
     /// The bring-in that an event says, if it is legal.
@@ -131,25 +99,35 @@ impl Turn<'_> {
         ensures { IsAnswered self.now.numbers.now self.now.seat (said.BringIn (seat_said actor))
             result }
     {
+        let seat = self.seat_to_move(false, true, actor)?;
+        if let Some(reason) = self.numbers.against_bring_in(actor, seat) {
+            return Err(reason);
+        }
+        Ok(LegalMove {
+            seat,
+            act: Act::BringIn,
+            target: self.numbers.bring_in_target(seat),
+        })
+    }
+
+    // The seat that is to move, where an event may come that may come at a move or not, and at a
+    // bring-in or not.
+    fn seat_to_move(
+        &self,
+        at_move: bool,
+        at_bring_in: bool,
+        named: Option<Seat>,
+    ) -> Result<Seat, Illegal>
+        ensures { result ≡ mover_or_why self.now.numbers.now (seat_said named) self.now.seat
+            (now_why at_move at_bring_in self.now.numbers.now.due) }
+    {
         let numbers = self.numbers;
-        if let Some(reason) = not_now(numbers.due, false, true) {
+        if let Some(reason) = not_now(numbers.due, at_move, at_bring_in) {
             return Err(reason);
         }
         match self.seat {
-            None => Err(numbers.unknown(actor)),
-            Some(seat) => {
-                match numbers.against_bring_in(actor, seat) {
-                    Some(reason) => Err(reason),
-                    None => {
-                        let target = numbers.bring_in_target(seat);
-                        Ok(LegalMove {
-                            seat,
-                            act: Act::BringIn,
-                            target,
-                        })
-                    }
-                }
-            }
+            None => Err(numbers.unknown(named)),
+            Some(seat) => Ok(seat),
         }
     }
 }

@@ -1,7 +1,6 @@
 //! How the running numbers change by a move.
 ghost use Rattle.std.specs.Prelude.{◌<◌, ◌≡◌, ◌≤◌, ◌+◌, ◌-◌, ◌*◌, ◌&&◌, ◌||◌, ℕ, false, None, nat_le, nat_lt, not, min, max, if◌then◌else◌};
 ghost use Rattle.chip_ledger.specs.LiveRow.{flag_of};
-ghost use Rattle.chip_ledger.specs.SeatRow.{amount_of};
 ghost use Rattle.chip_ledger.specs.declared.seat_row.TheConstants.{MOST_AMOUNT};
 ghost use Rattle.play_event.specs.Past.{is_fold, is_raise, is_bring_in};
 ghost use Rattle.play_event.specs.Played.{act_said};

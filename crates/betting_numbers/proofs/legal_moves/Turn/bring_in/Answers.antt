@@ -1,77 +1,40 @@
 -- Another thing is due, or the seat in turn moves, or it is not known.
-use Rattle.std.proofs.Common.{rules, ◌≡◌, ℕ, true, false, Option, Some, None, sym, ap, subst, ◌∙◌}
-use Rattle.chip_ledger.specs.declared.numbers.Seat.{Seat}
-use Rattle.chip_ledger.specs.Seat.{IsSeatOf}
+use Rattle.std.proofs.Common.{rules, ℕ, true, false, sym, subst, ◌∙◌}
+use Rattle.std.proofs.lemmas.Result.{err_from_is_err_and}
 use Rattle.chip_ledger.specs.SeatsSaid.{seat_said}
 use Rattle.play_event.specs.Said as said
 use Rattle.play_event.specs.Past.{BroughtIn}
-use Rattle.betting_numbers.specs.TurnSaid.{turn_of}
-use Rattle.betting_numbers.specs.LegalMoves.{IsLegalMove, IsTurn}
-use Rattle.betting_numbers.specs.Why.{now_why}
+use Rattle.betting_numbers.specs.LegalMoves.{IsLegalMove}
+use Rattle.betting_numbers.proofs.Answered.{no_mover_answer, refused_answer, moves}
 use Rattle.betting_numbers.proofs.InTurn.{bring_in_moves, bring_in_is_legal, bring_in_unknown, bring_in_refused, bets_now}
 use Rattle.betting_numbers.proofs.legal_moves.Turn.bring_in.Goals as goal
+
+pub returns-in_err-seat : goal.returns-in_err-seat
+returns-in_err-seat c =
+    let b = c.args.self.now.numbers.now in
+    let p = err_from_is_err_and c.from_residual.result c.from_residual.ensures.1 in
+    rw (p.1, p.2)
+    (no_mover_answer b c.args.self.now.seat (seat_said c.args.actor) (said.BringIn (seat_said c.args.actor)) false true c.in_err-seat.field-0.0 c.in_err-seat.ensures
+    (λ past stands. bring_in_refused b past stands (seat_said c.args.actor))
+    (λ past stands. bring_in_unknown b past stands c.args.actor))
 
 pub returns-in-Some : goal.returns-in-Some
 returns-in-Some c =
     let b = c.args.self.now.numbers.now in
-    record {
-      refused = λ past stands bets. bring_in_refused b past stands (seat_said c.args.actor) c.in-Some.reason c.in-Some.ensures;
-      legal = λ past stands bets. tt;
-      due = tt;
-      fits = tt;
-      in_hand = tt;
-      seat = tt;
-      reach = tt;
-    }
+    let m = moves b c.args.self.now.seat (seat_said c.args.actor) false true c.in_ok-seat.seat c.args.self.now.in_hand c.in_ok-seat.ensures in
+    refused_answer b c.args.self.now.seat (said.BringIn (seat_said c.args.actor)) c.in-Some.reason
+    (λ past stands bets. bring_in_moves b past stands (seat_said c.args.actor) c.in_ok-seat.seat.number m.now (m.turn past stands bets) ∙ sym c.in-Some.ensures)
 
-pub returns-in-None : goal.returns-in-None
-returns-in-None c =
+pub returns : goal.returns
+returns c =
     let b = c.args.self.now.numbers.now in
-    let now : now_why false true b.due ≡ None = sym c.in_default.ensures in
-    record {
-      refused = λ past stands bets.
-          let turn = subst (λ (t : Option Seat). IsTurn b past (turn_of (seat_said t))) c.in-None.is (bets (bets_now false true b.due now)) in
-          bring_in_unknown b past stands c.args.actor now turn ∙ ap Some (sym c.unknown.ensures);
-      legal = λ past stands bets. tt;
-      due = tt;
-      fits = tt;
-      in_hand = tt;
-      seat = tt;
-      reach = tt;
-    }
-
-pub returns-in-Some-against_bring_in : goal.returns-in-Some-against_bring_in
-returns-in-Some-against_bring_in c =
-    let b = c.args.self.now.numbers.now in
-    let m = c.in-Some-seat.seat in
-    let now : now_why false true b.due ≡ None = sym c.in_default.ensures in
-    let in_hand : IsSeatOf b.setup.stacks.seats m.number = record { first = m.first; last = c.args.self.now.in_hand m c.in-Some-seat.is } in
-    record {
-      refused = λ past stands bets.
-          let turn = subst (λ (t : Option Seat). IsTurn b past (turn_of (seat_said t))) c.in-Some-seat.is (bets (bets_now false true b.due now)) in
-          bring_in_moves b past stands (seat_said c.args.actor) m.number now turn ∙ sym c.in-Some-against_bring_in.ensures;
-      legal = λ past stands bets. tt;
-      due = tt;
-      fits = tt;
-      in_hand = tt;
-      seat = tt;
-      reach = tt;
-    }
-
-pub returns-in-None-against_bring_in : goal.returns-in-None-against_bring_in
-returns-in-None-against_bring_in c =
-    let b = c.args.self.now.numbers.now in
-    let m = c.in-Some-seat.seat in
-    let now : now_why false true b.due ≡ None = sym c.in_default.ensures in
-    let in_hand : IsSeatOf b.setup.stacks.seats m.number = record { first = m.first; last = c.args.self.now.in_hand m c.in-Some-seat.is } in
+    let m = moves b c.args.self.now.seat (seat_said c.args.actor) false true c.in_ok-seat.seat c.args.self.now.in_hand c.in_ok-seat.ensures in
     record {
       refused = λ past stands bets. tt;
-      legal = λ past stands bets.
-          let turn = subst (λ (t : Option Seat). IsTurn b past (turn_of (seat_said t))) c.in-Some-seat.is (bets (bets_now false true b.due now)) in
-          subst (λ (t : ℕ). IsLegalMove b past (said.BringIn (seat_said c.args.actor)) m.number BroughtIn t) (sym c.bring_in_target-target.ensures.value) (bring_in_is_legal b past stands (seat_said c.args.actor) m.number now in_hand turn c.in-None-against_bring_in.ensures);
-      due = bets_now false true b.due now;
+      legal = λ past stands bets. subst (λ (t : ℕ). IsLegalMove b past (said.BringIn (seat_said c.args.actor)) c.in_ok-seat.seat.number BroughtIn t) (sym c.bring_in_target.ensures.value) (bring_in_is_legal b past stands (seat_said c.args.actor) c.in_ok-seat.seat.number m.now m.in_hand (m.turn past stands bets) c.in_default.ensures);
+      due = bets_now false true b.due m.now;
       fits = search rules;
-      in_hand = in_hand.last;
-      seat = c.in-Some-seat.is;
+      in_hand = m.in_hand.last;
+      seat = m.is;
       reach = search rules;
     }

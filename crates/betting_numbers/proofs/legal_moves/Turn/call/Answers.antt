@@ -1,77 +1,40 @@
 -- Another thing is due, or the seat in turn moves, or it is not known.
-use Rattle.std.proofs.Common.{rules, ◌≡◌, ℕ, true, false, Option, Some, None, sym, ap, subst, ◌∙◌}
-use Rattle.chip_ledger.specs.declared.numbers.Seat.{Seat}
-use Rattle.chip_ledger.specs.Seat.{IsSeatOf}
+use Rattle.std.proofs.Common.{rules, ℕ, true, false, sym, subst, ◌∙◌}
+use Rattle.std.proofs.lemmas.Result.{err_from_is_err_and}
 use Rattle.chip_ledger.specs.SeatsSaid.{seat_said}
 use Rattle.play_event.specs.Said as said
 use Rattle.play_event.specs.Past.{Called}
-use Rattle.betting_numbers.specs.TurnSaid.{turn_of}
-use Rattle.betting_numbers.specs.LegalMoves.{IsLegalMove, IsTurn}
-use Rattle.betting_numbers.specs.Why.{now_why}
+use Rattle.betting_numbers.specs.LegalMoves.{IsLegalMove}
+use Rattle.betting_numbers.proofs.Answered.{no_mover_answer, refused_answer, moves}
 use Rattle.betting_numbers.proofs.InTurn.{call_moves, call_is_legal, call_unknown, call_now, move_fits, bets_now}
 use Rattle.betting_numbers.proofs.legal_moves.Turn.call.Goals as goal
+
+pub returns-in_err-seat : goal.returns-in_err-seat
+returns-in_err-seat c =
+    let b = c.args.self.now.numbers.now in
+    let p = err_from_is_err_and c.from_residual.result c.from_residual.ensures.1 in
+    rw (p.1, p.2)
+    (no_mover_answer b c.args.self.now.seat (seat_said c.args.actor) (said.Call (seat_said c.args.actor) c.args.stated) true false c.in_err-seat.field-0.0 c.in_err-seat.ensures
+    (λ past stands. call_now b past stands (seat_said c.args.actor) c.args.stated)
+    (λ past stands. call_unknown b past stands c.args.actor c.args.stated))
 
 pub returns-in-Some : goal.returns-in-Some
 returns-in-Some c =
     let b = c.args.self.now.numbers.now in
-    record {
-      refused = λ past stands bets. call_now b past stands (seat_said c.args.actor) c.args.stated c.in-Some.reason c.in-Some.ensures;
-      legal = λ past stands bets. tt;
-      due = tt;
-      fits = tt;
-      in_hand = tt;
-      seat = tt;
-      reach = tt;
-    }
+    let m = moves b c.args.self.now.seat (seat_said c.args.actor) true false c.in_ok-seat.seat c.args.self.now.in_hand c.in_ok-seat.ensures in
+    refused_answer b c.args.self.now.seat (said.Call (seat_said c.args.actor) c.args.stated) c.in-Some.reason
+    (λ past stands bets. call_moves b past stands (seat_said c.args.actor) c.args.stated c.in_ok-seat.seat.number m.now m.in_hand (m.turn past stands bets) ∙ sym c.in-Some.ensures)
 
-pub returns-in-None : goal.returns-in-None
-returns-in-None c =
+pub returns : goal.returns
+returns c =
     let b = c.args.self.now.numbers.now in
-    let now : now_why true false b.due ≡ None = sym c.in_default.ensures in
-    record {
-      refused = λ past stands bets.
-          let turn = subst (λ (t : Option Seat). IsTurn b past (turn_of (seat_said t))) c.in-None.is (bets (bets_now true false b.due now)) in
-          call_unknown b past stands c.args.actor c.args.stated now turn ∙ ap Some (sym c.unknown.ensures);
-      legal = λ past stands bets. tt;
-      due = tt;
-      fits = tt;
-      in_hand = tt;
-      seat = tt;
-      reach = tt;
-    }
-
-pub returns-in-Some-against_call : goal.returns-in-Some-against_call
-returns-in-Some-against_call c =
-    let b = c.args.self.now.numbers.now in
-    let m = c.in-Some-seat.seat in
-    let now : now_why true false b.due ≡ None = sym c.in_default.ensures in
-    let in_hand : IsSeatOf b.setup.stacks.seats m.number = record { first = m.first; last = c.args.self.now.in_hand m c.in-Some-seat.is } in
-    record {
-      refused = λ past stands bets.
-          let turn = subst (λ (t : Option Seat). IsTurn b past (turn_of (seat_said t))) c.in-Some-seat.is (bets (bets_now true false b.due now)) in
-          call_moves b past stands (seat_said c.args.actor) c.args.stated m.number now in_hand turn ∙ sym c.in-Some-against_call.ensures;
-      legal = λ past stands bets. tt;
-      due = tt;
-      fits = tt;
-      in_hand = tt;
-      seat = tt;
-      reach = tt;
-    }
-
-pub returns-in-None-against_call : goal.returns-in-None-against_call
-returns-in-None-against_call c =
-    let b = c.args.self.now.numbers.now in
-    let m = c.in-Some-seat.seat in
-    let now : now_why true false b.due ≡ None = sym c.in_default.ensures in
-    let in_hand : IsSeatOf b.setup.stacks.seats m.number = record { first = m.first; last = c.args.self.now.in_hand m c.in-Some-seat.is } in
+    let m = moves b c.args.self.now.seat (seat_said c.args.actor) true false c.in_ok-seat.seat c.args.self.now.in_hand c.in_ok-seat.ensures in
     record {
       refused = λ past stands bets. tt;
-      legal = λ past stands bets.
-          let turn = subst (λ (t : Option Seat). IsTurn b past (turn_of (seat_said t))) c.in-Some-seat.is (bets (bets_now true false b.due now)) in
-          subst (λ (t : ℕ). IsLegalMove b past (said.Call (seat_said c.args.actor) c.args.stated) m.number Called t) (sym c.call_target-target.ensures.value) (call_is_legal b past stands (seat_said c.args.actor) c.args.stated m.number now in_hand turn c.in-None-against_call.ensures);
-      due = bets_now true false b.due now;
-      fits = move_fits b.due now;
-      in_hand = in_hand.last;
-      seat = c.in-Some-seat.is;
+      legal = λ past stands bets. subst (λ (t : ℕ). IsLegalMove b past (said.Call (seat_said c.args.actor) c.args.stated) c.in_ok-seat.seat.number Called t) (sym c.call_target.ensures.value) (call_is_legal b past stands (seat_said c.args.actor) c.args.stated c.in_ok-seat.seat.number m.now m.in_hand (m.turn past stands bets) c.in_default.ensures);
+      due = bets_now true false b.due m.now;
+      fits = move_fits b.due m.now;
+      in_hand = m.in_hand.last;
+      seat = m.is;
       reach = search rules;
     }
