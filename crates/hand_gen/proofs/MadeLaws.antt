@@ -20,7 +20,8 @@ use Rattle.hand_records.specs.declared.record.Record.{Record}
 use Rattle.list_laws.proofs.Ranges.{range_more}
 use Rattle.replay_core.specs.Together.{StandTogether}
 use Rattle.deal_core.specs.NextDeal.{first_owed}
-use Rattle.hand_gen.specs.Coming.{Coming, bring_in_comes, coming, comes_at, deal_comes, deal_of, discard_or, held_by, in_turn_on, move_comes}
+use Rattle.betting_numbers.specs.TurnSaid.{in_turn_on}
+use Rattle.hand_gen.specs.Coming.{Coming, bring_in_comes, coming, comes_at, deal_comes, deal_of, discard_or, held_by, move_comes}
 use Rattle.hand_gen.specs.Made.{AreMadeFrom, HaveCome, IsMade, backward, next_event, number_behind, number_behind_all, stock_behind}
 use Rattle.hand_gen.specs.MadeTo.{IsMadeTo}
 use Rattle.hand_gen.specs.Stock.{Stock}

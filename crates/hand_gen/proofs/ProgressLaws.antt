@@ -27,7 +27,8 @@ use Rattle.play_event.proofs.StreetLaws.{due_is_first}
 use Rattle.street_laws.proofs.CardTurns.{deal_by, draw_by, none_dealt_in_draw}
 use Rattle.street_laws.proofs.DueStreets.{deal_street, draw_street}
 use Rattle.deal_core.specs.NextDeal.{first_owed}
-use Rattle.hand_gen.specs.Coming.{Coming, bring_in_comes, coming, comes_at, deal_comes, deal_of, discard_or, draw_comes, held_by, in_turn_on, move_by, move_comes, nothing_comes}
+use Rattle.betting_numbers.specs.TurnSaid.{in_turn_on}
+use Rattle.hand_gen.specs.Coming.{Coming, bring_in_comes, coming, comes_at, deal_comes, deal_of, discard_or, draw_comes, held_by, move_by, move_comes, nothing_comes}
 use Rattle.hand_gen.specs.Stock.{Stock, after_cards, after_draw, draw_of, next_cards}
 use Rattle.hand_gen.proofs.ComesNext.{bring_in_good, move_good, the_mover}
 use Rattle.hand_gen.proofs.GoingHands.{IsGoing, board_goes, discard_goes, hole_goes, on_street}

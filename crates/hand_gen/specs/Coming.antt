@@ -11,15 +11,15 @@ use Rattle.play_event.specs.declared.setup.Setup.{Setup}
 use Rattle.play_event.specs.Dealing.{board_cards_owed, cards_owed, next_to_draw}
 use Rattle.play_event.specs.Due.{turn}
 use Rattle.play_event.specs.Held.{held_slots}
-use Rattle.play_event.specs.Mover.{mover}
 use Rattle.play_event.specs.Openers.{InTurn, NoSeat, TheSeat, Undecided}
 use Rattle.play_event.specs.Past.{Move, Past, moves_of}
 use Rattle.play_event.specs.Price.{owed}
 use Rattle.play_event.specs.Raising.{may_raise}
 use Rattle.play_event.specs.Said.{Board, BringIn, Call, Discard, Fold, Hole, Raise, Said}
-use Rattle.play_event.specs.Table.{places_of, up_cards}
+use Rattle.play_event.specs.Table.{places_of}
 use Rattle.play_event.specs.Targets.{greatest_target, least_target}
 use Rattle.deal_core.specs.NextDeal.{first_owed}
+use Rattle.betting_numbers.specs.TurnSaid.{in_turn_on}
 use Rattle.hand_gen.specs.Stock.{Stock, after_cards, after_draw, draw_of, next_cards}
 
 -- the event that comes next, if one does, and the stock behind it
@@ -122,10 +122,6 @@ abbrev pub bring_in_comes : Stock → InTurn → Coming
 bring_in_comes stock (TheSeat seat) = record { event = Some (BringIn (Some seat)); left = stock }
 bring_in_comes stock NoSeat = nothing_comes stock
 bring_in_comes stock Undecided = nothing_comes stock
-
--- the seat in turn on a street, after a past
-abbrev pub in_turn_on : Setup → Past → ℕ → InTurn
-in_turn_on setup past street = mover setup (up_cards setup.code past) (moves_of past) street
 
 -- what comes where this is due on this street; nobody shows or mucks
 abbrev pub comes_at : Setup → Rules → Past → Stock → ℕ → Due → Coming

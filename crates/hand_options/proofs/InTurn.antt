@@ -34,7 +34,8 @@ use Rattle.betting_numbers.specs.Why.{bring_in_seen, call_seen, fold_why, now_wh
 use Rattle.betting_numbers.proofs.Bridge.{all_in_is, price_is}
 use Rattle.betting_numbers.proofs.InTurn.{bring_in_moves, bring_in_refused, call_moves, call_now, fold_moves, fold_now}
 use Rattle.hand_options.specs.declared.choices.RaiseSet.{RaiseSet}
-use Rattle.hand_options.specs.Legal.{AreOptions, IsSetOf, bring_in_of, call_of, is_in_set, is_legal, is_legal_raise, mover_on, seat_at, seat_in_turn, seat_known}
+use Rattle.betting_numbers.specs.TurnSaid.{in_turn_on}
+use Rattle.hand_options.specs.Legal.{AreOptions, IsSetOf, bring_in_of, call_of, is_in_set, is_legal, is_legal_raise, seat_at, seat_in_turn, seat_known}
 use Rattle.hand_options.specs.Sets.{no_options, set_of}
 use Rattle.hand_options.proofs.LegalRaises.{no_raise, raise_by_target}
 use Rattle.hand_options.proofs.TargetSets.{form_is, set_is}
@@ -51,11 +52,11 @@ module _ (b : RunningNumbers) (past : Past) (stands : StandsFor b past) (seat : 
   seat_is : is_bet_due b.due ≡ true → seat_in_turn b.setup past ≡ Some seat.number
   seat_is bets =
       ap (seat_at b.setup past) stands.turn_is
-      ∙ ap (λ (t : Bool). if t then seat_known (mover_on b.setup past b.street) else None) bets
+      ∙ ap (λ (t : Bool). if t then seat_known (in_turn_on b.setup past b.street) else None) bets
       ∙ ap seat_known (sym turned)
 
   mine : IsInTurn b.setup past seat.number
-  mine = ap (λ (t : ℕ × Due). mover_on b.setup past t.0) stands.turn_is ∙ sym turned
+  mine = ap (λ (t : ℕ × Due). in_turn_on b.setup past t.0) stands.turn_is ∙ sym turned
 
   -- the raises
   raises : (limit : Limit) → limit_of b.setup.code ≡ limit → (found : Option Targets) → is_some found ≡ has_targets b.setup b.rules past
@@ -183,11 +184,11 @@ no_moves b past stands none = record {
 pub no_seat_due : (b : RunningNumbers) (past : Past) → StandsFor b past → is_bet_due b.due ≡ false → seat_in_turn b.setup past ≡ None
 no_seat_due b past stands none =
     ap (seat_at b.setup past) stands.turn_is
-    ∙ ap (λ (t : Bool). if t then seat_known (mover_on b.setup past b.street) else None) none
+    ∙ ap (λ (t : Bool). if t then seat_known (in_turn_on b.setup past b.street) else None) none
 
 -- it is not known whose turn it is
 pub no_seat_known : (b : RunningNumbers) (past : Past) → StandsFor b past → is_bet_due b.due ≡ true → IsTurn b past Undecided → seat_in_turn b.setup past ≡ None
 no_seat_known b past stands bets turned =
     ap (seat_at b.setup past) stands.turn_is
-    ∙ ap (λ (t : Bool). if t then seat_known (mover_on b.setup past b.street) else None) bets
+    ∙ ap (λ (t : Bool). if t then seat_known (in_turn_on b.setup past b.street) else None) bets
     ∙ ap seat_known (sym turned)

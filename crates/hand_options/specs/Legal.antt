@@ -10,23 +10,18 @@ use Rattle.play_event.specs.declared.setup.Rules.{Rules}
 use Rattle.play_event.specs.declared.setup.Setup.{Setup}
 use Rattle.play_event.specs.Amounts.{bring_in_target}
 use Rattle.play_event.specs.Due.{turn}
-use Rattle.play_event.specs.Mover.{mover}
 use Rattle.play_event.specs.MoveReasons.{chips_to_call}
 use Rattle.play_event.specs.Openers.{InTurn, NoSeat, TheSeat, Undecided}
 use Rattle.play_event.specs.Past.{Past, moves_of}
 use Rattle.play_event.specs.Reasons.{why}
 use Rattle.play_event.specs.Said.{Said, BringIn, Call, Fold, Raise}
 use Rattle.play_event.specs.Streets.{limit_of}
-use Rattle.play_event.specs.Table.{up_cards}
 use Rattle.play_event.specs.TurnTargets.{is_bet_due}
 use Rattle.play_event.specs.ValidSetup.{is_fixed}
+use Rattle.betting_numbers.specs.TurnSaid.{in_turn_on}
 use Rattle.hand_options.specs.declared.choices.Options.{Options}
 use Rattle.hand_options.specs.declared.choices.RaiseSet.{RaiseSet}
 use Rattle.hand_options.specs.declared.choices.RaiseSet.TheVariants as sets
-
--- whose turn it is on a street after a past
-abbrev pub mover_on : Setup → Past → ℕ → InTurn
-mover_on setup past street = mover setup (up_cards setup.code past) (moves_of past) street
 
 -- the seat in turn, where it is known
 abbrev pub seat_known : InTurn → Option ℕ
@@ -36,7 +31,7 @@ seat_known Undecided = None
 
 -- the seat in turn, where this is due on this street: a move and a bring-in are some seat's
 abbrev pub seat_at : Setup → Past → ℕ × Due → Option ℕ
-seat_at setup past now = if is_bet_due now.1 then seat_known (mover_on setup past now.0) else None
+seat_at setup past now = if is_bet_due now.1 then seat_known (in_turn_on setup past now.0) else None
 
 -- the seat in turn after a past
 abbrev pub seat_in_turn : Setup → Past → Option ℕ
@@ -115,4 +110,4 @@ pub record AreOptions (setup : Setup) (rules : Rules) (past : Past) (options : O
 
 -- it is not known whose turn it is: an up-card that decides it is unknown
 abbrev pub IsUndecided : Setup → Past → Type 0
-IsUndecided setup past = mover_on setup past (turn setup past).0 ≡ Undecided
+IsUndecided setup past = in_turn_on setup past (turn setup past).0 ≡ Undecided
