@@ -51,10 +51,8 @@ fn stating(values: NetRow) -> Stated
     ensures alone { StatesValues result }
 {
     Stated {
-        finish: None,
-        wins: None,
-        pot_total: None,
         values: Some(values),
+        ..Stated::nothing()
     }
 }
 

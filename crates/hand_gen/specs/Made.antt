@@ -1,5 +1,5 @@
 -- The records of made hands.
-use Rattle.std.specs.Prelude.{◌≡◌, ℕ, ◌+◌, List, [], ◌∷◌, length, map, replicate, reverse, Option, Some, None}
+use Rattle.std.specs.Prelude.{◌≡◌, ℕ, ◌+◌, List, [], ◌∷◌, length, map, reverse, Option, Some, None}
 use Rattle.std.specs.List.{range_with_len}
 use Rattle.play_event.specs.declared.event.Event.{Event}
 use Rattle.play_event.specs.declared.setup.Rules.{Rules}
@@ -7,9 +7,9 @@ use Rattle.play_event.specs.declared.setup.Setup.{Setup}
 use Rattle.play_event.specs.HistoryRules.{history_rules}
 use Rattle.play_event.specs.Said.{Said, said_of}
 use Rattle.play_event.specs.Scripts.{past_of}
-use Rattle.hand_records.specs.declared.notes.Notes.{Notes}
+use Rattle.hand_records.specs.AllowedNotes.{AreNoNotes}
 use Rattle.hand_records.specs.declared.record.Record.{Record}
-use Rattle.hand_records.specs.declared.record.Stated.{Stated}
+use Rattle.hand_records.specs.StatedFacts.{IsNothingStated}
 use Rattle.hand_gen.specs.Coming.{coming}
 use Rattle.hand_gen.specs.Setups.{IsMadeSetup, number_behind_setup}
 use Rattle.hand_gen.specs.Stock.{Stock, full_deck}
@@ -41,28 +41,6 @@ pub record IsMadeScript (setup : Setup) (stock : Stock) (script : List Event) : 
   pub come : HaveCome setup history_rules stock (backward script)
   pub whole : next_event setup history_rules stock (backward script) ≡ None
   pub numbered : map (λ (event : Event). event.at) script ≡ range_with_len 1 (length script)
-
--- nothing is stated
-pub record IsNothingStated (stated : Stated) : Type 0 where
-  pub finish : stated.finish ≡ None
-  pub wins : stated.wins ≡ None
-  pub pot_total : stated.pot_total ≡ None
-  pub values : stated.values ≡ None
-
--- there are no notes
-pub record AreNoNotes (notes : Notes) : Type 0 where
-  pub names : notes.names ≡ replicate 10 None
-  pub seats : notes.seats ≡ None
-  pub seat_count : notes.seat_count ≡ None
-  pub hand : notes.hand ≡ None
-  pub table : notes.table ≡ None
-  pub venue : notes.venue ≡ None
-  pub currency : notes.currency ≡ None
-  pub year : notes.year ≡ None
-  pub month : notes.month ≡ None
-  pub day : notes.day ≡ None
-  pub time : notes.time ≡ None
-  pub zone : notes.zone ≡ None
 
 -- the stock with which a hand begins: the draws behind its setup, and the whole deck
 abbrev pub stock_of : ℕ → Setup → Stock

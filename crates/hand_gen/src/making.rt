@@ -5,7 +5,7 @@ ghost use Rattle.first_fault.specs.declared.limits.TheConstants.{MOST_HANDS};
 ghost use Rattle.play_event.specs.HistoryRules.{history_rules as rules_of_histories};
 ghost use Rattle.play_event.specs.Said.{said_of};
 ghost use Rattle.hand_canon.specs.LegalHand.{IsLegalHand};
-ghost use Rattle.hand_gen.specs.Made.{AreMade, AreNoNotes, IsMade, IsMadeScript, IsNothingStated, backward, number_behind, stock_behind};
+ghost use Rattle.hand_gen.specs.Made.{AreMade, IsMade, IsMadeScript, backward, number_behind, stock_behind};
 ghost use Rattle.hand_gen.specs.Progress.{IsSmall};
 ghost use Rattle.hand_gen.specs.Setups as setups;
 ghost use Rattle.hand_gen.specs.Stock.{full_deck};
@@ -89,8 +89,8 @@ pub fn make_play(alloc: Global, place: u32, number: u64) -> Result<Made, Memory>
         setup,
         rules,
         script,
-        stated: nothing_stated(),
-        notes: no_notes(),
+        stated: Stated::nothing(),
+        notes: Notes::none(),
     };
     Ok(Made {
         play: Play { hand, trace },
@@ -121,37 +121,5 @@ fn script_by_code(alloc: Global, setup: &Setup, stock: &mut Stock) -> Result<Scr
         Code::N2L1D => script_of::<N2L1D>(alloc, setup, stock),
         Code::F2L3D => script_of::<F2L3D>(alloc, setup, stock),
         Code::FB => script_of::<FB>(alloc, setup, stock),
-    }
-}
-
-// Nothing is stated.
-fn nothing_stated() -> Stated
-    ensures { IsNothingStated result }
-{
-    Stated {
-        finish: None,
-        wins: None,
-        pot_total: None,
-        values: None,
-    }
-}
-
-// No notes.
-fn no_notes() -> Notes
-    ensures { AreNoNotes result }
-{
-    Notes {
-        names: [None, None, None, None, None, None, None, None, None, None],
-        seats: None,
-        seat_count: None,
-        hand: None,
-        table: None,
-        venue: None,
-        currency: None,
-        year: None,
-        month: None,
-        day: None,
-        time: None,
-        zone: None,
     }
 }

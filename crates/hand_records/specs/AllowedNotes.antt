@@ -1,6 +1,6 @@
 -- Which notes may stand in a record: texts that are not too long, numbers in their range, a civil
 -- date, and no defaults.
-use Rattle.std.specs.Prelude.{◌≡◌, ◌≢◌, ℕ, ◌-◌, ◌%◌, ◌≤◌, ◌==◌, ◌&&◌, ◌||◌, Bool, not, if◌then◌else◌, List, length, take, slice_index, slice_index_or, None, IfSome, Option, Some, bytes_eq, unwrap_or, nat_le, Result, Ok, Err}
+use Rattle.std.specs.Prelude.{◌≡◌, ◌≢◌, ℕ, ◌-◌, ◌%◌, ◌≤◌, ◌==◌, ◌&&◌, ◌||◌, Bool, not, if◌then◌else◌, List, length, take, slice_index, slice_index_or, replicate, None, IfSome, Option, Some, bytes_eq, unwrap_or, nat_le, Result, Ok, Err}
 use Rattle.std.specs.List.{range_with_len}
 use Rattle.first_fault.specs.declared.limits.TheConstants.{MOST_TEXT_BYTES}
 use Rattle.hand_records.specs.declared.notes.Clock.{Clock}
@@ -93,3 +93,18 @@ noted_or fault default text =
 abbrev pub unless_usual : ℕ → List ℕ → Option (List ℕ)
 unless_usual count numbers =
     if bytes_eq numbers (range_with_len 1 count) then None else Some numbers
+
+-- there are no notes
+pub record AreNoNotes (notes : Notes) : Type 0 where
+  pub names : notes.names ≡ replicate 10 None
+  pub seats : notes.seats ≡ None
+  pub seat_count : notes.seat_count ≡ None
+  pub hand : notes.hand ≡ None
+  pub table : notes.table ≡ None
+  pub venue : notes.venue ≡ None
+  pub currency : notes.currency ≡ None
+  pub year : notes.year ≡ None
+  pub month : notes.month ≡ None
+  pub day : notes.day ≡ None
+  pub time : notes.time ≡ None
+  pub zone : notes.zone ≡ None

@@ -1,5 +1,6 @@
 //! The moves of a hand stand in the order in which they were made.
 ghost use Rattle.std.specs.Prelude.{◌≡◌, ◌<◌, [], ◌∷◌, ◌++◌, length, slice_get, Some, OnOk, OnErr};
+ghost use Rattle.std.specs.List.{list_any};
 
 use card_set::Memory;
 use play_event::Move;
@@ -55,6 +56,13 @@ impl Moves {
         ensures { result ≡ length self.now }
     {
         self.moves.len()
+    }
+
+    /// Whether one of them is a raise that a short raise before it has closed.
+    pub fn has_closed_raise(&self) -> bool
+        ensures { result ≡ list_any (λ move. move.closed) self.now }
+    {
+        self.moves.iter().any(|played| played.closed)
     }
 
     /// The moves, in order.

@@ -1,7 +1,8 @@
 //! Notes are what a record says of a hand beside its play: who played it, where and when.
-ghost use Rattle.std.specs.Prelude.{◌≡◌};
+ghost use Rattle.std.specs.Prelude.{◌≡◌, ◌≢◌, ◌≤◌, IfSome, option_map, take};
+ghost use Rattle.std.specs.List.{range_with_len};
 ghost use Rattle.chip_ledger.specs.SeatsSaid.{default_name as default_said};
-ghost use Rattle.hand_records.specs.AllowedNotes.{name_written};
+ghost use Rattle.hand_records.specs.AllowedNotes.{AreNoNotes, name_written, unless_usual as unless_usual_said};
 
 use chip_ledger::Seat;
 use first_fault::Text;
@@ -63,6 +64,28 @@ pub struct Notes {
     pub zone: Option<Text>,
 }
 
+impl Notes {
+    /// Nothing is noted.
+    pub fn none() -> Self
+        ensures { AreNoNotes result }
+    {
+        Notes {
+            names: [None, None, None, None, None, None, None, None, None, None],
+            seats: None,
+            seat_count: None,
+            hand: None,
+            table: None,
+            venue: None,
+            currency: None,
+            year: None,
+            month: None,
+            day: None,
+            time: None,
+            zone: None,
+        }
+    }
+}
+
 /// What a note is called, in the order in which notations try them.
 #[derive(Clone, Copy, Debug, PartialEq, Eq)]
 pub enum NoteName {
@@ -107,4 +130,21 @@ fn default_name(seat: Seat) -> &'static str
         9 => "p9",
         _ => "p10",
     }
+}
+
+// The numbers of ten seats where none are noted.
+const USUAL: [u8; 10] = [1, 2, 3, 4, 5, 6, 7, 8, 9, 10];
+
+/// The numbers of so many seats at the table, the first seat's at index 0, unless they are the
+/// default: 1, 2 and so on.
+pub fn unless_usual(numbers: [u8; 10], seats: usize) -> Option<[u8; 10]>
+    requires { seats ≤ 10 }
+    ensures said { option_map (take seats) result
+        ≡ unless_usual_said seats (take seats numbers) }
+    ensures same { IfSome result (λ noted. noted ≡ numbers) }
+    ensures unusual { IfSome result (λ noted. take seats noted ≢ range_with_len 1 seats) }
+{
+    let (said, _fillers) = numbers.split_at(seats);
+    let (usual, _others) = USUAL.split_at(seats);
+    if said == usual { None } else { Some(numbers) }
 }

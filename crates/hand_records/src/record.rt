@@ -65,6 +65,22 @@ pub struct Stated {
     pub values: Option<NetRow>,
 }
 
+impl Stated {
+    ghost use Rattle.hand_records.specs.StatedFacts.{IsNothingStated};
+
+    /// Nothing is stated.
+    pub fn nothing() -> Self
+        ensures { IsNothingStated result }
+    {
+        Stated {
+            finish: None,
+            wins: None,
+            pot_total: None,
+            values: None,
+        }
+    }
+}
+
 /// One hand as a notation says it.
 #[derive(Debug, Drop)]
 pub struct Record {

@@ -94,8 +94,8 @@ fn records_with(
         setup,
         rules,
         script,
-        stated: nothing_stated(),
-        notes: no_notes(),
+        stated: Stated::nothing(),
+        notes: Notes::none(),
     };
     let mut records = Records::new(alloc);
     match records.push(record) {
@@ -107,32 +107,6 @@ fn records_with(
             format!(in alloc; "{count} record, {code} with {events} event")
         }
         Err(_) => Err(AllocError),
-    }
-}
-
-fn nothing_stated() -> Stated {
-    Stated {
-        finish: None,
-        wins: None,
-        pot_total: None,
-        values: None,
-    }
-}
-
-fn no_notes() -> Notes {
-    Notes {
-        names: [None, None, None, None, None, None, None, None, None, None],
-        seats: None,
-        seat_count: None,
-        hand: None,
-        table: None,
-        venue: None,
-        currency: None,
-        year: None,
-        month: None,
-        day: None,
-        time: None,
-        zone: None,
     }
 }
 

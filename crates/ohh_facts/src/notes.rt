@@ -1,11 +1,9 @@
 //! The notes of a hand are read from its players and its labels, and are allowed.
-ghost use Rattle.std.specs.Prelude.{◌≡◌, ◌≤◌, ◌<◌, ◌-◌, ◌+◌, ℕ, None, bytes_eq, length, map, take, slice_index, slice_index_or, codes, option_and_then, option_map, IfOk, IfSome};
-ghost use Rattle.std.specs.List.{range_with_len};
+ghost use Rattle.std.specs.Prelude.{◌≡◌, ◌≤◌, ◌<◌, ◌-◌, ◌+◌, ℕ, None, length, map, take, slice_index, slice_index_or, codes, option_and_then, option_map, IfOk, IfSome};
 ghost use Rattle.serde_json.specs.View.{view};
-ghost use Rattle.hand_records.specs.AllowedNotes.{AreAllowed, AreSeatNumbers, IsName, IsNoteText, IsWithin, unless_usual as unless_usual_said};
+ghost use Rattle.hand_records.specs.AllowedNotes.{AreAllowed, AreSeatNumbers, IsName, IsNoteText, IsWithin, unless_usual as unless_usual_said, noted};
 ghost use Rattle.first_fault.specs.Reading.{Gives};
 ghost use Rattle.ohh_facts.specs.Notes.{names_from, notes_said};
-ghost use Rattle.hand_records.specs.AllowedNotes.{noted};
 ghost use Rattle.hand_records.specs.SaidNotes.{plain_notes};
 ghost use Rattle.ohh_members.specs.Players.{plain_player};
 ghost use Rattle.chip_ledger.specs.SeatsSaid.{default_name};
@@ -14,14 +12,11 @@ use crate::labels::{Labels, read_labels};
 use crate::seated::Seated;
 use card_set::Memory;
 use first_fault::{Stop, Text};
-use hand_records::{Clock, Moment, Notes, keep_short};
+use hand_records::{Clock, Moment, Notes, keep_short, unless_usual};
 use ohh_members::fault::MemberFault;
 use ohh_members::player::Player;
 use serde_json::Value;
 use std::alloc::Global;
-
-// The numbers of ten seats where none are said.
-const USUAL: [u8; 10] = [1, 2, 3, 4, 5, 6, 7, 8, 9, 10];
 
 /// The notes of a hand with these players by their seats in it, at this place of its file, from 0.
 #[tactic(auto, unfolding(crate::specs::Notes::notes_said))]
@@ -50,7 +45,7 @@ pub fn read_notes(
     let zone = zone_of(alloc, moment)?;
     Ok(Notes {
         names,
-        seats: unless_usual(seated),
+        seats: unusual_seats(seated),
         seat_count,
         hand,
         table,
@@ -109,18 +104,13 @@ fn zone_of(alloc: Global, moment: Option<Moment>) -> Result<Option<Text>, Memory
 }
 
 // The seats of players at the table, unless they are 1, 2 and so on.
-fn unless_usual(seated: &Seated) -> Option<[u8; 10]>
+fn unusual_seats(seated: &Seated) -> Option<[u8; 10]>
     ensures said { option_map (take (length seated.now.players.now)) result
         ≡ unless_usual_said (length (map plain_player seated.now.players.now))
         (map (λ player. player.seat) (map plain_player seated.now.players.now)) }
     ensures allowed { IfSome result (AreSeatNumbers (length seated.now.players.now)) }
 {
-    let seats = seats_of(seated);
-    if are_usual(seats, seated.players.len()) {
-        None
-    } else {
-        Some(seats)
-    }
+    unless_usual(seats_of(seated), seated.players.len())
 }
 
 // The seats of players at the table, by their seats in the hand.
@@ -138,16 +128,6 @@ fn seats_of(seated: &Seated) -> [u8; 10]
         seats[index] = player.seat;
     }
     seats
-}
-
-// Whether the first seats, so many of them, are 1, 2 and so on.
-fn are_usual(seats: [u8; 10], count: usize) -> bool
-    requires { count ≤ 10 }
-    ensures { result ≡ bytes_eq (take count seats) (range_with_len 1 count) }
-{
-    let (said, _fillers) = seats.split_at(count);
-    let (usual, _others) = USUAL.split_at(count);
-    said == usual
 }
 
 // The year of a moment.

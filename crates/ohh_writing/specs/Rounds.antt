@@ -1,9 +1,8 @@
 -- The rounds of a hand that is written: the streets that were dealt, each with its board cards and
 -- actions, and the showdown.
-use Rattle.std.specs.Prelude.{ℕ, List, [], ◌∷◌, ◌++◌, None}
+use Rattle.std.specs.Prelude.{ℕ, List, [], ◌∷◌, ◌++◌, None, map}
 use Rattle.card_set.specs.declared.card.Slot.{Slot}
 use Rattle.card_set.specs.Row.{slots_of}
-use Rattle.std.specs.Prelude.{map}
 use Rattle.canon_script.specs.CanonScript.{dealt_slots}
 use Rattle.hand_records.specs.declared.trace.Trace.{Trace}
 use Rattle.hand_records.specs.TraceRows.{core_said}

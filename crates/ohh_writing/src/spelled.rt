@@ -1,6 +1,5 @@
 //! The first fact of a play that the format does not spell, and the first play that has one.
 ghost use Rattle.std.specs.Prelude.{◌≡◌, ◌≤◌, length};
-ghost use Rattle.std.specs.List.{list_any};
 ghost use Rattle.first_fault.specs.declared.limits.TheConstants.{MOST_HANDS};
 ghost use Rattle.ohh_writing.specs.Spelled.{first_unspelled, has_spelled_numbers as has_numbers_said, kept_facts, note_facts, trace_facts, unspelled};
 ghost use Rattle.hand_records.specs.WriteRefusals.{first_refusal};
@@ -11,7 +10,6 @@ use crate::seating::numbers_spelled;
 use crate::setup::{has_spelled_antes, has_spelled_blinds, has_spelled_sizes};
 use chip_ledger::SeatRow;
 use hand_records::{Keep, NoteName, Notes, Play, Trace, Unspelled, WriteRefusal};
-use play_event::Move;
 
 /// The refusal of the first play that the format does not spell. The first hand has the number 1.
 pub fn find_refusal(plays: &[Play], keep: Keep) -> Option<WriteRefusal>
@@ -57,22 +55,10 @@ fn first_of_trace(trace: &Trace) -> Option<Unspelled>
     if !has_spelled_blinds(&trace.setup) {
         return Some(Unspelled::Blinds);
     }
-    if has_closed(trace.moves.as_slice()) {
+    if trace.moves.has_closed_raise() {
         return Some(Unspelled::ReopenedShort);
     }
     None
-}
-
-// Whether one of the moves is a raise that is closed.
-fn has_closed(moves: &[Move]) -> bool
-    ensures { result ≡ list_any (λ move. move.closed) moves.now }
-{
-    for played in moves {
-        if played.closed {
-            return true;
-        }
-    }
-    false
 }
 
 // The first of the notes to be kept that is not spelled.

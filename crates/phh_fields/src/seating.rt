@@ -1,6 +1,5 @@
 //! Who sits where is read from the fields of a hand.
-ghost use Rattle.std.specs.Prelude.{◌≡◌, ℕ, ◌+◌, ◌-◌, ◌≤◌, ◌<◌, None, length, map, replicate, take, slice_index, slice_index_or, bytes_eq, IfOk, IfSome, option_map};
-ghost use Rattle.std.specs.List.{range_with_len};
+ghost use Rattle.std.specs.Prelude.{◌≡◌, ℕ, ◌+◌, ◌≤◌, ◌<◌, None, length, map, replicate, take, slice_index, slice_index_or, IfOk, IfSome, option_map};
 ghost use Rattle.toml.specs.View.{table_view, view};
 ghost use Rattle.hand_records.specs.AllowedNotes.{AreSeatNumbers, IsName, IsSeatCount, IsWithin};
 ghost use Rattle.first_fault.specs.Reading.{Gives, or_none};
@@ -13,6 +12,7 @@ use crate::fault::{FieldFault, FieldKey, FieldPlace};
 use crate::texts::read_text_note;
 use crate::values::{field, read_items, read_number};
 use first_fault::{Stop, Text};
+use hand_records::unless_usual;
 use std::alloc::Global;
 use toml::{Table, Value};
 
@@ -23,9 +23,6 @@ pub struct Seating {
     pub seats: Option<[u8; 10]>,
     pub seat_count: Option<u8>,
 }
-
-// The numbers of ten seats where none are said.
-const USUAL: [u8; 10] = [1, 2, 3, 4, 5, 6, 7, 8, 9, 10];
 
 /// Who sits where in a hand with so many seats.
 #[tactic(auto, unfolding(crate::specs::NoteFields::seating_said))]
@@ -117,11 +114,7 @@ fn read_seats(table: &Table, seats: u8) -> Result<Option<[u8; 10]>, Stop<FieldFa
     };
     let values = read_items(value, seats, FieldKey::Seats)?;
     let numbers = fill_numbers(values)?;
-    if are_usual(numbers, seats) {
-        Ok(None)
-    } else {
-        Ok(Some(numbers))
-    }
+    Ok(unless_usual(numbers, seats as usize))
 }
 
 // The numbers of as many seats as there are values.
@@ -143,16 +136,6 @@ fn fill_numbers(values: &[Value]) -> Result<[u8; 10], Stop<FieldFault>>
         numbers[index] = read_number(value, 1, 255, place)? as u8;
     }
     Ok(numbers)
-}
-
-// Whether the first numbers, so many of them, are those of seats where none are said.
-fn are_usual(numbers: [u8; 10], seats: u8) -> bool
-    requires { seats ≤ 10 }
-    ensures { result ≡ bytes_eq (take seats numbers) (range_with_len 1 seats) }
-{
-    let (said, _fillers) = numbers.split_at(seats as usize);
-    let (usual, _others) = USUAL.split_at(seats as usize);
-    said == usual
 }
 
 // How many seats the table has, if that is said and it has others than those of the hand.

@@ -1,12 +1,10 @@
 //! The format spells each play in which no raise is closed by a short one before it.
 ghost use Rattle.std.specs.Prelude.{◌≡◌, ◌≤◌, length};
-ghost use Rattle.std.specs.List.{list_any};
 ghost use Rattle.first_fault.specs.declared.limits.TheConstants.{MOST_HANDS};
 ghost use Rattle.phh_writing.specs.Spelled.{unspelled};
 ghost use Rattle.hand_records.specs.WriteRefusals.{first_refusal};
 
 use hand_records::{Keep, Play, Unspelled, WriteRefusal};
-use play_event::Move;
 
 /// The refusal of the first play that the format does not spell. The first hand has the number 1.
 pub fn find_refusal(plays: &[Play], keep: Keep) -> Option<WriteRefusal>
@@ -30,21 +28,9 @@ pub fn find_refusal(plays: &[Play], keep: Keep) -> Option<WriteRefusal>
 pub fn spells(play: &Play, _keep: Keep) -> Option<Unspelled>
     ensures { result ≡ unspelled play.now }
 {
-    if has_closed(play.trace.moves.as_slice()) {
+    if play.trace.moves.has_closed_raise() {
         Some(Unspelled::ReopenedShort)
     } else {
         None
     }
-}
-
-// Whether one of the moves is a raise that is closed.
-fn has_closed(moves: &[Move]) -> bool
-    ensures { result ≡ list_any (λ move. move.closed) moves.now }
-{
-    for move_made in moves {
-        if move_made.closed {
-            return true;
-        }
-    }
-    false
 }

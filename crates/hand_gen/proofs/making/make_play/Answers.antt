@@ -36,8 +36,8 @@ returns-clause-made c =
       setup = c.setup_at-setup.ensures;
       rules = c.history_rules-rules.ensures;
       script = subst (λ (s : Stock). IsMadeScript setup s c.in-Ok-script_by_code.script) start c.in-Ok-script_by_code.ensures.made;
-      stated = c.nothing_stated.ensures;
-      notes = c.no_notes.ensures;
+      stated = c.nothing.ensures;
+      notes = c.none.ensures;
     }
 
 pub returns-clause-sound : goal.returns-clause-sound
@@ -48,5 +48,5 @@ returns-clause-sound c =
       within = c.in-Ok-script_by_code.ensures.within;
       legal = c.in-Ok-replay.ensures.legal;
       trace = c.in-Ok-replay.ensures.trace;
-      notes = none_allowed setup.stacks.seats c.no_notes.result c.no_notes.ensures;
+      notes = none_allowed setup.stacks.seats c.none.result c.none.ensures;
     }

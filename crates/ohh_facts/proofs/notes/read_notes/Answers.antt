@@ -8,7 +8,7 @@ returns-clause-allowed c =
     record {
       names = c.in_ok-names.ensures.each;
       no_more_names = c.in_ok-names.ensures.no_more;
-      seats = c.unless_usual.ensures.allowed;
+      seats = c.unusual_seats.ensures.allowed;
       seat_count = fit.seat_count;
       hand = fit.hand;
       table = fit.table;
