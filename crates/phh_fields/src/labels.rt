@@ -1,5 +1,5 @@
 //! Where a hand was played is read from its fields.
-ghost use Rattle.std.specs.Prelude.{◌<◌, [], IfOk, IfSome};
+ghost use Rattle.std.specs.Prelude.{[], IfOk, IfSome};
 ghost use Rattle.std.specs.Fmt.{decimal};
 ghost use Rattle.toml.specs.View.{table_view};
 ghost use Rattle.hand_records.specs.AllowedNotes.{IsNoteText};
@@ -13,7 +13,7 @@ use crate::texts::{read_label, read_text_note};
 use crate::values::field;
 use first_fault::{Stop, Text};
 use std::alloc::Global;
-use toml::{Table, Value};
+use toml::Table;
 
 /// Where a hand was played: its name, its table, and the rest.
 #[derive(Debug, Drop)]

@@ -3,12 +3,11 @@ ghost use Rattle.std.specs.Prelude.{◌≡◌, ℕ, ◌≤◌, true, nat_lt, sli
 ghost use Rattle.std.specs.List.{list_any};
 ghost use Rattle.toml.specs.View.{table_view, view};
 ghost use Rattle.chip_ledger.specs.Seat.{seats_of};
-ghost use Rattle.chip_ledger.specs.SeatRow.{amount_of};
+ghost use Rattle.chip_ledger.specs.SeatRow.{amount_of, amounts_in};
 ghost use Rattle.chip_ledger.specs.declared.numbers.TheConstants.{MOST_CHIPS};
 ghost use Rattle.play_event.specs.Streets.{is_stud as is_stud_said};
 ghost use Rattle.play_event.specs.ValidSetup.{IsValid};
 ghost use Rattle.first_fault.specs.Reading.{Gives};
-ghost use Rattle.chip_ledger.specs.SeatRow.{amounts_in};
 ghost use Rattle.hand_records.specs.PlainHands.{plain_setup};
 ghost use Rattle.phh_fields.specs.SetupFields.{are_dead as are_dead_said, blinds_said, game_named, setup_said, trimming_said, variant_said};
 

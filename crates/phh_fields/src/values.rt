@@ -87,7 +87,7 @@ fn read_array(value: &Value, place: FieldPlace) -> Result<&Vec<Value>, Stop<Fiel
 }
 
 /// An amount from `least` to `most`, in chips.
-#[tactic(auto, unfolding(crate::specs::Fields::amount_said))]
+#[tactic(auto, unfolding(crate::specs::Fields::amount_said, crate::specs::Fields::number_said))]
 pub fn read_amount(
     value: &Value,
     least: u64,
@@ -99,15 +99,8 @@ pub fn read_amount(
         (amount_said least most place (view value.now)) }
 {
     match value {
-        Value::Integer(number) => {
-            if *number < 0 {
-                return Err(wrong(FieldFaultKind::AmountLimit, place));
-            }
-            let what = FieldFaultKind::AmountLimit;
-            keep_within(*number as u64, least, most, FieldFault { what, place })
-        }
         Value::Float(_) => Err(wrong(FieldFaultKind::AmountNotWhole, place)),
-        _ => Err(wrong(FieldFaultKind::WrongType, place)),
+        _ => read_number(value, least, most, place),
     }
 }
 
