@@ -28,27 +28,27 @@ pub fn push_betting(
         ++ betting_text no_limit setup.now (map place_said places.now)
         (plain_moves (map move_said moves.now))) }
 {
-    let betting = Betting {
+    let spelled = SpelledMoves {
         no_limit,
         setup,
         moves,
     };
-    betting.push_letters(alloc, out, 1)?;
-    betting.push_round(alloc, out, places, 2)?;
-    betting.push_round(alloc, out, places, 3)?;
-    betting.push_round(alloc, out, places, 4)
+    spelled.push_letters(alloc, out, 1)?;
+    spelled.push_round(alloc, out, places, 2)?;
+    spelled.push_round(alloc, out, places, 3)?;
+    spelled.push_round(alloc, out, places, 4)
 }
 
 // The moves of a hand behind its setup, as a game with a limit or none spells them.
 #[derive(Clone, Copy)]
-struct Betting<'a> {
+struct SpelledMoves<'a> {
     no_limit: bool,
     setup: &'a Setup,
     moves: &'a [Move],
     ghost few: { HaveFewChips setup.now moves.now },
 }
 
-impl Betting<'_> {
+impl SpelledMoves<'_> {
     // The betting of a further round, if it was dealt.
     #[tactic(auto, unfolding(crate::specs::Betting::round_text))]
     fn push_round(

@@ -1,7 +1,7 @@
 //! Why bytes are no hands in the Poker Hand History format: their first fault, with its hand and
 //! its key.
 use first_fault::{Quantity, Text};
-use phh_fields::fault::{FieldFault, FieldFaultKind};
+use phh_fields::fault::FieldFault;
 
 /// The first fault of bytes, in the order in which fields are examined. `hand` counts from 1 in the
 /// order of reading. `key` is the key of the field, and for an item of a list the key, a space and

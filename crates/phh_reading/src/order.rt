@@ -15,7 +15,7 @@ use toml::{Table, Value};
 
 // Values by the length of the number of their key, the digits of the number, and the key: the
 // longer number is the greater.
-type Numbered<'a> = BTreeMap<(usize, &'a [u8], &'a [u8]), &'a Value>;
+type NumberedTables<'a> = BTreeMap<(usize, &'a [u8], &'a [u8]), &'a Value>;
 
 /// Whether each key is a number and each value a table.
 pub fn are_hands(table: &Table) -> bool
@@ -63,12 +63,12 @@ pub fn tables_in_order<'a>(alloc: Global, table: &'a Table) -> Result<Vec<&'a Ta
 
 // The values in the order of the numbers of their keys.
 #[tactic(auto, using(crate::proofs::Placing::tables_placed))]
-fn values_in_order<'a>(alloc: Global, table: &'a Table) -> Result<Numbered<'a>, Memory>
+fn values_in_order<'a>(alloc: Global, table: &'a Table) -> Result<NumberedTables<'a>, Memory>
     requires { IsTrue (are_hands_said (table_view table.now)) }
     ensures { IfOk result (λ hands. tables_among (map (λ e. view e.1.now) hands.entries)
         ≡ in_order (table_view table.now)) }
 {
-    let mut hands = Numbered::new(alloc);
+    let mut hands = NumberedTables::new(alloc);
     for (key, value) in table.iter() {
         let text = key.as_str().as_bytes();
         let digits = without_zeros(text);

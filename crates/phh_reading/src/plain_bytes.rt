@@ -3,7 +3,7 @@
 
 // Where the next byte stands.
 #[derive(Clone, Copy)]
-enum Place {
+enum State {
     // Outside of comments and texts.
     Plain,
     Comment,
@@ -22,35 +22,35 @@ enum Place {
 /// fault.
 #[derive(Drop)]
 pub struct PlainBytes {
-    place: Place,
+    state: State,
 }
 
 impl PlainBytes {
     /// A walk that begins.
     pub fn new() -> Self {
         PlainBytes {
-            place: Place::Plain,
+            state: State::Plain,
         }
     }
 
     /// The next byte, if it stands outside of comments and texts. A quote of a text does not.
     pub fn next(&mut self, byte: u8) -> Option<u8> {
-        match self.place {
-            Place::Plain => self.plain(byte),
-            Place::Comment if byte == b'\n' => self.plain(byte),
-            Place::Comment => None,
-            Place::Opened { quote, twice } => self.opened(quote, twice, byte),
-            Place::Line { quote } => self.in_line(quote, byte),
-            Place::Lines { quote, quotes } if byte != quote && 3 <= quotes => self.plain(byte),
-            Place::Lines { quote, quotes } => {
-                self.place = in_lines(quote, quotes, byte);
+        match self.state {
+            State::Plain => self.plain(byte),
+            State::Comment if byte == b'\n' => self.plain(byte),
+            State::Comment => None,
+            State::Opened { quote, twice } => self.opened(quote, twice, byte),
+            State::Line { quote } => self.in_line(quote, byte),
+            State::Lines { quote, quotes } if byte != quote && 3 <= quotes => self.plain(byte),
+            State::Lines { quote, quotes } => {
+                self.state = in_lines(quote, quotes, byte);
                 None
             }
-            Place::Escaped { quote, many } => {
-                self.place = if many {
-                    Place::Lines { quote, quotes: 0 }
+            State::Escaped { quote, many } => {
+                self.state = if many {
+                    State::Lines { quote, quotes: 0 }
                 } else {
-                    Place::Line { quote }
+                    State::Line { quote }
                 };
                 None
             }
@@ -59,14 +59,14 @@ impl PlainBytes {
 
     // A byte outside of comments and texts, or one that begins them.
     fn plain(&mut self, byte: u8) -> Option<u8> {
-        self.place = match byte {
-            b'#' => Place::Comment,
-            b'"' | b'\'' => Place::Opened {
+        self.state = match byte {
+            b'#' => State::Comment,
+            b'"' | b'\'' => State::Opened {
                 quote: byte,
                 twice: false,
             },
             _ => {
-                self.place = Place::Plain;
+                self.state = State::Plain;
                 return Some(byte);
             }
         };
@@ -81,10 +81,10 @@ impl PlainBytes {
         if byte != quote {
             return self.in_line(quote, byte);
         }
-        self.place = if twice {
-            Place::Lines { quote, quotes: 0 }
+        self.state = if twice {
+            State::Lines { quote, quotes: 0 }
         } else {
-            Place::Opened { quote, twice: true }
+            State::Opened { quote, twice: true }
         };
         None
     }
@@ -95,28 +95,28 @@ impl PlainBytes {
         if byte == b'\n' {
             return self.plain(byte);
         }
-        self.place = if byte == quote {
-            Place::Plain
+        self.state = if byte == quote {
+            State::Plain
         } else if is_escape(quote, byte) {
-            Place::Escaped { quote, many: false }
+            State::Escaped { quote, many: false }
         } else {
-            Place::Line { quote }
+            State::Line { quote }
         };
         None
     }
 }
 
 // Where the next byte stands behind a byte in a text of many lines.
-fn in_lines(quote: u8, quotes: u8, byte: u8) -> Place {
+fn in_lines(quote: u8, quotes: u8, byte: u8) -> State {
     if byte == quote {
-        Place::Lines {
+        State::Lines {
             quote,
             quotes: quotes.saturating_add(1),
         }
     } else if is_escape(quote, byte) {
-        Place::Escaped { quote, many: true }
+        State::Escaped { quote, many: true }
     } else {
-        Place::Lines { quote, quotes: 0 }
+        State::Lines { quote, quotes: 0 }
     }
 }
 

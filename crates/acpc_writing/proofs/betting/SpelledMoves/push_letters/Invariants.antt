@@ -3,7 +3,7 @@ use Rattle.canon_script.specs.CanonScript.{plain_moves}
 use Rattle.play_event.specs.Played.{move_said}
 use Rattle.acpc_writing.specs.Betting.{letters_on}
 use Rattle.acpc_writing.specs.Puts.{HavePut}
-use Rattle.acpc_writing.proofs.betting.Betting.push_letters.Given as goal
+use Rattle.acpc_writing.proofs.betting.SpelledMoves.push_letters.Given as goal
 
 -- the moves so far are counted, and their letters are written
 abbrev pub invariant-loop-played : goal.invariant-loop-played

@@ -1,7 +1,7 @@
 -- One move more.
 use Rattle.std.proofs.Common.{sym}
 use Rattle.acpc_writing.proofs.Letters.{letter_next, may_add, no_letters, put_next}
-use Rattle.acpc_writing.proofs.betting.Betting.push_letters.Goals as goal
+use Rattle.acpc_writing.proofs.betting.SpelledMoves.push_letters.Goals as goal
 
 pub loop-played-init : goal.loop-played-init
 loop-played-init c = record {
