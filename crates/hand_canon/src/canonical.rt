@@ -140,11 +140,11 @@ fn write_move(written: &mut Numbered, played: Move, street: u8) -> Result<(), Me
     if played.street != street {
         return Ok(());
     }
-    written.push(kind_of(played))
+    written.push(named_move(played))
 }
 
-// A move, named and spelled by its target.
-fn kind_of(played: Move) -> Kind
+/// A move as an event that names its seat and its target, as canonical scripts have it.
+pub fn named_move(played: Move) -> Kind
     ensures { kind_said result ≡ move_named (plain_move (move_said played)) }
 {
     let actor = Some(played.seat);

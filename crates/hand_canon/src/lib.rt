@@ -10,7 +10,7 @@ mod numbered;
 mod streets;
 
 pub use agreement::{FactDiffers, Which, check_stated};
-pub use canonical::canon;
+pub use canonical::{canon, named_move};
 pub use first_fault::{Quantity, Text};
 pub use folds::folds_before;
 pub use gathered::{board_with_street, held_by_seats};

@@ -2,5 +2,6 @@
 mod Rows
 pub mod Hands
 mod Moves
+mod NamedMoves
 mod Pasts
 mod Printed

@@ -1,5 +1,5 @@
 //! The lines of a hand, step by step: what each event did, and the chips of the seats after it.
-ghost use Rattle.std.specs.Prelude.{◌≡◌, ◌<◌, ◌+◌, ◌-◌, ◌++◌, ◌∷◌, List, true, false, Some, OnOk, IsTrue, string_bytes};
+ghost use Rattle.std.specs.Prelude.{◌≡◌, ◌++◌, ◌∷◌, List, true, false, Some, OnOk, IsTrue, string_bytes};
 ghost use Rattle.std.specs.Fmt.{decimal};
 ghost use Rattle.canon_script.specs.CanonScript.{move_named, plain_move};
 ghost use Rattle.canon_script.specs.PlayedScript.{is_move as is_move_said};
@@ -15,9 +15,10 @@ use crate::chips::{add, posted_row, push_chips};
 use crate::ending::push_ending;
 use card_set::Memory;
 use chip_ledger::SeatRow;
-use hand_records::{Moves, Play};
+use hand_canon::named_move;
+use hand_records::Play;
 use phh_actions::event_text;
-use play_event::{Act, Kind, Move, Setup, Spelled};
+use play_event::{Kind, Move, Setup};
 use std::alloc::Global;
 
 /// Puts the lines of the hand with this number at the end of a text: what each event did, with the
@@ -97,7 +98,7 @@ fn push_move(
         ++ chips_text setup.now (plain_move (move_said moved.now) ∷ moves)))) }
 {
     add(put, moved);
-    push_event(alloc, text, number, named(moved), setup, put)?;
+    push_event(alloc, text, number, named_move(*moved), setup, put)?;
     Ok(())
 }
 
@@ -122,24 +123,4 @@ fn push_event(
     write!(text, "{number} {event}")?;
     push_chips(text, setup, put)?;
     Ok(())
-}
-
-// A move as an event that names its actor and its target.
-fn named(moved: &Move) -> Kind
-    ensures named { kind_said result ≡ move_named (plain_move (move_said moved.now)) }
-    ensures words { IsTrue (has_words (kind_said result)) }
-{
-    let actor = Some(moved.seat);
-    match moved.act {
-        Act::Fold => Kind::Fold { actor },
-        Act::Call => Kind::Call {
-            actor,
-            stated: None,
-        },
-        Act::Raise => Kind::Raise {
-            actor,
-            amount: Spelled::To(moved.to),
-        },
-        Act::BringIn => Kind::BringIn { actor },
-    }
 }
