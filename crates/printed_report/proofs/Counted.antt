@@ -8,7 +8,8 @@ use Rattle.std.proofs.lemmas.List.Elements.{filter-append}
 use Rattle.std.proofs.lemmas.List.Sums.{sum_by_push}
 use Rattle.play_event.specs.Code.{code_text}
 use Rattle.play_event.specs.declared.code.Code.{Code}
-use Rattle.printed_report.specs.Games.{AreFewSums, MOST_POTS, all_games, all_wanted, is_counted, line_for, sums_line, sums_of, with_hand}
+use Rattle.play_event.specs.Games.{all_games}
+use Rattle.printed_report.specs.Games.{AreFewSums, MOST_POTS, all_wanted, is_counted, line_for, sums_line, sums_of, with_hand}
 use Rattle.printed_report.specs.Report.{Hand, game_codes, game_line, hands_line, line_if_any}
 use Rattle.printed_report.specs.declared.games.Sums.{Sums}
 

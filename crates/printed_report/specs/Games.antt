@@ -4,7 +4,7 @@ use Rattle.std.specs.Fmt.{decimal}
 use Rattle.std.specs.Option.{option_map_or}
 use Rattle.play_event.specs.Code.{code_text}
 use Rattle.play_event.specs.declared.code.Code.{Code}
-use Rattle.play_event.specs.declared.code.Code.TheVariants as games
+use Rattle.play_event.specs.Games.{all_games}
 use Rattle.printed_report.specs.Report.{Hand}
 use Rattle.printed_report.specs.declared.games.Sums.{Sums}
 use Rattle.text_columns.specs.Columns.{left_in, right_in}
@@ -16,12 +16,6 @@ is_counted wanted hand = option_map_or (λ code. bytes_eq (code_text code) hand.
 -- more than the pots of a hand can be together: eleven numbers of 64 bits
 abbrev pub MOST_POTS : ℕ
 MOST_POTS = 11 * 18446744073709551616
-
--- the eleven games, in the order of their table
-abbrev pub all_games : List Code
-all_games =
-    games.FT ∷ games.NT ∷ games.NS ∷ games.PO ∷ games.FO8 ∷ games.F7S ∷ games.F7S8 ∷ games.FR
-    ∷ games.N2L1D ∷ games.F2L3D ∷ games.FB ∷ []
 
 -- each game for its line, and behind them all hands
 abbrev pub all_wanted : List (Option Code)

@@ -10,7 +10,7 @@ use Rattle.hand_records.specs.declared.trace.Play.{Play}
 use Rattle.name_index.specs.Names.{with_name}
 use Rattle.play_event.specs.Code.{code_text}
 use Rattle.play_event.specs.Seats.{all_seats}
-use Rattle.play_event.specs.declared.code.Code.TheVariants as games
+use Rattle.play_event.specs.Games.{all_games}
 use Rattle.text_columns.specs.Columns.{left_in, right_in}
 
 -- a seat of a hand: the name of its player, and the chips that it started and finished with
@@ -62,10 +62,7 @@ game_line hands game = line_if_any game (filter (λ hand. bytes_eq game hand.gam
 
 -- the codes of the eleven games, in the order of their table
 abbrev pub game_codes : List (List ℕ)
-game_codes =
-    map code_text
-    (games.FT ∷ games.NT ∷ games.NS ∷ games.PO ∷ games.FO8 ∷ games.F7S ∷ games.F7S8 ∷ games.FR
-    ∷ games.N2L1D ∷ games.F2L3D ∷ games.FB ∷ [])
+game_codes = map code_text all_games
 
 -- the seats of all hands, from the first hand on and from p1 upward
 abbrev pub seats_of_all : List Hand → List Seated

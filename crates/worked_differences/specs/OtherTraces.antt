@@ -7,12 +7,11 @@ use Rattle.hand_records.specs.declared.record.Record.{Record}
 use Rattle.hand_records.specs.declared.trace.Trace.{Trace}
 use Rattle.hand_records.specs.SaidNotes.{SaidNotes, said_notes}
 use Rattle.play_event.specs.declared.code.Code.TheVariants as games
-use Rattle.play_event.specs.declared.played.Act.TheVariants as acts
 use Rattle.play_event.specs.declared.setup.Setup.{Setup}
 use Rattle.play_event.specs.Rows.{row_of}
 use Rattle.worked_hands.specs.Setups.{no_limit}
 use Rattle.worked_plays.specs.Plays.{play_of}
-use Rattle.worked_plays.specs.Traces.{dealt_to, moved, on_board, p1, p2, p3, placed, steal_trace}
+use Rattle.worked_plays.specs.Traces.{dealt_to, on_board, p1, p2, p3, placed, steal_trace}
 use Rattle.worked_plays.specs.WrittenNotes.{no_notes}
 
 -- what differs first of two traces, whatever the record says
@@ -46,12 +45,6 @@ greater_blind = record no_limit { blinds = row_of (1 ∷ 4 ∷ 0 ∷ []) refl }
 -- a short deck, with antes
 abbrev pub short_deck_antes : Setup
 short_deck_antes = record with_antes { code = games.NS }
-
--- p1 does not fold, and p2 folds then
-abbrev pub unfolded : Trace
-unfolded = record steal_trace {
-  moves = moved 1 p3 acts.Raise 0 6 2 ∷ moved 1 p2 acts.Fold 2 2 6 ∷ [];
-}
 
 -- the last card of p3 is another
 abbrev pub other_card : Trace

@@ -3,16 +3,16 @@
 ghost use Rattle.std.specs.Prelude.{◌≡◌, None, Some, codes};
 ghost use Rattle.hand_differences.specs.FirstDifference.{Card, Move, Shown};
 ghost use Rattle.hand_records.specs.declared.record.Record.{Record};
-ghost use Rattle.worked_differences.specs.OtherTraces.{between, one_discard, other_card, unfolded, with_flop};
+ghost use Rattle.worked_plays.specs.WrongTraces.{cards_named, chip_from_p2, fold_forgotten, muck_shown};
+ghost use Rattle.worked_differences.specs.OtherTraces.{between, one_discard, other_card, with_flop};
 ghost use Rattle.worked_plays.specs.Traces.{checked_trace, steal_trace};
-ghost use Rattle.worked_plays.specs.WrongTraces.{cards_named, chip_from_p2, muck_shown};
 
 /// Moves, cards and shown seats; the seat of a move is the one of the first play. Finishing stacks
 /// alone are no difference: no two legal hands differ in them alone.
 pub fn differing_traces()
-    ensures a_move { (hand : Record) → between hand steal_trace unfolded ≡ Some (Move 2 1 1) }
+    ensures a_move { (hand : Record) → between hand steal_trace fold_forgotten ≡ Some (Move 2 1 1) }
     ensures the_other_way_round { (hand : Record)
-        → between hand unfolded steal_trace ≡ Some (Move 2 1 2) }
+        → between hand fold_forgotten steal_trace ≡ Some (Move 2 1 2) }
     ensures a_card_that_is_known { (hand : Record)
         → between hand steal_trace cards_named ≡ Some (Card 1 1 (Some 1)) }
     ensures another_card { (hand : Record)
