@@ -232,57 +232,46 @@ fn told_event<V: Variant>(
     rest: &str,
 ) -> Result<String, AllocError> {
     match word.as_bytes() {
-        b"hole" => match seat_and_slots(rest) {
-            Some((seat, cards_named)) => dealt(
-                alloc,
-                cards,
-                told,
-                Kind::Hole {
-                    seat,
-                    cards: cards_named,
-                },
-            ),
-            None => no_event(alloc),
-        },
-        b"board" => match read_slots(rest.as_bytes()) {
-            Ok(slots) => dealt(
-                alloc,
-                cards,
-                told,
-                Kind::Board {
-                    cards: known(&slots),
-                },
-            ),
-            Err(_) => no_event(alloc),
-        },
-        b"discard" => match seat_and_slots(rest) {
-            Some((seat, cards_named)) => discarded(
-                alloc,
-                cards,
-                told,
-                Kind::Discard {
-                    seat,
-                    cards: cards_named,
-                },
-            ),
-            None => no_event(alloc),
-        },
-        b"show" => match seat_and_slots(rest) {
-            Some((seat, slots)) => shown(
+        b"hole" => {
+            let Some((seat, slots)) = seat_and_slots(rest) else {
+                return no_event(alloc);
+            };
+            dealt(alloc, cards, told, Kind::Hole { seat, cards: slots })
+        }
+        b"board" => {
+            let Ok(slots) = read_slots(rest.as_bytes()) else {
+                return no_event(alloc);
+            };
+            let cards_dealt = known(&slots);
+            dealt(alloc, cards, told, Kind::Board { cards: cards_dealt })
+        }
+        b"discard" => {
+            let Some((seat, slots)) = seat_and_slots(rest) else {
+                return no_event(alloc);
+            };
+            discarded(alloc, cards, told, Kind::Discard { seat, cards: slots })
+        }
+        b"show" => {
+            let Some((seat, slots)) = seat_and_slots(rest) else {
+                return no_event(alloc);
+            };
+            let cards_shown = known(&slots);
+            shown(
                 alloc,
                 cards,
                 told,
                 Kind::Show {
                     seat,
-                    cards: known(&slots),
+                    cards: cards_shown,
                 },
-            ),
-            None => no_event(alloc),
-        },
-        b"muck" => match seat_of(rest) {
-            Some(seat) => shown(alloc, cards, told, Kind::Muck { seat }),
-            None => no_event(alloc),
-        },
+            )
+        }
+        b"muck" => {
+            let Some(seat) = seat_of(rest) else {
+                return no_event(alloc);
+            };
+            shown(alloc, cards, told, Kind::Muck { seat })
+        }
         _ => no_event(alloc),
     }
 }
