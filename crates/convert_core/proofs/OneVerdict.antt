@@ -6,6 +6,7 @@ use Rattle.hand_records.specs.Plays.{hands_of}
 use Rattle.hand_records.specs.declared.record.Record.{Record}
 use Rattle.hand_records.specs.declared.trace.Play.{Play}
 use Rattle.convert_core.proofs.OneOutcome.{itself, not_judged, one_refusal, same_plays}
+use Rattle.convert_core.proofs.Taken.{legal_hands}
 use Rattle.convert_core.specs.Judged.{ArePlaysOf, IsFirstRefused, IsRefusedFor}
 use Rattle.convert_core.specs.Verdicts.{AreVerdictsOn, IsFirstNotLegal, IsRight, Legal, Refused, Verdict, hand_in}
 use Rattle.convert_core.specs.declared.refusal.Refusal.{Refusal}
@@ -47,15 +48,11 @@ judged_from (play ∷ plays) right =
     All-cons IsJudged play plays (All-head IsRight (Legal play) (map Legal plays) right)
     (judged_from plays (All-tail IsRight (Legal play) (map Legal plays) right))
 
-hands_from : (plays : List Play) → map hand_in (map Legal plays) ≡ hands_of plays
-hands_from [] = refl
-hands_from (play ∷ plays) = ap (λ (hands : List Record). play.hand ∷ hands) (hands_from plays)
-
 pub legal_plays_are : (records : List Record) (verdicts : List Verdict) (plays : List Play) → AreVerdictsOn records verdicts
     → verdicts ≡ map Legal plays → ArePlaysOf records plays
 legal_plays_are records verdicts plays are legal =
     record {
-      same = sym (hands_from plays) ∙ ap (λ (vs : List Verdict). map hand_in vs) (sym legal) ∙ are.same;
+      same = sym (legal_hands plays) ∙ ap (λ (vs : List Verdict). map hand_in vs) (sym legal) ∙ are.same;
       judged = judged_from plays (subst (λ (vs : List Verdict). All IsRight vs) legal are.right);
     }
 

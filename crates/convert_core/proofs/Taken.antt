@@ -39,7 +39,7 @@ plays_judged (Legal play ∷ rest) right =
 plays_judged (Refused hand why ∷ rest) right = plays_judged rest (All-tail IsRight (Refused hand why) rest right)
 
 -- verdicts on legal hands are on the records of their plays
-legal_hands : (plays : List Play) → map hand_in (map Legal plays) ≡ hands_of plays
+pub legal_hands : (plays : List Play) → map hand_in (map Legal plays) ≡ hands_of plays
 legal_hands [] = refl
 legal_hands (play ∷ plays) = ap (λ (hs : List Record). play.hand ∷ hs) (legal_hands plays)
 

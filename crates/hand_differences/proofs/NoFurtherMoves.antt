@@ -3,6 +3,8 @@ use Rattle.std.proofs.Common.{◌≡◌, ℕ, ◌+◌, ◌≤◌, false, nat_le,
 use Rattle.std.proofs.lemmas.Bool.{both_ways}
 use Rattle.std.proofs.lemmas.List.{length-map, length-reverse, map-append, reverse-append}
 use Rattle.canon_blocks.proofs.StreetMoves.{AreFalling, legal_falling}
+use Rattle.canon_laws.proofs.AllStreets.{legal_since}
+use Rattle.play_laws.proofs.PastLawKept.{reached_more}
 use Rattle.canon_laws.proofs.SameCore.{plain_again}
 use Rattle.canon_script.specs.CanonScript.{plain_move, plain_moves}
 use Rattle.play_event.specs.Due.{is_bring_in_due, is_move_due, is_unfinished, turn}
@@ -11,7 +13,7 @@ use Rattle.play_event.specs.Laws.{AreLegal}
 use Rattle.play_event.specs.Past.{Move, Past, Resolved, moves_before, moves_of, newest_street}
 use Rattle.play_event.specs.Places.{Place}
 use Rattle.play_event.specs.Said.{Said}
-use Rattle.play_event.specs.Scripts.{past_of, with_event}
+use Rattle.play_event.specs.Scripts.{past_of}
 use Rattle.play_event.specs.Seats.{live_count}
 use Rattle.play_event.specs.Table.{places_of}
 use Rattle.play_event.specs.Trace.{TracedMove, traced_moves}
@@ -20,9 +22,9 @@ use Rattle.play_event.specs.declared.setup.Rules.{Rules}
 use Rattle.play_event.specs.declared.setup.Setup.{Setup}
 use Rattle.play_laws.proofs.DoneKept.{all_early}
 use Rattle.play_laws.proofs.DonePasts.{legal_done}
-use Rattle.play_laws.proofs.DueAtEvents.{Reaches, turn_reaches}
+use Rattle.play_laws.proofs.DueAtEvents.{Reaches}
 use Rattle.play_laws.proofs.FittingPasts.{legal_moves}
-use Rattle.play_laws.proofs.LegalEvents.{Stepped, boards, deals, discards, moves, mucks, shows, stepped}
+use Rattle.play_laws.proofs.LegalEvents.{Stepped, boards, deals, discards, moves, mucks, shows}
 use Rattle.play_laws.proofs.LegalPlaces.{legal_past}
 use Rattle.play_laws.proofs.MovesLaw.{FitsMove, IsBetDue, MovesLaw, bring_first, move_now}
 use Rattle.play_laws.proofs.PlayedStreets.{IsReached, reached_closed}
@@ -40,14 +42,6 @@ since_step setup before at _ past come (discards who cards no_deal draw next few
 since_step setup before at _ past come (shows who cards may free) since = since
 since_step setup before at _ past come (mucks who may) since = since
 since_step setup before at _ past come (moves played no_deal no_draw on) since = (omega (arith, on, come.on, past.since), since)
-
-legal_since : (setup : Setup) (rules : Rules) (events : List Said) → AreLegal setup rules events → AreSince (moves_of (past_of setup events))
-unfolding with_event
-legal_since setup rules [] legal = tt
-legal_since setup rules (event ∷ events) legal =
-    let before = past_of setup events in
-    let it = legal_past setup rules events legal.1 in
-    since_step setup before (turn setup before).0 _ it.past (turn_reaches setup before it.past.within) (stepped setup rules before event legal.0) (legal_since setup rules events legal.1)
 
 -- a hand that is played to its end has these moves
 pub record HasEnded (setup : Setup) (rules : Rules) (events : List Said) : Type 0 where
@@ -80,11 +74,6 @@ none_further setup rules others placed events older (move ∷ rest) ended same l
     let R : List Move → Type 0 = λ l. AreReached move.street (l ++ older) in
     absurd (no_further setup rules others placed events move older ended same (subst F none law.0) (subst R none falling.0) since.0 reached.0)
 
--- moves that are reached by a street are reached by a later one
-reached_later : (newest street : ℕ) (list : List Move) → newest ≤ street → AreReached newest list → AreReached street list
-reached_later newest street [] most reached = tt
-reached_later newest street (move ∷ rest) most reached = (omega (arith, reached.0, most), reached_later newest street rest most reached.1)
-
 -- what a trace has of moves behind those of another is nothing
 pub no_more_moves : (setup : Setup) (rules others : Rules) (events later : List Said) (rest : List TracedMove) → HasEnded setup rules events → AreLegal setup others later
     → traced_moves setup (moves_of (past_of setup later)) ≡ traced_moves setup (moves_of (past_of setup events)) ++ rest → rest ≡ []
@@ -107,7 +96,7 @@ no_more_moves setup rules others events later rest ended legal is =
     (subst L all (legal_moves setup others later legal))
     (subst F all (legal_falling setup others later legal))
     (subst S all (legal_since setup others later legal))
-    (subst R all (reached_later (newest_street (past_of setup later)) (street_count setup.code) (moves_of (past_of setup later)) law.within law.moved)) in
+    (subst R all (reached_more (newest_street (past_of setup later)) (street_count setup.code) (moves_of (past_of setup later)) law.within law.moved)) in
     no_length rest (omega (arith, length-map rest plain_move, length-reverse (map plain_move rest), ap (λ (l : List Move). length l) none))
   where
     no_length : (list : List TracedMove) → length list ≡ 0 → list ≡ []

@@ -30,7 +30,7 @@ use Rattle.hand_differences.specs.SameParts.{is_same_clock, is_same_move, is_sam
 -- ---- what is not told of two values
 
 -- neither of two
-neither : {A : Type 0} (a b : Option A) → option_or a b ≡ None → (a ≡ None) × (b ≡ None)
+pub neither : {A : Type 0} (a b : Option A) → option_or a b ≡ None → (a ≡ None) × (b ≡ None)
 neither None b none = (refl, none)
 neither (Some x) b none = absurd (some_is_none none)
 
@@ -39,7 +39,7 @@ both None b one other = other
 both (Some x) b one other = absurd (some_is_none one)
 
 -- what is made of nothing
-made_none : {A B : Type 0} (f : A → B) (a : Option A) → option_map f a ≡ None → a ≡ None
+pub made_none : {A B : Type 0} (f : A → B) (a : Option A) → option_map f a ≡ None → a ≡ None
 made_none f None none = refl
 made_none f (Some x) none = absurd (some_is_none none)
 

@@ -9,7 +9,7 @@ use Rattle.command_words.specs.Words.{Request}
 use Rattle.convert_core.specs.Conversion.{ReadAsPlays}
 use Rattle.convert_core.proofs.LawfulNotations.{read_sound}
 use Rattle.hand_canon.specs.Sound.{IsSound}
-use Rattle.hand_differences.proofs.SameHands.{same_traces, same_with_notes}
+use Rattle.hand_differences.proofs.SameHands.{made_none, neither, same_traces, same_with_notes}
 use Rattle.hand_differences.specs.FirstDifference.{PlainDifference, first_difference}
 use Rattle.hand_records.specs.SameHands.{AllPaired}
 use Rattle.hand_records.specs.declared.trace.Play.{Play}
@@ -22,7 +22,7 @@ use Rattle.poker_cli.specs.Run.{Ends, RefusesNothing, Sinks}
 use Rattle.poker_cli.specs.declared.comparison.Comparison.{Comparison}
 use Rattle.poker_cli.specs.declared.status.Status.{Status}
 use Rattle.poker_cli.specs.declared.status.Status.TheVariants as statuses
-use Rattle.poker_cli.proofs.Comparisons.{by_request, compared_as, compared_legal, legal_compares, neither, unmade}
+use Rattle.poker_cli.proofs.Comparisons.{by_request, compared_as, compared_legal, legal_compares}
 use Rattle.poker_cli.proofs.Headline.{IsUnread, not_unread}
 use Rattle.poker_cli.proofs.LawfulFormats.{read_by}
 
@@ -124,7 +124,7 @@ so_far notes place [] (q ∷ qs) sound too none = tt
 so_far notes place (p ∷ ps) [] sound too none = tt
 so_far notes place (p ∷ ps) (q ∷ qs) sound too none =
     let parts = neither _ (first_different notes (place + 1) ps qs) none in (
-      (each_same notes place p q sound.0 too.0).0 (unmade _ (first_difference notes place p q) parts.0),
+      (each_same notes place p q sound.0 too.0).0 (made_none _ (first_difference notes place p q) parts.0),
       so_far notes (place + 1) ps qs sound.1 too.1 parts.1,
     )
 

@@ -17,7 +17,7 @@ use Rattle.convert_core.proofs.OneOutcome.{same_refused}
 use Rattle.convert_core.proofs.Paired.{each_both, each_spelled, paired_below, paired_both, paired_turned}
 use Rattle.first_fault.specs.declared.limits.TheConstants.{MOST_HANDS}
 use Rattle.hand_canon.specs.Sound.{IsSound}
-use Rattle.hand_differences.proofs.SameHands.{same_traces, same_with_notes}
+use Rattle.hand_differences.proofs.SameHands.{made_none, neither, same_traces, same_with_notes}
 use Rattle.hand_differences.specs.FirstDifference.{PlainDifference, first_difference, note_difference, play_difference}
 use Rattle.hand_records.specs.SaidNotes.{SaidNotes}
 use Rattle.hand_records.specs.SameHands.{AllPaired, AreSameHand, AreSameHands, kept_notes}
@@ -25,7 +25,7 @@ use Rattle.hand_records.specs.declared.trace.Play.{Play}
 use Rattle.hand_records.specs.declared.trace.Trace.{Trace}
 use Rattle.hand_records.specs.declared.writing.Keep.{Keep}
 use Rattle.hand_records.specs.declared.writing.Keep.TheVariants as keeps
-use Rattle.poker_cli.specs.Answer.{Answer, AsksToCompare, Files, IsAnswerIn, IsAnswerTo, IsComparedTo, IsComparedWith, IsComparison, comparison_under, in_file, most_input, to_refusal}
+use Rattle.poker_cli.specs.Answer.{Answer, AsksToCompare, Files, IsAnswerIn, IsComparedTo, IsComparedWith, IsComparison, comparison_under, in_file, most_input, to_refusal}
 use Rattle.poker_cli.specs.Answer as answers
 use Rattle.poker_cli.specs.Compared.{DifferentHand, compared, compared_by, first_different, to_other_count, to_same}
 use Rattle.poker_cli.specs.Headline.{ConvertsInto}
@@ -210,14 +210,6 @@ by_done found hands others none same =
     ap (λ (f : Option DifferentHand). (compared_by f hands others).status) none
     ∙ ap (λ (b : Bool). (if b then to_same hands else to_other_count hands others).status) (eq-eqb hands others same)
 
-pub neither : {A : Type 0} (a b : Option A) → option_or a b ≡ None → (a ≡ None) × (b ≡ None)
-neither None b none = (refl, none)
-neither (Some x) b none = absurd (cc)
-
-pub unmade : {A B : Type 0} (f : A → B) (a : Option A) → option_map f a ≡ None → a ≡ None
-unmade f None none = refl
-unmade f (Some x) none = absurd (cc)
-
 -- what holds of each pair where nothing differs, and the other way
 paired_of_none : (notes : Bool) (P : ℕ → Play → Play → Type 0)
     → ((place : ℕ) (play other : Play) → IsSound play → IsSound other → first_difference notes place play other ≡ None → P place play other)
@@ -229,7 +221,7 @@ paired_of_none notes P each place [] (q ∷ qs) sound too none count = absurd (c
 paired_of_none notes P each place (p ∷ ps) [] sound too none count = absurd (cc)
 paired_of_none notes P each place (p ∷ ps) (q ∷ qs) sound too none count =
     let parts = neither _ (first_different notes (place + 1) ps qs) none in (
-      each place p q sound.0 too.0 (unmade _ (first_difference notes place p q) parts.0),
+      each place p q sound.0 too.0 (made_none _ (first_difference notes place p q) parts.0),
       paired_of_none notes P each (place + 1) ps qs sound.1 too.1 parts.1 (omega (arith, count)),
     )
 

@@ -1,5 +1,5 @@
 -- An input has one answer, and none is refused whose hands are all legal.
-use Rattle.std.proofs.Common.{◌≡◌, ◌⊎◌, ℕ, ◌+◌, ◌-◌, ◌<◌, ◌≤◌, suc, All, List, [], ◌∷◌, ◌++◌, length, map, Option, Some, None, IfSome, Ok, refl, sym, subst, ap, ap₂, ◌∙◌, inl, inr, arith}
+use Rattle.std.proofs.Common.{◌≡◌, ◌⊎◌, ℕ, ◌+◌, ◌-◌, ◌<◌, ◌≤◌, All, List, [], ◌∷◌, ◌++◌, length, map, Option, Some, None, IfSome, Ok, refl, sym, subst, ap, ap₂, ◌∙◌, inl, inr, arith}
 use Rattle.std.specs.List.{range_with_len}
 use Rattle.toml.specs.Parse.{parse_document}
 use Rattle.std.specs.Option.{option_map, unwrap_or}
@@ -37,7 +37,7 @@ use Rattle.convert_core.proofs.LawfulNotations.{AreReadSame, all_read_same}
 use Rattle.convert_core.proofs.OneConversion.{all_same, IsReadAlike}
 use Rattle.convert_core.specs.Conversion.{ReadAsPlays}
 use Rattle.convert_core.proofs.OneOutcome.{AllTraced, no_plays, same_refused, same_traces}
-use Rattle.poker_cli.specs.Answer.{Answer, Files, GivesGame, GivesNoGame, IsAnswer, IsAnswerBy, IsAnswerIn, IsAnswerOf, IsAnswerTo, IsAnswerUnder, IsConversion, IsJudgement, IsReply, IsWay, IsWayUnder, done, most_input, text_of, to_excess, to_fault, to_first_game, to_refusal, to_unspelled, to_wrong_acpc, to_wrong_ohh, to_wrong_phh}
+use Rattle.poker_cli.specs.Answer.{Answer, Files, GivesGame, GivesNoGame, IsAnswer, IsAnswerBy, IsAnswerIn, IsAnswerOf, IsAnswerTo, IsConversion, IsJudgement, IsReply, IsWay, done, most_input, text_of, to_excess, to_fault, to_first_game, to_refusal, to_unspelled, to_wrong_acpc, to_wrong_ohh, to_wrong_phh}
 use Rattle.poker_cli.specs.Answer as answers
 use Rattle.poker_cli.specs.Inputs.{HaveFault, SayRecords}
 use Rattle.poker_cli.specs.OneAnswer.{AreOneAnswer}
@@ -56,7 +56,7 @@ use Rattle.hand_session.specs.Printed.{session_printed}
 use Rattle.hand_session.specs.Sessions.{session_of}
 use Rattle.chip_ledger.specs.declared.numbers.Seat.{Seat}
 use Rattle.poker_cli.specs.Replies.{AreViews}
-use Rattle.poker_cli.proofs.OneReply.{one_equity, one_options, one_view, same_sessions}
+use Rattle.poker_cli.proofs.OneReply.{as_many, one_equity, one_options, one_view, same_sessions}
 use Rattle.poker_cli.proofs.OneJudgement.{same_judged}
 use Rattle.list_laws.proofs.NumbersOfRange.{map_agree}
 use Rattle.chip_ledger.specs.SeatsSaid.{default_name}
@@ -72,13 +72,6 @@ same_lines lines line number [] (q ∷ qs) traced = absurd traced
 same_lines lines line number (p ∷ ps) [] traced = absurd traced
 same_lines lines line number (p ∷ ps) (q ∷ qs) traced =
     ap₂ (λ (here others : List ℕ). here ++ others) (line number p q traced.0.0 traced.0.1) (same_lines lines line (number + 1) ps qs traced.1)
-
-same_count : (ps qs : List Play) → AllTraced ps qs → length ps ≡ length qs
-unfolding AllTraced
-same_count [] [] traced = refl
-same_count [] (q ∷ qs) traced = absurd traced
-same_count (p ∷ ps) [] traced = absurd traced
-same_count (p ∷ ps) (q ∷ qs) traced = ap suc (same_count ps qs traced.1)
 
 same_check_line : (number : ℕ) (p q : Play) → p.trace ≡ q.trace → SayTheSame p.hand q.hand → check_line number p ≡ check_line number q
 same_check_line number p q traced same = ap (λ (trace : Trace). check_line number (record p { trace = trace })) traced
@@ -120,7 +113,7 @@ same_text : (command : Command) (ps qs : List Play) → All IsJudged ps → AllT
     → text_of command ps ≡ text_of command qs
 same_text commands.Check ps qs judged traced alike =
     ap₂ (λ (lines : List ℕ) (count : ℕ). lines ++ check_end count)
-    (same_lines check_line same_check_line 1 ps qs traced) (same_count ps qs traced)
+    (same_lines check_line same_check_line 1 ps qs traced) (as_many ps qs traced)
 same_text commands.Replay ps qs judged traced alike = same_lines replay_lines same_replay_lines 1 ps qs traced
 same_text commands.Report ps qs judged traced alike = ap report_on (same_hands ps qs judged traced alike)
 same_text commands.Session ps qs judged traced alike = ap (λ (hands : List SessionHand). session_printed (session_of hands)) (same_sessions ps qs traced alike)

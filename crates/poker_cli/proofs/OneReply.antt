@@ -29,11 +29,11 @@ use Rattle.play_event.specs.declared.event.Event.{Event}
 use Rattle.play_event.specs.declared.setup.Rules.{Rules}
 use Rattle.play_event.specs.declared.setup.Setup.{Setup}
 use Rattle.poker_cli.specs.AnswerParts.{Answer, done}
-use Rattle.poker_cli.specs.Replies.{AreOptionsAt, AreViews, IsEquityAt, each_view, hand_numbered, most_view_bytes, no_cards, no_event, no_hand}
+use Rattle.poker_cli.specs.Replies.{AreOptionsAt, AreViews, IsEquityAt, each_view, no_cards, no_event, no_hand}
 use Rattle.poker_cli.specs.Replies as replies
 
 -- as many plays
-as_many : (ps qs : List Play) → AllTraced ps qs → length ps ≡ length qs
+pub as_many : (ps qs : List Play) → AllTraced ps qs → length ps ≡ length qs
 unfolding AllTraced
 as_many [] [] traced = refl
 as_many [] (q ∷ qs) traced = absurd traced

@@ -24,8 +24,7 @@ use Rattle.hand_records.specs.declared.writing.Keep.{Keep}
 use Rattle.hand_records.specs.declared.writing.Keep.TheVariants as keeps
 use Rattle.hand_records.specs.declared.writing.Unspelled.{Unspelled}
 use Rattle.hand_records.specs.declared.writing.Unspelled.TheVariants as facts
-use Rattle.ohh_writing.specs.Spelled.{first_unspelled, trace_facts}
-use Rattle.ohh_writing.specs.Spelled.{unspelled as unspelled_in_ohh}
+use Rattle.ohh_writing.specs.Spelled.{first_unspelled, trace_facts, unspelled as unspelled_in_ohh}
 use Rattle.phh_writing.specs.Spelled.{unspelled as unspelled_in_phh}
 use Rattle.play_event.specs.declared.played.Move.{Move}
 use Rattle.poker_cli.specs.Inputs.{SayRecords}

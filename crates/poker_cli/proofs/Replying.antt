@@ -8,7 +8,7 @@ use Rattle.convert_core.specs.Conversion.{IsPlaysRefusal}
 use Rattle.convert_core.specs.declared.convert_fault.ConvertFault.{ConvertFault}
 use Rattle.convert_core.specs.declared.convert_fault.ConvertFault.TheVariants as convert_faults
 use Rattle.hand_records.specs.declared.trace.Play.{Play}
-use Rattle.poker_cli.specs.Answer.{Answer, Files, GivesGame, IsComparedIn, IsComparedTo, IsComparedWith, IsComparison, IsComparisonOf, IsToldOf, comparison_under, in_file, most_input, plain_comparison, to_excess, to_file_excess}
+use Rattle.poker_cli.specs.Answer.{Answer, Files, GivesGame, IsComparedIn, IsComparedTo, IsComparedWith, IsComparison, IsComparisonOf, IsToldOf, in_file, most_input, to_excess, to_file_excess}
 use Rattle.poker_cli.specs.Answer as answers
 use Rattle.poker_cli.specs.Inputs.{HaveFault, SayRecords}
 use Rattle.poker_cli.specs.Lacking.{AreOfLogs, AsksForGame, HasNoFile, HasNoGameFor, IsLackTold}

@@ -5,7 +5,7 @@ use Rattle.chip_ledger.specs.declared.numbers.Seat.{Seat}
 use Rattle.hand_equity.specs.Street.{HasNoEquity}
 use Rattle.hand_equity.specs.declared.refusal.NoEquity.{NoEquity}
 use Rattle.poker_cli.specs.AnswerParts.{done}
-use Rattle.poker_cli.specs.Replies.{IsEquityAt, hand_numbered, no_cards}
+use Rattle.poker_cli.specs.Replies.{IsEquityAt, no_cards}
 use Rattle.poker_cli.specs.Replies as replies
 use Rattle.poker_cli.proofs.Numbered.{found, not_found}
 use Rattle.poker_cli.proofs.replies.answer_with_equity.Goals as goal

@@ -2,7 +2,7 @@
 use Rattle.std.proofs.Common.{◌≤◌, ◌<◌, length, ap, subst, sym, ◌∙◌, arith, rules}
 use Rattle.std.proofs.lemmas.Result.{IfOk-weaker}
 use Rattle.poker_cli.specs.AnswerParts.{done}
-use Rattle.poker_cli.specs.Replies.{AreOptionsAt, hand_numbered, no_event}
+use Rattle.poker_cli.specs.Replies.{AreOptionsAt, no_event}
 use Rattle.poker_cli.specs.Replies as replies
 use Rattle.poker_cli.proofs.Numbered.{found, not_found}
 use Rattle.poker_cli.proofs.replies.answer_with_options.Goals as goal

@@ -2,7 +2,7 @@
 use Rattle.std.proofs.Common.{◌≡◌, ◌≤◌, ◌<◌, true, false, ap, subst, sym, ◌∙◌, arith, rules}
 use Rattle.std.proofs.lemmas.Result.{IfOk-weaker}
 use Rattle.poker_cli.specs.AnswerParts.{done, refusal}
-use Rattle.poker_cli.specs.Replies.{AreViews, each_view, most_view_bytes}
+use Rattle.poker_cli.specs.Replies.{AreViews}
 use Rattle.poker_cli.specs.Replies as replies
 use Rattle.poker_cli.specs.declared.status.Status.TheVariants as statuses
 use Rattle.poker_cli.proofs.SeenViews.{are_many}
