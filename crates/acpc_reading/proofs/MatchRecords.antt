@@ -8,8 +8,7 @@ use Rattle.hand_records.specs.declared.notes.Notes.{Notes}
 use Rattle.hand_records.specs.declared.record.Record.{Record}
 use Rattle.hand_records.specs.declared.record.NetRow.{NetRow}
 use Rattle.hand_records.specs.AllowedNotes.{AreAllowed, IsName, IsNoteText}
-use Rattle.hand_records.specs.SoundRecord.{script_said}
-use Rattle.hand_records.specs.SoundRecord.{IsSoundRecord}
+use Rattle.hand_records.specs.SoundRecord.{script_said, IsSoundRecord}
 use Rattle.acpc_game.specs.declared.game.Game.{Game}
 use Rattle.acpc_reading.specs.RecordView.{AreOfGame, IsOfGame, IsSetupOf, NotesNames, StatesValues}
 use Rattle.acpc_reading.proofs.MatchSetups.{setup_valid}

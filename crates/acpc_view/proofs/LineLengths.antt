@@ -10,7 +10,7 @@ use Rattle.card_set.specs.Spelling.{spelling}
 use Rattle.play_event.specs.declared.setup.Setup.{Setup}
 use Rattle.play_event.specs.Past.{Move}
 use Rattle.play_event.specs.Trace.{TracedMove, TracedPlace}
-use Rattle.canon_script.specs.CanonScript.{dealt_slots}
+use Rattle.canon_script.specs.CanonScript.{dealt_slots, plain_move, plain_moves}
 use Rattle.canon_script.specs.TraceCore.{TraceCore}
 use Rattle.canon_script.specs.Tidy.{IsTidy}
 use Rattle.canon_laws.proofs.MoveCounts.{tidy_within}
@@ -19,17 +19,15 @@ use Rattle.hand_records.specs.SoundRecord.{script_said}
 use Rattle.hand_records.specs.TraceRows.{core_said}
 use Rattle.hand_records.specs.declared.trace.Play.{Play}
 use Rattle.play_event.specs.Played.{move_said}
-use Rattle.acpc_writing.specs.Betting.{betting_text, letters_on, round_text}
+use Rattle.acpc_writing.specs.Betting.{betting_text, letters_on, round_text, letter_on}
 use Rattle.acpc_writing.specs.Cards.{board_text, boards_text, cards_text, hole_text, holes_text}
 use Rattle.acpc_writing.specs.Rounds.{behind_stroke, has_board}
 use Rattle.acpc_writing.proofs.Totals.{sound_few}
-use Rattle.acpc_writing.specs.Betting.{letter_on}
 use Rattle.first_fault.specs.Digits.{are_digits}
 use Rattle.acpc_writing.specs.Names.{hand_text, is_spelled_hand}
 use Rattle.acpc_writing.specs.Seats.{bar_before, for_seats}
 use Rattle.acpc_writing.specs.Puts.{HavePut}
 use Rattle.acpc_writing.proofs.Letters.{letter_next}
-use Rattle.canon_script.specs.CanonScript.{plain_move, plain_moves}
 use Rattle.chip_ledger.specs.Seat.{seats_of}
 use Rattle.hand_canon.proofs.OneByOne.{flat_more}
 use Rattle.hand_records.specs.declared.trace.Trace.{Trace}

@@ -1,6 +1,6 @@
 //! What a seat owes, whether it may fold, and what a call or a bring-in comes to are told by the
 //! running numbers.
-ghost use Rattle.std.specs.Prelude.{◌≡◌, ◌≤◌, ◌-◌, is_none, Some};
+ghost use Rattle.std.specs.Prelude.{◌≡◌, ◌-◌, is_none, Some};
 ghost use Rattle.betting_numbers.specs.Seen.{owed_seen};
 ghost use Rattle.betting_numbers.specs.Why.{bring_in_seen, call_seen, fold_why};
 ghost use Rattle.chip_ledger.specs.SeatRow.{amount_of};

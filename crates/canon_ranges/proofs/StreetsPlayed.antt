@@ -11,7 +11,7 @@ use Rattle.canon_laws.proofs.StreetDeals.{group_is}
 use Rattle.canon_script.specs.CanonScript.{dealt_slots, is_dealt_to}
 use Rattle.card_set.specs.Known.{is_unknown}
 use Rattle.list_laws.proofs.Any.{list_any-filter, list_any-map}
-use Rattle.list_laws.proofs.Counting.{count_all}
+use Rattle.list_laws.proofs.Counting.{count_all, counts_fewer}
 use Rattle.list_laws.proofs.Finding.{none_stronger}
 use Rattle.play_event.specs.declared.setup.Setup.{Setup}
 use Rattle.play_event.specs.declared.setup.Rules.{Rules}
@@ -26,7 +26,6 @@ use Rattle.play_event.specs.Seats.{all_seats, is_live, live_count}
 use Rattle.play_event.specs.Streets.{has_draw}
 use Rattle.play_event.specs.Table.{places_of}
 use Rattle.play_event.specs.Trace.{TracedPlace, traced_places}
-use Rattle.list_laws.proofs.Counting.{counts_fewer}
 use Rattle.play_laws.proofs.DoneKept.{live_before}
 use Rattle.play_laws.proofs.DonePasts.{legal_done}
 use Rattle.play_laws.proofs.LegalPlaces.{group_count, legal_past}

@@ -8,8 +8,7 @@ use Rattle.play_event.specs.Games as tables
 use Rattle.play_event.specs.Games.{game_of}
 use Rattle.play_event.specs.declared.street.Street.{Street}
 use Rattle.variant_table.specs.declared.table.GameTable.{GameTable}
-use Rattle.variant_table.specs.Tables.{no_street}
-use Rattle.variant_table.specs.Tables.{IsTableOf, street_at}
+use Rattle.variant_table.specs.Tables.{no_street, IsTableOf, street_at}
 use Rattle.card_places.specs.Marks.{IsStreetOf}
 use Rattle.list_laws.proofs.Entries.{past_end}
 

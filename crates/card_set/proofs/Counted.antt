@@ -8,9 +8,8 @@ use Rattle.card_set.specs.declared.card.Rank.{Rank}
 use Rattle.card_set.specs.declared.card.Rank.TheVariants as ranks
 use Rattle.card_set.specs.declared.card.Suit.{Suit}
 use Rattle.card_set.specs.declared.card.Suit.TheVariants as suits
-use Rattle.card_set.specs.Deck.{suits_before}
+use Rattle.card_set.specs.Deck.{suits_before, all_ranks}
 use Rattle.card_set.specs.Ranks.{high_ace, low_ace, falling_heights, times, occurring, ranks_occurring, ranks_of, is_one_suit}
-use Rattle.card_set.specs.Deck.{all_ranks}
 use Rattle.card_set.proofs.DeckLaws.{suits_same}
 use Rattle.card_set.specs.Different.{Lacks, AllDifferent}
 use Rattle.list_laws.proofs.Counting.{count_by-cons, count_by-none, counts-le-sum, sum_by-values}

@@ -6,8 +6,7 @@ use Rattle.card_set.specs.declared.card.Rank.{Rank}
 use Rattle.card_set.specs.declared.card.Rank.TheVariants as ranks
 use Rattle.card_set.specs.declared.card.Suit.{Suit}
 use Rattle.card_set.specs.declared.card.Suit.TheVariants as suits
-use Rattle.card_set.specs.Deck.{ranks_below, suits_before, deck_place, is_same_card}
-use Rattle.card_set.specs.Deck.{all_ranks, all_suits}
+use Rattle.card_set.specs.Deck.{ranks_below, suits_before, deck_place, is_same_card, all_ranks, all_suits}
 
 -- the rank with so many below it
 rank_at : (rank : Rank) → slice_get all_ranks (ranks_below rank) ≡ Some rank

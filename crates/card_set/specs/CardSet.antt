@@ -4,9 +4,8 @@ use Rattle.std.specs.Int.{bit_at}
 use Rattle.std.specs.List.{flat_map}
 use Rattle.card_set.specs.declared.card.Card.{Card}
 use Rattle.card_set.specs.declared.set.CardSet.{CardSet}
-use Rattle.card_set.specs.Deck.{ranks_below, suits_before, is_same_card}
+use Rattle.card_set.specs.Deck.{ranks_below, suits_before, is_same_card, all_ranks, all_suits}
 use Rattle.card_set.specs.Different.{AllDifferent}
-use Rattle.card_set.specs.Deck.{all_ranks, all_suits}
 
 -- the place of a card among the bits of a set: suit by suit, and in a suit from the two to the ace
 abbrev pub bit_place : Card → ℕ

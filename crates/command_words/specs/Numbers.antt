@@ -1,6 +1,5 @@
 -- The numbers of options are decimal digits, each in its own range.
-use Rattle.std.specs.Prelude.{◌≡◌, ℕ, ◌&&◌, Bool, true, false, if◌then◌else◌, List, length, leb, nat_le}
-use Rattle.std.specs.Prelude.{Option, Some, None, option_and_then}
+use Rattle.std.specs.Prelude.{◌≡◌, ℕ, ◌&&◌, Bool, true, false, if◌then◌else◌, List, length, leb, nat_le, Option, Some, None, option_and_then}
 use Rattle.std.proofs.Common.{refl}
 use Rattle.std.proofs.lemmas.Bool.{leb-true}
 use Rattle.chip_ledger.specs.declared.numbers.Seat.{Seat}

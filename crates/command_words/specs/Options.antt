@@ -1,6 +1,5 @@
 -- Which words are options: each stands once, in any order, with its value in its word or behind it.
-use Rattle.std.specs.Prelude.{◌&&◌, ◌||◌, not, Bool, true, false, if◌then◌else◌, List, [], ◌∷◌, ℕ}
-use Rattle.std.specs.Prelude.{codes, Option, Some, None, is_some, is_none, option_and_then}
+use Rattle.std.specs.Prelude.{◌&&◌, ◌||◌, not, Bool, true, false, if◌then◌else◌, List, [], ◌∷◌, ℕ, codes, Option, Some, None, is_some, is_none, option_and_then}
 use Rattle.std.specs.Str.{bytes_eq}
 use Rattle.clap.specs.Lexer.{long_of, strip_byte}
 

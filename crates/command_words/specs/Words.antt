@@ -1,9 +1,7 @@
 -- Which words say what is asked for: the word of a command, and behind it its options and no other.
-use Rattle.std.specs.Prelude.{ℕ, Bool, false, not, if◌then◌else◌, List, [], ◌∷◌, codes}
-use Rattle.std.specs.Prelude.{Option, Some, None, option_and_then}
+use Rattle.std.specs.Prelude.{ℕ, Bool, false, not, if◌then◌else◌, List, [], ◌∷◌, codes, Option, Some, None, option_and_then}
 use Rattle.std.specs.Str.{bytes_eq}
-use Rattle.command_words.specs.Numbers.{events_said, hand_said, hands_said, seat_said}
-use Rattle.command_words.specs.Numbers.{seed_said, street_said}
+use Rattle.command_words.specs.Numbers.{events_said, hand_said, hands_said, seat_said, seed_said, street_said}
 use Rattle.command_words.specs.Options.{GivenOptions, are_none, no_options, options_said}
 use Rattle.command_words.specs.declared.command.Command.TheVariants as commands
 use Rattle.command_words.specs.declared.notation.NotationName.{NotationName}

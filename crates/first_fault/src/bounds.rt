@@ -1,5 +1,5 @@
 //! A number, and how many values a list has, are held against a least and a greatest number.
-ghost use Rattle.std.specs.Prelude.{◌≡◌, ◌≤◌, ◌&&◌, List, length, map, nat_le, IfOk};
+ghost use Rattle.std.specs.Prelude.{◌≡◌, ◌≤◌, ◌&&◌, length, nat_le, IfOk};
 ghost use Rattle.first_fault.specs.Forms.{within};
 ghost use Rattle.first_fault.specs.Reading.{Gives};
 

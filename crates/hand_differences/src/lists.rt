@@ -1,8 +1,7 @@
 //! The first number at which two lists of a trace are not the same is found, and the first seat
 //! that one hand alone shows.
-ghost use Rattle.std.specs.Prelude.{◌≡◌, max, length, not, option_map, slice_get, find};
+ghost use Rattle.std.specs.Prelude.{◌≡◌, max, not, option_map};
 ghost use Rattle.chip_ledger.specs.LiveRow.{flag_of};
-ghost use Rattle.chip_ledger.specs.Seat.{seats_of};
 ghost use Rattle.hand_differences.specs.FirstDifference.{card_difference as card_difference_said, difference_said, move_difference as move_difference_said, shown_difference as shown_difference_said};
 ghost use Rattle.hand_differences.specs.FirstNumbers.{entry_at, first_other_number, is_same_at};
 ghost use Rattle.hand_differences.specs.SameParts.{is_same_move as is_same_move_said, is_same_place as is_same_place_said, is_same_test as is_same_test_said};

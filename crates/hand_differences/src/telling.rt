@@ -1,5 +1,5 @@
 //! What is told of the first difference of two plays.
-ghost use Rattle.std.specs.Prelude.{◌≡◌, IfOk, option_map, string_bytes};
+ghost use Rattle.std.specs.Prelude.{◌≡◌, IfOk, string_bytes};
 ghost use Rattle.hand_differences.specs.DifferenceText.{difference_text as difference_text_said, note_text as note_text_said, owner_text as owner_text_said};
 ghost use Rattle.hand_differences.specs.FirstDifference.{Card, difference_said};
 ghost use Rattle.play_event.specs.Said.{seat_named};

@@ -1,6 +1,6 @@
 //! Equity is counted over all completions of a board, in the first order and, where half of a pot
 //! is paid by it, in the second.
-ghost use Rattle.std.specs.Prelude.{◌≡◌, ◌≤◌, ◌<◌, ◌+◌, ◌-◌, ◌^◌, ◌++◌, ℕ, IsTrue, List, length, sum, true, false};
+ghost use Rattle.std.specs.Prelude.{◌≡◌, ◌≤◌, ◌+◌, ◌-◌, ◌++◌, ℕ, IsTrue, List, length, sum, true, false};
 ghost use Rattle.card_set.specs.declared.card.Card.{Card};
 ghost use Rattle.card_set.specs.Row.{cards_of};
 ghost use Rattle.hand_order.specs.Choices.{IsAmong, choices};

@@ -1,5 +1,5 @@
 //! The calls of an object in memory are numbered from 0, and those fail whose number a list has.
-ghost use Rattle.std.specs.Prelude.{◌≡◌, ◌≤◌, ◌↔◌, IsErr, is_err};
+ghost use Rattle.std.specs.Prelude.{◌≤◌, ◌↔◌, IsErr, is_err};
 ghost use Rattle.host_io.specs.FaultPlan.{IsFresh, FailsNext, CountsCall};
 
 use crate::fault::{Failed, count_fault};

@@ -1,5 +1,4 @@
 -- Lemmas on the bits of numbers: how many are set, bits that several numbers have, the highest bit, and a bit that is cleared.
-use lib.Bits.{bit_or}
 use lib.Count.{count_leading_zeros, ones}
 use Rattle.std.proofs.Common.{◌≡◌, ◌↔◌, ℕ, zero, suc, ◌+◌, ◌-◌, ◌*◌, ◌/◌, ◌%◌, ◌^◌, ◌<◌, ◌≤◌, ◌==◌, Bool, true, false, cond, inl, inr, refl, sym, ◌∙◌, ap, arith, eqb-true, bit_and, count_ones, w16, bit_or}
 use Rattle.std.specs.Int.{bit_at, bit_not}

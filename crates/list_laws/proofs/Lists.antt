@@ -1,6 +1,6 @@
 -- Lemmas on lists without elements, first elements and fronts.
 use Rattle.std.proofs.Common.{Bool, List, None, Some, [], ap, arith, cond, drop, false, filter, if◌then◌else◌, length, length-append, map, refl, slice_get, sym, take, true, ℕ, ◌++◌, ◌+◌, ◌-◌, ◌∙◌, ◌∷◌, ◌≡◌, ◌≢◌, ◌≤◌, append_assoc, get_or, ◌*◌, ◌<◌}
-use Rattle.std.proofs.lemmas.List.{append-nil, append_assoc, drop-drop, take-append-drop, take_at, take_rest, length-drop, take_more}
+use Rattle.std.proofs.lemmas.List.{append-nil, drop-drop, take-append-drop, take_at, take_rest, length-drop, take_more}
 use Rattle.std.proofs.lemmas.List.Sums.{count_by-le-length, length-filter}
 
 -- what is mapped to nothing is nothing

@@ -2,7 +2,7 @@
 use Rattle.std.proofs.Common.{Bool, Err, IfOk, IfSome, IsSome, None, Ok, Option, Result, Some, ap, cond, false, is_none, is_some, not, refl, sym, true, ℕ, ◌↔◌, ◌≡◌, List, option_map, subst, ◌==◌, ◌||◌, true≢false}
 use Rattle.list_laws.proofs.Tests.{false_true}
 use Rattle.std.specs.Prelude.{IfNone, option_and_then}
-use Rattle.std.specs.Option.{option_map, ForSome, option_map_or, option_or}
+use Rattle.std.specs.Option.{ForSome, option_map_or, option_or}
 use Rattle.std.proofs.lemmas.Option.{same_Some}
 use Rattle.std.proofs.lemmas.Bool.{eqb-true, not-false}
 

@@ -22,7 +22,7 @@ use Rattle.ohh_format.proofs.SoundPlays.{sound_again}
 use Rattle.ohh_format.specs.Again.{hand_again, hands_again, script_again}
 use Rattle.ohh_format.specs.KeptNotes.{kept_in_ohh, moment_in_notes, numbers_round}
 use Rattle.ohh_writing.specs.Actions.{posts}
-use Rattle.ohh_writing.specs.Lines.{Spells, empty_line_before, hand_text, lines, lines_from}
+use Rattle.ohh_writing.specs.Lines.{Spells, empty_line_before, hand_text, lines_from}
 use Rattle.ohh_writing.specs.Moment.{moment_of, moment_said}
 use Rattle.ohh_writing.specs.Seating.{is_circular, number_among, numbers_spelled}
 use Rattle.ohh_writing.specs.Spelled.{unspelled}

@@ -1,5 +1,5 @@
 //! An event is packed into at most fifteen bytes, before any of them goes to a script.
-ghost use Rattle.std.specs.Prelude.{◌≡◌, ◌+◌, ◌^◌, ◌<◌, ◌≤◌, List, [], ◌∷◌, ◌++◌, length, map, IfSome, OnErr, OnOk};
+ghost use Rattle.std.specs.Prelude.{◌≡◌, ◌+◌, ◌<◌, ◌≤◌, List, ◌∷◌, ◌++◌, length, map, OnErr, OnOk};
 ghost use Rattle.std.specs.Int.{w64, to_be_bytes};
 ghost use Rattle.play_event.specs.declared.event.Event.{Event};
 ghost use Rattle.play_event.specs.EventNumbers.{ChipsFit, IsEvent, AreEvents};

@@ -1,5 +1,5 @@
 //! The line that is told where an input in the Poker Hand History format does not read as hands.
-ghost use Rattle.std.specs.Prelude.{◌≡◌, IfOk, Some, string_bytes};
+ghost use Rattle.std.specs.Prelude.{◌≡◌, IfOk, Some};
 ghost use Rattle.convert_core.specs.declared.format_fault.FormatFault.TheVariants as formats;
 ghost use Rattle.phh_reading.specs.Reading.{wrong_of};
 ghost use Rattle.poker_cli.specs.Answer as definition;
