@@ -12,12 +12,12 @@ use Rattle.acpc_game.specs.GameFile.{EntrySaid, number_said, numbers_after, entr
 
 -- what fails first fails as a whole
 pub fails_first : {A B F : Type 0} (stop : Stop F) (first : Result A F) (next : A → Result B F) → Fails stop first → Fails stop (first >>= next)
-fails_first stops.Memory first next fails = tt
+fails_first (stops.Memory memory) first next fails = tt
 fails_first (stops.At fault) first next fails = ap (λ read. read >>= next) fails
 
 -- what fails is what is equal to it
 pub fails_at : {A F : Type 0} (stop : Stop F) (first second : Result A F) → first ≡ second → Fails stop first → Fails stop second
-fails_at stops.Memory first second same fails = tt
+fails_at (stops.Memory memory) first second same fails = tt
 fails_at (stops.At fault) first second same fails = sym same ∙ fails
 
 within : (test : Bool) (value most number : ℕ) → nat_le value most ≡ test → (if test then Some value else None) ≡ Some number → number ≤ most

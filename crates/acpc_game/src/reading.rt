@@ -1,7 +1,7 @@
 //! A game file is read as the one game that it says, or its first fault is named.
 ghost use Rattle.std.specs.Prelude.{◌≡◌, ◌≤◌, if◌then◌else◌, true, nat_le, None, length, map, option_map, slice_index, IfOk, IfErr};
 ghost use Rattle.std.specs.List.{list_all};
-ghost use Rattle.first_fault.specs.Reading.{Gives};
+ghost use Rattle.first_fault.specs.Reading.{Gives, IsWant};
 ghost use Rattle.acpc_text.specs.Faults.{Answers};
 ghost use Rattle.acpc_game.specs.declared.key.GameKey.TheVariants as keys;
 ghost use Rattle.acpc_game.specs.Entries.{entry_said};
@@ -33,7 +33,7 @@ pub fn read_game(alloc: Global, bytes: &[u8]) -> Result<Game, AcpcFault>
 {
     match read(alloc, bytes) {
         Ok(game) => Ok(game),
-        Err(Stop::Memory) => Err(AcpcFault::Memory),
+        Err(Stop::Memory(memory)) => Err(AcpcFault::Memory(memory)),
         Err(Stop::At(fault)) => Err(fault),
     }
 }
@@ -67,7 +67,7 @@ fn game_by_end(alloc: Global, entries: &[Entry], count: u64) -> Result<Game, Sto
 fn stacks_of(alloc: Global, entries: &[Entry]) -> Result<Vec<u64>, Stop<AcpcFault>>
     ensures stacks { IfOk result (λ stacks. stacks.items ≡ stacks_at (map entry_said entries.now)) }
     ensures few { IfOk result (λ stacks. are_chips stacks.items ≡ true) }
-    ensures memory { IfErr result (λ stop. stop ≡ Stop.Memory) }
+    ensures memory { IfErr result IsWant }
 {
     if has_key(entries, GameKey::Stack) {
         Ok(Vec::from_slice(alloc, numbers_at(entries, GameKey::Stack))?)

@@ -9,7 +9,7 @@ use crate::game::Game;
 use crate::supported::opener_of;
 use card_set::Memory;
 use chip_ledger::SeatRow;
-use std::alloc::{AllocError, Global};
+use std::alloc::Global;
 
 /// The game file of a game.
 #[tactic(auto, unfolding(crate::specs::GameText::game_text))]
@@ -30,7 +30,7 @@ pub fn write_game(alloc: Global, game: &Game) -> Result<Vec<u8>, Memory>
 
 // Whether there is a limit, the players, the rounds, the stacks and the blinds.
 #[tactic(auto, unfolding(crate::specs::GameText::chips_text))]
-fn push_chips(alloc: Global, out: &mut Vec<u8>, game: &Game) -> Result<(), AllocError>
+fn push_chips(alloc: Global, out: &mut Vec<u8>, game: &Game) -> Result<(), Memory>
     ensures { OnOk result (out.new.items ≡ out.old.items ++ chips_text (game_in game.now)) }
 {
     let stacks = amounts_of(&game.stacks);
@@ -41,18 +41,20 @@ fn push_chips(alloc: Global, out: &mut Vec<u8>, game: &Game) -> Result<(), Alloc
 
 // Whether there is a limit.
 #[tactic(auto, unfolding(crate::specs::GameText::kind_text))]
-fn push_kind(out: &mut Vec<u8>, no_limit: bool) -> Result<(), AllocError>
+fn push_kind(out: &mut Vec<u8>, no_limit: bool) -> Result<(), Memory>
     ensures { OnOk result (out.new.items ≡ out.old.items ++ kind_text no_limit) }
 {
     if no_limit {
-        return out.extend_from_slice(b"nolimit\n");
+        out.extend_from_slice(b"nolimit\n")?;
+        return Ok(());
     }
-    out.extend_from_slice(b"limit\n")
+    out.extend_from_slice(b"limit\n")?;
+    Ok(())
 }
 
 // The players and the rounds.
 #[tactic(auto, unfolding(crate::specs::GameText::counts_text))]
-fn push_counts(alloc: Global, out: &mut Vec<u8>, players: u64) -> Result<(), AllocError>
+fn push_counts(alloc: Global, out: &mut Vec<u8>, players: u64) -> Result<(), Memory>
     ensures { OnOk result (out.new.items ≡ out.old.items ++ counts_text players) }
 {
     push_line(alloc, out, "numPlayers", &[players])?;
@@ -66,7 +68,7 @@ fn push_rows(
     out: &mut Vec<u8>,
     stacks: &[u64],
     blinds: &[u64],
-) -> Result<(), AllocError>
+) -> Result<(), Memory>
     ensures { OnOk result (out.new.items ≡ out.old.items ++ rows_text stacks.now blinds.now) }
 {
     push_line(alloc, out, "stack", stacks)?;
@@ -75,7 +77,7 @@ fn push_rows(
 
 // The sizes of raises of a limit game.
 #[tactic(auto, unfolding(crate::specs::GameText::sizes_text))]
-fn push_sizes(alloc: Global, out: &mut Vec<u8>, game: &Game) -> Result<(), AllocError>
+fn push_sizes(alloc: Global, out: &mut Vec<u8>, game: &Game) -> Result<(), Memory>
     ensures { OnOk result (out.new.items ≡ out.old.items ++ sizes_text (game_in game.now)) }
 {
     if game.no_limit {
@@ -92,7 +94,7 @@ fn push_sizes(alloc: Global, out: &mut Vec<u8>, game: &Game) -> Result<(), Alloc
 
 // The first seats of the rounds, and the most raises of each.
 #[tactic(auto, unfolding(crate::specs::GameText::turns_text))]
-fn push_turns(alloc: Global, out: &mut Vec<u8>, game: &Game) -> Result<(), AllocError>
+fn push_turns(alloc: Global, out: &mut Vec<u8>, game: &Game) -> Result<(), Memory>
     ensures { OnOk result (out.new.items ≡ out.old.items ++ turns_text (game_in game.now)) }
 {
     push_first(alloc, out, amounts_of(&game.blinds))?;
@@ -101,7 +103,7 @@ fn push_turns(alloc: Global, out: &mut Vec<u8>, game: &Game) -> Result<(), Alloc
 
 // The first seats of the rounds.
 #[tactic(auto, unfolding(crate::specs::GameText::first_text))]
-fn push_first(alloc: Global, out: &mut Vec<u8>, blinds: &[u64]) -> Result<(), AllocError>
+fn push_first(alloc: Global, out: &mut Vec<u8>, blinds: &[u64]) -> Result<(), Memory>
     ensures { OnOk result (out.new.items ≡ out.old.items ++ first_text blinds.now) }
 {
     push_line(alloc, out, "firstPlayer", &[opener_of(blinds), 1, 1, 1])
@@ -116,7 +118,7 @@ fn amounts_of(row: &SeatRow) -> &[u64]
 
 // The most raises of each round, if there is a most.
 #[tactic(auto, unfolding(crate::specs::GameText::caps_text))]
-fn push_caps(alloc: Global, out: &mut Vec<u8>, caps: Option<[u32; 4]>) -> Result<(), AllocError>
+fn push_caps(alloc: Global, out: &mut Vec<u8>, caps: Option<[u32; 4]>) -> Result<(), Memory>
     ensures { OnOk result (out.new.items ≡ out.old.items ++ caps_text caps) }
 {
     match caps {
@@ -148,17 +150,18 @@ fn push_line(
     out: &mut Vec<u8>,
     word: &str,
     numbers: &[u64],
-) -> Result<(), AllocError>
+) -> Result<(), Memory>
     ensures { OnOk result (out.new.items ≡ out.old.items ++ key_line word.now numbers.now) }
 {
     out.extend_from_slice(word.as_bytes())?;
     out.extend_from_slice(b" =")?;
     push_numbers(alloc, out, numbers)?;
-    out.extend_from_slice(b"\n")
+    out.extend_from_slice(b"\n")?;
+    Ok(())
 }
 
 // Numbers, with a space in front of each.
-fn push_numbers(alloc: Global, out: &mut Vec<u8>, numbers: &[u64]) -> Result<(), AllocError>
+fn push_numbers(alloc: Global, out: &mut Vec<u8>, numbers: &[u64]) -> Result<(), Memory>
     ensures { OnOk result (out.new.items ≡ out.old.items ++ spaced numbers.now) }
 {
     for number in numbers {

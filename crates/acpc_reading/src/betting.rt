@@ -3,8 +3,9 @@ ghost use Rattle.std.specs.Prelude.{◌≡◌, IfOk};
 ghost use Rattle.acpc_reading.specs.Betting.{no_bets};
 ghost use Rattle.acpc_reading.specs.Views.{bets_in};
 
+use card_set::Memory;
 use crate::step::BettingStep;
-use std::alloc::{AllocError, Global};
+use std::alloc::Global;
 
 // For so many letters of a hand room is made at once, and for more of them as they come.
 const USUAL_LETTERS: usize = 64;
@@ -23,7 +24,7 @@ pub struct ReadBetting {
 
 impl ReadBetting {
     /// No betting, in a file without moves.
-    pub fn new(alloc: Global) -> Result<Self, AllocError>
+    pub fn new(alloc: Global) -> Result<Self, Memory>
         ensures { IfOk result (λ betting. bets_in betting ≡ no_bets 0) }
     {
         Ok(ReadBetting {

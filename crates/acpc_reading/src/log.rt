@@ -35,7 +35,7 @@ pub fn read(alloc: Global, game: &Game, bytes: &[u8]) -> Result<Records, AcpcFau
 {
     match read_lines(alloc, game, bytes) {
         Ok(records) => Ok(records),
-        Err(Stop::Memory) => Err(AcpcFault::Memory),
+        Err(Stop::Memory(memory)) => Err(AcpcFault::Memory(memory)),
         Err(Stop::At(fault)) => Err(fault),
     }
 }
@@ -90,7 +90,7 @@ fn take_line(
     }
     match read_line(alloc, game, records, betting, text) {
         Ok(()) => Ok(()),
-        Err(Stop::Memory) => Err(Stop::Memory),
+        Err(Stop::Memory(memory)) => Err(Stop::Memory(memory)),
         Err(Stop::At(fault)) => Err(Stop::At(fault_in_line(line, fault))),
     }
 }

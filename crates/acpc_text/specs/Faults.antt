@@ -36,7 +36,7 @@ in_line line (Err fault) = Err (fault_in_line line fault)
 -- reading never gives Memory.
 abbrev pub Answers : {X Y : Type 0} → (X → Y) → Result X AcpcFault → Result Y AcpcFault → Type 0
 Answers view (Ok x) reading = reading ≡ Ok (view x)
-Answers view (Err faults.Memory) reading = Unit {0}
+Answers view (Err (faults.Memory memory)) reading = Unit {0}
 Answers view (Err (faults.LineShape line byte)) reading = reading ≡ Err (faults.LineShape line byte)
 Answers view (Err (faults.BadBetting line byte)) reading =
     reading ≡ Err (faults.BadBetting line byte)

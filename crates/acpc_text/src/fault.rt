@@ -3,6 +3,7 @@ ghost use Rattle.std.specs.Prelude.{◌≡◌};
 ghost use Rattle.acpc_text.specs.Faults.{fault_in_line as fault_in_line_said};
 ghost use Rattle.first_fault.specs.Numbers.{kept_number as kept_said};
 
+use card_set::Memory;
 use first_fault::Quantity;
 
 /// What is wrong with a line.
@@ -73,7 +74,7 @@ pub enum AcpcFault {
         line: u32,
         byte: u32,
     },
-    Memory,
+    Memory(Memory),
 }
 
 /// The fault of a line with this number.

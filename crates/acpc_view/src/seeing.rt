@@ -8,10 +8,11 @@ ghost use Rattle.hand_records.specs.TraceRows.{core_said, place_said};
 ghost use Rattle.play_event.specs.Played.{move_said};
 ghost use Rattle.play_event.specs.Said.{seat_named};
 
+use card_set::Memory;
 use chip_ledger::{LiveRow, Seat};
 use hand_records::Trace;
 use play_event::{Move, Place};
-use std::alloc::{AllocError, Global};
+use std::alloc::Global;
 
 /// The cards that a seat sees behind the first so many moves, each with its place.
 pub fn seen_places(
@@ -19,7 +20,7 @@ pub fn seen_places(
     trace: &Trace,
     viewer: Seat,
     count: usize,
-) -> Result<Vec<Place>, AllocError>
+) -> Result<Vec<Place>, Memory>
     ensures { IfOk result (λ seen. map place_said seen.items
         ≡ seen_places_said (core_said trace.now) viewer.number count) }
 {
@@ -32,7 +33,7 @@ pub fn seen_places(
 }
 
 // Puts a card behind the others, if it is seen.
-fn push_where(seen: &mut Vec<Place>, place: Place, sees: bool) -> Result<(), AllocError>
+fn push_where(seen: &mut Vec<Place>, place: Place, sees: bool) -> Result<(), Memory>
     ensures { OnOk result (seen.new.items
         ≡ seen.old.items ++ (if sees then place ∷ [] else [])) }
 {

@@ -11,7 +11,7 @@ use card_set::Memory;
 use chip_ledger::Seat;
 use first_fault::Text;
 use hand_records::{Play, Trace};
-use std::alloc::{AllocError, Global};
+use std::alloc::Global;
 
 /// The lines that a seat saw of the play at a place of its file, from 0, under the game of that
 /// file.
@@ -35,7 +35,7 @@ pub fn views(
 {
     match lines(alloc, game.no_limit, play, place as usize, viewer) {
         Ok(bytes) => Ok(bytes),
-        Err(_) => Err(Memory),
+        Err(refused) => Err(Memory::from(refused)),
     }
 }
 
@@ -47,7 +47,7 @@ fn lines(
     play: &Play,
     place: usize,
     viewer: Seat,
-) -> Result<Vec<u8>, AllocError>
+) -> Result<Vec<u8>, Memory>
     requires { IsSound play.now }
     ensures { IfOk result (λ bytes. bytes.items
         ≡ views_text no_limit viewer.number place play.now) }
@@ -71,7 +71,7 @@ fn push_view(
     place: usize,
     viewer: Seat,
     count: usize,
-) -> Result<(), AllocError>
+) -> Result<(), Memory>
     requires sound { IsSound play.now }
     requires there { count ≤ length play.now.trace.moves }
     ensures { OnOk result (out.new.items ≡ out.old.items
@@ -80,7 +80,7 @@ fn push_view(
     push_head(alloc, out, viewer, place, &play.hand.notes.hand)?;
     out.extend_from_slice(b":")?;
     push_seen(alloc, out, no_limit, &play.trace, viewer, count)?;
-    out.extend_from_slice(b"\n")
+    Ok(out.extend_from_slice(b"\n")?)
 }
 
 // `MATCHSTATE`, the number of the seat from 0, and that of the hand.
@@ -91,7 +91,7 @@ fn push_head(
     viewer: Seat,
     place: usize,
     hand: &Option<Text>,
-) -> Result<(), AllocError>
+) -> Result<(), Memory>
     ensures { OnOk result (out.new.items
         ≡ out.old.items ++ head_text viewer.number place hand.now) }
 {
@@ -111,7 +111,7 @@ fn push_seen(
     trace: &Trace,
     viewer: Seat,
     count: usize,
-) -> Result<(), AllocError>
+) -> Result<(), Memory>
     requires few { HaveFewChips trace.now.setup trace.now.moves }
     requires there { count ≤ length trace.now.moves }
     ensures { OnOk result (out.new.items

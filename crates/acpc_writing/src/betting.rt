@@ -7,10 +7,11 @@ ghost use Rattle.hand_records.specs.TraceRows.{place_said};
 ghost use Rattle.acpc_writing.specs.Betting.{betting_text, letter, letter_on, letters_on, round_text};
 ghost use Rattle.acpc_writing.specs.Puts.{HaveFewChips};
 
+use card_set::Memory;
 use crate::cards::has_board;
 use crate::puts::{add, posted_chips};
 use play_event::{Act, Move, Place, Setup};
-use std::alloc::{AllocError, Global};
+use std::alloc::Global;
 
 /// The betting of a hand with these moves and cards. Raises have their totals where the game has no
 /// limit.
@@ -22,7 +23,7 @@ pub fn push_betting(
     setup: &Setup,
     moves: &[Move],
     places: &[Place],
-) -> Result<(), AllocError>
+) -> Result<(), Memory>
     requires { HaveFewChips setup.now moves.now }
     ensures { OnOk result (out.new.items ≡ out.old.items
         ++ betting_text no_limit setup.now (map place_said places.now)
@@ -57,7 +58,7 @@ impl SpelledMoves<'_> {
         out: &mut Vec<u8>,
         places: &[Place],
         street: u8,
-    ) -> Result<(), AllocError>
+    ) -> Result<(), Memory>
         ensures { OnOk result (out.new.items ≡ out.old.items
             ++ round_text self.now.no_limit self.now.setup.now (map place_said places.now)
             (plain_moves (map move_said self.now.moves.now)) street) }
@@ -70,7 +71,7 @@ impl SpelledMoves<'_> {
     }
 
     // The letters of a street.
-    fn push_letters(&self, alloc: Global, out: &mut Vec<u8>, street: u8) -> Result<(), AllocError>
+    fn push_letters(&self, alloc: Global, out: &mut Vec<u8>, street: u8) -> Result<(), Memory>
         ensures { OnOk result (out.new.items ≡ out.old.items
             ++ letters_on self.now.no_limit self.now.setup.now street
             (plain_moves (map move_said self.now.moves.now))) }
@@ -93,7 +94,7 @@ fn push_letter_on(
     street: u8,
     played: Move,
     total: u64,
-) -> Result<(), AllocError>
+) -> Result<(), Memory>
     ensures { OnOk result (out.new.items
         ≡ out.old.items ++ letter_on no_limit street (plain_move (move_said played)) total) }
 {
@@ -110,13 +111,13 @@ fn push_letter(
     no_limit: bool,
     act: Act,
     total: u64,
-) -> Result<(), AllocError>
+) -> Result<(), Memory>
     ensures { OnOk result (out.new.items
         ≡ out.old.items ++ letter no_limit (act_said act) total) }
 {
     match act {
-        Act::Fold => out.extend_from_slice(b"f"),
-        Act::Call => out.extend_from_slice(b"c"),
+        Act::Fold => Ok(out.extend_from_slice(b"f")?),
+        Act::Call => Ok(out.extend_from_slice(b"c")?),
         Act::Raise => push_raise(alloc, out, no_limit, total),
         Act::BringIn => Ok(()),
     }
@@ -128,7 +129,7 @@ fn push_raise(
     out: &mut Vec<u8>,
     no_limit: bool,
     total: u64,
-) -> Result<(), AllocError>
+) -> Result<(), Memory>
     ensures { OnOk result (out.new.items
         ≡ out.old.items ++ letter no_limit Raised total) }
 {
@@ -137,5 +138,5 @@ fn push_raise(
         return Ok(());
     }
     let digits = total.to_string(alloc)?;
-    out.extend_from_slice(digits.as_bytes())
+    Ok(out.extend_from_slice(digits.as_bytes())?)
 }

@@ -11,10 +11,10 @@ ghost use Rattle.acpc_writing.specs.Cards.{board_text, boards_text, cards_text, 
 ghost use Rattle.acpc_writing.specs.Rounds.{has_board as has_board_said};
 ghost use Rattle.acpc_writing.specs.Seats.{bar_before};
 
+use card_set::Memory;
 use card_set::{Slot, slot_text};
 use chip_ledger::Seat;
 use play_event::Place;
-use std::alloc::AllocError;
 
 /// Whether a card that an owner was dealt on a street is known.
 pub fn has_known(places: &[Place], owner: Option<Seat>, street: u8) -> bool
@@ -31,7 +31,7 @@ pub fn has_known(places: &[Place], owner: Option<Seat>, street: u8) -> bool
 
 /// The cards of a hand of so many seats.
 #[tactic(auto, unfolding(crate::specs::Cards::cards_text, crate::specs::Cards::holes_text))]
-pub fn push_cards(out: &mut Vec<u8>, places: &[Place], seats: u8) -> Result<(), AllocError>
+pub fn push_cards(out: &mut Vec<u8>, places: &[Place], seats: u8) -> Result<(), Memory>
     requires { seats ≤ 10 }
     ensures { OnOk result (out.new.items
         ≡ out.old.items ++ cards_text (map place_said places.now) seats) }
@@ -45,17 +45,17 @@ pub fn push_cards(out: &mut Vec<u8>, places: &[Place], seats: u8) -> Result<(), 
 }
 
 /// A bar, in front of each seat's text but the first.
-pub fn push_bar(out: &mut Vec<u8>, seat: Seat) -> Result<(), AllocError>
+pub fn push_bar(out: &mut Vec<u8>, seat: Seat) -> Result<(), Memory>
     ensures { OnOk result (out.new.items ≡ out.old.items ++ bar_before seat.number) }
 {
     if seat.number > 1 {
-        return out.extend_from_slice(b"|");
+        return Ok(out.extend_from_slice(b"|")?);
     }
     Ok(())
 }
 
 // The hole cards of a seat, if they are known.
-fn push_hole(out: &mut Vec<u8>, places: &[Place], seat: Seat) -> Result<(), AllocError>
+fn push_hole(out: &mut Vec<u8>, places: &[Place], seat: Seat) -> Result<(), Memory>
     ensures { OnOk result (out.new.items
         ≡ out.old.items ++ hole_text (map place_said places.now) seat.number) }
 {
@@ -90,7 +90,7 @@ fn is_hidden(slot: Slot) -> bool
 
 // The cards of the board.
 #[tactic(auto, unfolding(crate::specs::Cards::boards_text))]
-fn push_boards(out: &mut Vec<u8>, places: &[Place]) -> Result<(), AllocError>
+fn push_boards(out: &mut Vec<u8>, places: &[Place]) -> Result<(), Memory>
     ensures { OnOk result (out.new.items
         ≡ out.old.items ++ boards_text (map place_said places.now)) }
 {
@@ -101,7 +101,7 @@ fn push_boards(out: &mut Vec<u8>, places: &[Place]) -> Result<(), AllocError>
 
 // The cards of the board of a further round, if it was dealt.
 #[tactic(auto, unfolding(crate::specs::Cards::board_text))]
-fn push_board(out: &mut Vec<u8>, places: &[Place], street: u8) -> Result<(), AllocError>
+fn push_board(out: &mut Vec<u8>, places: &[Place], street: u8) -> Result<(), Memory>
     ensures { OnOk result (out.new.items
         ≡ out.old.items ++ board_text (map place_said places.now) street) }
 {
@@ -130,7 +130,7 @@ fn push_dealt(
     places: &[Place],
     owner: Option<Seat>,
     street: u8,
-) -> Result<(), AllocError>
+) -> Result<(), Memory>
     ensures { OnOk result (out.new.items ≡ out.old.items
         ++ spelling (dealt_slots (map place_said places.now) (seat_named owner) street)) }
 {
@@ -143,14 +143,14 @@ fn push_dealt(
 }
 
 // The card of a place, where it counts.
-fn push_card(out: &mut Vec<u8>, place: Place, counts: bool) -> Result<(), AllocError>
+fn push_card(out: &mut Vec<u8>, place: Place, counts: bool) -> Result<(), Memory>
     ensures { OnOk result (out.new.items
         ≡ out.old.items ++ (if counts then slot_spelling place.slot else [])) }
 {
     if !counts {
         return Ok(());
     }
-    out.extend_from_slice(&slot_text(place.slot))
+    Ok(out.extend_from_slice(&slot_text(place.slot))?)
 }
 
 /// Whether a card was dealt to an owner on a street.

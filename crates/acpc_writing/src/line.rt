@@ -5,13 +5,14 @@ ghost use Rattle.acpc_writing.specs.Line.{end_text, head_text, line_text, play_t
 ghost use Rattle.acpc_writing.specs.Puts.{HaveFewChips};
 ghost use Rattle.acpc_writing.specs.Texts.{AreTexts, HasTexts};
 
+use card_set::Memory;
 use crate::betting::push_betting;
 use crate::cards::push_cards;
 use crate::names::{push_hand, push_names};
 use crate::values::push_values;
 use first_fault::Text;
 use hand_records::{Notes, Play, Trace};
-use std::alloc::{AllocError, Global};
+use std::alloc::Global;
 
 /// Puts the line of the play at a place of its file, from 0, behind those of the plays before it,
 /// whole or not at all. Raises have their totals where the game has no limit.
@@ -22,7 +23,7 @@ pub fn push_line(
     no_limit: bool,
     place: usize,
     play: &Play,
-) -> Result<(), AllocError>
+) -> Result<(), Memory>
     requires { IsSound play.now }
     ensures written { OnOk result (out.new.items
         ≡ out.old.items ++ line_text no_limit place play.now) }
@@ -36,7 +37,7 @@ pub fn push_line(
     line.extend_from_slice(b":")?;
     push_end(alloc, &mut line, &play.trace, &play.hand.notes)?;
     line.extend_from_slice(b"\n")?;
-    out.extend_from_slice(line.as_slice())
+    Ok(out.extend_from_slice(line.as_slice())?)
 }
 
 // `STATE` and the number of the hand at a place of its file, from 0.
@@ -46,7 +47,7 @@ fn push_head(
     out: &mut Vec<u8>,
     place: usize,
     hand: &Option<Text>,
-) -> Result<(), AllocError>
+) -> Result<(), Memory>
     ensures { OnOk result (out.new.items ≡ out.old.items ++ head_text place hand.now) }
 {
     out.extend_from_slice(b"STATE:")?;
@@ -60,7 +61,7 @@ fn push_play(
     out: &mut Vec<u8>,
     no_limit: bool,
     trace: &Trace,
-) -> Result<(), AllocError>
+) -> Result<(), Memory>
     requires { HaveFewChips trace.now.setup trace.now.moves }
     ensures { OnOk result (out.new.items ≡ out.old.items ++ play_text no_limit trace.now) }
 {
@@ -83,7 +84,7 @@ fn push_end(
     out: &mut Vec<u8>,
     trace: &Trace,
     notes: &Notes,
-) -> Result<(), AllocError>
+) -> Result<(), Memory>
     requires { trace.now.finish.seats ≡ trace.now.setup.stacks.seats }
     ensures written { OnOk result (out.new.items ≡ out.old.items ++ end_text trace.now notes.now) }
     ensures texts { OnOk result (AreTexts trace.now.setup.stacks.seats notes.now) }

@@ -3,11 +3,10 @@ ghost use Rattle.std.specs.Prelude.{◌≡◌, ◌⊎◌, ◌≤◌, None, Some,
 ghost use Rattle.std.specs.List.{AllByRecursion};
 ghost use Rattle.hand_canon.specs.Sound.{IsSound};
 ghost use Rattle.first_fault.specs.declared.limits.TheConstants.{MOST_HANDS};
-ghost use Rattle.hand_records.specs.declared.writing.WriteRefusal.TheVariants as refusals;
 ghost use Rattle.acpc_writing.specs.Line.{log_text};
 ghost use Rattle.acpc_writing.specs.Spelled.{unspelled};
 ghost use Rattle.acpc_writing.specs.Texts.{HasTexts};
-ghost use Rattle.hand_records.specs.WriteRefusals.{first_refusal};
+ghost use Rattle.hand_records.specs.WriteRefusals.{IsWant, first_refusal};
 
 use crate::line::push_line;
 use crate::spelled::find_refusal;
@@ -32,7 +31,7 @@ pub fn write(
     ensures written { IfOk result (λ bytes. bytes.items ≡ log_text game.now.no_limit plays.now) }
     ensures texts { OnOk result (AllByRecursion HasTexts plays.now) }
     ensures spelled { OnOk result (first_refusal (unspelled game.now keep) plays.now ≡ None) }
-    ensures refused { IfErr result (λ refusal. (refusal ≡ refusals.Memory)
+    ensures refused { IfErr result (λ refusal. IsWant refusal
         ⊎ (first_refusal (unspelled game.now keep) plays.now ≡ Some refusal)) }
 {
     if let Some(refusal) = find_refusal(game, plays, keep) {

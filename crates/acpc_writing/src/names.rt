@@ -4,11 +4,12 @@ ghost use Rattle.acpc_writing.specs.Names.{hand_text, is_spelled_hand as is_spel
 ghost use Rattle.acpc_writing.specs.Texts.{AreTexts};
 ghost use Rattle.chip_ledger.specs.SeatsSaid.{default_name};
 
+use card_set::Memory;
 use crate::cards::push_bar;
 use chip_ledger::Seat;
 use first_fault::{Text, are_digits};
 use hand_records::Notes;
-use std::alloc::{AllocError, Global};
+use std::alloc::Global;
 
 /// The name of each of so many players, with bars between them.
 #[tactic(auto, unfolding(crate::specs::Names::names_text))]
@@ -17,7 +18,7 @@ pub fn push_names(
     out: &mut Vec<u8>,
     notes: &Notes,
     seats: u8,
-) -> Result<(), AllocError>
+) -> Result<(), Memory>
     requires { seats ≤ 10 }
     ensures written { OnOk result (out.new.items ≡ out.old.items ++ names_text notes.now seats) }
     ensures texts { OnOk result (AreTexts seats notes.now) }
@@ -36,7 +37,7 @@ fn push_name(
     out: &mut Vec<u8>,
     seat: Seat,
     name: &Option<Text>,
-) -> Result<(), AllocError>
+) -> Result<(), Memory>
     ensures written { OnOk result (out.new.items
         ≡ out.old.items ++ name_or_default seat.number name.now) }
     ensures text { IfSome name.now IsUtf8 }
@@ -46,18 +47,18 @@ fn push_name(
     };
     let name = name.as_str().as_bytes();
     if is_spelled_name(name) {
-        return out.extend_from_slice(name);
+        return Ok(out.extend_from_slice(name)?);
     }
     push_default(alloc, out, seat)
 }
 
 // The name of a seat's player where none is said.
-fn push_default(alloc: Global, out: &mut Vec<u8>, seat: Seat) -> Result<(), AllocError>
+fn push_default(alloc: Global, out: &mut Vec<u8>, seat: Seat) -> Result<(), Memory>
     ensures { OnOk result (out.new.items ≡ out.old.items ++ default_name seat.number) }
 {
     let digits = seat.number.to_string(alloc)?;
     out.extend_from_slice(b"p")?;
-    out.extend_from_slice(digits.as_bytes())
+    Ok(out.extend_from_slice(digits.as_bytes())?)
 }
 
 /// Whether a line spells a name: the name has no colon and no bar, and ends no line.
@@ -95,7 +96,7 @@ pub fn push_hand(
     out: &mut Vec<u8>,
     place: usize,
     name: &Option<Text>,
-) -> Result<(), AllocError>
+) -> Result<(), Memory>
     ensures { OnOk result (out.new.items ≡ out.old.items ++ hand_text place name.now) }
 {
     let Some(name) = name else {
@@ -103,18 +104,18 @@ pub fn push_hand(
     };
     let name = name.as_str().as_bytes();
     if is_spelled_hand(name) {
-        return out.extend_from_slice(name);
+        return Ok(out.extend_from_slice(name)?);
     }
     push_place(alloc, out, place)
 }
 
 // The digits of a place of a file.
 #[tactic(auto, unfolding(crate::specs::Names::hand_text))]
-fn push_place(alloc: Global, out: &mut Vec<u8>, place: usize) -> Result<(), AllocError>
+fn push_place(alloc: Global, out: &mut Vec<u8>, place: usize) -> Result<(), Memory>
     ensures { OnOk result (out.new.items ≡ out.old.items ++ hand_text place None) }
 {
     let digits = place.to_string(alloc)?;
-    out.extend_from_slice(digits.as_bytes())
+    Ok(out.extend_from_slice(digits.as_bytes())?)
 }
 
 /// Whether a line spells a number of a hand: a decimal number without leading zeros, of at most

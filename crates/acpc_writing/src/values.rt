@@ -2,9 +2,10 @@
 ghost use Rattle.std.specs.Prelude.{◌≡◌, ◌≤◌, ◌++◌, OnOk};
 ghost use Rattle.acpc_writing.specs.Values.{value_text, values_text};
 
+use card_set::Memory;
 use crate::cards::push_bar;
 use chip_ledger::{Seat, SeatRow};
-use std::alloc::{AllocError, Global};
+use std::alloc::Global;
 
 /// The value of each seat, with bars between them.
 #[tactic(auto, unfolding(crate::specs::Values::values_text))]
@@ -13,7 +14,7 @@ pub fn push_values(
     out: &mut Vec<u8>,
     stacks: &SeatRow,
     finish: &SeatRow,
-) -> Result<(), AllocError>
+) -> Result<(), Memory>
     requires { finish.now.seats ≡ stacks.now.seats }
     ensures { OnOk result (out.new.items ≡ out.old.items ++ values_text stacks.now finish.now) }
 {
@@ -32,7 +33,7 @@ fn push_value(
     stacks: &SeatRow,
     finish: &SeatRow,
     seat: Seat,
-) -> Result<(), AllocError>
+) -> Result<(), Memory>
     requires stack { seat.number ≤ stacks.now.seats }
     requires finish { seat.number ≤ finish.now.seats }
     ensures { OnOk result (out.new.items
@@ -43,8 +44,8 @@ fn push_value(
     if after < before {
         let digits = (before - after).to_string(alloc)?;
         out.extend_from_slice(b"-")?;
-        return out.extend_from_slice(digits.as_bytes());
+        return Ok(out.extend_from_slice(digits.as_bytes())?);
     }
     let digits = (after - before).to_string(alloc)?;
-    out.extend_from_slice(digits.as_bytes())
+    Ok(out.extend_from_slice(digits.as_bytes())?)
 }

@@ -26,7 +26,7 @@ pub enum NotMade {
     Refused { hand: u32 },
     /// The hand with this number has a fact without a spelling.
     Unspelled { hand: u32 },
-    Memory,
+    Memory(Memory),
 }
 
 impl NotMade {
@@ -35,7 +35,7 @@ impl NotMade {
         match self {
             NotMade::Refused { hand } => Ok(format!(in alloc; "refused: hand {hand}")?),
             NotMade::Unspelled { hand } => Ok(format!(in alloc; "unspelled: hand {hand}")?),
-            NotMade::Memory => Err(Memory),
+            NotMade::Memory(memory) => Err(*memory),
         }
     }
 }
@@ -71,13 +71,13 @@ pub fn file_made(alloc: Global, seed: u64, count: u32) -> Result<MadeFile, NotMa
     let plays = match plays_made(alloc, seed, count) {
         Ok(plays) => plays,
         Err(PlaysFault::Refused { hand, .. }) => return Err(NotMade::Refused { hand }),
-        Err(PlaysFault::Memory) => return Err(NotMade::Memory),
+        Err(PlaysFault::Memory(memory)) => return Err(NotMade::Memory(memory)),
     };
     let moves = moves_of(&plays);
     match phh_writing::write(alloc, &plays, Keep::All) {
         Ok(bytes) => Ok(MadeFile { bytes, moves }),
         Err(WriteRefusal::Unspelled { hand, .. }) => Err(NotMade::Unspelled { hand }),
-        Err(WriteRefusal::Memory) => Err(NotMade::Memory),
+        Err(WriteRefusal::Memory(memory)) => Err(NotMade::Memory(memory)),
     }
 }
 
@@ -89,7 +89,7 @@ fn plays_made(alloc: Global, seed: u64, count: u32) -> Result<Vec<Play>, PlaysFa
 {
     match make(alloc, seed, count) {
         Ok(hands) => plays_of(alloc, hands),
-        Err(Memory) => Err(PlaysFault::Memory),
+        Err(memory) => Err(PlaysFault::Memory(memory)),
     }
 }
 

@@ -10,3 +10,4 @@ pub mod Ranks
 pub mod Row
 pub mod Spelling
 pub mod UpCards
+pub mod Refusal

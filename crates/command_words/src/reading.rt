@@ -47,11 +47,12 @@ fn request_in_words(words: &[String]) -> Option<Request<'_>>
     request_of(word.as_str(), options)
 }
 
-// An error of the parser, where it is want of memory.
+// An error of the parser, where it is want of memory. It is a door.
+#[tactic(auto, using(card_set::specs::Refusal::an_allocator_said_so))]
 fn want_of_memory(_error: &clap::Error) -> Memory
     requires { kind_of _error.now ≡ OutOfMemory }
 {
-    Memory
+    Memory {}
 }
 
 // The words of a command, by the names of what they are. The parser takes them all, so that it

@@ -124,7 +124,7 @@ module _ (n : ReadNotation) (bytes : List ℕ) (unspelled : Play → Option Unsp
   converted_alone Spell Back plays (Err (faults.Format fault)) read spelled is = no_fault n bytes read.records fault read.say is
   converted_alone Spell Back plays (Err (faults.Refused number why)) read spelled is = refused_or_played (n.Say bytes) (n.one_reading bytes) number why plays is read
   converted_alone Spell Back plays (Err (faults.Unspelled number fact)) read spelled is = spelled_or_not number fact plays is read spelled
-  converted_alone Spell Back plays (Err faults.Memory) read spelled is = tt
+  converted_alone Spell Back plays (Err (faults.Memory memory)) read spelled is = tt
 
 -- ---- equal outputs, equal hands
 
@@ -200,7 +200,7 @@ module _ (n : WrittenNotation) (keep once : Keep) (plays : List Play) (output : 
   answer_again (Err (faults.Unspelled number fact)) has =
       let none : first_refusal (n.unspelled keep) has.plays ≡ None = none_again has.plays has.read in
       absurd (cc (none, has.first))
-  answer_again (Err faults.Memory) memory = tt
+  answer_again (Err (faults.Memory memory)) memory = tt
 
 pub output_again : (a : ReadNotation) (n : WrittenNotation) (once keep : Keep) (bytes output : List ℕ) (answer : Result (List ℕ) ConvertFault)
     → Converts a n once bytes (Ok output) → Converts n.source n keep output answer → AreSameAnswers n.AreSame (Ok output) answer
@@ -246,16 +246,16 @@ module _ (a : ReadNotation) (b c : WrittenNotation) (keep : Keep) (bytes output 
   same_answers (Ok written) (Err (faults.Format fault)) is it = done.back.no_fault fault it
   same_answers (Ok written) (Err (faults.Refused number why)) is it = never_refused b done.plays output number why done.back it
   same_answers (Ok written) (Err (faults.Unspelled number fact)) is it = done_or_not is.plays it.plays number fact is.read it.read is.spelled it.first
-  same_answers (Ok written) (Err faults.Memory) is it = tt
+  same_answers (Ok written) (Err (faults.Memory memory)) is it = tt
   same_answers (Err (faults.Unspelled number fact)) (Ok again) is it = not_or_done is.plays it.plays number fact is.read it.read is.first it.spelled
   same_answers (Err (faults.Unspelled number fact)) (Err (faults.Format other)) is it = done.back.no_fault other it
   same_answers (Err (faults.Unspelled number fact)) (Err (faults.Refused other why)) is it = never_refused b done.plays output other why done.back it
   same_answers (Err (faults.Unspelled number fact)) (Err (faults.Unspelled other too)) is it =
       let same : Some (refusals.Unspelled number fact) ≡ Some (refusals.Unspelled other too) = sym is.first ∙ one_first is.plays it.plays is.read it.read ∙ it.first in
       (cc, cc)
-  same_answers (Err (faults.Unspelled number fact)) (Err faults.Memory) is it = tt
-  same_answers (Err faults.Memory) (Ok again) is it = tt
-  same_answers (Err faults.Memory) (Err (faults.Format fault)) is it = done.back.no_fault fault it
-  same_answers (Err faults.Memory) (Err (faults.Refused number why)) is it = never_refused b done.plays output number why done.back it
-  same_answers (Err faults.Memory) (Err (faults.Unspelled number fact)) is it = tt
-  same_answers (Err faults.Memory) (Err faults.Memory) is it = tt
+  same_answers (Err (faults.Unspelled number fact)) (Err (faults.Memory memory)) is it = tt
+  same_answers (Err (faults.Memory memory)) (Ok again) is it = tt
+  same_answers (Err (faults.Memory memory)) (Err (faults.Format fault)) is it = done.back.no_fault fault it
+  same_answers (Err (faults.Memory memory)) (Err (faults.Refused number why)) is it = never_refused b done.plays output number why done.back it
+  same_answers (Err (faults.Memory memory)) (Err (faults.Unspelled number fact)) is it = tt
+  same_answers (Err (faults.Memory memory)) (Err (faults.Memory other)) is it = tt

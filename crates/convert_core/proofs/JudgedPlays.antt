@@ -72,4 +72,4 @@ first_refused plays hand left records number (plays_faults.Refused told why) jud
       counted = refused.0 ∙ counted;
       refused = refused.1;
     }
-first_refused plays hand left records number plays_faults.Memory judged stands counted refused = tt
+first_refused plays hand left records number (plays_faults.Memory memory) judged stands counted refused = tt

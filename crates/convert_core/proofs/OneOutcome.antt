@@ -21,7 +21,7 @@ use Rattle.trace_laws.proofs.OneTrace.{one_past}
 use Rattle.replay_core.specs.declared.fault.ReplayFault.{ReplayFault}
 use Rattle.replay_core.specs.declared.fault.ReplayFault.TheVariants as faults
 use Rattle.replay_core.specs.Events.{said_by}
-use Rattle.replay_core.specs.Faults.{IsFaultOf}
+use Rattle.replay_core.specs.Faults.{IsFaultOf, IsWant}
 use Rattle.replay_core.proofs.OneFault.{no_fault, one_fault}
 use Rattle.convert_core.specs.declared.refusal.Refusal.{Refusal}
 use Rattle.convert_core.specs.declared.refusal.Refusal.TheVariants as refusals
@@ -91,12 +91,12 @@ one_difference a b told other same is it =
     (sym is.differs ∙ ap₂ first_difference (one_trace a b is.trace it.trace same is.traced it.traced) same.stated ∙ it.differs))
 
 -- a fault that is no want of memory
-is_fault : (a : Record) (fault : ReplayFault) → IsReplayFaultOf a fault → (fault ≢ faults.Memory) × IsFaultOf a.setup a.rules a.script fault
-is_fault a (faults.Illegal event at reason) is = ((λ same. cc), is)
-is_fault a (faults.EndsEarly events) is = ((λ same. cc), is)
-is_fault a (faults.RakeTooBig pot) is = ((λ same. cc), is)
-is_fault a (faults.NoShownHand pot) is = ((λ same. cc), is)
-is_fault a faults.Memory is = absurd is
+is_fault : (a : Record) (fault : ReplayFault) → IsReplayFaultOf a fault → (¬ IsWant fault) × IsFaultOf a.setup a.rules a.script fault
+is_fault a (faults.Illegal event at reason) is = ((λ want. want), is)
+is_fault a (faults.EndsEarly events) is = ((λ want. want), is)
+is_fault a (faults.RakeTooBig pot) is = ((λ want. want), is)
+is_fault a (faults.NoShownHand pot) is = ((λ want. want), is)
+is_fault a (faults.Memory memory) is = absurd is
 
 -- a hand without a trace is not legal
 not_legal : (a b : Record) (fault : ReplayFault) (trace : Trace) → SayTheSame a b → IsReplayFaultOf a fault → IsTraceOfLegal b trace → ⊥

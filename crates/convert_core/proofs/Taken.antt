@@ -9,7 +9,7 @@ use Rattle.hand_records.specs.Plays.{hands_of}
 use Rattle.hand_records.specs.declared.record.Record.{Record}
 use Rattle.hand_records.specs.declared.trace.Play.{Play}
 use Rattle.convert_core.proofs.JudgedPlays.{first_refused, plays_sound}
-use Rattle.convert_core.specs.Judged.{ArePlaysOf, IsFaultAt, IsPlaysFaultOf, IsRefusedFor}
+use Rattle.convert_core.specs.Judged.{ArePlaysOf, IsFaultAt, IsPlaysFaultOf, IsPlaysWant, IsRefusedFor}
 use Rattle.convert_core.specs.declared.refusal.PlaysFault.{PlaysFault}
 use Rattle.convert_core.specs.declared.refusal.PlaysFault.TheVariants as plays_faults
 use Rattle.convert_core.specs.declared.refusal.Refusal.{Refusal}
@@ -159,10 +159,10 @@ has_room goes_on keeps Took records left hand place most kept way few =
 
 -- a hand that ends the loop is the first refused one
 pub refused_on : (goes_on keeps : Bool) (Took : List Verdict → Type 0) (records left : List Record) (hand : Record) (place : ℕ) (kept : List Play) (fault : PlaysFault)
-    → AreOnTheWay goes_on keeps Took records (hand ∷ left) place kept → (goes_on ≡ true → fault ≡ plays_faults.Memory)
+    → AreOnTheWay goes_on keeps Took records (hand ∷ left) place kept → (goes_on ≡ true → IsPlaysWant fault)
     → IsFaultAt hand (place + 1) fault → IsPlaysFaultOf records fault
-refused_on true keeps Took records left hand place kept (plays_faults.Refused number why) way memory refused = absurd (cc (memory refl))
-refused_on goes_on keeps Took records left hand place kept plays_faults.Memory way memory refused = tt
+refused_on true keeps Took records left hand place kept (plays_faults.Refused number why) way memory refused = absurd (memory refl)
+refused_on goes_on keeps Took records left hand place kept (plays_faults.Memory memory) way memory refused = tt
 refused_on false keeps Took records left hand place kept (plays_faults.Refused number why) way memory refused =
     let taken = way.taken in
     let verdicts = taken.verdicts in

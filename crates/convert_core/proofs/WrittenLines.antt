@@ -145,4 +145,4 @@ of_file Say HaveFault unspelled Spell ReadBack view records (Err (faults.Unspell
       read = record { records = records; say = say; are = rw (sym is.read.say) is.read.are };
       first = is.first;
     }
-of_file Say HaveFault unspelled Spell ReadBack view records (Err faults.Memory) say back is = tt
+of_file Say HaveFault unspelled Spell ReadBack view records (Err (faults.Memory memory)) say back is = tt

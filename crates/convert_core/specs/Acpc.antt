@@ -1,5 +1,5 @@
 -- What bytes say as a log of the competition under a game, and what bytes are written of plays.
-use Rattle.std.specs.Prelude.{◌≡◌, ◌≢◌, ℕ, ◌≤◌, List, length, map, Ok, Err, sum_by}
+use Rattle.std.specs.Prelude.{◌≡◌, ℕ, ◌≤◌, List, length, map, Ok, Err, sum_by}
 use Rattle.std.specs.List.{AllByRecursion}
 use Rattle.acpc_game.specs.declared.game.Game.{Game}
 use Rattle.acpc_writing.specs.Line.{log_text}
@@ -7,10 +7,10 @@ use Rattle.acpc_writing.specs.Texts.{HasTexts}
 use Rattle.acpc_reading.specs.Logs.{reading}
 use Rattle.acpc_reading.specs.RecordView.{IsOfGame, record_said}
 use Rattle.acpc_text.specs.declared.fault.AcpcFault.{AcpcFault}
-use Rattle.acpc_text.specs.declared.fault.AcpcFault.TheVariants as faults
 use Rattle.first_fault.specs.declared.limits.TheConstants.{MOST_FILE_MOVES, MOST_HANDS}
 use Rattle.hand_records.specs.declared.record.Record.{Record}
 use Rattle.hand_records.specs.declared.trace.Play.{Play}
+use Rattle.convert_core.specs.Faults.{is_want_in_acpc}
 use Rattle.convert_core.specs.Readings.{GivesHands}
 use Rattle.convert_core.specs.declared.format_fault.FormatFault.{FormatFault}
 use Rattle.convert_core.specs.declared.format_fault.FormatFault.TheVariants as formats
@@ -30,7 +30,7 @@ ReadAsHands game bytes count = GivesHands (reading game bytes) count
 
 -- bytes have this first fault, which is not want of memory
 pub record Have (game : Game) (bytes : List ℕ) (fault : AcpcFault) : Type 0 where
-  pub told : fault ≢ faults.Memory
+  pub told : is_want_in_acpc fault ≡ false
   pub reads : reading game bytes ≡ Err fault
 
 -- a fault of this notation

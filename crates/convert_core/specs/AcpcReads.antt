@@ -1,6 +1,6 @@
 -- Bytes read as hands of a log under a game, or they have one fault, and not both.
 -- This is a proof: no reader needs it.
-use Rattle.std.proofs.Common.{◌≡◌, ◌≢◌, ℕ, suc, ◌+◌, Bool, false, List, [], ◌∷◌, length, map, Ok, Err, refl, ap}
+use Rattle.std.proofs.Common.{◌≡◌, ℕ, suc, ◌+◌, Bool, false, List, [], ◌∷◌, length, map, Ok, Err, refl, ap}
 use Rattle.std.proofs.lemmas.List.{length-map}
 use Rattle.convert_core.specs.AcpcTold.{reading_told}
 use Rattle.acpc_format.specs.Again.{hands_again}
@@ -8,7 +8,6 @@ use Rattle.acpc_game.specs.declared.game.Game.{Game}
 use Rattle.acpc_reading.specs.Logs.{HandSaid, reading}
 use Rattle.acpc_reading.specs.RecordView.{record_said}
 use Rattle.acpc_text.specs.declared.fault.AcpcFault.{AcpcFault}
-use Rattle.acpc_text.specs.declared.fault.AcpcFault.TheVariants as faults
 use Rattle.hand_records.specs.declared.record.Record.{Record}
 use Rattle.hand_records.specs.declared.trace.Play.{Play}
 use Rattle.convert_core.specs.Acpc.{HaveFault, ReadAsHands, Say}
@@ -46,9 +45,8 @@ read_again game bytes plays read =
     }
 
 -- what is another fault is no want of memory
-no_want : (fault : AcpcFault) → fault ≢ faults.Memory → is_want_in_acpc fault ≡ false
-no_want faults.Memory told = absurd (told refl)
-no_want fault told = refl
+no_want : (fault : AcpcFault) → is_want_in_acpc fault ≡ false → is_want_in_acpc fault ≡ false
+no_want fault told = told
 
 module _ (game : Game) (bytes : List ℕ) where
   -- a fault of bytes is the one that is read

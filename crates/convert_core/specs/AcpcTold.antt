@@ -1,15 +1,15 @@
 -- The first fault of a log is never want of memory: it names a line.
 -- This is a proof: no reader needs it.
-use Rattle.std.proofs.Common.{◌≡◌, ◌≢◌, ◌+◌, ℕ, Bool, true, false, cond, nat_le, List, [], ◌∷◌, length, Result, Ok, Err, IfErr, subst}
+use Rattle.std.proofs.Common.{◌≡◌, ◌+◌, ℕ, Bool, true, false, cond, nat_le, List, [], ◌∷◌, length, Result, Ok, Err, IfErr, refl, subst}
 use Rattle.acpc_game.specs.declared.game.Game.{Game}
 use Rattle.acpc_reading.specs.Logs.{HandSaid, Hands, hands_after, hands_after_line, is_passed_over, line_said, reading, with_hand}
 use Rattle.acpc_text.specs.Faults.{fault_of, in_line, wrong}
 use Rattle.acpc_text.specs.Parts.{lines_of}
 use Rattle.acpc_text.specs.declared.fault.AcpcFault.{AcpcFault}
-use Rattle.acpc_text.specs.declared.fault.AcpcFault.TheVariants as faults
 use Rattle.acpc_text.specs.declared.fault.LineFault.{LineFault}
 use Rattle.acpc_text.specs.declared.fault.LineFaultKind.{LineFaultKind}
 use Rattle.acpc_text.specs.declared.fault.LineFaultKind.TheVariants as whats
+use Rattle.convert_core.specs.Faults.{is_want_in_acpc}
 use Rattle.first_fault.specs.Numbers.{kept_number}
 use Rattle.first_fault.specs.Reading.{◌>>=◌}
 use Rattle.first_fault.specs.declared.limits.Quantity.TheVariants as quantities
@@ -17,18 +17,18 @@ use Rattle.first_fault.specs.declared.limits.TheConstants.{MOST_HANDS}
 
 -- a fault, if there is one, is no want of memory
 abbrev IsTold : {A : Type 0} → Result A AcpcFault → Type 0
-IsTold result = IfErr result (λ fault. fault ≢ faults.Memory)
+IsTold result = IfErr result (λ fault. is_want_in_acpc fault ≡ false)
 
-at_line : (what : LineFaultKind) (line byte : ℕ) → fault_of what line byte ≢ faults.Memory
-at_line whats.LineShape line byte same = cc (same)
-at_line whats.BadBetting line byte same = cc (same)
-at_line whats.BadCards line byte same = cc (same)
-at_line whats.BadValue line byte same = cc (same)
-at_line whats.SeatCount line byte same = cc (same)
-at_line whats.GameShape line byte same = cc (same)
-at_line whats.UnsupportedGame line byte same = cc (same)
-at_line whats.AmountLimit line byte same = cc (same)
-at_line (whats.TooMany quantity) line byte same = cc (same)
+at_line : (what : LineFaultKind) (line byte : ℕ) → is_want_in_acpc (fault_of what line byte) ≡ false
+at_line whats.LineShape line byte = refl
+at_line whats.BadBetting line byte = refl
+at_line whats.BadCards line byte = refl
+at_line whats.BadValue line byte = refl
+at_line whats.SeatCount line byte = refl
+at_line whats.GameShape line byte = refl
+at_line whats.UnsupportedGame line byte = refl
+at_line whats.AmountLimit line byte = refl
+at_line (whats.TooMany quantity) line byte = refl
 
 line_told : {A : Type 0} (line : ℕ) (found : Result A LineFault) → IsTold (in_line line found)
 line_told line (Ok said) = tt
@@ -69,7 +69,7 @@ all_lines game hands line (text ∷ texts) =
 
 -- a log that has a fault has another one than want of memory
 pub reading_told : (game : Game) (bytes : List ℕ) (fault : AcpcFault)
-    → reading game bytes ≡ Err fault → fault ≢ faults.Memory
+    → reading game bytes ≡ Err fault → is_want_in_acpc fault ≡ false
 unfolding reading
 reading_told game bytes fault read =
     let lines = hands_after game ([], 0) 1 (lines_of bytes) in

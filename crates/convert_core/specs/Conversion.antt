@@ -47,7 +47,7 @@ pub record IsConverted (Say : List Record → Type 0) (unspelled : Play → Opti
 -- why bytes do not read; want of memory says nothing of them
 abbrev pub IsReadFault : (FormatFault → Type 0) → ConvertFault → Type 0
 IsReadFault HaveFault (faults.Format fault) = HaveFault fault
-IsReadFault HaveFault faults.Memory = Unit {0}
+IsReadFault HaveFault (faults.Memory memory) = Unit {0}
 IsReadFault HaveFault fault = ⊥
 
 -- why bytes have no plays; want of memory says nothing of them
@@ -55,7 +55,7 @@ abbrev pub IsPlaysRefusal : (List Record → Type 0) → (FormatFault → Type 0
 IsPlaysRefusal Say HaveFault (faults.Format fault) = HaveFault fault
 IsPlaysRefusal Say HaveFault (faults.Refused number why) = ReadAsRefused Say number why
 IsPlaysRefusal Say HaveFault (faults.Unspelled number fact) = ⊥
-IsPlaysRefusal Say HaveFault faults.Memory = Unit {0}
+IsPlaysRefusal Say HaveFault (faults.Memory memory) = Unit {0}
 
 -- Bytes that read as hands are converted exactly where the replay of every hand is legal, every
 -- stated fact agrees and every fact to be kept has a spelling in the target notation; what is
@@ -74,10 +74,10 @@ IsConversion Say HaveFault unspelled Spell ReadBack view (Err (faults.Refused nu
     ReadAsRefused Say number why
 IsConversion Say HaveFault unspelled Spell ReadBack view (Err (faults.Unspelled number fact)) =
     HasUnspelled Say unspelled number fact
-IsConversion Say HaveFault unspelled Spell ReadBack view (Err faults.Memory) = Unit {0}
+IsConversion Say HaveFault unspelled Spell ReadBack view (Err (faults.Memory memory)) = Unit {0}
 
 -- an answer refuses nothing: there is an output, or memory was wanting
 abbrev pub RefusesNothing : {X : Type 0} → Result X ConvertFault → Type 0
 RefusesNothing (Ok output) = Unit {0}
-RefusesNothing (Err faults.Memory) = Unit {0}
+RefusesNothing (Err (faults.Memory memory)) = Unit {0}
 RefusesNothing (Err fault) = ⊥

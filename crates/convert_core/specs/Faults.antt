@@ -11,17 +11,17 @@ use Rattle.convert_core.specs.declared.format_fault.FormatFault.TheVariants as f
 
 -- of hand histories
 abbrev pub is_want_in_phh : PhhFault → Bool
-is_want_in_phh in_phh.Memory = true
+is_want_in_phh (in_phh.Memory memory) = true
 is_want_in_phh fault = false
 
 -- of Open Hand History
 abbrev pub is_want_in_ohh : OhhFault → Bool
-is_want_in_ohh in_ohh.Memory = true
+is_want_in_ohh (in_ohh.Memory memory) = true
 is_want_in_ohh fault = false
 
 -- of logs
 abbrev pub is_want_in_acpc : AcpcFault → Bool
-is_want_in_acpc in_acpc.Memory = true
+is_want_in_acpc (in_acpc.Memory memory) = true
 is_want_in_acpc fault = false
 
 -- of any notation

@@ -28,7 +28,7 @@ pub record IsOneMorePlay (before : List Play) (hand : Record) (after : List Play
 
 -- what is wrong with a script, where that is not want of memory
 abbrev pub IsReplayFaultOf : Record → ReplayFault → Type 0
-IsReplayFaultOf hand faults.Memory = ⊥
+IsReplayFaultOf hand (faults.Memory memory) = ⊥
 IsReplayFaultOf hand fault = IsFaultOf hand.setup hand.rules hand.script fault
 
 -- a hand is legal, and this is the first stated fact that differs from its trace
@@ -55,9 +55,14 @@ pub record IsFirstRefused (records : List Record) (number : ℕ) (why : Refusal)
 -- why records have no plays; want of memory says nothing of them
 abbrev pub IsPlaysFaultOf : List Record → PlaysFault → Type 0
 IsPlaysFaultOf records (plays_faults.Refused number why) = IsFirstRefused records number why
-IsPlaysFaultOf records plays_faults.Memory = Unit {0}
+IsPlaysFaultOf records (plays_faults.Memory memory) = Unit {0}
 
 -- why the hand with this number has no play; want of memory says nothing of it
 abbrev pub IsFaultAt : Record → ℕ → PlaysFault → Type 0
 IsFaultAt hand number (plays_faults.Refused told why) = (told ≡ number) × IsRefusedFor hand why
-IsFaultAt hand number plays_faults.Memory = Unit {0}
+IsFaultAt hand number (plays_faults.Memory memory) = Unit {0}
+
+-- there are no plays for want of memory
+abbrev pub IsPlaysWant : PlaysFault → Type 0
+IsPlaysWant (plays_faults.Refused number why) = ⊥
+IsPlaysWant (plays_faults.Memory memory) = Unit {0}

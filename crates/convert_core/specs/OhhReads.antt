@@ -78,7 +78,7 @@ fault_told (InHand hand path what) = member_told hand path what
 -- a fault with this wrong is that one
 told_fault : (fault : OhhFault) (wrong : Wrong) → wrong_of fault ≡ Some wrong
     → fault ≡ fault_of wrong
-told_fault faults.Memory wrong told = absurd (cc (told))
+told_fault (faults.Memory memory) wrong told = absurd (cc (told))
 told_fault fault wrong told = ap fault_of (same_Some _ wrong told)
 
 -- what says what is wrong is no want of memory

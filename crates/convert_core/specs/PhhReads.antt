@@ -70,7 +70,7 @@ fault_told (InHand hand key what) = field_told hand key what
 -- a fault with this wrong is that one
 told_fault : (fault : PhhFault) (wrong : Wrong) → wrong_of fault ≡ Some wrong
     → fault ≡ fault_of wrong
-told_fault faults.Memory wrong told = absurd (cc (told))
+told_fault (faults.Memory memory) wrong told = absurd (cc (told))
 told_fault fault wrong told = ap fault_of (same_Some _ wrong told)
 
 -- what says what is wrong is no want of memory

@@ -9,13 +9,13 @@ use Rattle.convert_core.specs.declared.convert_fault.ConvertFault.TheVariants as
 abbrev pub AreSameAnswers : (AreSame : List ℕ → List ℕ → Type 0)
     → (answer again : Result (List ℕ) ConvertFault) → Type 0
 AreSameAnswers AreSame (Ok output) (Ok again) = AreSame output again
-AreSameAnswers AreSame (Ok output) (Err faults.Memory) = Unit {0}
+AreSameAnswers AreSame (Ok output) (Err (faults.Memory memory)) = Unit {0}
 AreSameAnswers AreSame (Ok output) (Err fault) = ⊥
-AreSameAnswers AreSame (Err faults.Memory) (Ok again) = Unit {0}
-AreSameAnswers AreSame (Err faults.Memory) (Err faults.Memory) = Unit {0}
-AreSameAnswers AreSame (Err faults.Memory) (Err (faults.Unspelled number fact)) = Unit {0}
-AreSameAnswers AreSame (Err faults.Memory) (Err fault) = ⊥
+AreSameAnswers AreSame (Err (faults.Memory memory)) (Ok again) = Unit {0}
+AreSameAnswers AreSame (Err (faults.Memory memory)) (Err (faults.Memory other)) = Unit {0}
+AreSameAnswers AreSame (Err (faults.Memory memory)) (Err (faults.Unspelled number fact)) = Unit {0}
+AreSameAnswers AreSame (Err (faults.Memory memory)) (Err fault) = ⊥
 AreSameAnswers AreSame (Err (faults.Unspelled number fact)) (Err (faults.Unspelled other too)) =
     (number ≡ other) × (fact ≡ too)
-AreSameAnswers AreSame (Err (faults.Unspelled number fact)) (Err faults.Memory) = Unit {0}
+AreSameAnswers AreSame (Err (faults.Unspelled number fact)) (Err (faults.Memory memory)) = Unit {0}
 AreSameAnswers AreSame (Err fault) answer = ⊥

@@ -9,21 +9,21 @@ ghost use Rattle.acpc_reading.specs.RecordView.{rules_of as rules_of_game};
 ghost use Rattle.first_fault.specs.declared.limits.TheConstants.{MOST_HANDS};
 ghost use Rattle.hand_canon.specs.Sound.{IsSound};
 ghost use Rattle.hand_records.specs.declared.trace.Play.{Play as AnyPlay};
-ghost use Rattle.hand_records.specs.declared.writing.WriteRefusal.TheVariants as refusals;
 ghost use Rattle.convert_core.specs.Faults.{is_want_of_memory};
 ghost use Rattle.convert_core.specs.KeptParts as parts;
 ghost use Rattle.convert_core.specs.AcpcAlike as alike;
 ghost use Rattle.convert_core.specs.AcpcLaws as laws;
 ghost use Rattle.convert_core.specs.AcpcReads as reads;
 ghost use Rattle.convert_core.specs.Acpc as in_acpc;
-ghost use Rattle.hand_records.specs.WriteRefusals.{first_refusal};
+ghost use Rattle.hand_records.specs.WriteRefusals.{IsWant, first_refusal};
 
+use card_set::Memory;
 use crate::format_fault::FormatFault;
 use crate::notation::Notation;
 use acpc_format::Game;
 use hand_records::{Keep, Play, Records, Unspelled, WriteRefusal};
 use play_event::{Reopen, Rules};
-use std::alloc::{AllocError, Global};
+use std::alloc::Global;
 
 /// The logs of the Annual Computer Poker Competition under a game.
 #[derive(Clone, Copy, Debug, PartialEq, Eq)]
@@ -54,7 +54,7 @@ fn write_acpc(
     requires sound { AllByRecursion IsSound plays.now }
     ensures spell { IfOk result (λ bytes. in_acpc.Spell game.now plays.now bytes.items) }
     ensures spelled { OnOk result (first_refusal (facts.unspelled game.now keep) plays.now ≡ None) }
-    ensures refused { IfErr result (λ refusal. (refusal ≡ refusals.Memory)
+    ensures refused { IfErr result (λ refusal. IsWant refusal
         ⊎ (first_refusal (facts.unspelled game.now keep) plays.now ≡ Some refusal)) }
 {
     acpc_format::write(alloc, game, plays, keep)
@@ -68,7 +68,7 @@ fn push_acpc_line(
     out: &mut Vec<u8>,
     place: usize,
     play: &Play,
-) -> Result<(), AllocError>
+) -> Result<(), Memory>
     requires { IsSound play.now }
     ensures line { (before : List AnyPlay)
         → length before ≡ place → in_acpc.Spell game.now before out.old.items
@@ -167,7 +167,7 @@ impl Notation for Acpc {
         out: &mut Vec<u8>,
         place: usize,
         play: &Play,
-    ) -> Result<(), AllocError> {
+    ) -> Result<(), Memory> {
         push_acpc_line(alloc, &self.game, out, place, play)
     }
 }

@@ -1,5 +1,6 @@
 //! Why nothing is converted.
 
+use card_set::Memory;
 use crate::format_fault::FormatFault;
 use crate::refusal::Refusal;
 use hand_records::Unspelled;
@@ -15,5 +16,5 @@ pub enum ConvertFault {
     /// All hands are legal; this is the first with a kept fact that the target does not spell, and
     /// the first such fact.
     Unspelled { hand: u32, fact: Unspelled },
-    Memory,
+    Memory(Memory),
 }

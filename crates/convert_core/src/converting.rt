@@ -54,7 +54,7 @@ pub fn convert<N: Notation, M: Notation>(
     match to.write(alloc, &plays, keep) {
         Ok(output) => Ok(output),
         Err(WriteRefusal::Unspelled { hand, fact }) => Err(ConvertFault::Unspelled { hand, fact }),
-        Err(WriteRefusal::Memory) => Err(ConvertFault::Memory),
+        Err(WriteRefusal::Memory(memory)) => Err(ConvertFault::Memory(memory)),
     }
 }
 
@@ -78,7 +78,7 @@ pub fn plays<N: Notation>(alloc: Global, from: &N, bytes: &[u8]) -> Result<Vec<P
     match plays_of(alloc, records) {
         Ok(plays) => Ok(plays),
         Err(PlaysFault::Refused { hand, why }) => Err(ConvertFault::Refused { hand, why }),
-        Err(PlaysFault::Memory) => Err(ConvertFault::Memory),
+        Err(PlaysFault::Memory(memory)) => Err(ConvertFault::Memory(memory)),
     }
 }
 
@@ -99,8 +99,8 @@ pub fn read_records<N: Notation>(
     match from.read(alloc, bytes) {
         Ok(records) => Ok(records),
         Err(fault) => {
-            if fault.is_memory() {
-                return Err(ConvertFault::Memory);
+            if let Some(memory) = fault.memory() {
+                return Err(ConvertFault::Memory(memory));
             }
             Err(ConvertFault::Format(fault))
         }

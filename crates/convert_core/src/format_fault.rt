@@ -1,8 +1,9 @@
 //! Why bytes do not read, in the words of their notation.
-ghost use Rattle.std.specs.Prelude.{◌≡◌};
+ghost use Rattle.std.specs.Prelude.{◌≡◌, is_some};
 ghost use Rattle.convert_core.specs.Faults.{is_want_of_memory};
 
 use acpc_format::AcpcFault;
+use card_set::Memory;
 use ohh_format::OhhFault;
 use phh_format::PhhFault;
 
@@ -15,15 +16,15 @@ pub enum FormatFault {
 }
 
 impl FormatFault {
-    /// Whether memory was wanting, so that nothing is known of the bytes.
-    pub fn is_memory(&self) -> bool
-        ensures { result ≡ is_want_of_memory self.now }
+    /// The want of memory, where it is one, so that nothing is known of the bytes.
+    pub fn memory(&self) -> Option<Memory>
+        ensures { is_some result ≡ is_want_of_memory self.now }
     {
         match self {
-            FormatFault::Phh(PhhFault::Memory) => true,
-            FormatFault::Ohh(OhhFault::Memory) => true,
-            FormatFault::Acpc(AcpcFault::Memory) => true,
-            _ => false,
+            FormatFault::Phh(PhhFault::Memory(memory)) => Some(*memory),
+            FormatFault::Ohh(OhhFault::Memory(memory)) => Some(*memory),
+            FormatFault::Acpc(AcpcFault::Memory(memory)) => Some(*memory),
+            _ => None,
         }
     }
 }

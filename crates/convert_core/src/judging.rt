@@ -38,7 +38,7 @@ pub fn push_play(
             plays.push(Play { hand, trace })?;
             Ok(())
         }
-        Err(ReplayFault::Memory) => Err(PlaysFault::Memory),
+        Err(ReplayFault::Memory(memory)) => Err(PlaysFault::Memory(memory)),
         Err(fault) => Err(refused(number, Refusal::Replay(fault))),
     }
 }

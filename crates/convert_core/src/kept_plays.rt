@@ -5,11 +5,12 @@ ghost use Rattle.first_fault.specs.declared.limits.TheConstants.{MOST_HANDS};
 ghost use Rattle.hand_canon.specs.Sound.{IsSound};
 ghost use Rattle.hand_records.specs.SoundRecord.{IsSoundRecord};
 
+use card_set::Memory;
 use crate::refusal::{PlaysFault, Refusal};
 use crate::taker::Taker;
 use crate::taking::take_each;
 use hand_records::{Play, Records};
-use std::alloc::{AllocError, Global};
+use std::alloc::Global;
 
 // Nothing is made of the hands: their plays are kept.
 #[derive(Drop)]
@@ -30,11 +31,11 @@ impl Taker for Keeper {
         true
     }
 
-    fn take(&mut self, _: Global, _: usize, _: &Play) -> Result<(), AllocError> {
+    fn take(&mut self, _: Global, _: usize, _: &Play) -> Result<(), Memory> {
         Ok(())
     }
 
-    fn pass(&mut self, _: Global, _: usize, _: &Refusal) -> Result<(), AllocError> {
+    fn pass(&mut self, _: Global, _: usize, _: &Refusal) -> Result<(), Memory> {
         Ok(())
     }
 }

@@ -6,13 +6,14 @@ ghost use Rattle.hand_canon.specs.Sound.{IsSound};
 ghost use Rattle.hand_records.specs.SoundRecord.{IsSoundRecord};
 ghost use Rattle.convert_core.specs.Lines.{IsWritten};
 
+use card_set::Memory;
 use crate::convert_fault::ConvertFault;
 use crate::notation::Notation;
 use crate::refusal::{PlaysFault, Refusal};
 use crate::taker::Taker;
 use crate::taking::take_each;
 use hand_records::{Keep, Play, Records, WriteRefusal};
-use std::alloc::{AllocError, Global};
+use std::alloc::Global;
 
 // The lines of the hands so far.
 #[derive(Drop)]
@@ -42,7 +43,7 @@ impl<'a, N: Notation> Taker for Writer<'a, N> {
         false
     }
 
-    fn take(&mut self, alloc: Global, place: usize, play: &Play) -> Result<(), AllocError> {
+    fn take(&mut self, alloc: Global, place: usize, play: &Play) -> Result<(), Memory> {
         if self.refusal.is_some() {
             return Ok(());
         }
@@ -56,7 +57,7 @@ impl<'a, N: Notation> Taker for Writer<'a, N> {
         Ok(())
     }
 
-    fn pass(&mut self, _: Global, _: usize, _: &Refusal) -> Result<(), AllocError> {
+    fn pass(&mut self, _: Global, _: usize, _: &Refusal) -> Result<(), Memory> {
         Ok(())
     }
 }
@@ -91,11 +92,11 @@ pub fn write_records<N: Notation>(
         Err(PlaysFault::Refused { hand, why }) => {
             return Err(ConvertFault::Refused { hand, why });
         }
-        Err(PlaysFault::Memory) => return Err(ConvertFault::Memory),
+        Err(PlaysFault::Memory(memory)) => return Err(ConvertFault::Memory(memory)),
     }
     match writer.refusal {
         None => Ok(writer.out),
         Some(WriteRefusal::Unspelled { hand, fact }) => Err(ConvertFault::Unspelled { hand, fact }),
-        Some(WriteRefusal::Memory) => Err(ConvertFault::Memory),
+        Some(WriteRefusal::Memory(memory)) => Err(ConvertFault::Memory(memory)),
     }
 }

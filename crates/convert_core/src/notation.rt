@@ -11,7 +11,6 @@ ghost use Rattle.hand_records.specs.declared.trace.Play.{Play as AnyPlay};
 ghost use Rattle.hand_records.specs.declared.writing.Keep.{Keep as AnyKeep};
 ghost use Rattle.hand_records.specs.declared.writing.Keep.TheVariants as keeps;
 ghost use Rattle.hand_records.specs.declared.writing.Unspelled.{Unspelled as Fact};
-ghost use Rattle.hand_records.specs.declared.writing.WriteRefusal.TheVariants as refusals;
 ghost use Rattle.play_event.specs.declared.setup.Rules.{Rules as AnyRules};
 ghost use Rattle.convert_core.specs.Faults.{is_want_of_memory};
 ghost use Rattle.convert_core.specs.NoteParts.{ArePartOf};
@@ -21,12 +20,13 @@ ghost use Rattle.convert_core.specs.Records.{AreFew, AreOfFile};
 ghost use Rattle.convert_core.specs.SameRecords.{AllAlike};
 ghost use Rattle.hand_canon.specs.Sharp.{IsOther, is_sharp};
 ghost use Rattle.convert_core.specs.declared.format_fault.FormatFault.{FormatFault as AnyFault};
-ghost use Rattle.hand_records.specs.WriteRefusals.{first_refusal};
+ghost use Rattle.hand_records.specs.WriteRefusals.{IsWant, first_refusal};
 
+use card_set::Memory;
 use crate::format_fault::FormatFault;
 use hand_records::{Keep, Play, Records, Unspelled, WriteRefusal};
 use play_event::Rules;
-use std::alloc::{AllocError, Global};
+use std::alloc::Global;
 
 /// A notation of hands.
 pub trait Notation {
@@ -86,7 +86,7 @@ pub trait Notation {
         requires sound { AllByRecursion IsSound plays.now }
         ensures spell { IfOk result (λ bytes. Spell self.now plays.now bytes.items) }
         ensures spelled { OnOk result (first_refusal (unspelled self.now keep) plays.now ≡ None) }
-        ensures refused { IfErr result (λ refusal. (refusal ≡ refusals.Memory)
+        ensures refused { IfErr result (λ refusal. IsWant refusal
             ⊎ (first_refusal (unspelled self.now keep) plays.now ≡ Some refusal)) };
 
     /// Whether a file is a line for each play, one behind the other.
@@ -102,7 +102,7 @@ pub trait Notation {
         out: &mut Vec<u8>,
         place: usize,
         play: &Play,
-    ) -> Result<(), AllocError>
+    ) -> Result<(), Memory>
         requires { IsSound play.now }
         ensures line { is_lined self.now ≡ true → (before : List AnyPlay)
             → length before ≡ place → Spell self.now before out.old.items

@@ -4,7 +4,6 @@ ghost use Rattle.std.specs.List.{AllByRecursion};
 ghost use Rattle.first_fault.specs.declared.limits.TheConstants.{MOST_HANDS};
 ghost use Rattle.hand_canon.specs.Sound.{IsSound};
 ghost use Rattle.hand_records.specs.declared.trace.Play.{Play as AnyPlay};
-ghost use Rattle.hand_records.specs.declared.writing.WriteRefusal.TheVariants as refusals;
 ghost use Rattle.ohh_format.proofs.NoteFacts as note_facts;
 ghost use Rattle.ohh_format.proofs.OneForm as forms;
 ghost use Rattle.ohh_format.specs.KeptNotes.{kept_in_ohh};
@@ -16,14 +15,15 @@ ghost use Rattle.convert_core.specs.OhhAlike as alike;
 ghost use Rattle.convert_core.specs.OhhLaws as laws;
 ghost use Rattle.convert_core.specs.OhhReads as reads;
 ghost use Rattle.convert_core.specs.Ohh as in_ohh;
-ghost use Rattle.hand_records.specs.WriteRefusals.{first_refusal};
+ghost use Rattle.hand_records.specs.WriteRefusals.{IsWant, first_refusal};
 
+use card_set::Memory;
 use crate::format_fault::FormatFault;
 use crate::notation::Notation;
 use hand_records::{Keep, Play, Records, Unspelled, WriteRefusal};
 use ohh_format::Dialect;
 use play_event::{Reopen, Rules};
-use std::alloc::{AllocError, Global};
+use std::alloc::Global;
 
 /// Open Hand History in a dialect.
 #[derive(Clone, Copy, Debug, PartialEq, Eq)]
@@ -54,7 +54,7 @@ fn write_ohh(
     requires sound { AllByRecursion IsSound plays.now }
     ensures spell { IfOk result (λ bytes. in_ohh.Spell dialect plays.now bytes.items) }
     ensures spelled { OnOk result (first_refusal (facts.unspelled keep) plays.now ≡ None) }
-    ensures refused { IfErr result (λ refusal. (refusal ≡ refusals.Memory)
+    ensures refused { IfErr result (λ refusal. IsWant refusal
         ⊎ (first_refusal (facts.unspelled keep) plays.now ≡ Some refusal)) }
 {
     ohh_format::write(alloc, dialect, plays, keep)
@@ -67,7 +67,7 @@ fn push_ohh_line(
     out: &mut Vec<u8>,
     place: usize,
     play: &Play,
-) -> Result<(), AllocError>
+) -> Result<(), Memory>
     requires { IsSound play.now }
     ensures line { (before : List AnyPlay)
         → length before ≡ place → in_ohh.Spell dialect before out.old.items
@@ -76,7 +76,7 @@ fn push_ohh_line(
 {
     match ohh_format::push_line(alloc, out, dialect, place, play) {
         Ok(()) => Ok(()),
-        Err(_) => Err(AllocError),
+        Err(memory) => Err(memory),
     }
 }
 
@@ -168,7 +168,7 @@ impl Notation for Ohh {
         out: &mut Vec<u8>,
         place: usize,
         play: &Play,
-    ) -> Result<(), AllocError> {
+    ) -> Result<(), Memory> {
         push_ohh_line(alloc, self.dialect, out, place, play)
     }
 }

@@ -3,7 +3,6 @@ ghost use Rattle.std.specs.Prelude.{◌≡◌, ◌⊎◌, ◌≤◌, true, false
 ghost use Rattle.std.specs.List.{AllByRecursion};
 ghost use Rattle.first_fault.specs.declared.limits.TheConstants.{MOST_HANDS};
 ghost use Rattle.hand_canon.specs.Sound.{IsSound};
-ghost use Rattle.hand_records.specs.declared.writing.WriteRefusal.TheVariants as refusals;
 ghost use Rattle.phh_format.proofs.OneForm as forms;
 ghost use Rattle.phh_format.specs.KeptNotes.{kept_in_phh};
 ghost use Rattle.phh_format.specs.SameTables.{AreSameTable};
@@ -15,13 +14,14 @@ ghost use Rattle.convert_core.specs.Phh as in_phh;
 ghost use Rattle.convert_core.specs.PhhAlike as alike;
 ghost use Rattle.convert_core.specs.PhhLaws as laws;
 ghost use Rattle.convert_core.specs.PhhReads as reads;
-ghost use Rattle.hand_records.specs.WriteRefusals.{first_refusal};
+ghost use Rattle.hand_records.specs.WriteRefusals.{IsWant, first_refusal};
 
+use card_set::Memory;
 use crate::format_fault::FormatFault;
 use crate::notation::Notation;
 use hand_records::{Keep, Play, Records, Unspelled, WriteRefusal};
 use play_event::{Reopen, Rules};
-use std::alloc::{AllocError, Global};
+use std::alloc::Global;
 
 /// The Poker Hand History format.
 #[derive(Clone, Copy, Debug, PartialEq, Eq)]
@@ -45,7 +45,7 @@ fn write_phh(alloc: Global, plays: &[Play], keep: Keep) -> Result<Vec<u8>, Write
     requires sound { AllByRecursion IsSound plays.now }
     ensures spell { IfOk result (λ bytes. in_phh.Spell plays.now bytes.items) }
     ensures spelled { OnOk result (first_refusal facts.unspelled plays.now ≡ None) }
-    ensures refused { IfErr result (λ refusal. (refusal ≡ refusals.Memory)
+    ensures refused { IfErr result (λ refusal. IsWant refusal
         ⊎ (first_refusal facts.unspelled plays.now ≡ Some refusal)) }
 {
     phh_format::write(alloc, plays, keep)
@@ -131,7 +131,7 @@ impl Notation for Phh {
         false
     }
 
-    fn push_line(&self, _: Global, _: &mut Vec<u8>, _: usize, _: &Play) -> Result<(), AllocError> {
+    fn push_line(&self, _: Global, _: &mut Vec<u8>, _: usize, _: &Play) -> Result<(), Memory> {
         // A file of several hands numbers them, and that of one does not: no line stands for a
         // hand.
         Ok(())

@@ -1,7 +1,9 @@
 //! Why a hand is refused, and which one is.
 ghost use Rattle.std.specs.Prelude.{◌≡◌};
+ghost use Rattle.card_set.specs.declared.memory.Memory.{Memory as Refused};
 ghost use Rattle.convert_core.specs.declared.refusal.PlaysFault.TheVariants.{Memory as OfMemory};
 
+use card_set::Memory;
 use hand_canon::FactDiffers;
 use replay_core::ReplayFault;
 use std::alloc::{AllocError, AllocFailed};
@@ -20,21 +22,29 @@ pub enum Refusal {
 pub enum PlaysFault {
     /// The first refused hand, from 1.
     Refused { hand: u32, why: Refusal },
-    Memory,
+    Memory(Memory),
+}
+
+impl From<Memory> for PlaysFault {
+    ghost from_gives = { λ memory e. e ≡ OfMemory memory };
+
+    fn from(memory: Memory) -> PlaysFault {
+        PlaysFault::Memory(memory)
+    }
 }
 
 impl From<AllocError> for PlaysFault {
-    ghost from_gives = { λ _ e. e ≡ OfMemory };
+    ghost from_gives = { λ _ e. (memory : Refused) × (e ≡ OfMemory memory) };
 
-    fn from(_e: AllocError) -> PlaysFault {
-        PlaysFault::Memory
+    fn from(refused: AllocError) -> PlaysFault {
+        PlaysFault::Memory(Memory::from(refused))
     }
 }
 
 impl<T: Drop> From<AllocFailed<T>> for PlaysFault {
-    ghost from_gives = { λ _ e. e ≡ OfMemory };
+    ghost from_gives = { λ _ e. (memory : Refused) × (e ≡ OfMemory memory) };
 
-    fn from(_e: AllocFailed<T>) -> PlaysFault {
-        PlaysFault::Memory
+    fn from(refused: AllocFailed<T>) -> PlaysFault {
+        PlaysFault::Memory(Memory::from(refused))
     }
 }

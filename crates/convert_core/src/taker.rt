@@ -8,9 +8,10 @@ ghost use Rattle.hand_records.specs.declared.record.Record.{Record as AnyRecord}
 ghost use Rattle.convert_core.specs.Taking.{HasTaken};
 ghost use Rattle.convert_core.specs.Verdicts.{AreLegalUnless, Legal, Refused, Verdict};
 
+use card_set::Memory;
 use crate::refusal::Refusal;
 use hand_records::Play;
-use std::alloc::{AllocError, Global};
+use std::alloc::Global;
 
 /// Takes the verdicts on the hands of a file, one after the other.
 pub trait Taker {
@@ -37,7 +38,7 @@ pub trait Taker {
     /// # Errors
     ///
     /// Want of memory.
-    fn take(&mut self, alloc: Global, place: usize, play: &Play) -> Result<(), AllocError>
+    fn take(&mut self, alloc: Global, place: usize, play: &Play) -> Result<(), Memory>
         requires taken { (start : Self) × HasTaken (Took start self.old) place }
         requires few { place < MOST_HANDS }
         requires sound { IsSound play.now }
@@ -52,7 +53,7 @@ pub trait Taker {
     /// # Errors
     ///
     /// Want of memory.
-    fn pass(&mut self, alloc: Global, place: usize, why: &Refusal) -> Result<(), AllocError>
+    fn pass(&mut self, alloc: Global, place: usize, why: &Refusal) -> Result<(), Memory>
         requires taken { (start : Self) × HasTaken (Took start self.old) place }
         requires few { place < MOST_HANDS }
         ensures { (start : Self) (before : List Verdict) (hand : AnyRecord) → GOES_ON ≡ true

@@ -1,6 +1,6 @@
 //! One loop over the records of a file.
 ghost use Rattle.std.specs.Prelude.{◌≡◌, ◌<◌, ◌≤◌, ◌+◌, ◌++◌, ◌⊎◌, [], ◌∷◌, true, false, All, List, length, IfErr, IfOk, OnOk};
-ghost use Rattle.convert_core.specs.Judged.{IsFaultAt, IsPlaysFaultOf, IsRefusedFor};
+ghost use Rattle.convert_core.specs.Judged.{IsFaultAt, IsPlaysFaultOf, IsPlaysWant, IsRefusedFor};
 ghost use Rattle.convert_core.specs.declared.refusal.PlaysFault.TheVariants as plays_faults;
 ghost use Rattle.first_fault.specs.declared.limits.TheConstants.{MOST_HANDS};
 ghost use Rattle.hand_records.specs.SoundRecord.{IsSoundRecord};
@@ -34,7 +34,7 @@ pub fn take_each<T: Taker>(
     ensures taken { IfOk result (λ kept. AreTaken T.GOES_ON T.KEEPS (T.Took taker.old taker.new)
         records (length records) kept.items) }
     ensures refused { IfErr result (IsPlaysFaultOf records) }
-    ensures goes_on { T.GOES_ON ≡ true → IfErr result (λ fault. fault ≡ plays_faults.Memory) }
+    ensures goes_on { T.GOES_ON ≡ true → IfErr result IsPlaysWant }
 {
     let mut kept = Vec::with_capacity(alloc, room(taker, records.len()))?;
     let mut place = 0;
@@ -79,7 +79,7 @@ fn take_hand<T: Taker>(
         → OnOk result (AreTaken T.GOES_ON T.KEEPS (T.Took start taker.new) (hands ++ hand ∷ [])
         (place + 1) kept.new.items) }
     ensures refused { IfErr result (IsFaultAt hand (place + 1)) }
-    ensures goes_on { T.GOES_ON ≡ true → IfErr result (λ fault. fault ≡ plays_faults.Memory) }
+    ensures goes_on { T.GOES_ON ≡ true → IfErr result IsPlaysWant }
 {
     drop_taken(taker, kept);
     let behind = kept.len();
@@ -91,7 +91,7 @@ fn take_hand<T: Taker>(
         Err(PlaysFault::Refused { hand: number, why }) => {
             pass_hand(alloc, taker, place, number, why)
         }
-        Err(PlaysFault::Memory) => Err(PlaysFault::Memory),
+        Err(PlaysFault::Memory(memory)) => Err(PlaysFault::Memory(memory)),
     }
 }
 
@@ -110,9 +110,9 @@ fn pass_hand<T: Taker>(
         → AreTaken T.GOES_ON T.KEEPS (T.Took start taker.old) hands place kept
         → OnOk result (AreTaken T.GOES_ON T.KEEPS (T.Took start taker.new) (hands ++ hand ∷ [])
         (place + 1) kept) }
-    ensures refused { IfErr result (λ fault. (fault ≡ plays_faults.Memory)
+    ensures refused { IfErr result (λ fault. IsPlaysWant fault
         ⊎ (fault ≡ plays_faults.Refused number why)) }
-    ensures goes_on { T.GOES_ON ≡ true → IfErr result (λ fault. fault ≡ plays_faults.Memory) }
+    ensures goes_on { T.GOES_ON ≡ true → IfErr result IsPlaysWant }
 {
     if !taker.goes_on() {
         return Err(PlaysFault::Refused { hand: number, why });

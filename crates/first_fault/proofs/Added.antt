@@ -27,7 +27,7 @@ module _ {F V D S : Type 0} (seen : V → D) (form : S → ℕ → D → Result 
       → add_left seen form before index values ≡ whole
       → Fails stop whole
   unfolding added_from
-  not_added stops.Memory before values index value whole within at is so_far = tt
+  not_added (stops.Memory memory) before values index value whole within at is so_far = tt
   not_added (stops.At fault) before values index value whole within at is so_far =
       let one : add_left seen form before index values ≡ Err fault =
       rw (drop_more values index value within, at, is) refl in

@@ -31,7 +31,7 @@ module _ {F V D A : Type 0} (seen : V → D) (form : ℕ → D → Result A F) w
       → with_front front (each_from form (index + 1) (map seen (drop index values))) ≡ whole
       → Fails stop whole
   unfolding each_from
-  ends stops.Memory front values index value whole within at is so_far = tt
+  ends (stops.Memory memory) front values index value whole within at is so_far = tt
   ends (stops.At fault) front values index value whole within at is so_far =
       let one : with_front front (each_from form (index + 1) (map seen (drop index values))) ≡ Err fault =
       rw (drop_more values index value within, at, is) refl in

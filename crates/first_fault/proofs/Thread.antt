@@ -31,7 +31,7 @@ module _ {F V D A S : Type 0} (seen : V → D) (form : S → ℕ → D → Resul
       → behind front (thread_from form so_far (index + 1) (map seen (drop index values))) ≡ whole
       → Fails stop whole
   unfolding thread_from
-  thread_ends stops.Memory front so_far values index value whole within at is before = tt
+  thread_ends (stops.Memory memory) front so_far values index value whole within at is before = tt
   thread_ends (stops.At fault) front so_far values index value whole within at is before =
       let one : behind front (thread_from form so_far (index + 1) (map seen (drop index values))) ≡ Err fault =
       rw (drop_more values index value within, at, is) refl in

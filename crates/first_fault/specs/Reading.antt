@@ -11,7 +11,7 @@ abbrev pub ◌>>=◌ : {A B F : Type 0} → Result A F → (A → Result B F) �
 
 -- a reader that stopped names the fault of the reading, unless memory ran out
 abbrev pub Fails : {F Y : Type 0} → Stop F → Result Y F → Type 0
-Fails stops.Memory reading = Unit {0}
+Fails (stops.Memory memory) reading = Unit {0}
 Fails (stops.At fault) reading = reading ≡ Err fault
 
 -- what a reader returned, seen by a view, is what the reading gives, unless memory ran out
@@ -52,3 +52,8 @@ unfoldable pub added_from : {F D S : Type 0} → (S → ℕ → D → Result S F
 added_from form before index [] = Ok before
 added_from form before index (item ∷ rest) =
     form before index item >>= λ after. added_from form after (index + 1) rest
+
+-- a reader stopped where memory was refused
+abbrev pub IsWant : {F : Type 0} → Stop F → Type 0
+IsWant (stops.Memory memory) = Unit {0}
+IsWant (stops.At fault) = ⊥

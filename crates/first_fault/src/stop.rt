@@ -1,5 +1,6 @@
-//! Reading stops at the first fault, or where memory ran out.
+//! Reading stops at the first fault, or where memory was refused.
 ghost use Rattle.std.specs.Prelude.{◌≡◌};
+ghost use Rattle.card_set.specs.declared.memory.Memory.{Memory as Refused};
 ghost use Rattle.first_fault.specs.declared.stop.Stop.TheVariants.{Memory as OutOfMemory};
 
 use card_set::Memory;
@@ -8,32 +9,32 @@ use std::alloc::{AllocError, AllocFailed};
 /// Why a reader stopped.
 #[derive(Clone, Copy, Debug, PartialEq, Eq)]
 pub enum Stop<F> {
-    /// There was not enough memory.
-    Memory,
+    /// A request for memory was refused.
+    Memory(Memory),
     /// The first fault of what was read.
     At(F),
 }
 
 impl<F> From<Memory> for Stop<F> {
-    ghost from_gives = { λ _ stop. stop ≡ OutOfMemory };
+    ghost from_gives = { λ memory stop. stop ≡ OutOfMemory memory };
 
-    fn from(_: Memory) -> Self {
-        Stop::Memory
+    fn from(memory: Memory) -> Self {
+        Stop::Memory(memory)
     }
 }
 
 impl<F> From<AllocError> for Stop<F> {
-    ghost from_gives = { λ _ stop. stop ≡ OutOfMemory };
+    ghost from_gives = { λ _ stop. (memory : Refused) × (stop ≡ OutOfMemory memory) };
 
-    fn from(_: AllocError) -> Self {
-        Stop::Memory
+    fn from(refused: AllocError) -> Self {
+        Stop::Memory(Memory::from(refused))
     }
 }
 
 impl<F, T: Drop> From<AllocFailed<T>> for Stop<F> {
-    ghost from_gives = { λ _ stop. stop ≡ OutOfMemory };
+    ghost from_gives = { λ _ stop. (memory : Refused) × (stop ≡ OutOfMemory memory) };
 
-    fn from(_: AllocFailed<T>) -> Self {
-        Stop::Memory
+    fn from(refused: AllocFailed<T>) -> Self {
+        Stop::Memory(Memory::from(refused))
     }
 }

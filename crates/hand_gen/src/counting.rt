@@ -49,7 +49,7 @@ fn in_histories(alloc: Global, file: &[Play]) -> Result<SpelledSize, Memory>
 {
     match ohh_writing::write(alloc, Dialect::Added, file, Keep::All) {
         Ok(bytes) => Ok(spelled_in(bytes.len())),
-        Err(WriteRefusal::Memory) => Err(Memory),
+        Err(WriteRefusal::Memory(memory)) => Err(memory),
         Err(WriteRefusal::Unspelled { hand: _, fact: _ }) => Ok(not_spelled()),
     }
 }
@@ -75,7 +75,7 @@ fn in_logs_of(alloc: Global, game: &Game, file: &[Play]) -> Result<SpelledSize, 
 {
     match acpc_writing::write(alloc, game, file, Keep::All) {
         Ok(bytes) => Ok(spelled_in(bytes.len())),
-        Err(WriteRefusal::Memory) => Err(Memory),
+        Err(WriteRefusal::Memory(memory)) => Err(memory),
         Err(WriteRefusal::Unspelled { hand: _, fact: _ }) => Ok(not_spelled()),
     }
 }

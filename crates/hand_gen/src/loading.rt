@@ -33,7 +33,7 @@ pub fn load(alloc: Global, seed: u64, count: u32) -> Result<Summary, Memory>
         let mut file = Vec::new(alloc);
         match file.push(made.play) {
             Ok(()) => {}
-            Err(_) => return Err(Memory),
+            Err(refused) => return Err(Memory::from(refused)),
         }
         let counts = match counts_of(alloc, file.as_slice()) {
             Ok(counts) => counts,

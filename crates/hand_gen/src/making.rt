@@ -81,7 +81,7 @@ pub fn make_play(alloc: Global, place: u32, number: u64) -> Result<Made, Memory>
     let trace = match replay(alloc, &setup, &rules, &script) {
         Ok(trace) => trace,
         Err(fault) => match fault {
-            ReplayFault::Memory => return Err(Memory),
+            ReplayFault::Memory(memory) => return Err(memory),
             _ => unreachable!(),
         },
     };

@@ -105,7 +105,7 @@ fn push_if(deck: &mut Vec<Card>, has: bool, card: Card) -> Result<(), Memory>
     if has {
         match deck.push(card) {
             Ok(()) => Ok(()),
-            Err(_) => Err(Memory),
+            Err(refused) => Err(Memory::from(refused)),
         }
     } else {
         Ok(())

@@ -25,3 +25,8 @@ refusal_from unspelled number (play ∷ rest) =
 -- the first refusal of plays; the first hand has the number 1
 abbrev pub first_refusal : (Play → Option Unspelled) → List Play → Option WriteRefusal
 first_refusal unspelled plays = refusal_from unspelled 1 plays
+
+-- a refusal is want of memory
+abbrev pub IsWant : WriteRefusal → Type 0
+IsWant (refusals.Memory memory) = Unit {0}
+IsWant (refusals.Unspelled hand fact) = ⊥

@@ -39,7 +39,7 @@ impl Moves {
     {
         match self.moves.push(item) {
             Ok(()) => Ok(()),
-            Err(_) => Err(Memory),
+            Err(refused) => Err(Memory::from(refused)),
         }
     }
 

@@ -39,7 +39,7 @@ impl Places {
     {
         match self.places.push(item) {
             Ok(()) => Ok(()),
-            Err(_) => Err(Memory),
+            Err(refused) => Err(Memory::from(refused)),
         }
     }
 

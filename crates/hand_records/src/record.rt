@@ -134,7 +134,7 @@ impl Records {
     {
         match self.records.push(item) {
             Ok(()) => Ok(()),
-            Err(_) => Err(Memory),
+            Err(refused) => Err(Memory::from(refused)),
         }
     }
 

@@ -1,7 +1,9 @@
 //! A play is written whole or not at all: what of it a notation may have no spelling for.
 ghost use Rattle.std.specs.Prelude.{◌≡◌};
+ghost use Rattle.card_set.specs.declared.memory.Memory.{Memory as Refused};
 ghost use Rattle.hand_records.specs.declared.writing.WriteRefusal.TheVariants as refusals;
 
+use card_set::Memory;
 use crate::notes::NoteName;
 use std::alloc::{AllocError, AllocFailed};
 
@@ -36,21 +38,29 @@ pub enum Keep {
 #[derive(Clone, Copy, Debug, PartialEq, Eq)]
 pub enum WriteRefusal {
     Unspelled { hand: u32, fact: Unspelled },
-    Memory,
+    Memory(Memory),
+}
+
+impl From<Memory> for WriteRefusal {
+    ghost from_gives = { λ memory refusal. refusal ≡ refusals.Memory memory };
+
+    fn from(memory: Memory) -> Self {
+        WriteRefusal::Memory(memory)
+    }
 }
 
 impl From<AllocError> for WriteRefusal {
-    ghost from_gives = { λ _ refusal. refusal ≡ refusals.Memory };
+    ghost from_gives = { λ _ refusal. (memory : Refused) × (refusal ≡ refusals.Memory memory) };
 
-    fn from(_: AllocError) -> Self {
-        WriteRefusal::Memory
+    fn from(refused: AllocError) -> Self {
+        WriteRefusal::Memory(Memory::from(refused))
     }
 }
 
 impl<T: Drop> From<AllocFailed<T>> for WriteRefusal {
-    ghost from_gives = { λ _ refusal. refusal ≡ refusals.Memory };
+    ghost from_gives = { λ _ refusal. (memory : Refused) × (refusal ≡ refusals.Memory memory) };
 
-    fn from(_: AllocFailed<T>) -> Self {
-        WriteRefusal::Memory
+    fn from(refused: AllocFailed<T>) -> Self {
+        WriteRefusal::Memory(Memory::from(refused))
     }
 }

@@ -55,7 +55,7 @@ pub fn fault_text(alloc: Global, fault: ReplayFault) -> Result<String, AllocErro
         ReplayFault::EndsEarly { events } => format!(in alloc; "ends early after {events} events"),
         ReplayFault::RakeTooBig { pot } => format!(in alloc; "pot {pot}: rake too big"),
         ReplayFault::NoShownHand { pot } => format!(in alloc; "pot {pot}: no shown hand"),
-        ReplayFault::Memory => String::from_str(alloc, "out of memory"),
+        ReplayFault::Memory(_) => String::from_str(alloc, "out of memory"),
     }
 }
 

@@ -14,5 +14,5 @@ IsAnswer file max TooLong = IsSomeAnd file (λ bytes. max < length bytes)
 -- whether the answer is that the shelf failed
 abbrev pub has_failed : Result Fetched ShelfFault → Bool
 has_failed (Err Failed) = true
-has_failed (Err Memory) = false
+has_failed (Err (Memory memory)) = false
 has_failed (Ok fetched) = false

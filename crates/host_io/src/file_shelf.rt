@@ -86,7 +86,7 @@ fn fetch_from<S: Source>(alloc: Global, source: &mut S, max: usize) -> Result<Fe
         Ok(bytes) => Ok(Fetched::Bytes(bytes)),
         Err(InFault::TooLong) => Ok(Fetched::TooLong),
         Err(InFault::ReadFault) => Err(ShelfFault::Failed),
-        Err(InFault::Memory) => Err(ShelfFault::Memory),
+        Err(InFault::Memory(memory)) => Err(ShelfFault::Memory(memory)),
     }
 }
 

@@ -2,9 +2,11 @@
 ghost use Rattle.std.specs.Prelude.{◌≡◌, ◌≤◌, List, ℕ, Option, IfOk, IfSome, IsErrOf};
 ghost use Rattle.host_io.specs.Faults.{Rose};
 ghost use Rattle.host_io.specs.Shelf.{IsAnswer};
-ghost use Rattle.host_io.specs.declared.shelf.ShelfFault.TheVariants.{Failed as ShelfFailed, Memory};
+ghost use Rattle.host_io.specs.declared.shelf.ShelfFault.TheVariants.{Failed as ShelfFailed, Memory as OutOfMemory};
+ghost use Rattle.card_set.specs.declared.memory.Memory.{Memory as Refused};
 
 use crate::fault::Failed;
+use card_set::Memory;
 use std::alloc::{AllocError, Global};
 use thiserror::Error;
 
@@ -27,7 +29,7 @@ pub enum ShelfFault {
     Failed,
     /// There was not enough memory for the bytes.
     #[error("out of memory")]
-    Memory,
+    Memory(Memory),
 }
 
 impl From<Failed> for ShelfFault {
@@ -39,10 +41,10 @@ impl From<Failed> for ShelfFault {
 }
 
 impl From<AllocError> for ShelfFault {
-    ghost from_gives = { λ _ fault. fault ≡ Memory };
+    ghost from_gives = { λ _ fault. (memory : Refused) × (fault ≡ OutOfMemory memory) };
 
-    fn from(_: AllocError) -> Self {
-        ShelfFault::Memory
+    fn from(refused: AllocError) -> Self {
+        ShelfFault::Memory(Memory::from(refused))
     }
 }
 

@@ -4,9 +4,11 @@ ghost use Rattle.std.specs.Io.{ReadsAtMost};
 ghost use Rattle.std.specs.Io.KnownBytes.{ReadConsumes, IsAtEnd};
 ghost use Rattle.host_io.specs.Faults.{Rose};
 ghost use Rattle.host_io.specs.Bytes.{LosesAtMost, Loses};
-ghost use Rattle.host_io.specs.declared.source.InFault.TheVariants.{Memory};
+ghost use Rattle.host_io.specs.declared.source.InFault.TheVariants.{Memory as OutOfMemory};
+ghost use Rattle.card_set.specs.declared.memory.Memory.{Memory as Refused};
 
 use crate::fault::Failed;
+use card_set::Memory;
 use std::alloc::{AllocError, Global};
 use thiserror::Error;
 
@@ -24,14 +26,14 @@ pub enum InFault {
     TooLong,
     /// There was not enough memory for the bytes.
     #[error("out of memory")]
-    Memory,
+    Memory(Memory),
 }
 
 impl From<AllocError> for InFault {
-    ghost from_gives = { λ _ fault. fault ≡ Memory };
+    ghost from_gives = { λ _ fault. (memory : Refused) × (fault ≡ OutOfMemory memory) };
 
-    fn from(_: AllocError) -> Self {
-        InFault::Memory
+    fn from(refused: AllocError) -> Self {
+        InFault::Memory(Memory::from(refused))
     }
 }
 

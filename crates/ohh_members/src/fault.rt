@@ -6,7 +6,7 @@ ghost use Rattle.ohh_members.specs.Paths.{action_name, action_text, card_path, m
 
 use card_set::Memory;
 use first_fault::{Quantity, Text};
-use std::alloc::{AllocError, Global};
+use std::alloc::Global;
 
 /// What is wrong.
 #[derive(Clone, Copy, Debug, PartialEq, Eq)]
@@ -140,11 +140,11 @@ impl PlayerMember {
 
 impl ActionMember {
     // How the member is spelled behind its action.
-    fn text(self, alloc: Global) -> Result<String, AllocError>
+    fn text(self, alloc: Global) -> Result<String, Memory>
         ensures { IfOk result (λ text. string_bytes text ≡ action_text self) }
     {
         match self {
-            ActionMember::Card { index } => format!(in alloc; ".cards[{index}]"),
+            ActionMember::Card { index } => Ok(format!(in alloc; ".cards[{index}]")?),
             _ => behind_point(alloc, self.name()),
         }
     }
@@ -166,11 +166,11 @@ impl ActionMember {
 
 impl RoundMember {
     // How the member is spelled behind its round.
-    fn text(self, alloc: Global) -> Result<String, AllocError>
+    fn text(self, alloc: Global) -> Result<String, Memory>
         ensures { IfOk result (λ text. string_bytes text ≡ round_text self) }
     {
         match self {
-            RoundMember::Card { index } => format!(in alloc; ".cards[{index}]"),
+            RoundMember::Card { index } => Ok(format!(in alloc; ".cards[{index}]")?),
             RoundMember::Action { index, member } => {
                 item_text(alloc, ".actions[", index, member.text(alloc)?)
             }
@@ -208,7 +208,7 @@ impl WinMember {
 
 impl PotMember {
     // How the member is spelled behind its pot.
-    fn text(self, alloc: Global) -> Result<String, AllocError>
+    fn text(self, alloc: Global) -> Result<String, Memory>
         ensures { IfOk result (λ text. string_bytes text ≡ pot_text self) }
     {
         match self {
@@ -293,12 +293,12 @@ impl Path {
     }
 
     // How the path is spelled.
-    fn string(self, alloc: Global) -> Result<String, AllocError>
+    fn string(self, alloc: Global) -> Result<String, Memory>
         ensures { IfOk result (λ text. string_bytes text ≡ path_text self) }
     {
         match self {
-            Path::Ohh => String::from_str(alloc, "ohh"),
-            Path::BetType => String::from_str(alloc, "ohh.bet_limit.bet_type"),
+            Path::Ohh => Ok(String::from_str(alloc, "ohh")?),
+            Path::BetType => Ok(String::from_str(alloc, "ohh.bet_limit.bet_type")?),
             Path::Player { index, member } => {
                 let text = behind_point(alloc, member.name())?;
                 item_text(alloc, "ohh.players[", index, text)
@@ -311,7 +311,7 @@ impl Path {
             }
             _ => {
                 let name = self.name();
-                format!(in alloc; "ohh.{name}")
+                Ok(format!(in alloc; "ohh.{name}")?)
             }
         }
     }
@@ -326,20 +326,20 @@ impl Path {
 }
 
 // A name behind a point, and nothing where there is no name.
-fn behind_point(alloc: Global, name: &str) -> Result<String, AllocError>
+fn behind_point(alloc: Global, name: &str) -> Result<String, Memory>
     ensures { IfOk result (λ text. string_bytes text ≡ with_point name.now) }
 {
     if name.is_empty() {
-        String::from_str(alloc, "")
+        Ok(String::from_str(alloc, "")?)
     } else {
-        format!(in alloc; ".{name}")
+        Ok(format!(in alloc; ".{name}")?)
     }
 }
 
 // A text behind an item of a list: it owns the text, so that no caller has one to drop.
-fn item_text(alloc: Global, list: &str, index: u64, text: String) -> Result<String, AllocError>
+fn item_text(alloc: Global, list: &str, index: u64, text: String) -> Result<String, Memory>
     ensures { IfOk result (λ item. string_bytes item
         ≡ list.now ++ (decimal index ++ (codes "]" ++ string_bytes text))) }
 {
-    format!(in alloc; "{list}{index}]{text}")
+    Ok(format!(in alloc; "{list}{index}]{text}")?)
 }

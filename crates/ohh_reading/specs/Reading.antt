@@ -101,7 +101,7 @@ wrong_of (faults.BadStreet hand path) = Some (InHand hand path whats.BadStreet)
 wrong_of (faults.BadPost hand path) = Some (InHand hand path whats.BadPost)
 wrong_of (faults.RakePlace hand path) = Some (InHand hand path whats.RakePlace)
 wrong_of (faults.TooMany hand path quantity) = Some (InHand hand path (whats.TooMany quantity))
-wrong_of faults.Memory = None
+wrong_of (faults.Memory memory) = None
 
 -- an answer is what is read: the records that it holds, or the fault that it names; want of memory
 -- says nothing

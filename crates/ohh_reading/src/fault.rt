@@ -1,5 +1,6 @@
 //! Why bytes are no hands in Open Hand History: their first fault, with its hand and the path of
 //! its member.
+use card_set::Memory;
 use first_fault::{Quantity, Text};
 use ohh_members::fault::MemberFault;
 
@@ -68,7 +69,7 @@ pub enum OhhFault {
         quantity: Quantity,
     },
     /// There was not enough memory.
-    Memory,
+    Memory(Memory),
 }
 
 /// What is wrong with a hand: its block is no JSON, or a member has a fault.

@@ -13,7 +13,6 @@ ghost use Rattle.hand_records.specs.PlainHands.{plain};
 use crate::blocks::cut_blocks;
 use crate::fault::{HandFaultKind, OhhHandFault};
 use crate::hand::read_hand;
-use crate::tree_size::is_bearable;
 use card_set::Memory;
 use first_fault::{MOST_HANDS, Quantity, Stop};
 use hand_records::{Record, Records};
@@ -87,7 +86,7 @@ fn read_numbered(
     };
     match read_tree(alloc, dialect, &tree, number - 1, file_moves) {
         Ok(found) => Ok(found),
-        Err(Stop::Memory) => Err(Stop::Memory),
+        Err(Stop::Memory(memory)) => Err(Stop::Memory(memory)),
         Err(Stop::At(fault)) => Err(in_hand(number, HandFaultKind::Member(fault))),
     }
 }
@@ -100,18 +99,15 @@ fn in_hand(hand: u32, what: HandFaultKind) -> Stop<OhhHandFault>
 }
 
 // The tree that a block is, or nothing where it is none.
-#[tactic(auto, using(crate::proofs::Trees::no_tree))]
+#[tactic(auto, using(crate::proofs::Trees::no_tree, card_set::specs::Refusal::an_allocator_said_so))]
 fn parse(alloc: Global, block: &[u8]) -> Result<Option<Value>, Memory>
     ensures { IfOk result (λ tree. option_map view tree ≡ tree_of block.now) }
 {
-    if !is_bearable(block) {
-        return Err(Memory);
-    }
     match Value::from_slice(alloc, block) {
         Ok(tree) => Ok(Some(tree)),
         Err(error) => {
             if error.is_memory() {
-                Err(Memory)
+                Err(Memory {})
             } else {
                 Ok(None)
             }

@@ -11,7 +11,6 @@ mod play;
 mod reading;
 mod record;
 mod sizes;
-mod tree_size;
 
 pub use fault::OhhFault;
 pub use reading::read;

@@ -26,7 +26,7 @@ pub fn read(alloc: Global, dialect: Dialect, bytes: &[u8]) -> Result<Records, Oh
 {
     match read_file(alloc, dialect, bytes) {
         Ok((records, _moves)) => Ok(records),
-        Err(Stop::Memory) => Err(OhhFault::Memory),
+        Err(Stop::Memory(memory)) => Err(OhhFault::Memory(memory)),
         Err(Stop::At(found)) => Err(spelled(alloc, found)),
     }
 }
@@ -48,7 +48,7 @@ fn spelled_at(alloc: Global, hand: u32, fault: MemberFault) -> OhhFault
 {
     match fault.path.text(alloc) {
         Ok(path) => wrong_at(hand, path, fault.what),
-        Err(_) => OhhFault::Memory,
+        Err(memory) => OhhFault::Memory(memory),
     }
 }
 

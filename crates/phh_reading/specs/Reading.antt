@@ -94,7 +94,7 @@ wrong_of (faults.SeatCount hand key) = Some (InHand hand key whats.SeatCount)
 wrong_of (faults.ListLength hand key) = Some (InHand hand key whats.ListLength)
 wrong_of (faults.BadAction hand key) = Some (InHand hand key whats.BadAction)
 wrong_of (faults.TooMany hand key quantity) = Some (InHand hand key (whats.TooMany quantity))
-wrong_of faults.Memory = None
+wrong_of (faults.Memory memory) = None
 
 -- an answer is what is read: the records that it holds, or the fault that it names; want of memory
 -- says nothing

@@ -1,5 +1,6 @@
 //! Why bytes are no hands in the Poker Hand History format: their first fault, with its hand and
 //! its key.
+use card_set::Memory;
 use first_fault::{Quantity, Text};
 use phh_fields::fault::FieldFault;
 
@@ -57,7 +58,7 @@ pub enum PhhFault {
         quantity: Quantity,
     },
     /// There was not enough memory.
-    Memory,
+    Memory(Memory),
 }
 
 /// A fault of a hand of a file.

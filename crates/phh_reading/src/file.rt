@@ -84,7 +84,7 @@ fn read_numbered(
     }
     match read_hand(alloc, table, number - 1, file_moves) {
         Ok(found) => Ok(found),
-        Err(Stop::Memory) => Err(Stop::Memory),
+        Err(Stop::Memory(memory)) => Err(Stop::Memory(memory)),
         Err(Stop::At(fault)) => Err(Stop::At(PhhHandFault {
             hand: number,
             fault,

@@ -7,9 +7,7 @@ pub mod fault;
 mod file;
 mod hand;
 mod order;
-mod plain_bytes;
 mod reading;
-mod tree_size;
 
 pub use fault::PhhFault;
 pub use reading::read;

@@ -1,16 +1,15 @@
 //! Bytes are read as the records that they say, or refused with their first fault.
-ghost use Rattle.std.specs.Prelude.{◌≡◌, ◌≤◌, Some, sum_by, length, IfOk, IfSome};
+ghost use Rattle.std.specs.Prelude.{◌≡◌, ◌≤◌, Some, sum_by, length, option_map, IfOk, IfSome};
 ghost use Rattle.std.specs.List.{AllByRecursion};
 ghost use Rattle.toml.specs.View.{table_view};
 ghost use Rattle.first_fault.specs.declared.limits.TheConstants.{MOST_FILE_MOVES, MOST_HANDS};
 ghost use Rattle.phh_fields.specs.Fields.{place_text as place_text_said};
-ghost use Rattle.phh_reading.specs.Reading.{InHand, Reads, document_said, reading, wrong_of};
+ghost use Rattle.phh_reading.specs.Reading.{InHand, Reads, document_of, document_said, reading, wrong_of};
 ghost use Rattle.hand_records.specs.Histories.{AreHistories, IsHistory};
 ghost use Rattle.hand_records.specs.Moves.{moves_of};
 
 use crate::fault::{PhhFault, PhhHandFault};
 use crate::file::read_hands;
-use crate::tree_size::is_bearable;
 use card_set::Memory;
 use first_fault::{Stop, Text};
 use hand_records::Records;
@@ -20,23 +19,33 @@ use toml::Table;
 
 /// The records that bytes in the Poker Hand History format say, one for each hand in the order of
 /// reading; or their first fault. Each record is sound, and under the rules of hand histories.
-#[tactic(auto, using(crate::proofs::Documents::no_document), unfolding(crate::specs::Reading::reading))]
+#[tactic(auto, unfolding(crate::specs::Reading::reading))]
 pub fn read(alloc: Global, bytes: &[u8]) -> Result<Records, PhhFault>
     ensures reads { Reads result (reading bytes.now) }
     ensures sound { IfOk result (AllByRecursion IsHistory) }
     ensures few { IfOk result (λ records. length records ≤ MOST_HANDS) }
     ensures moves { IfOk result (λ records. sum_by moves_of records ≤ MOST_FILE_MOVES) }
 {
-    if !is_bearable(bytes) {
-        return Err(PhhFault::Memory);
+    match parse(alloc, bytes) {
+        Ok(Some(table)) => read_document(alloc, &table),
+        Ok(None) => Err(PhhFault::Text),
+        Err(memory) => Err(PhhFault::Memory(memory)),
     }
+}
+
+// The document that bytes are, or nothing where they are none. It is a door: the parser tells want
+// of memory where a request for it was refused.
+#[tactic(auto, using(crate::proofs::Documents::no_document, card_set::specs::Refusal::an_allocator_said_so))]
+fn parse(alloc: Global, bytes: &[u8]) -> Result<Option<Table>, Memory>
+    ensures { IfOk result (λ table. option_map (λ t. table_view t) table ≡ document_of bytes.now) }
+{
     match toml::table_from_slice(alloc, bytes) {
-        Ok(table) => read_document(alloc, &table),
+        Ok(table) => Ok(Some(table)),
         Err(error) => {
             if error.is_memory() {
-                Err(PhhFault::Memory)
+                Err(Memory {})
             } else {
-                Err(PhhFault::Text)
+                Ok(None)
             }
         }
     }
@@ -49,7 +58,7 @@ fn read_document(alloc: Global, table: &Table) -> Result<Records, PhhFault>
 {
     match read_hands(alloc, table) {
         Ok(records) => Ok(records),
-        Err(Stop::Memory) => Err(PhhFault::Memory),
+        Err(Stop::Memory(memory)) => Err(PhhFault::Memory(memory)),
         Err(Stop::At(found)) => Err(spelled(alloc, found)),
     }
 }
@@ -61,7 +70,7 @@ fn spelled(alloc: Global, found: PhhHandFault) -> PhhFault
 {
     match place_text(alloc, found.fault.place) {
         Ok(key) => wrong_at(found.hand, key, found.fault.what),
-        Err(_) => PhhFault::Memory,
+        Err(memory) => PhhFault::Memory(memory),
     }
 }
 

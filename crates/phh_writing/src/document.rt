@@ -4,10 +4,9 @@ ghost use Rattle.std.specs.List.{AllByRecursion};
 ghost use Rattle.toml.specs.View.{table_view};
 ghost use Rattle.hand_canon.specs.Sound.{IsSound};
 ghost use Rattle.first_fault.specs.declared.limits.TheConstants.{MOST_HANDS};
-ghost use Rattle.hand_records.specs.declared.writing.WriteRefusal.TheVariants as refusals;
 ghost use Rattle.phh_writing.specs.Document.{Spells, document, hand_table};
 ghost use Rattle.phh_writing.specs.Spelled.{unspelled};
-ghost use Rattle.hand_records.specs.WriteRefusals.{first_refusal};
+ghost use Rattle.hand_records.specs.WriteRefusals.{IsWant, first_refusal};
 
 use crate::members::put;
 use crate::notes::put_notes;
@@ -29,7 +28,7 @@ pub fn write(alloc: Global, plays: &[Play], keep: Keep) -> Result<Vec<u8>, Write
     ensures written { IfOk result (λ bytes. Spells plays.now bytes.items) }
     ensures nothing { plays.now ≡ [] → IfOk result (λ bytes. bytes.items ≡ []) }
     ensures spelled { OnOk result (first_refusal unspelled plays.now ≡ None) }
-    ensures refused { IfErr result (λ refusal. (refusal ≡ refusals.Memory)
+    ensures refused { IfErr result (λ refusal. IsWant refusal
         ⊎ (first_refusal unspelled plays.now ≡ Some refusal)) }
 {
     if let Some(refusal) = find_refusal(plays, keep) {
@@ -38,14 +37,21 @@ pub fn write(alloc: Global, plays: &[Play], keep: Keep) -> Result<Vec<u8>, Write
     if plays.is_empty() {
         return Ok(Vec::new(alloc));
     }
-    let Ok(table) = make_document(alloc, plays) else {
-        return Err(WriteRefusal::Memory);
+    let table = match make_document(alloc, plays) {
+        Ok(table) => table,
+        Err(memory) => return Err(WriteRefusal::Memory(memory)),
     };
     match toml::table_to_string(alloc, &table) {
         Ok(text) => Ok(text.into_bytes()),
         Err(Error::DateInvalid) => unreachable!(),
-        Err(_) => Err(WriteRefusal::Memory),
+        Err(Error::OutOfMemory) => Err(WriteRefusal::Memory(told_by_printer())),
     }
+}
+
+// Want of memory, as the printer of documents tells it. It is a door.
+#[tactic(auto, using(card_set::specs::Refusal::an_allocator_said_so))]
+fn told_by_printer() -> Memory {
+    Memory {}
 }
 
 // The document of some plays. The tables of several hands are put in from the last to the first.

@@ -1,7 +1,7 @@
 //! The bytes of one event lie on the stack until all of them are there.
 ghost use Rattle.std.specs.Prelude.{◌≡◌, ◌+◌, ◌<◌, ◌≤◌, [], ◌∷◌, ◌++◌, length, OnOk, OnErr};
 
-use std::alloc::AllocError;
+use card_set::Memory;
 use std::marker::Model;
 
 /// The bytes of a packed event so far. Fifteen are the most: those of a raise or a call with chips.
@@ -53,7 +53,7 @@ impl PackedEvent {
 
     /// Puts the bytes so far behind those of a script. All fifteen are copied and the rest is cut
     /// off again, since a copy of a fixed size needs no call.
-    pub(crate) fn append_to(&self, script: &mut Vec<u8>) -> Result<(), AllocError>
+    pub(crate) fn append_to(&self, script: &mut Vec<u8>) -> Result<(), Memory>
         ensures appended { OnOk result (script.new.items ≡ script.old.items ++ self.now) }
         ensures unchanged { OnErr result (script.new.items ≡ script.old.items) }
     {

@@ -5,11 +5,11 @@ ghost use Rattle.play_event.specs.declared.event.Event.{Event};
 ghost use Rattle.play_event.specs.EventNumbers.{ChipsFit, IsEvent, AreEvents};
 ghost use Rattle.play_event.specs.PackedForm.{actor_byte, card_byte, slot_byte, counted, kind_byte, kind_bytes, packed_event, packed_events};
 
+use card_set::Memory;
 use crate::event::{Event, Kind, Spelled};
 use crate::packed_event::PackedEvent;
 use card_set::{Card, Slot, place_in_deck};
 use chip_ledger::Seat;
-use std::alloc::AllocError;
 
 // So many bytes are enough for the events of most hands.
 const USUAL_BYTES: usize = 72;
@@ -24,7 +24,7 @@ pub fn law_of_packing()
 /// Puts the packed form of the event behind those of others. Without memory for it nothing changes.
 /// Before the first one there is made room for the events of most hands.
 #[tactic(auto, unfolding(crate::specs::PackedForm::packed_event))]
-pub(crate) fn append(script: &mut Vec<u8>, event: Event) -> Result<(), AllocError>
+pub(crate) fn append(script: &mut Vec<u8>, event: Event) -> Result<(), Memory>
     ensures appended { OnOk result (script.new.items ≡ script.old.items ++ packed_event event) }
     ensures unchanged { OnErr result (script.new.items ≡ script.old.items) }
     ensures event { IsEvent event }

@@ -7,7 +7,7 @@ use crate::cursor::Cursor;
 use crate::event::Event;
 use crate::packing::append;
 use card_set::Memory;
-use std::alloc::{AllocError, Global};
+use std::alloc::Global;
 use std::marker::Model;
 
 // Few events take more bytes.
@@ -77,7 +77,7 @@ impl Script {
 
     /// A script without events, and with room for about so many, so that it need not move as they
     /// come. More of them find room, too.
-    pub fn with_room(alloc: Global, events: usize) -> Result<Self, AllocError>
+    pub fn with_room(alloc: Global, events: usize) -> Result<Self, Memory>
         ensures { IfOk result (λ script. script ≡ []) }
     {
         Ok(Script {

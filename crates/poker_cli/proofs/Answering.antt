@@ -56,7 +56,7 @@ answer_beyond task reader left answer many is =
 
 -- want of memory is not told as a fault
 history_memory : (fault : PhhFault) (answer : Answer) → to_fault (formats.Phh fault) ≡ Some answer → is_want_in_phh fault ≡ true → ⊥
-history_memory in_phh.Memory answer told memory = cc (told)
+history_memory (in_phh.Memory memory) answer told memory = cc (told)
 history_memory in_phh.Text answer told memory = cc (memory)
 history_memory (in_phh.MissingField hand key) answer told memory = cc (memory)
 history_memory (in_phh.WrongType hand key) answer told memory = cc (memory)
@@ -69,7 +69,7 @@ history_memory (in_phh.BadAction hand key) answer told memory = cc (memory)
 history_memory (in_phh.TooMany quantity hand key) answer told memory = cc (memory)
 
 tree_memory : (fault : OhhFault) (answer : Answer) → to_fault (formats.Ohh fault) ≡ Some answer → is_want_in_ohh fault ≡ true → ⊥
-tree_memory in_ohh.Memory answer told memory = cc (told)
+tree_memory (in_ohh.Memory memory) answer told memory = cc (told)
 tree_memory (in_ohh.Text hand) answer told memory = cc (memory)
 tree_memory (in_ohh.MissingMember hand path) answer told memory = cc (memory)
 tree_memory (in_ohh.WrongType hand path) answer told memory = cc (memory)
@@ -84,7 +84,7 @@ tree_memory (in_ohh.RakePlace hand path) answer told memory = cc (memory)
 tree_memory (in_ohh.TooMany quantity hand path) answer told memory = cc (memory)
 
 log_memory : (fault : AcpcFault) (answer : Answer) → to_fault (formats.Acpc fault) ≡ Some answer → is_want_in_acpc fault ≡ true → ⊥
-log_memory in_acpc.Memory answer told memory = cc (told)
+log_memory (in_acpc.Memory memory) answer told memory = cc (told)
 log_memory (in_acpc.LineShape line byte) answer told memory = cc (memory)
 log_memory (in_acpc.BadBetting line byte) answer told memory = cc (memory)
 log_memory (in_acpc.BadCards line byte) answer told memory = cc (memory)
@@ -118,7 +118,7 @@ module _ (Say : List Record → Type 0) (HaveFault : FormatFault → Type 0) whe
     answer_unplayed (convert_faults.Format fault) have told = answers.Unread fault have answer told
     answer_unplayed (convert_faults.Refused number why) is told = answer_refused number why is told
     answer_unplayed (convert_faults.Unspelled number fact) is told = absurd is
-    answer_unplayed convert_faults.Memory is told = absurd told
+    answer_unplayed (convert_faults.Memory memory) is told = absurd told
 
   -- bytes that do not read have no hands
   pub answer_wrong : (IsMade : List Play → Answer → Type 0) (answer : Answer) (fault : ConvertFault) → IsReadFault HaveFault fault
@@ -126,14 +126,14 @@ module _ (Say : List Record → Type 0) (HaveFault : FormatFault → Type 0) whe
   answer_wrong IsMade answer (convert_faults.Format fault) have told = answers.Unread fault have answer told
   answer_wrong IsMade answer (convert_faults.Refused number why) have told = absurd have
   answer_wrong IsMade answer (convert_faults.Unspelled number fact) have told = absurd have
-  answer_wrong IsMade answer convert_faults.Memory have told = absurd told
+  answer_wrong IsMade answer (convert_faults.Memory memory) have told = absurd told
 
   -- and no verdicts
   pub not_judged : (answer : Answer) (fault : ConvertFault) → IsReadFault HaveFault fault → IsToldOf fault answer → IsJudgement Say HaveFault answer
   not_judged answer (convert_faults.Format fault) have told = answers.NotJudged fault have answer told
   not_judged answer (convert_faults.Refused number why) have told = absurd have
   not_judged answer (convert_faults.Unspelled number fact) have told = absurd have
-  not_judged answer convert_faults.Memory have told = absurd told
+  not_judged answer (convert_faults.Memory memory) have told = absurd told
 
   module _ (unspelled : Play → Option Unspelled) (Spell Back : List Play → List ℕ → Type 0) (answer : Answer) where
     -- bytes are not converted
@@ -144,7 +144,7 @@ module _ (Say : List Record → Type 0) (HaveFault : FormatFault → Type 0) whe
     answer_unconverted view (convert_faults.Unspelled number fact) is told =
         answers.Played is.plays is.read answer
         (subst (IsWritten unspelled Spell Back is.plays) (sym told) (answers.NotSpelled number fact is.first))
-    answer_unconverted view convert_faults.Memory is told = absurd told
+    answer_unconverted view (convert_faults.Memory memory) is told = absurd told
 
     -- or they are
     pub answer_converted : (output : List ℕ) → IsConverted Say unspelled Spell Back output → answer ≡ done output

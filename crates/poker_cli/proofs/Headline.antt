@@ -75,7 +75,7 @@ IsToldUnread told = IfSome told (λ answer. IsUnread answer.status)
 
 log_unread : (fault : AcpcFault) → IsToldUnread (to_wrong_acpc fault)
 unfolding IsUnread IsToldUnread
-log_unread in_acpc.Memory = tt
+log_unread (in_acpc.Memory memory) = tt
 log_unread (in_acpc.LineShape line byte) = tt
 log_unread (in_acpc.BadBetting line byte) = tt
 log_unread (in_acpc.BadCards line byte) = tt

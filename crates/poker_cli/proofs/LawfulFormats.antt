@@ -152,9 +152,14 @@ written_by format =
 pub converted : (from to : Format) (keep : Keep) (bytes output : List ℕ) → ConvertsInto from to keep bytes output → Converts (read_by from) (written_by to) keep bytes (Ok output)
 converted from to keep bytes output into = record { plays = into.plays; read = into.can.legal; spelled = into.can.spelled; spell = into.spell; back = into.back }
 
+-- what holds of what is there, where it follows from what held of it
+if_some : {A : Type 0} {P Q : A → Type 0} (o : Option A) → ((a : A) → P a → Q a) → IfSome o P → IfSome o Q
+if_some None more is = tt
+if_some (Some a) more is = more a is
+
 -- what a run tells is an answer of its conversion
 tells : (from to : Format) (keep : Keep) (bytes : List ℕ) (out diag : Sinks) (status : Status) (ends : ConversionEnds from to keep bytes out diag status)
-    → Converts (read_by from) (written_by to) keep bytes (told_by from to keep bytes out diag status ends)
+    → IfSome (told_by from to keep bytes out diag status ends) (Converts (read_by from) (written_by to) keep bytes)
 tells from to keep bytes out diag statuses.Done ends = converted from to keep bytes ends.output ends.converts
 tells from to keep bytes out diag statuses.WriteFault ends = converted from to keep bytes ends.output ends.converts
 tells from to keep bytes out diag statuses.Refused ends = ends.first
@@ -172,14 +177,19 @@ equal_runs from other to keep bytes too output written plays others read read_to
 
 pub runs_again : (from to : Format) (keep again : Keep) (bytes output : List ℕ) → ConvertsInto from to keep bytes output
     → (out diag : Sinks) (status : Status) (ends : ConversionEnds to to again output out diag status)
-    → AreSameAnswers (AreSameIn to) (Ok output) (told_by to to again output out diag status ends)
+    → IfSome (told_by to to again output out diag status ends) (AreSameAnswers (AreSameIn to) (Ok output))
 runs_again from to keep again bytes output into out diag status ends =
-    output_again (read_by from) (written_by to) keep again bytes output (told_by to to again output out diag status ends) (converted from to keep bytes output into) (tells to to again output out diag status ends)
+    if_some (told_by to to again output out diag status ends)
+    (λ answer. output_again (read_by from) (written_by to) keep again bytes output answer (converted from to keep bytes output into))
+    (tells to to again output out diag status ends)
 
 pub runs_by_way : (from by to : Format) (keep : Keep) (bytes output : List ℕ) → ConvertsInto from by keeps.All bytes output
     → (out diag others by_diag : Sinks) (status other : Status) (straight : ConversionEnds from to keep bytes out diag status) (by_way : ConversionEnds by to keep output others by_diag other)
-    → AreSameAnswers (AreSameIn to) (told_by from to keep bytes out diag status straight) (told_by by to keep output others by_diag other by_way)
+    → IfSome (told_by from to keep bytes out diag status straight)
+    (λ answer. IfSome (told_by by to keep output others by_diag other by_way) (AreSameAnswers (AreSameIn to) answer))
 runs_by_way from by to keep bytes output into out diag others by_diag status other straight by_way =
-    same_answers (read_by from) (written_by by) (written_by to) keep bytes output (converted from by keeps.All bytes output into)
-    (told_by from to keep bytes out diag status straight) (told_by by to keep output others by_diag other by_way)
-    (tells from to keep bytes out diag status straight) (tells by to keep output others by_diag other by_way)
+    if_some (told_by from to keep bytes out diag status straight)
+    (λ answer is. if_some (told_by by to keep output others by_diag other by_way)
+    (λ again it. same_answers (read_by from) (written_by by) (written_by to) keep bytes output (converted from by keeps.All bytes output into) answer again is it)
+    (tells by to keep output others by_diag other by_way))
+    (tells from to keep bytes out diag status straight)

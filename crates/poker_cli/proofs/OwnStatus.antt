@@ -73,7 +73,7 @@ wrong_own to_wrong each (Some wrong) answer told = subst (λ (a : Answer). IsOfI
 wrong_own to_wrong each None answer told = cc
 
 acpc_own : (fault : AcpcFault) (answer : Answer) → to_wrong_acpc fault ≡ Some answer → IsOfInput answer.status
-acpc_own in_acpc.Memory answer told = cc
+acpc_own (in_acpc.Memory memory) answer told = cc
 acpc_own (in_acpc.TooMany quantity line byte) answer told = subst (λ (a : Answer). IsOfInput a.status) (same_Some _ _ told) tt
 acpc_own fault answer told = subst (λ (a : Answer). IsOfInput a.status) (same_Some _ _ told) tt
 

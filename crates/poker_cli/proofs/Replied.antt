@@ -25,7 +25,7 @@ pub keeps_read : {S : Type 0} (input read : S) (reads asks : ℕ × ℕ) (result
 keeps_read input read reads asks (Ok answer) of rose alone =
     (own_of_input answer.status of, λ nothing. absurd (read_of_input answer.status of nothing))
 keeps_read input read reads asks (Err whys.ReadFault) of rose alone = rose refl
-keeps_read input read reads asks (Err whys.Memory) of rose alone = tt
+keeps_read input read reads asks (Err (whys.Memory memory)) of rose alone = tt
 keeps_read input read reads asks (Err whys.ShelfFault) of rose alone = absurd (alone tt)
 keeps_read input read reads asks (Err whys.GameMissing) of rose alone = absurd (alone tt)
 keeps_read input read reads asks (Err whys.FileMissing) of rose alone = absurd (alone tt)
@@ -33,7 +33,7 @@ keeps_read input read reads asks (Err whys.FileMissing) of rose alone = absurd (
 pub none_of_plain : (from : PlainNotation) (task : NamedTask PlainNotation) (left : Option (List ℕ)) (told : Option Files) (why : NoAnswer)
     → (ComesFirst why → ⊥) → HasNoAnswer (Plain from task) left told why
 none_of_plain from task left told whys.ReadFault alone = (tt, λ lacks. lacks)
-none_of_plain from task left told whys.Memory alone = tt
+none_of_plain from task left told (whys.Memory memory) alone = tt
 none_of_plain from task left told whys.ShelfFault alone = absurd (alone tt)
 none_of_plain from task left told whys.GameMissing alone = absurd (alone tt)
 none_of_plain from task left told whys.FileMissing alone = absurd (alone tt)
@@ -41,7 +41,7 @@ none_of_plain from task left told whys.FileMissing alone = absurd (alone tt)
 pub none_under_game : (name : List ℕ) (logs : Logs) (game : Game) (left : Option (List ℕ)) (told : Option Files)
     → IfSome told (λ files. GivesGame (files name) game) → (why : NoAnswer) → (ComesFirst why → ⊥) → HasNoAnswer (Under name logs) left told why
 none_under_game name logs game left told gives whys.ReadFault alone = (tt, game_there told name logs game gives)
-none_under_game name logs game left told gives whys.Memory alone = tt
+none_under_game name logs game left told gives (whys.Memory memory) alone = tt
 none_under_game name logs game left told gives whys.ShelfFault alone = absurd (alone tt)
 none_under_game name logs game left told gives whys.GameMissing alone = absurd (alone tt)
 none_under_game name logs game left told gives whys.FileMissing alone = absurd (alone tt)
@@ -68,4 +68,4 @@ none_beside sides name notes by left told so (Err whys.ShelfFault) there of_file
 none_beside sides name notes by left told so (Err whys.GameMissing) there of_file missing = absurd (of_file refl)
 none_beside sides name notes by left told so (Err whys.FileMissing) there of_file missing =
     of_files left told _ (missing_reply told sides name notes by so (missing refl))
-none_beside sides name notes by left told so (Err whys.Memory) there of_file missing = tt
+none_beside sides name notes by left told so (Err (whys.Memory memory)) there of_file missing = tt

@@ -32,7 +32,7 @@ other_told other notes file plays answer (convert_faults.Format fault) have told
 other_told other notes file plays answer (convert_faults.Refused number why) is told =
     subst (λ (a : Answer). IsComparedWith other notes file plays (in_file a)) (sym told) (answers.OtherRefused number why is)
 other_told other notes file plays answer (convert_faults.Unspelled number fact) is told = absurd is
-other_told other notes file plays answer convert_faults.Memory is told = absurd told
+other_told other notes file plays answer (convert_faults.Memory memory) is told = absurd told
 
 -- more bytes than are read
 pub compared_beyond : (by : Comparison) (file : List ℕ) (left : Option (List ℕ)) (answer : Answer)

@@ -18,7 +18,7 @@ acpc_fault_text (faults.GameShape line byte) = codes "GameShape"
 acpc_fault_text (faults.UnsupportedGame line byte) = codes "UnsupportedGame"
 acpc_fault_text (faults.AmountLimit line byte) = codes "AmountLimit"
 acpc_fault_text (faults.TooMany quantity line byte) = codes "TooMany"
-acpc_fault_text faults.Memory = codes "Memory"
+acpc_fault_text (faults.Memory memory) = codes "Memory"
 
 -- the line of a file that has a fault, from 1, or 0 where memory ran out
 abbrev pub line_of : AcpcFault → ℕ
@@ -31,7 +31,7 @@ line_of (faults.GameShape line byte) = line
 line_of (faults.UnsupportedGame line byte) = line
 line_of (faults.AmountLimit line byte) = line
 line_of (faults.TooMany quantity line byte) = line
-line_of faults.Memory = 0
+line_of (faults.Memory memory) = 0
 
 -- the byte of its line where a fault is, or 0 where memory ran out
 abbrev pub byte_of : AcpcFault → ℕ
@@ -44,7 +44,7 @@ byte_of (faults.GameShape line byte) = byte
 byte_of (faults.UnsupportedGame line byte) = byte
 byte_of (faults.AmountLimit line byte) = byte
 byte_of (faults.TooMany quantity line byte) = byte
-byte_of faults.Memory = 0
+byte_of (faults.Memory memory) = 0
 
 -- the line that tells a fault of a log with its line and its byte
 abbrev pub bad_acpc_line : AcpcFault → List ℕ

@@ -75,7 +75,7 @@ to_wrong_ohh wrong = refusal (ohh_status wrong) (ohh_fault_line wrong)
 
 -- the answer to a log that does not read as hands, by its first fault; want of memory has none
 abbrev pub to_wrong_acpc : AcpcFault → Option Answer
-to_wrong_acpc acpc_faults.Memory = None
+to_wrong_acpc (acpc_faults.Memory memory) = None
 to_wrong_acpc fault = Some (refusal (acpc_status fault) (acpc_fault_line fault))
 
 -- the answer to an input that does not read as hands, by its first fault in its notation; want of
@@ -212,7 +212,7 @@ abbrev pub IsToldOf : ConvertFault → Answer → Type 0
 IsToldOf (convert_faults.Format fault) answer = to_fault fault ≡ Some answer
 IsToldOf (convert_faults.Refused number why) answer = answer ≡ to_refusal number why
 IsToldOf (convert_faults.Unspelled number fact) answer = answer ≡ to_unspelled number fact
-IsToldOf convert_faults.Memory answer = ⊥
+IsToldOf (convert_faults.Memory memory) answer = ⊥
 
 -- the answer to a game's file that is too long
 abbrev pub to_game_excess : Answer

@@ -25,7 +25,7 @@ abbrev pub HasNoGame : Option (List ℕ) → NoGame → Type 0
 HasNoGame file reasons.Missing = file ≡ None
 HasNoGame file (reasons.Lacking lack) = Lacks file lack
 HasNoGame file reasons.ShelfFault = Unit {0}
-HasNoGame file reasons.Memory = Unit {0}
+HasNoGame file (reasons.Memory memory) = Unit {0}
 
 -- two files cannot be compared for this reason, which is one of the file of a game: only logs have
 -- one
@@ -51,7 +51,7 @@ HasNoFile file no_files.Missing = file ≡ None
 HasNoFile file no_files.TooLong =
     (text : List ℕ) × ((file ≡ Some text) × (most_input < length text))
 HasNoFile file no_files.ShelfFault = Unit {0}
-HasNoFile file no_files.Memory = Unit {0}
+HasNoFile file (no_files.Memory memory) = Unit {0}
 
 -- an answer tells this
 abbrev pub IsLackTold : Lack → Answer → Type 0
@@ -64,4 +64,4 @@ ComesFirst whys.GameMissing = Unit {0}
 ComesFirst whys.FileMissing = Unit {0}
 ComesFirst whys.ShelfFault = Unit {0}
 ComesFirst whys.ReadFault = ⊥
-ComesFirst whys.Memory = ⊥
+ComesFirst (whys.Memory memory) = ⊥

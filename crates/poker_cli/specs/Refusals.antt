@@ -37,7 +37,7 @@ fault_text (faults.EndsEarly events) =
     codes "ends early after " ++ (decimal events ++ codes " events")
 fault_text (faults.RakeTooBig pot) = codes "pot " ++ (decimal pot ++ codes ": rake too big")
 fault_text (faults.NoShownHand pot) = codes "pot " ++ (decimal pot ++ codes ": no shown hand")
-fault_text faults.Memory = []
+fault_text (faults.Memory memory) = []
 
 -- which stated fact differs
 abbrev pub which_text : Which → List ℕ

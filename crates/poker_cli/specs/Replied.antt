@@ -19,7 +19,7 @@ HasNoAnswer request left told whys.GameMissing =
     WhereTold request left told (λ files bytes. IsGameMissing request files)
 HasNoAnswer request left told whys.FileMissing =
     WhereTold request left told (λ files bytes. IsFileMissing request files)
-HasNoAnswer request left told whys.Memory = Unit {0}
+HasNoAnswer request left told (whys.Memory memory) = Unit {0}
 
 -- What a reply keeps, which is an answer, or a reason why there is none: the status of an answer
 -- is its own, a fault of a device is told only where its count of faults rose, and what comes
@@ -33,4 +33,4 @@ Keeps input read reads asks (Err whys.ReadFault) = Rose reads.0 reads.1
 Keeps input read reads asks (Err whys.ShelfFault) = Rose asks.0 asks.1 × (read ≡ input)
 Keeps input read reads asks (Err whys.GameMissing) = read ≡ input
 Keeps input read reads asks (Err whys.FileMissing) = read ≡ input
-Keeps input read reads asks (Err whys.Memory) = Unit {0}
+Keeps input read reads asks (Err (whys.Memory memory)) = Unit {0}

@@ -1,5 +1,5 @@
 -- What the run of a conversion tells of the hands.
-use Rattle.std.specs.Prelude.{◌⊎◌, ℕ, List, Result, Ok, Err}
+use Rattle.std.specs.Prelude.{◌⊎◌, ℕ, List, Option, Some, None, Result, Ok, Err}
 use Rattle.std.proofs.Common.{inl, inr}
 use Rattle.convert_core.specs.declared.convert_fault.ConvertFault.{ConvertFault}
 use Rattle.convert_core.specs.declared.convert_fault.ConvertFault.TheVariants as faults
@@ -13,21 +13,22 @@ use Rattle.poker_cli.specs.declared.task.Format.{Format}
 -- the fault of an input, unless it is too long, which tells nothing of its hands
 abbrev pub limit_told : (from : Format) (bytes : List ℕ) (out diag : Sinks)
     → IsTooLong bytes out diag ⊎ NamesFault from bytes out diag statuses.Limit
-    → Result (List ℕ) ConvertFault
-limit_told from bytes out diag (inl long) = Err faults.Memory
-limit_told from bytes out diag (inr named) = Err (faults.Format named.fault)
+    → Option (Result (List ℕ) ConvertFault)
+limit_told from bytes out diag (inl long) = None
+limit_told from bytes out diag (inr named) = Some (Err (faults.Format named.fault))
 
 -- What a run tells of the hands: the output, of which it may have written a part, or why there is
 -- none. A device that failed tells nothing, nor does want of memory, nor an input that is too long.
 abbrev pub told_by : (from to : Format) (keep : Keep) (bytes : List ℕ) (out diag : Sinks)
     (status : Status) → ConversionEnds from to keep bytes out diag status
-    → Result (List ℕ) ConvertFault
-told_by from to keep bytes out diag statuses.Done ends = Ok ends.output
-told_by from to keep bytes out diag statuses.WriteFault ends = Ok ends.output
+    → Option (Result (List ℕ) ConvertFault)
+told_by from to keep bytes out diag statuses.Done ends = Some (Ok ends.output)
+told_by from to keep bytes out diag statuses.WriteFault ends = Some (Ok ends.output)
 told_by from to keep bytes out diag statuses.Refused ends =
-    Err (faults.Refused ends.number ends.why)
+    Some (Err (faults.Refused ends.number ends.why))
 told_by from to keep bytes out diag statuses.Unspelled ends =
-    Err (faults.Unspelled ends.number ends.fact)
-told_by from to keep bytes out diag statuses.BadInput ends = Err (faults.Format ends.fault)
+    Some (Err (faults.Unspelled ends.number ends.fact))
+told_by from to keep bytes out diag statuses.BadInput ends =
+    Some (Err (faults.Format ends.fault))
 told_by from to keep bytes out diag statuses.Limit ends = limit_told from bytes out diag ends
-told_by from to keep bytes out diag status ends = Err faults.Memory
+told_by from to keep bytes out diag status ends = None

@@ -22,7 +22,7 @@ pub fn answer_to_acpc_fault(alloc: Global, fault: &AcpcFault) -> Result<Answer, 
             let line = limit_line(alloc, quantity)?;
             Ok(refusal(alloc, Status::Limit, line))
         }
-        AcpcFault::Memory => Err(Memory),
+        AcpcFault::Memory(memory) => Err(memory),
         _ => {
             let line = bad_acpc_line(alloc, fault)?;
             Ok(refusal(alloc, Status::BadInput, line))
@@ -54,7 +54,7 @@ pub fn fault_name(fault: &AcpcFault) -> &'static str
         AcpcFault::UnsupportedGame { .. } => "UnsupportedGame",
         AcpcFault::AmountLimit { .. } => "AmountLimit",
         AcpcFault::TooMany { .. } => "TooMany",
-        AcpcFault::Memory => "Memory",
+        AcpcFault::Memory(_) => "Memory",
     }
 }
 
@@ -72,7 +72,7 @@ pub fn line_of(fault: &AcpcFault) -> u32
         | AcpcFault::UnsupportedGame { line, .. }
         | AcpcFault::AmountLimit { line, .. }
         | AcpcFault::TooMany { line, .. } => line,
-        AcpcFault::Memory => 0,
+        AcpcFault::Memory(_) => 0,
     }
 }
 
@@ -90,6 +90,6 @@ fn byte_of(fault: &AcpcFault) -> u32
         | AcpcFault::UnsupportedGame { byte, .. }
         | AcpcFault::AmountLimit { byte, .. }
         | AcpcFault::TooMany { byte, .. } => byte,
-        AcpcFault::Memory => 0,
+        AcpcFault::Memory(_) => 0,
     }
 }

@@ -107,7 +107,7 @@ fn answer_with_text<N: Notation>(
         Ok(records) => match command_text(alloc, command, records) {
             Ok(text) => Ok(done_with(alloc, text)),
             Err(PlaysFault::Refused { hand, why }) => answer_to_refused(alloc, hand, &why),
-            Err(PlaysFault::Memory) => Err(Memory),
+            Err(PlaysFault::Memory(memory)) => Err(memory),
         },
         Err(fault) => answer_to_fault(alloc, &fault),
     }
@@ -198,7 +198,7 @@ pub fn answer_to_fault(alloc: Global, fault: &ConvertFault) -> Result<Answer, Me
         ConvertFault::Format(fault) => answer_to_unread(alloc, fault),
         ConvertFault::Refused { hand, why } => answer_to_refused(alloc, *hand, why),
         ConvertFault::Unspelled { hand, fact } => answer_to_unspelled(alloc, *hand, *fact),
-        ConvertFault::Memory => Err(Memory),
+        ConvertFault::Memory(memory) => Err(*memory),
     }
 }
 

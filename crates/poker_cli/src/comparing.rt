@@ -29,7 +29,7 @@ pub enum NoFile {
     /// It is too long.
     TooLong,
     ShelfFault,
-    Memory,
+    Memory(Memory),
 }
 
 /// The answer where the hands that the source has left are compared with those of the file of this
@@ -60,11 +60,11 @@ pub fn reply_to_comparison<S: Source, H: Shelf>(
         Ok(by) => reply_beside(alloc, &by, name, input, shelf),
         Err(NoGame::Lacking(lack)) => match answer_to_lack(alloc, lack) {
             Ok(answer) => Ok(answer),
-            Err(Memory) => Err(NoAnswer::Memory),
+            Err(memory) => Err(NoAnswer::Memory(memory)),
         },
         Err(NoGame::Missing) => Err(NoAnswer::GameMissing),
         Err(NoGame::ShelfFault) => Err(NoAnswer::ShelfFault),
-        Err(NoGame::Memory) => Err(NoAnswer::Memory),
+        Err(NoGame::Memory(memory)) => Err(NoAnswer::Memory(memory)),
     }
 }
 
@@ -121,11 +121,11 @@ fn reply_beside<S: Source, H: Shelf>(
         Ok(file) => reply_to_both(alloc, by, &file, input),
         Err(NoFile::TooLong) => match answer_to_long_file(alloc) {
             Ok(answer) => Ok(answer),
-            Err(Memory) => Err(NoAnswer::Memory),
+            Err(memory) => Err(NoAnswer::Memory(memory)),
         },
         Err(NoFile::Missing) => Err(NoAnswer::FileMissing),
         Err(NoFile::ShelfFault) => Err(NoAnswer::ShelfFault),
-        Err(NoFile::Memory) => Err(NoAnswer::Memory),
+        Err(NoFile::Memory(memory)) => Err(NoAnswer::Memory(memory)),
     }
 }
 
@@ -144,7 +144,7 @@ fn fetch_file<H: Shelf>(alloc: Global, shelf: &mut H, name: &str) -> Result<Vec<
         Ok(Fetched::Absent) => Err(NoFile::Missing),
         Ok(Fetched::TooLong) => Err(NoFile::TooLong),
         Err(ShelfFault::Failed) => Err(NoFile::ShelfFault),
-        Err(ShelfFault::Memory) => Err(NoFile::Memory),
+        Err(ShelfFault::Memory(memory)) => Err(NoFile::Memory(memory)),
     }
 }
 
@@ -172,13 +172,13 @@ fn reply_to_both<S: Source>(
     match read_all(alloc, input, MOST_INPUT) {
         Ok(bytes) => match answer_to_comparison(alloc, by, file, &bytes) {
             Ok(answer) => Ok(answer),
-            Err(Memory) => Err(NoAnswer::Memory),
+            Err(memory) => Err(NoAnswer::Memory(memory)),
         },
         Err(InFault::TooLong) => match answer::answer_to_excess(alloc) {
             Ok(answer) => Ok(answer),
-            Err(Memory) => Err(NoAnswer::Memory),
+            Err(memory) => Err(NoAnswer::Memory(memory)),
         },
         Err(InFault::ReadFault) => Err(NoAnswer::ReadFault),
-        Err(InFault::Memory) => Err(NoAnswer::Memory),
+        Err(InFault::Memory(memory)) => Err(NoAnswer::Memory(memory)),
     }
 }

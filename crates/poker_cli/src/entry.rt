@@ -1,5 +1,6 @@
 //! The top call: from the words and the input to the status, the output and the line.
 ghost use Rattle.std.specs.Prelude.{◌≡◌, ◌↔◌, [], map, None, Some, IfErr, IfOk, IfSome, IsErrOf, string_bytes};
+ghost use Rattle.card_set.specs.Refusal.{WasRefused};
 ghost use Rattle.command_words.specs.Requests.{request_in};
 ghost use Rattle.command_words.specs.Words.{Under, request_said};
 ghost use Rattle.hand_records.specs.declared.writing.Keep.{Keep};
@@ -41,6 +42,9 @@ pub fn run<S: Source, H: Shelf, K: Sink, D: Sink>(
     out: &mut K,
     diag: &mut D,
 ) -> Status
+    // Want of memory is answered only where a request for memory was refused.
+    ensures memory { result ≡ Status.Memory → WasRefused }
+
     // The words ask for nothing: want of memory is not answered then.
     ensures usage { (result ≡ Status.Usage) ↔ (request_said (map string_bytes words.now) ≡ None) }
 
@@ -84,7 +88,7 @@ pub fn run<S: Source, H: Shelf, K: Sink, D: Sink>(
             tell(diag, USAGE);
             Status::Usage
         }
-        Err(Memory) => {
+        Err(_) => {
             tell(diag, b"out of memory\n");
             Status::Memory
         }
@@ -100,6 +104,7 @@ fn run_request<S: Source, H: Shelf, K: Sink, D: Sink>(
     out: &mut K,
     diag: &mut D,
 ) -> Status
+    ensures memory { result ≡ Status.Memory → WasRefused }
     ensures answered { result ≡ Status.Usage → ⊥ }
     ensures ends { WhereTold (request_in request.entry) (S.left input.old) (H.files shelf.old)
         (λ files bytes.
@@ -134,7 +139,7 @@ fn run_request<S: Source, H: Shelf, K: Sink, D: Sink>(
             tell(diag, b"shelf fault\n");
             Status::ShelfFault
         }
-        Err(NoAnswer::Memory) => {
+        Err(NoAnswer::Memory(_)) => {
             tell(diag, b"out of memory\n");
             Status::Memory
         }
@@ -164,7 +169,7 @@ fn reply<S: Source, H: Shelf>(
     match request {
         Request::Load { seed, hands } => match answer_to_load(alloc, seed, hands) {
             Ok(answer) => Ok(answer),
-            Err(Memory) => Err(NoAnswer::Memory),
+            Err(memory) => Err(NoAnswer::Memory(memory)),
         },
         Request::Plain { from, task } => reply_with(alloc, plain_way(from, task), input),
         Request::Under { game, logs } => reply_under(alloc, game, logs, input, shelf),
@@ -197,11 +202,11 @@ fn reply_under<S: Source, H: Shelf>(
         Ok(game) => reply_with(alloc, way_under(game, logs), input),
         Err(NoGame::Lacking(lack)) => match answer_to_lack(alloc, lack) {
             Ok(answer) => Ok(answer),
-            Err(Memory) => Err(NoAnswer::Memory),
+            Err(memory) => Err(NoAnswer::Memory(memory)),
         },
         Err(NoGame::Missing) => Err(NoAnswer::GameMissing),
         Err(NoGame::ShelfFault) => Err(NoAnswer::ShelfFault),
-        Err(NoGame::Memory) => Err(NoAnswer::Memory),
+        Err(NoGame::Memory(memory)) => Err(NoAnswer::Memory(memory)),
     }
 }
 
@@ -216,14 +221,14 @@ fn reply_with<S: Source>(alloc: Global, way: Way, input: &mut S) -> Result<Answe
     match read_all(alloc, input, MOST_INPUT) {
         Ok(bytes) => match answer::answer_to(alloc, way.task, &way.reader, &bytes) {
             Ok(answer) => Ok(answer),
-            Err(Memory) => Err(NoAnswer::Memory),
+            Err(memory) => Err(NoAnswer::Memory(memory)),
         },
         Err(InFault::TooLong) => match answer::answer_to_excess(alloc) {
             Ok(answer) => Ok(answer),
-            Err(Memory) => Err(NoAnswer::Memory),
+            Err(memory) => Err(NoAnswer::Memory(memory)),
         },
         Err(InFault::ReadFault) => Err(NoAnswer::ReadFault),
-        Err(InFault::Memory) => Err(NoAnswer::Memory),
+        Err(InFault::Memory(memory)) => Err(NoAnswer::Memory(memory)),
     }
 }
 
@@ -231,6 +236,7 @@ fn reply_with<S: Source>(alloc: Global, way: Way, input: &mut S) -> Result<Answe
 fn deliver<K: Sink, D: Sink>(answer: &Answer, out: &mut K, diag: &mut D) -> Status
     requires { IsOwn answer.now.status }
     ensures read { result ≡ Status.ReadFault → ⊥ }
+    ensures memory { result ≡ Status.Memory → ⊥ }
     ensures status { MayEnd (answer_told answer.now) result }
     ensures write_fault { result ≡ Status.WriteFault → Rose (K.faults out.old) (K.faults out.new) }
     ensures written { Writes (K.held out.old) (K.held out.new) (answer_told answer.now) result }

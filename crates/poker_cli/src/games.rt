@@ -29,7 +29,7 @@ pub enum NoGame {
     Missing,
     Lacking(Lack),
     ShelfFault,
-    Memory,
+    Memory(Memory),
 }
 
 /// The game that the file of this name says.
@@ -47,13 +47,13 @@ pub fn fetch_game<H: Shelf>(alloc: Global, shelf: &mut H, name: &str) -> Result<
     match shelf.fetch(alloc, name, MOST_INPUT) {
         Ok(Fetched::Bytes(text)) => match read_game(alloc, &text) {
             Ok(game) => Ok(game),
-            Err(AcpcFault::Memory) => Err(NoGame::Memory),
+            Err(AcpcFault::Memory(memory)) => Err(NoGame::Memory(memory)),
             Err(fault) => Err(NoGame::Lacking(Lack::Bad(fault))),
         },
         Ok(Fetched::Absent) => Err(NoGame::Missing),
         Ok(Fetched::TooLong) => Err(NoGame::Lacking(Lack::TooLong)),
         Err(ShelfFault::Failed) => Err(NoGame::ShelfFault),
-        Err(ShelfFault::Memory) => Err(NoGame::Memory),
+        Err(ShelfFault::Memory(memory)) => Err(NoGame::Memory(memory)),
     }
 }
 

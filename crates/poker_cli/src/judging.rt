@@ -7,9 +7,9 @@ ghost use Rattle.poker_cli.specs.Verdicts.{ArePrinted, IsJudged, judged_end};
 
 use crate::refusals::refusal_text;
 use card_set::Memory;
-use convert_core::{Refusal, Taker, take_each};
+use convert_core::{PlaysFault, Refusal, Taker, take_each};
 use hand_records::{Play, Records};
-use std::alloc::{AllocError, Global};
+use std::alloc::Global;
 
 // The lines of the hands so far, and how many of these are legal.
 #[derive(Drop)]
@@ -33,18 +33,18 @@ impl Taker for VerdictLines {
         false
     }
 
-    fn take(&mut self, _: Global, place: usize, _: &Play) -> Result<(), AllocError> {
+    fn take(&mut self, _: Global, place: usize, _: &Play) -> Result<(), Memory> {
         let number = place + 1;
         push_legal(&mut self.text, number)?;
         self.legal += 1;
         Ok(())
     }
 
-    fn pass(&mut self, alloc: Global, place: usize, why: &Refusal) -> Result<(), AllocError> {
+    fn pass(&mut self, alloc: Global, place: usize, why: &Refusal) -> Result<(), Memory> {
         let number = place + 1;
         let why = match refusal_text(alloc, why) {
             Ok(why) => why,
-            Err(Memory) => return Err(AllocError),
+            Err(memory) => return Err(memory),
         };
         push_refused(&mut self.text, number, &why)?;
         Ok(())
@@ -68,7 +68,8 @@ pub fn judge_text(alloc: Global, records: Records) -> Result<String, Memory>
     };
     match take_each(alloc, &mut lines, records) {
         Ok(_) => {}
-        Err(_) => return Err(Memory),
+        Err(PlaysFault::Memory(memory)) => return Err(memory),
+        Err(PlaysFault::Refused { .. }) => unreachable!(),
     }
     let legal = lines.legal;
     push_end(&mut lines.text, legal, hands)?;
@@ -76,7 +77,7 @@ pub fn judge_text(alloc: Global, records: Records) -> Result<String, Memory>
 }
 
 // Puts the line of a legal hand at the end of a text.
-fn push_legal(text: &mut String, number: usize) -> Result<(), AllocError>
+fn push_legal(text: &mut String, number: usize) -> Result<(), Memory>
     ensures { OnOk result (string_bytes text.new ≡ string_bytes text.old
         ++ (codes "hand " ++ (decimal number ++ codes ": legal\n"))) }
 {
@@ -85,7 +86,7 @@ fn push_legal(text: &mut String, number: usize) -> Result<(), AllocError>
 }
 
 // Puts the line of a refused hand at the end of a text.
-fn push_refused(text: &mut String, number: usize, why: &String) -> Result<(), AllocError>
+fn push_refused(text: &mut String, number: usize, why: &String) -> Result<(), Memory>
     ensures { OnOk result (string_bytes text.new ≡ string_bytes text.old
         ++ (codes "hand " ++ (decimal number ++ (codes ": " ++ (string_bytes why.now
         ++ codes "\n"))))) }
@@ -96,7 +97,7 @@ fn push_refused(text: &mut String, number: usize, why: &String) -> Result<(), Al
 }
 
 // Puts the last line at the end of a text.
-fn push_end(text: &mut String, legal: usize, hands: usize) -> Result<(), AllocError>
+fn push_end(text: &mut String, legal: usize, hands: usize) -> Result<(), Memory>
     ensures { OnOk result (string_bytes text.new
         ≡ string_bytes text.old ++ judged_end legal hands) }
 {

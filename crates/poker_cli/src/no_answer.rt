@@ -1,5 +1,7 @@
 //! Why a request has no answer.
 
+use card_set::Memory;
+
 /// Why there is no answer.
 #[derive(Clone, Copy, Debug, PartialEq, Eq)]
 pub enum NoAnswer {
@@ -11,5 +13,5 @@ pub enum NoAnswer {
     FileMissing,
     /// A file could not be read.
     ShelfFault,
-    Memory,
+    Memory(Memory),
 }

@@ -28,7 +28,7 @@ pub fn answer_to_ohh_fault(alloc: Global, fault: &OhhFault) -> Result<Answer, Me
             let line = limit_line(alloc, *quantity)?;
             Ok(refusal(alloc, Status::Limit, line))
         }
-        OhhFault::Memory => Err(Memory),
+        OhhFault::Memory(memory) => Err(*memory),
         OhhFault::MissingMember { hand, path }
         | OhhFault::WrongType { hand, path }
         | OhhFault::AmountNotWhole { hand, path }
@@ -76,6 +76,6 @@ fn fault_name(fault: &OhhFault) -> &'static str
         OhhFault::BadPost { .. } => "BadPost",
         OhhFault::RakePlace { .. } => "RakePlace",
         OhhFault::TooMany { .. } => "TooMany",
-        OhhFault::Memory => "Memory",
+        OhhFault::Memory(_) => "Memory",
     }
 }

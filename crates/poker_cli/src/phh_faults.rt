@@ -28,7 +28,7 @@ pub fn answer_to_phh_fault(alloc: Global, fault: &PhhFault) -> Result<Answer, Me
             let line = limit_line(alloc, *quantity)?;
             Ok(refusal(alloc, Status::Limit, line))
         }
-        PhhFault::Memory => Err(Memory),
+        PhhFault::Memory(memory) => Err(*memory),
         PhhFault::MissingField { hand, key }
         | PhhFault::WrongType { hand, key }
         | PhhFault::AmountNotWhole { hand, key }
@@ -65,6 +65,6 @@ fn fault_name(fault: &PhhFault) -> &'static str
         PhhFault::ListLength { .. } => "ListLength",
         PhhFault::BadAction { .. } => "BadAction",
         PhhFault::TooMany { .. } => "TooMany",
-        PhhFault::Memory => "Memory",
+        PhhFault::Memory(_) => "Memory",
     }
 }

@@ -11,7 +11,7 @@ ghost use Rattle.poker_cli.specs.Played.{HasTakenPlays, HaveTaken};
 use card_set::Memory;
 use convert_core::{PlaysFault, Refusal, Taker, take_each};
 use hand_records::{Play, Records};
-use std::alloc::{AllocError, Global};
+use std::alloc::Global;
 
 /// Takes the plays of a file, one after the other. Each is dropped before the next is made.
 pub trait PlayTaker {
@@ -54,14 +54,14 @@ impl<T: PlayTaker + Drop> Taker for LegalPlays<T> {
         false
     }
 
-    fn take(&mut self, alloc: Global, place: usize, play: &Play) -> Result<(), AllocError> {
+    fn take(&mut self, alloc: Global, place: usize, play: &Play) -> Result<(), Memory> {
         match self.taker.take_play(alloc, place, play) {
             Ok(()) => Ok(()),
-            Err(Memory) => Err(AllocError),
+            Err(memory) => Err(memory),
         }
     }
 
-    fn pass(&mut self, _: Global, _: usize, _: &Refusal) -> Result<(), AllocError> {
+    fn pass(&mut self, _: Global, _: usize, _: &Refusal) -> Result<(), Memory> {
         Ok(())
     }
 }

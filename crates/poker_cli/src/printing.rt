@@ -59,7 +59,7 @@ pub fn print_each(alloc: Global, lines: Lines, records: Records) -> Result<Strin
     match take_plays(alloc, printed, records) {
         Ok(mut printed) => match push_end(&mut printed.text, lines, hands) {
             Ok(()) => Ok(printed.text),
-            Err(Memory) => Err(PlaysFault::Memory),
+            Err(memory) => Err(PlaysFault::Memory(memory)),
         },
         Err(fault) => Err(fault),
     }

@@ -5,6 +5,7 @@ ghost use Rattle.std.specs.Process.{exit_status};
 ghost use Rattle.std.specs.IoError.{error_kind};
 ghost use Rattle.std.specs.Vec.Iter.{into_iter_items};
 ghost use Rattle.std.specs.declared.io.ErrorKind.TheVariants.{OutOfMemory};
+ghost use Rattle.card_set.specs.Refusal.{WasRefused};
 ghost use Rattle.poker_cli.specs.Process.{LacksWords, RunKeeps, words_given};
 ghost use Rattle.poker_cli.specs.Run.{change_of};
 ghost use Rattle.poker_cli.specs.Status.{IsStatusNumber, status_number};
@@ -63,6 +64,8 @@ pub fn end_with<S: Source, H: Shelf, K: Sink, D: Sink>(
         (change_of K.held K.faults out.old out.new)
         (change_of D.held D.faults diag.old diag.new) status
         input.old input.new shelf.old shelf.new out.old out.new diag.old diag.new)) }
+    // The status is 8 only where a request for memory was refused.
+    ensures memory { exit_status result ≡ 8 → WasRefused }
     // Words that are no text are no command.
     ensures no_text { IfErr all (λ error. error_kind error ≢ OutOfMemory
         → exit_status result ≡ 2) }
@@ -87,19 +90,23 @@ fn answer_to_words<S: Source, H: Shelf, K: Sink, D: Sink>(
         (change_of K.held K.faults out.old out.new)
         (change_of D.held D.faults diag.old diag.new) result
         input.old input.new shelf.old shelf.new out.old out.new diag.old diag.new }
+    ensures memory { result ≡ Status.Memory → WasRefused }
     ensures no_text { IfErr all (λ error. error_kind error ≢ OutOfMemory
         → result ≡ Status.Usage) }
 {
     match words_behind_first(alloc, all) {
         Ok(words) => run(alloc, &words, input, shelf, out, diag),
-        Err(Memory) => {
+        Err(_) => {
             tell(diag, b"out of memory\n");
             Status::Memory
         }
     }
 }
 
+// It is a door: the library tells want of memory for the words where a request was refused.
+//
 // The words behind the first one. Words that are no text are no command, as no words are.
+#[tactic(auto, using(card_set::specs::Refusal::an_allocator_said_so))]
 fn words_behind_first(alloc: Global, all: io::Result<Args>) -> Result<Vec<String>, Memory>
     ensures no_text { IfErr all (λ error. error_kind error ≢ OutOfMemory → IfErr result (λ _. ⊥)) }
     ensures no_words { IfErr all (λ error. IfOk result (λ words. words.items ≡ [])) }
@@ -112,7 +119,7 @@ fn words_behind_first(alloc: Global, all: io::Result<Args>) -> Result<Vec<String
             words_left(alloc, all)
         }
         Err(error) => match error.kind() {
-            io::ErrorKind::OutOfMemory => Err(Memory),
+            io::ErrorKind::OutOfMemory => Err(Memory {}),
             _ => Ok(Vec::new(alloc)),
         },
     }

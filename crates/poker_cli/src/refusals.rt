@@ -43,7 +43,7 @@ fn fault_text(alloc: Global, fault: &ReplayFault) -> Result<String, Memory>
         }
         ReplayFault::RakeTooBig { pot } => Ok(format!(in alloc; "pot {pot}: rake too big")?),
         ReplayFault::NoShownHand { pot } => Ok(format!(in alloc; "pot {pot}: no shown hand")?),
-        ReplayFault::Memory => Ok(String::new(alloc)),
+        ReplayFault::Memory(_) => Ok(String::new(alloc)),
     }
 }
 

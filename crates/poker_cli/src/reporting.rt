@@ -35,12 +35,12 @@ pub fn report_of(alloc: Global, records: Records) -> Result<String, PlaysFault>
 {
     let report = match OpenReport::new(alloc) {
         Ok(report) => report,
-        Err(Memory) => return Err(PlaysFault::Memory),
+        Err(memory) => return Err(PlaysFault::Memory(memory)),
     };
     match take_plays(alloc, report, records) {
         Ok(report) => match report.text(alloc) {
             Ok(text) => Ok(text),
-            Err(Memory) => Err(PlaysFault::Memory),
+            Err(memory) => Err(PlaysFault::Memory(memory)),
         },
         Err(fault) => Err(fault),
     }

@@ -36,7 +36,7 @@ pub fn session_of(alloc: Global, records: Records) -> Result<String, PlaysFault>
     match take_plays(alloc, OpenSession::new(alloc), records) {
         Ok(session) => match session_text(alloc, &session.close()) {
             Ok(text) => Ok(text),
-            Err(Memory) => Err(PlaysFault::Memory),
+            Err(memory) => Err(PlaysFault::Memory(memory)),
         },
         Err(fault) => Err(fault),
     }

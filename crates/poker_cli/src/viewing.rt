@@ -69,7 +69,7 @@ pub fn answer_with_views<N: Notation>(
         Ok(records) => match views_of(alloc, game, seat, records) {
             Ok(answer) => Ok(answer),
             Err(PlaysFault::Refused { hand, why }) => answer_to_refused(alloc, hand, &why),
-            Err(PlaysFault::Memory) => Err(Memory),
+            Err(PlaysFault::Memory(memory)) => Err(memory),
         },
         Err(fault) => answer_to_fault(alloc, &fault),
     }
@@ -91,7 +91,7 @@ fn views_of(alloc: Global, game: &Game, seat: Seat, records: Records) -> Result<
     match take_plays(alloc, seen, records) {
         Ok(seen) => match answer_with_seen(alloc, seen) {
             Ok(answer) => Ok(answer),
-            Err(Memory) => Err(PlaysFault::Memory),
+            Err(memory) => Err(PlaysFault::Memory(memory)),
         },
         Err(fault) => Err(fault),
     }

@@ -66,4 +66,4 @@ refused_at setup rules script count event more b t moves (faults.Illegal told at
 refused_at setup rules script count event more b t moves (faults.EndsEarly events) is played same_setup same_rules refused = refused
 refused_at setup rules script count event more b t moves (faults.RakeTooBig pot) is played same_setup same_rules refused = refused
 refused_at setup rules script count event more b t moves (faults.NoShownHand pot) is played same_setup same_rules refused = refused
-refused_at setup rules script count event more b t moves faults.Memory is played same_setup same_rules refused = tt
+refused_at setup rules script count event more b t moves (faults.Memory memory) is played same_setup same_rules refused = tt

@@ -39,7 +39,7 @@ IsRefusedEvent b event number past (faults.Illegal told at reason) =
 IsRefusedEvent b event number past (faults.EndsEarly events) = ⊥
 IsRefusedEvent b event number past (faults.RakeTooBig pot) = ⊥
 IsRefusedEvent b event number past (faults.NoShownHand pot) = ⊥
-IsRefusedEvent b event number past faults.Memory = Unit {0}
+IsRefusedEvent b event number past (faults.Memory memory) = Unit {0}
 
 -- the events of a script are refused: the first illegal one is told, or there is no memory for the
 -- moves
@@ -49,4 +49,4 @@ AreRefused setup rules script (faults.Illegal event at reason) =
 AreRefused setup rules script (faults.EndsEarly events) = ⊥
 AreRefused setup rules script (faults.RakeTooBig pot) = ⊥
 AreRefused setup rules script (faults.NoShownHand pot) = ⊥
-AreRefused setup rules script faults.Memory = Unit {0}
+AreRefused setup rules script (faults.Memory memory) = Unit {0}

@@ -47,4 +47,9 @@ IsFaultOf setup rules script (faults.Illegal event at reason) =
 IsFaultOf setup rules script (faults.EndsEarly events) = HasEarlyEnd setup rules script events
 IsFaultOf setup rules script (faults.RakeTooBig pot) = HasRakeAbove setup rules script pot
 IsFaultOf setup rules script (faults.NoShownHand pot) = HasUnshownPot setup rules script pot
-IsFaultOf setup rules script faults.Memory = Unit {0}
+IsFaultOf setup rules script (faults.Memory memory) = Unit {0}
+
+-- a fault is want of memory
+abbrev pub IsWant : ReplayFault → Type 0
+IsWant (faults.Memory memory) = Unit {0}
+IsWant fault = ⊥

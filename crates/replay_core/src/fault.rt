@@ -1,4 +1,5 @@
 //! Why a script has no trace.
+use card_set::Memory;
 use play_event::Illegal;
 
 /// Why a script has no trace, in the order in which it is looked for. Want of memory may stand in
@@ -14,5 +15,5 @@ pub enum ReplayFault {
     RakeTooBig { pot: u8 },
     /// The first pot, from 1, that two or more seats may win, and for which none of them has shown.
     NoShownHand { pot: u8 },
-    Memory,
+    Memory(Memory),
 }

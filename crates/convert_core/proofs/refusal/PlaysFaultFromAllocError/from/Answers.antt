@@ -1,0 +1,6 @@
+-- The want of memory is the one that the door gave.
+use Rattle.std.proofs.Common.{refl}
+use Rattle.convert_core.proofs.refusal.PlaysFaultFromAllocError.from.Goals as goal
+
+pub returns : goal.returns
+returns c = (c.from.result, refl)
