@@ -66,13 +66,6 @@ put_document() {
         "$1" >"$2"
 }
 
-mode_of() {
-    case $1 in
-    bin/* | libexec/handref/handref) echo 755 ;;
-    *) if [ -x "$top/${1#share/doc/handref/}" ]; then echo 755; else echo 644; fi ;;
-    esac
-}
-
 # Writes all files beside their places, the list first, and then moves them there, so that a program that runs is not
 # disturbed. Whatever fails, or interrupts it, is undone.
 install_at() {
@@ -86,22 +79,16 @@ install_at() {
     exec 8<"$prefix/." && flock -n 8 || give_up "another call writes to $1"
     files=$(installed_files) && [ -n "$files" ] || give_up 'the files of this clone cannot be read'
     list=libexec/handref/files
-    for file in $list $files; do
-        make_folders "$prefix/${file%/*}"
-        leads_here "${file%/*}" || give_up "$prefix/${file%/*} leads out of $1"
-        [ ! -d "$prefix/$file" ] || [ -L "$prefix/$file" ] || give_up "$prefix/$file is a folder"
+    for folder in $(installed_folders); do
+        make_folders "$prefix/$folder"
+        leads_here "$folder" || give_up "$prefix/$folder leads out of $1"
     done
-    write_list >"$prefix/$list.handref-new" 2>/dev/null || give_up "$prefix/$list cannot be written"
-    for file in $files; do
-        put "$file" "$prefix/$file.handref-new" 2>/dev/null && chmod "$(mode_of "$file")" "$prefix/$file.handref-new" ||
-            give_up "$prefix/$file cannot be written"
-    done
-    chmod 644 "$prefix/$list.handref-new"
+    write_beside
     for file in $list $files; do
         place "$file" || give_up "$prefix/$file cannot be replaced"
     done
     undo=
-    for file in $placed; do rm -f "$prefix/$file.handref-old"; done
+    forget_old
     say "handref is installed as $prefix/bin/handref"
     case :$PATH: in
     *":$prefix/bin:"*) ;;
@@ -109,9 +96,37 @@ install_at() {
     esac
 }
 
+# Writes the list, and then each file beside its place, for everyone to read.
+write_beside() {
+    forget_old
+    write_list >"$prefix/$list.handref-new" 2>/dev/null || give_up "$prefix/$list cannot be written"
+    set -- "$prefix/$list.handref-new"
+    for file in $files; do
+        [ ! -d "$prefix/$file" ] || [ -L "$prefix/$file" ] || give_up "$prefix/$file is a folder"
+        put "$file" "$prefix/$file.handref-new" 2>/dev/null || give_up "$prefix/$file cannot be written"
+        set -- "$@" "$prefix/$file.handref-new"
+    done
+    chmod 644 -- "$@" || give_up "$prefix cannot be written"
+    set --
+    for file in $files; do
+        case $file in
+        bin/* | libexec/handref/handref) ;;
+        *) [ -x "$top/${file#share/doc/handref/}" ] || continue ;;
+        esac
+        set -- "$@" "$prefix/$file.handref-new"
+    done
+    chmod 755 -- "$@" || give_up "$prefix cannot be written"
+}
+
+# Takes away what was kept of files that were replaced.
+forget_old() {
+    set --
+    for file in $list $files; do set -- "$@" "$prefix/$file.handref-old"; done
+    rm -f -- "$@" 2>/dev/null || give_up "$prefix cannot be written"
+}
+
 # Moves a file that was written to its place, and keeps the one that was there until all are placed.
 place() {
-    rm -f "$prefix/$1.handref-old" || return 1
     if [ -e "$prefix/$1" ] || [ -L "$prefix/$1" ]; then
         ln "$prefix/$1" "$prefix/$1.handref-old" 2>/dev/null || mv -fT "$prefix/$1" "$prefix/$1.handref-old" || return 1
     fi
@@ -188,7 +203,7 @@ uninstall_at() {
 $made
 " in *"
 $folder
-"*) rmdir -- "$prefix/$folder" 2>/dev/null ;; esac
+"*) rmdir -- "$prefix/${folder#.}" 2>/dev/null ;; esac
     done
     if [ -d "$prefix/share/doc/handref" ] || [ -d "$prefix/libexec/handref" ]; then
         say "handref is taken away from $1; files there that are not of this version stay"
