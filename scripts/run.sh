@@ -79,8 +79,8 @@ print_by() {
     exit 6
 }
 
-# Runs the Python package in a folder with a program: `many check ..` is `check` there, all other words are its own. The
-# folder of the call is not searched for modules, since a stranger's files may lie there.
+# Runs the Python package in a folder with a program. The folder of the call is not searched for modules, since a stranger's
+# files may lie there.
 run_python() {
     command -v python3 >/dev/null || {
         echo "handref: $3 runs on Python, and python3 is not on the path" >&2
@@ -90,7 +90,8 @@ run_python() {
     export HANDREF_PROGRAM PYTHONDONTWRITEBYTECODE
     package=$1
     shift 2
-    [ "$1" != many ] || shift
-    exec python3 -c 'import sys; sys.path[0] = sys.argv.pop(1); import runpy; runpy.run_module("handref", alter_sys=True, run_name="__main__")' \
-        "$package" "$@"
+    exec python3 -c 'import sys
+sys.path[0] = sys.argv.pop(1)
+import runpy
+runpy.run_module("handref", alter_sys=True, run_name="__main__")' "$package" "$@"
 }

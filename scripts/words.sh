@@ -54,7 +54,7 @@ handref: a converter and referee of recorded poker hands
 Around the proved program, on Python (each with --help says more):
   handref page FILE OUT                                  a page to look at the hands of a file
   handref many check|convert [OPTION..] PATH..           folders, and files of any length, on all processors
-  handref explain, handref cents                         what a refusal means; amounts in cents
+  handref explain FILE [LINE]                            what is wrong with a file, where, and what to do
 
 FORMAT  phh     Poker Hand History (.phh, .phhs)
         ohh     Open Hand History, the amount of a raise is the chips that it adds
