@@ -74,9 +74,10 @@ install_at() {
     made='' placed='' list='' files='' undo=undo_install
     case $1 in */*) ;; *) set -- "./$1" ;; esac
     make_folders "${1%"${1##*[!/]}"}"
-    prefix=$(CDPATH='' cd -- "$1" && pwd -P) && [ -w "$prefix" ] || give_up "$1 cannot be written"
+    prefix=$(CDPATH='' cd -- "$1" && pwd -P) && [ -r "$prefix" ] && [ -w "$prefix" ] || give_up "$1 cannot be written"
     prefix=${prefix%/}
-    exec 8<"$prefix/." && flock -n 8 || give_up "another call writes to $1"
+    exec 8<"$prefix/." && flock -n 8
+    [ "$?" -ne 1 ] || give_up "another call writes to $1"
     files=$(installed_files) && [ -n "$files" ] || give_up 'the files of this clone cannot be read'
     list=libexec/handref/files
     for folder in $(installed_folders); do
