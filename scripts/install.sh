@@ -72,6 +72,7 @@ install_at() {
     find_program || fail "nothing is installed: $why (./handref --prove makes the proved program)"
     read_more proved
     made='' placed='' list='' files='' undo=undo_install
+    trap '' XFSZ # a file that may not grow is a fault of writing
     case $1 in */*) ;; *) set -- "./$1" ;; esac
     make_folders "${1%"${1##*[!/]}"}"
     prefix=$(CDPATH='' cd -- "$1" && pwd -P) && [ -r "$prefix" ] && [ -w "$prefix" ] || give_up "$1 cannot be written"
