@@ -43,6 +43,7 @@ prove_here() {
     sum_sources || fail "$why"
     is_marked "$kept/handref" "$kept/built" || prove
     exec 9<&-
+    rm -f "$kept/checked"
     kind=built program=$kept/handref
     say "the program of these sources is proved: $program, sha256 $program_sum"
 }

@@ -6,6 +6,8 @@
 # shellcheck disable=SC2015 # A && B || C: C is meant where either of the two did not go well
 release=$top/release/SOURCES
 archive=$top/release/handref.gz
+line_end='
+'
 
 # The value of a name in a file of lines `name value`.
 value_of() {
@@ -21,7 +23,7 @@ sum_of() {
 sum_sources() {
     sources=
     list=$("$top/scripts/sources" 2>&1) || {
-        why="the sources cannot be checked ($(printf '%s\n' "$list" | sed 1q))"
+        why="the sources cannot be checked (${list%%"$line_end"*})"
         return 1
     }
     sources=$(printf '%s\n' "$list" | sha256sum) && sources=${sources%% *} && [ "${#sources}" -eq 64 ] || {
@@ -37,11 +39,16 @@ is_marked() {
     [ -n "$program_sum" ] && [ "$(value_of "$2" program)" = "$program_sum" ]
 }
 
+# Whether a file is the program of the release, whatever the sources are.
+is_released() {
+    [ -x "$1" ] && program_sum=$(sum_of "$1") && [ -n "$program_sum" ] && [ "$(value_of "$release" program)" = "$program_sum" ]
+}
+
 # Unpacks the program of the release into a folder, where it is not there already, and runs it once without words.
 unpack_under() {
-    is_marked "$1/released" "$release" && return
+    is_released "$1/released" && return
     new=$1/released.$$
-    gzip -dc <"$archive" >"$new" 2>/dev/null && chmod 755 "$new" && is_marked "$new" "$release" && runs "$new" &&
+    gzip -dc <"$archive" >"$new" 2>/dev/null && chmod 755 "$new" && is_released "$new" && runs "$new" &&
         mv -f "$new" "$1/released" && return
     rm -f "$new"
     return 1
