@@ -96,7 +96,7 @@ fn answer_to_words<S: Source, H: Shelf, K: Sink, D: Sink>(
 {
     match words_behind_first(alloc, all) {
         Ok(words) => run(alloc, &words, input, shelf, out, diag),
-        Err(_) => {
+        Err(memory) => {
             tell(diag, b"out of memory\n");
             Status::Memory
         }
