@@ -1,5 +1,6 @@
 //! The blocks of a file are read as its hands, in order.
 ghost use Rattle.std.specs.Prelude.{◌≡◌, ◌≤◌, [], ◌∷◌, Some, option_map, map, IfOk};
+ghost use Rattle.serde_json.specs.Errors.{IsMemory};
 ghost use Rattle.serde_json.specs.View.{view};
 ghost use Rattle.first_fault.specs.declared.limits.TheConstants.{MOST_FILE_MOVES, MOST_HANDS};
 ghost use Rattle.first_fault.specs.Reading.{Gives};
@@ -19,7 +20,7 @@ use hand_records::{Record, Records};
 use ohh_members::Dialect;
 use ohh_members::fault::{MemberFault, MemberFaultKind, Path};
 use ohh_members::values::{field, wrong};
-use serde_json::Value;
+use serde_json::{Error, Value};
 use std::alloc::Global;
 
 /// The hands of a file in a dialect, and its moves.
@@ -99,7 +100,7 @@ fn in_hand(hand: u32, what: HandFaultKind) -> Stop<OhhHandFault>
 }
 
 // The tree that a block is, or nothing where it is none.
-#[tactic(auto, using(crate::proofs::Trees::no_tree, card_set::specs::Refusal::an_allocator_said_so))]
+#[tactic(auto, using(crate::proofs::Trees::no_tree))]
 fn parse(alloc: Global, block: &[u8]) -> Result<Option<Value>, Memory>
     ensures { IfOk result (λ tree. option_map view tree ≡ tree_of block.now) }
 {
@@ -107,12 +108,20 @@ fn parse(alloc: Global, block: &[u8]) -> Result<Option<Value>, Memory>
         Ok(tree) => Ok(Some(tree)),
         Err(error) => {
             if error.is_memory() {
-                Err(Memory {})
+                Err(refused_in_parser(&error))
             } else {
                 Ok(None)
             }
         }
     }
+}
+
+// A request for memory was refused, as the error of the parser says.
+#[tactic(auto, using(card_set::specs::Refusal::an_allocator_said_so))]
+fn refused_in_parser(_error: &Error) -> Memory
+    requires { IsMemory _error.now }
+{
+    Memory {}
 }
 
 // The hand of a tree at this place of its file, from 0, after so many moves of the file.

@@ -1,6 +1,7 @@
 //! Bytes are read as the records that they say, or refused with their first fault.
 ghost use Rattle.std.specs.Prelude.{◌≡◌, ◌≤◌, Some, sum_by, length, option_map, IfOk, IfSome};
 ghost use Rattle.std.specs.List.{AllByRecursion};
+ghost use Rattle.toml.specs.Errors.{IsMemory};
 ghost use Rattle.toml.specs.View.{table_view};
 ghost use Rattle.first_fault.specs.declared.limits.TheConstants.{MOST_FILE_MOVES, MOST_HANDS};
 ghost use Rattle.phh_fields.specs.Fields.{place_text as place_text_said};
@@ -16,6 +17,7 @@ use hand_records::Records;
 use phh_fields::fault::{FieldFaultKind, FieldPlace};
 use std::alloc::Global;
 use toml::Table;
+use toml::de::Error;
 
 /// The records that bytes in the Poker Hand History format say, one for each hand in the order of
 /// reading; or their first fault. Each record is sound, and under the rules of hand histories.
@@ -33,9 +35,8 @@ pub fn read(alloc: Global, bytes: &[u8]) -> Result<Records, PhhFault>
     }
 }
 
-// The document that bytes are, or nothing where they are none. It is a door: the parser tells want
-// of memory where a request for it was refused.
-#[tactic(auto, using(crate::proofs::Documents::no_document, card_set::specs::Refusal::an_allocator_said_so))]
+// The document that bytes are, or nothing where they are none.
+#[tactic(auto, using(crate::proofs::Documents::no_document))]
 fn parse(alloc: Global, bytes: &[u8]) -> Result<Option<Table>, Memory>
     ensures { IfOk result (λ table. option_map (λ t. table_view t) table ≡ document_of bytes.now) }
 {
@@ -43,12 +44,20 @@ fn parse(alloc: Global, bytes: &[u8]) -> Result<Option<Table>, Memory>
         Ok(table) => Ok(Some(table)),
         Err(error) => {
             if error.is_memory() {
-                Err(Memory {})
+                Err(refused_in_parser(&error))
             } else {
                 Ok(None)
             }
         }
     }
+}
+
+// A request for memory was refused, as the error of the parser says.
+#[tactic(auto, using(card_set::specs::Refusal::an_allocator_said_so))]
+fn refused_in_parser(_error: &Error) -> Memory
+    requires { IsMemory _error.now }
+{
+    Memory {}
 }
 
 // The records that a document says.

@@ -103,10 +103,7 @@ fn answer_to_words<S: Source, H: Shelf, K: Sink, D: Sink>(
     }
 }
 
-// It is a door: the library tells want of memory for the words where a request was refused.
-//
 // The words behind the first one. Words that are no text are no command, as no words are.
-#[tactic(auto, using(card_set::specs::Refusal::an_allocator_said_so))]
 fn words_behind_first(alloc: Global, all: io::Result<Args>) -> Result<Vec<String>, Memory>
     ensures no_text { IfErr all (λ error. error_kind error ≢ OutOfMemory → IfErr result (λ _. ⊥)) }
     ensures no_words { IfErr all (λ error. IfOk result (λ words. words.items ≡ [])) }
@@ -119,10 +116,18 @@ fn words_behind_first(alloc: Global, all: io::Result<Args>) -> Result<Vec<String
             words_left(alloc, all)
         }
         Err(error) => match error.kind() {
-            io::ErrorKind::OutOfMemory => Err(Memory {}),
+            io::ErrorKind::OutOfMemory => Err(refused_for_words(&error)),
             _ => Ok(Vec::new(alloc)),
         },
     }
+}
+
+// A request for memory for the words was refused, as the error of the system says.
+#[tactic(auto, using(card_set::specs::Refusal::an_allocator_said_so))]
+fn refused_for_words(_error: &io::Error) -> Memory
+    requires { error_kind _error.now ≡ OutOfMemory }
+{
+    Memory {}
 }
 
 // All words that are left.
