@@ -1,11 +1,11 @@
 -- What is seen of the seats of a hand, whether what is due is complete or not.
-use Rattle.std.specs.Prelude.{◌≡◌, ◌≢◌, ℕ, []}
+use Rattle.std.specs.Prelude.{◌≡◌, ◌≢◌, ℕ, List, [], Option}
 use Rattle.betting_numbers.specs.declared.running.RunningNumbers.{RunningNumbers}
-use Rattle.betting_numbers.specs.Standing.{StandsFor}
+use Rattle.betting_numbers.specs.Standing.{StandsFor, newest_seat}
 use Rattle.betting_numbers.specs.UpTo.{StandsUpTo}
 use Rattle.chip_ledger.specs.declared.live_row.LiveRow.{LiveRow}
 use Rattle.chip_ledger.specs.LiveRow.{flag_of, flagged}
-use Rattle.play_event.specs.Past.{Past, moves_of}
+use Rattle.play_event.specs.Past.{Move, Past, moves_of, moves_on}
 use Rattle.play_event.specs.Seats.{is_live}
 use Rattle.chip_ledger.specs.Seat.{IsSeatOf}
 
@@ -31,3 +31,12 @@ pub record TellsLive (row : LiveRow) (b : RunningNumbers) : Type 0 where
   pub stands : EachSeat b (StandsFor b) (TellsWhetherLive row)
   pub up_to : EachSeat b (StandsUpTo b) (TellsWhetherLive row)
   pub someone : (past : Past) → StandsFor b past → flagged row ≢ []
+
+-- after each past for which the numbers stand, where this is a seat of the hand
+abbrev pub WhereInHand : RunningNumbers → ℕ → (Past → Type 0) → Type 0
+WhereInHand b seat P =
+    (past : Past) → StandsFor b past → IsSeatOf b.setup.stacks.seats seat → P past
+
+-- the seat that moved last on a street, if one has moved there
+abbrev pub moved_last : List Move → ℕ → Option ℕ
+moved_last moves street = newest_seat (moves_on street moves)

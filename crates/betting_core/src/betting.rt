@@ -11,6 +11,7 @@ ghost use Rattle.betting_numbers.specs.TurnSaid.{turn_of};
 ghost use Rattle.play_event.specs.Streets.{unit};
 ghost use Rattle.betting_core.specs.Kept.{AreOfGame, IsOfTable};
 ghost use Rattle.betting_core.specs.Seen.{TellsLive, TellsSeats};
+ghost use Rattle.betting_core.specs.Seen.{moved_last};
 ghost use Rattle.betting_numbers.specs.Standing.{StandsFor};
 ghost use Rattle.betting_numbers.specs.LegalMoves.{IsTurn, WhereUps};
 ghost use Rattle.betting_numbers.specs.UpTo.{StandsUpTo};
@@ -84,8 +85,11 @@ impl<V: Variant> Betting<V> {
     }
 
     /// Whether no seat has moved on the street yet.
+    #[tactic(auto, using(crate::proofs::ToCall::unmoved_after))]
     pub fn is_unmoved(&self) -> bool
         ensures value { result ≡ is_none self.now.last }
+        ensures past { (past : Past) → StandsFor self.now past
+            → result ≡ is_none (moved_last (moves_of past) self.now.street) }
         ensures game { AreOfGame V.CODE V.STREETS self.now }
     {
         self.numbers.last.is_none()

@@ -36,7 +36,6 @@ pub fn equity<V: Variant>(
     dead: &CardSet,
 ) -> EquityRow
     requires game { IsTrue (plays_board V.CODE) }
-    requires seats { live.now.seats ≤ hands.now.seats }
     requires complete { CanComplete V.CODE (standing_of hands.now live.now board.now dead.now) }
 
     // The rule, exactly.

@@ -78,6 +78,10 @@ pub record AreListed (count : ℕ) (to : List ℕ) : Type 0 where
   pub few : count ≤ 2
   -- of two the first is the lesser
   pub rising : count ≡ 2 → slice_index to 0 < slice_index to 1
+  -- there is room for two
+  pub room : length to ≡ 2
+  -- and where one is listed the other place holds 0
+  pub spare : count ≡ 1 → slice_index to 1 ≡ 0
 
 -- a set has the form of its limit: in fixed limit it lists its targets, and in the other limits it
 -- tells the least and the greatest

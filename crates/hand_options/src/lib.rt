@@ -12,5 +12,5 @@ mod targets;
 
 pub use asking::options;
 pub use choices::{Options, RaiseSet};
-pub use laws::law_of_one_text;
+pub use laws::{law_of_one_options, law_of_one_text};
 pub use printing::options_text;
