@@ -1,6 +1,6 @@
 //! An index of names: a balanced tree finds the place of a name, so that no choice of names makes
 //! it slow.
-ghost use Rattle.std.specs.Prelude.{◌≡◌, ℕ, List, [], length, Some, bytes_eq, IfOk, OnOk};
+ghost use Rattle.std.specs.Prelude.{◌≡◌, ℕ, List, [], length, Some, bytes_eq, IfOk, OnErr, OnOk};
 ghost use Rattle.std.specs.List.{position_from};
 ghost use Rattle.name_index.specs.Indexed.{AreIndexed};
 ghost use Rattle.name_index.specs.Names.{with_name};
@@ -41,6 +41,7 @@ impl NameIndex {
             → length names ≡ others
             → IfOk result (λ place. position_from (bytes_eq name.now) 0 (with_name names name.now)
             ≡ Some place) }
+        ensures unchanged { OnErr result (self.new ≡ self.old) }
     {
         if let Some(place) = self.places.get(name) {
             return Ok(*place);

@@ -40,6 +40,7 @@ use Rattle.convert_core.specs.declared.refusal.Refusal.{Refusal}
 use Rattle.convert_core.specs.declared.format_fault.FormatFault.{FormatFault}
 use Rattle.convert_core.specs.declared.format_fault.FormatFault.TheVariants as formats
 use Rattle.poker_cli.specs.Compared.{compared}
+use Rattle.poker_cli.specs.Limits.{excess_line}
 use Rattle.poker_cli.specs.PhhFaults.{phh_fault_line, phh_status}
 use Rattle.poker_cli.specs.Inputs.{HaveFault, SayRecords}
 use Rattle.poker_cli.specs.Refusals.{refused_line}
@@ -62,7 +63,7 @@ most_input = 16777216
 
 -- the answer to an input that is too long
 abbrev pub to_excess : Answer
-to_excess = refusal statuses.Limit (codes "limit: input bytes 16777216\n")
+to_excess = refusal statuses.Limit (excess_line (codes "input bytes") most_input)
 
 -- the answer to a file of the Poker Hand History format that does not read as hands, by its first
 -- fault
@@ -216,7 +217,7 @@ IsToldOf (convert_faults.Memory memory) answer = ⊥
 
 -- the answer to a game's file that is too long
 abbrev pub to_game_excess : Answer
-to_game_excess = refusal statuses.Limit (codes "limit: game bytes 16777216\n")
+to_game_excess = refusal statuses.Limit (excess_line (codes "game bytes") most_input)
 
 -- the answer to a game's file that says no game, by its first fault
 abbrev pub to_bad_game : AcpcFault → Answer
@@ -295,7 +296,7 @@ pub data IsComparison (by : Comparison) (file bytes : List ℕ) : Answer → Typ
 
 -- the answer where the other file of a comparison is too long
 abbrev pub to_file_excess : Answer
-to_file_excess = refusal statuses.Limit (codes "limit: file bytes 16777216\n")
+to_file_excess = refusal statuses.Limit (excess_line (codes "file bytes") most_input)
 
 -- The answer to the bytes of an input whose hands are compared with those of the file of a name.
 pub data IsComparedTo (by : Comparison) (file : Option (List ℕ)) (bytes : List ℕ) : Answer

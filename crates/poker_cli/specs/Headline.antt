@@ -17,6 +17,7 @@ use Rattle.host_io.specs.Bytes.{AppendsPart}
 use Rattle.host_io.specs.Faults.{Rose}
 use Rattle.poker_cli.specs.Answer.{Answer, Files, IsWay, most_input, to_fault}
 use Rattle.poker_cli.specs.Inputs.{HaveFault, SayRecords}
+use Rattle.poker_cli.specs.Limits.{excess_line}
 use Rattle.poker_cli.specs.Refusals.{refused_line}
 use Rattle.poker_cli.specs.Outputs.{ReadsBack, SpellPlays, first_refusal_in, unspelled_in}
 use Rattle.poker_cli.specs.Run.{RefusesNothing, Sinks, TellsLine}
@@ -112,7 +113,7 @@ pub record NamesFault (from : Format) (bytes : List ℕ) (out diag : Sinks) (sta
 -- The bytes are too many.
 pub record IsTooLong (bytes : List ℕ) (out diag : Sinks) : Type 0 where
   pub beyond : most_input < length bytes
-  pub told : TellsAlone out diag (codes "limit: input bytes 16777216\n")
+  pub told : TellsAlone out diag (excess_line (codes "input bytes") most_input)
 
 -- a notation is that of logs, which are under a game
 abbrev pub IsOfLogs : Format → Type 0

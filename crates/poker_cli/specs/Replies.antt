@@ -15,6 +15,7 @@ use Rattle.hand_records.specs.SoundRecord.{script_said}
 use Rattle.hand_records.specs.declared.trace.Play.{Play}
 use Rattle.play_event.specs.Scripts.{past_after}
 use Rattle.poker_cli.specs.AnswerParts.{Answer, done, refusal}
+use Rattle.poker_cli.specs.Limits.{excess_line}
 use Rattle.poker_cli.specs.declared.status.Status.TheVariants as statuses
 
 -- the play of the hand with a number, from 1
@@ -104,7 +105,8 @@ pub data AreViews (game : Game) (seat : Seat) (plays : List Play) : Answer → T
       → AreViews game seat plays (no_seat seat.number game.stacks.seats)
   -- its lines are too many bytes
   TooMany : seat.number ≤ game.stacks.seats → most_view_bytes < length (each_view game seat 0 plays)
-      → AreViews game seat plays (refusal statuses.Limit (codes "limit: view bytes 268435456\n"))
+      → AreViews game seat plays
+      (refusal statuses.Limit (excess_line (codes "view bytes") most_view_bytes))
   -- these are its lines
   Seen : seat.number ≤ game.stacks.seats → length (each_view game seat 0 plays) ≤ most_view_bytes
       → AreViews game seat plays (done (each_view game seat 0 plays))

@@ -11,6 +11,7 @@ ghost use Rattle.poker_cli.specs.Told.{answer_told};
 
 use crate::acpc_faults::answer_to_acpc_fault;
 use crate::judging::judge_text;
+use crate::limits::excess_line;
 use crate::ohh_faults::answer_to_ohh_fault;
 use crate::phh_faults::answer_to_phh_fault;
 use crate::refusals::refused_line;
@@ -233,7 +234,7 @@ pub fn answer_to_unspelled(alloc: Global, hand: u32, fact: Unspelled) -> Result<
 pub fn answer_to_excess(alloc: Global) -> Result<Answer, Memory>
     ensures { IfOk result (λ answer. answer_told answer ≡ definition.to_excess) }
 {
-    let line = String::from_str(alloc, "limit: input bytes 16777216\n")?;
+    let line = excess_line(alloc, "input bytes", MOST_INPUT)?;
     Ok(refusal(alloc, Status::Limit, line))
 }
 

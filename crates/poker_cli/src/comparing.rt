@@ -14,6 +14,7 @@ ghost use Rattle.poker_cli.specs.Told.{answer_told};
 use crate::answer::{self, Answer, MOST_INPUT, refusal};
 use crate::comparison::{Comparison, answer_to_comparison, comparison_under, plain_comparison};
 use crate::games::{NoGame, answer_to_lack, fetch_game};
+use crate::limits::excess_line;
 use crate::no_answer::NoAnswer;
 use crate::status::Status;
 use card_set::Memory;
@@ -152,7 +153,7 @@ fn fetch_file<H: Shelf>(alloc: Global, shelf: &mut H, name: &str) -> Result<Vec<
 fn answer_to_long_file(alloc: Global) -> Result<Answer, Memory>
     ensures { IfOk result (λ answer. answer_told answer ≡ definition.to_file_excess) }
 {
-    let line = String::from_str(alloc, "limit: file bytes 16777216\n")?;
+    let line = excess_line(alloc, "file bytes", MOST_INPUT)?;
     Ok(refusal(alloc, Status::Limit, line))
 }
 

@@ -8,6 +8,7 @@ ghost use Rattle.poker_cli.specs.Told.{answer_told};
 
 use crate::acpc_faults::{fault_name, line_of};
 use crate::answer::{Answer, MOST_INPUT, refusal};
+use crate::limits::excess_line;
 use crate::status::Status;
 use acpc_game::{Game, read_game};
 use acpc_text::AcpcFault;
@@ -63,7 +64,7 @@ pub fn answer_to_lack(alloc: Global, lack: Lack) -> Result<Answer, Memory>
 {
     match lack {
         Lack::TooLong => {
-            let line = String::from_str(alloc, "limit: game bytes 16777216\n")?;
+            let line = excess_line(alloc, "game bytes", MOST_INPUT)?;
             Ok(refusal(alloc, Status::Limit, line))
         }
         Lack::Bad(fault) => {

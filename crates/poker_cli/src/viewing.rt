@@ -13,6 +13,7 @@ ghost use Rattle.poker_cli.specs.Seen.{AreSeen, AreViewsOf};
 ghost use Rattle.poker_cli.specs.Told.{answer_told};
 
 use crate::answer::{Answer, answer_to_fault, answer_to_refused, done, refusal};
+use crate::limits::excess_line;
 use crate::play_taker::{PlayTaker, take_plays};
 use crate::status::Status;
 use acpc_game::Game;
@@ -24,7 +25,7 @@ use hand_records::{Play, Records};
 use std::alloc::Global;
 
 // The most bytes of views.
-const MOST_VIEW_BYTES: u64 = 268_435_456;
+const MOST_VIEW_BYTES: usize = 268_435_456;
 
 // What a seat of a game saw of the hands so far: a line before each move, and one behind the last.
 #[derive(Drop)]
@@ -115,7 +116,7 @@ fn answer_with_seen(alloc: Global, seen: SeenLines) -> Result<Answer, Memory>
         return no_seat(alloc, seen.seat, seats);
     }
     if !seen.kept {
-        let line = String::from_str(alloc, "limit: view bytes 268435456\n")?;
+        let line = excess_line(alloc, "view bytes", MOST_VIEW_BYTES)?;
         return Ok(refusal(alloc, Status::Limit, line));
     }
     Ok(done(alloc, seen.lines))
@@ -133,7 +134,7 @@ fn has_room(lines: &Vec<u8>, game: &Game, seat: Seat, place: usize, play: &Play)
         + length (views_text game.now.no_limit seat.number place play.now) }
 {
     let len = views_len(game, play, place as u32, seat);
-    len <= MOST_VIEW_BYTES - lines.len() as u64
+    len <= (MOST_VIEW_BYTES - lines.len()) as u64
 }
 
 // Puts the lines of one more hand behind these.

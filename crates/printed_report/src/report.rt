@@ -50,7 +50,7 @@ impl OpenReport {
     ///
     /// # Errors
     ///
-    /// There is no memory for the names.
+    /// A request for memory was refused. The report is not to be used any more then.
     pub fn add_play(&mut self, alloc: Global, play: &Play) -> Result<(), Memory>
         requires { (before : List AnyPlay) × (IsReportSoFar self.old before)
             × (length before < MOST_HANDS) }
