@@ -29,3 +29,4 @@ pub mod ComparedRuns
 pub mod LegalInputs
 pub mod RunTells
 pub mod Process
+pub mod Ran

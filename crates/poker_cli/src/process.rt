@@ -7,6 +7,7 @@ ghost use Rattle.std.specs.Vec.Iter.{into_iter_items};
 ghost use Rattle.std.specs.declared.io.ErrorKind.TheVariants.{OutOfMemory};
 ghost use Rattle.card_set.specs.Refusal.{WasRefused};
 ghost use Rattle.poker_cli.specs.Process.{LacksWords, RunKeeps, words_given};
+ghost use Rattle.poker_cli.specs.Ran.{HasRun, RunsOver};
 ghost use Rattle.poker_cli.specs.Run.{change_of};
 ghost use Rattle.poker_cli.specs.Status.{IsStatusNumber, status_number};
 ghost use Rattle.poker_cli.specs.declared.status.Status.{Status as AnyStatus};
@@ -29,7 +30,9 @@ pub fn run_process<R: Read + Drop, W: Write + Drop, D: Write + Drop>(
     out: W,
     diag: D,
 ) -> ExitCode
-    ensures { IsStatusNumber (exit_status result) }
+    // What is returned is the number of the status of a run over these streams.
+    ensures ran { RunsOver input out diag (exit_status result) }
+    ensures number { IsStatusNumber (exit_status result) }
 {
     let mut input = StdSource::new(input);
     let mut shelf = FileShelf::new(rt);
@@ -47,6 +50,7 @@ pub fn run_process<R: Read + Drop, W: Write + Drop, D: Write + Drop>(
 
 /// Runs the program over these devices on the words behind the first of all, which is the name of
 /// the process, and returns the number of the status that the run answers.
+#[tactic(auto, using(crate::specs::Ran::a_run_ended))]
 pub fn end_with<S: Source, H: Shelf, K: Sink, D: Sink>(
     alloc: Global,
     all: io::Result<Args>,
@@ -64,6 +68,9 @@ pub fn end_with<S: Source, H: Shelf, K: Sink, D: Sink>(
         (change_of K.held K.faults out.old out.new)
         (change_of D.held D.faults diag.old diag.new) status
         input.old input.new shelf.old shelf.new out.old out.new diag.old diag.new)) }
+    // That it ran over these devices, is given by this call alone.
+    ensures ran { (status : AnyStatus) × ((exit_status result ≡ status_number status)
+        × HasRun input.old input.new out.old out.new diag.old diag.new status) }
     // The status is 8 only where a request for memory was refused.
     ensures memory { exit_status result ≡ 8 → WasRefused }
     // Words that are no text are no command.
