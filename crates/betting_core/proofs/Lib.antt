@@ -1,2 +1,2 @@
--- The seat in turn that is kept.
+-- The player to act that is kept.
 mod KeptTurn

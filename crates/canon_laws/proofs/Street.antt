@@ -46,7 +46,7 @@ pub record AtStreet (setup : Setup) (rules : Rules) (script : Past) (before : �
   pub no_shown : (seat : ℕ) → has_shown mine seat ≡ false
   pub no_mucked : (seat : ℕ) → has_mucked mine seat ≡ false
 
--- the hand came to the street
+-- the hand reached the street
 pub at_come : (setup : Setup) (rules : Rules) (script mine : Past) (before : ℕ) → AtStreet setup rules script before mine → IsReached setup (moves_of script) (before + 1) → before + 1 ≤ street_count setup.code → HasCome setup mine (before + 1)
 at_come setup rules script mine before at reached most =
     let P : Past → Type 0 = λ p. 1 ≤ newest_street p in
