@@ -141,7 +141,7 @@ is_whole entries =
     && (not (has_key keys.Stack entries) || is_for_all keys.Stack entries)))
 
 -- the line that a fault of the whole file names, in a file of `count` lines: the line of END
--- GAMEDEF; else the last line, at least 1
+-- GAMEDEF or, without one, the last line; 1 in an empty file
 abbrev pub end_line : ℕ → List EntrySaid → ℕ
 end_line count entries = option_map_or (λ entry. entry.line) (found keys.End entries) (max 1 count)
 

@@ -9,7 +9,7 @@ abbrev pub are_chips : List ℕ → Bool
 are_chips amounts = list_all (λ chips. nat_le chips MOST_CHIPS) amounts
 
 -- The raise sizes fit the greatest blind: in no-limit there is a blind and no raise size; in limit
--- there are two raise sizes, and a blind that is not less than the first of them.
+-- there are two raise sizes, and the blind, if there is one, is not less than the first of them.
 abbrev pub has_fitting_sizes : Bool → ℕ → ℕ → ℕ → Bool
 has_fitting_sizes true blind small big = nat_lt 0 blind && (small == 0 && big == 0)
 has_fitting_sizes false blind small big =

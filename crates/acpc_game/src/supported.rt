@@ -240,7 +240,7 @@ fn are_sizes(sizes: &[u64]) -> bool
     }
 }
 
-// Whether the greatest blind is above 0 and below the first size of a raise.
+// Whether the greatest blind is above 0 and below the first raise size.
 fn is_small_blind_of(most: u64, sizes: &[u64]) -> bool
     ensures { result ≡ nat_lt 0 most && nat_lt most (slice_index sizes.now 0) }
 {

@@ -160,7 +160,7 @@ fn push_line(
     Ok(())
 }
 
-// Numbers, with a space in front of each.
+// Numbers, each after a space.
 fn push_numbers(alloc: Global, out: &mut Vec<u8>, numbers: &[u64]) -> Result<(), Memory>
     ensures { OnOk result (out.new.items ≡ out.old.items ++ spaced numbers.now) }
 {

@@ -1,4 +1,4 @@
--- The cards of a hand, and with its betting the events of its script.
+-- The cards of a hand, and the events of its script, which its cards and its betting give.
 use Rattle.std.specs.Prelude.{ℕ, ◌+◌, ◌==◌, not, ◌&&◌, if◌then◌else◌, List, [], ◌∷◌, ◌++◌, length, Option, Some, None, option_and_then, Result, Ok}
 use Rattle.std.specs.List.{list_any}
 use Rattle.std.specs.Option.{option_map, option_map_or}
@@ -41,13 +41,13 @@ hole_said text =
 abbrev pub bad_cards : {A : Type 0} → ℕ → Result A LineFault
 bad_cards at = wrong whats.BadCards at
 
--- the events with the deal of a seat's hole cards
+-- the events, and the deal of a seat's hole cards
 unfoldable pub hole_after : ℕ → List Numbered → ℕ → List ℕ → Result (List Numbered) LineFault
 hole_after at events seat part =
     option_map_or (λ cards. Ok (events ++ (0, said.Hole seat cards) ∷ [])) (hole_said part)
     (bad_cards at)
 
--- the same of more seats, from this one on
+-- the same for more seats, from this one on
 unfoldable pub holes_after : ℕ → List Numbered → ℕ → List (List ℕ)
     → Result (List Numbered) LineFault
 holes_after at events seat [] = Ok events
@@ -96,7 +96,7 @@ step_after at so_far (steps.RaiseTo total) =
     Ok (with_letter so_far (said.Raise None (spelled.HandTotal total)))
 step_after at so_far steps.NextRound = next_round at so_far so_far.boards
 
--- the same of more steps
+-- the same for more steps
 unfoldable pub steps_after : ℕ → Written → List BettingStep → Result Written LineFault
 steps_after at so_far [] = Ok so_far
 steps_after at so_far (step ∷ rest) = step_after at so_far step >>= λ more. steps_after at more rest
@@ -105,7 +105,7 @@ steps_after at so_far (step ∷ rest) = step_after at so_far step >>= λ more. s
 abbrev pub without_rest : ℕ → Written → Result (List Numbered) LineFault
 without_rest at written = if length written.boards == 0 then Ok written.events else bad_cards at
 
--- before the first letter
+-- the script before the first letter
 abbrev pub dealt : List Numbered → List (List ℕ) → Written
 dealt events boards = record { events = events; number = 1; size = 3; boards = boards }
 

@@ -19,7 +19,7 @@ pub fn known_row(slots: &SlotRow) -> CardRow
     cards
 }
 
-// Puts a card after the others, where it is known.
+// Appends a card if it is known.
 fn push_known(cards: &mut CardRow, slot: Slot)
     requires { cards.old.len < 7 }
     ensures cards { cards_of cards.new ≡ cards_of cards.old ++ known_cards (slot ∷ []) }

@@ -7,6 +7,6 @@ pub struct Pending<'a> {
     pub number: u64,
     /// The number of cards of the next board deal.
     pub size: u8,
-    /// The cards of the rounds that are left, divided by strokes, if any are.
+    /// The cards of the rounds that are left, separated by strokes, if there are any.
     pub boards: Option<&'a [u8]>,
 }

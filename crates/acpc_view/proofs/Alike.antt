@@ -36,7 +36,8 @@ dealt_there seen owner street place is =
     let parts = and_parts (is_same_owner place.owner owner) (place.street == street) is in
     ap (λ (o : Option ℕ). seen o place.street) (is_same_owner-true place.owner owner parts.0) ∙ ap (seen owner) (eqb-true place.street street parts.1)
 
--- two filters keep the same of the elements that pass a test if the test implies that they agree
+-- of the elements that pass a test, a filter that keeps them all loses none, and one that drops
+-- them all leaves none
 module _ {X : Type 0} (test p : X → Bool) where
   one_kept : (x : X) (xs : List X) (tests passes : Bool) → test x ≡ tests → (tests ≡ true → passes ≡ true) → filter test (filter p xs) ≡ filter test xs
       → filter test (cond passes (x ∷ filter p xs) (filter p xs)) ≡ cond tests (x ∷ filter test xs) (filter test xs)

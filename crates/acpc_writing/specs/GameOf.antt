@@ -19,7 +19,7 @@ no_limit_of codes.FT = Some false
 no_limit_of _ = None
 
 -- the bet sizes fit the greatest blind: in no-limit the least bet is that blind; in limit the small
--- bet is not above it, and there is a blind
+-- bet is not above it, if there is a blind
 abbrev pub is_sized_by_blind : Bool → Setup → Bool
 is_sized_by_blind no_limit setup =
     if no_limit then setup.min_bet == greatest (amounts_in setup.blinds)

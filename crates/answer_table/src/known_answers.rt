@@ -127,8 +127,8 @@ pub fn hands_that_are_read_are_spelled()
     law_of_read_hands();
 }
 
-/// Two answers are the same if and only if the hands are, even after another conversion or by
-/// another notation.
+/// Two answers are the same if and only if the hands are; an output converts to itself; and a
+/// conversion through another notation gives the same answer.
 pub fn answers_to_equal_hands_are_the_same()
     ensures equal { (from other to : Format) (keep : Keep) (bytes too : List ℕ)
         → (plays others : List Play) (answer written : Answer)

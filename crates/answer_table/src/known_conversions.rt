@@ -131,7 +131,7 @@ pub fn equal_outputs_are_of_equal_hands<A: Notation, B: Notation, N: Notation>(
     law_of_equal_outputs(from, other, to, keep);
 }
 
-/// An output is converted to its own notation as itself.
+/// An output converts to its own notation unchanged.
 pub fn output_converts_to_itself<A: Notation, N: Notation>(
     from: &A,
     to: &N,

@@ -117,7 +117,7 @@ fn check(alloc: Global, file: Vec<u8>) -> Result<(Status, String), Memory> {
     Ok((status, last))
 }
 
-// The last of some lines, without its end.
+// The last line of a text, without its newline.
 fn last_line(alloc: Global, lines: &[u8]) -> Result<String, Memory> {
     let mut line = String::new(alloc);
     let mut ended = false;

@@ -44,7 +44,7 @@ impl<V: Variant> Betting<V> {
         }
     }
 
-    // The deal or the draw of the street is ended.
+    // Ends the deal or the draw of the street.
     fn bet(&mut self)
         requires { is_deal_or_draw self.old.due ≡ true }
         ensures { IsDealtTo self.old self.new }
@@ -57,7 +57,7 @@ impl<V: Variant> Betting<V> {
     }
 }
 
-// The game is a game of stud.
+// Whether the game is a stud game.
 fn stud<V: Variant>() -> bool
     ensures { result ≡ is_stud V.CODE }
 {

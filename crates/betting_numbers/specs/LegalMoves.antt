@@ -41,7 +41,7 @@ pub record IsLegalMove (b : RunningNumbers) (past : Past) (event : Said) (seat :
   pub legal : why b.setup b.rules past event ≡ None
   pub moved : with_event b.setup event past ≡ with_move b past seat act target
 
--- the turn is this after a past
+-- whose turn it is after a past
 abbrev pub IsTurn : RunningNumbers → Past → InTurn → Type 0
 IsTurn b past in_turn = in_turn ≡ in_turn_on b.setup past b.street
 
@@ -74,7 +74,7 @@ IsAllowed b event result past =
     IfOk result
     (λ legal. IsLegalMove b past event legal.seat.number (act_said legal.act) legal.target)
 
--- the move is of a seat of the hand
+-- the move is by a seat of the hand
 abbrev pub IsOfHand : RunningNumbers → LegalMove → Type 0
 IsOfHand b legal = legal.seat.number ≤ b.setup.stacks.seats
 
@@ -82,7 +82,7 @@ IsOfHand b legal = legal.seat.number ≤ b.setup.stacks.seats
 abbrev pub IsInTurn : Option Seat → LegalMove → Type 0
 IsInTurn turn legal = turn ≡ Some legal.seat
 
--- the move puts in no more than all-in
+-- the target of the move is at most all-in
 abbrev pub IsInReach : RunningNumbers → LegalMove → Type 0
 IsInReach b legal = legal.target ≤ all_in_seen b legal.seat.number
 
@@ -106,5 +106,5 @@ pub record IsAnswered (b : RunningNumbers) (in_turn : Option Seat) (event : Said
   pub in_hand : IfOk answer (IsOfHand b)
   -- the move is by the seat whose turn it is
   pub seat : IfOk answer (IsInTurn in_turn)
-  -- the move puts in no more than all-in
+  -- the target of the move is at most all-in
   pub reach : IfOk answer (IsInReach b)

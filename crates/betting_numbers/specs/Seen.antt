@@ -89,7 +89,7 @@ abbrev pub has_able_seat_to_call_seen : RunningNumbers → Bool
 has_able_seat_to_call_seen b =
     list_any (λ seat. is_able_seen b seat && nat_lt 0 (owed_seen b seat)) (all_seats b.setup)
 
--- no more betting is possible
+-- two or more seats are live, and no more betting is possible
 abbrev pub is_settled_seen : RunningNumbers → Bool
 is_settled_seen b =
     nat_le 2 (live_count_seen b)

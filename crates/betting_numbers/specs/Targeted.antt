@@ -9,7 +9,7 @@ use Rattle.play_event.specs.Past.{Move}
 use Rattle.play_event.specs.TurnTargets.{AreTargets}
 use Rattle.betting_numbers.specs.declared.targeting.Targets.{Targets}
 
--- the least legal target of a seat, given the floor of a full raise
+-- the least legal target of a seat, given the floor (the least no-limit raise that is not all-in)
 abbrev pub least_seen : Limit → RunningNumbers → (floor seat : ℕ) → ℕ
 least_seen limit b floor seat =
     least_by limit floor (price_seen b + b.full_raise) (all_in_seen b seat) (fulls_seen b)

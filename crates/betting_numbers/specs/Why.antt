@@ -113,7 +113,7 @@ fulls_by price size full_bet =
 abbrev pub fulls_seen : RunningNumbers → List ℕ
 fulls_seen b = fulls_by (price_seen b) (unit b.setup b.street) b.full_bet
 
--- a target of a seat is legal, given the floor of a full raise
+-- a target of a seat is legal, given the floor (the least no-limit raise that is not all-in)
 abbrev pub is_legal_seen : Limit → RunningNumbers → (floor seat target : ℕ) → Bool
 is_legal_seen limit b floor seat target =
     is_legal_by limit floor (price_seen b + b.full_raise) (all_in_seen b seat) (ceiling_seen b seat)

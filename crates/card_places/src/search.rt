@@ -21,8 +21,8 @@ use card_set::CardRow;
 use chip_ledger::Seat;
 
 /// What is looked for: cards of a seat, all of them or those face down; the street on which they
-/// are discarded, if they are, and after how many deals; the names, which of them no known card
-/// has, and the number of blanks among them.
+/// are discarded, if they are, and after how many dealt cards; the names, which of them no known
+/// card has, and the number of blanks that come with them.
 #[derive(Clone, Copy)]
 pub struct Search {
     pub seat: Seat,

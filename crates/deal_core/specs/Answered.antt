@@ -31,7 +31,7 @@ WhereLive t live P =
 abbrev pub AsksNothing : Setup → Past → Type 0
 AsksNothing setup past = Unit {0}
 
--- whether more betting is possible is as this says
+-- whether the hand is settled (no more betting is possible) is as this says
 abbrev pub IsSettledAs : Bool → Setup → Past → Type 0
 IsSettledAs settled setup past = is_settled setup (moves_of past) (turn setup past) ≡ settled
 

@@ -5,8 +5,8 @@ use std::marker::Model;
 
 /// The text of a note, or of the place of a fault.
 ///
-/// It takes one word in its record, and its bytes are elsewhere: most records have room for many
-/// notes but few notes.
+/// It takes one machine word in the value that holds it, and its bytes are elsewhere: most records
+/// have room for many notes but few notes.
 #[derive(Debug, Drop)]
 pub struct Text {
     text: Box<String>,

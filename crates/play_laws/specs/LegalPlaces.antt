@@ -73,8 +73,8 @@ UnknownsFirst (first ∷ rest) =
     ((second : Place) → IsAmong rest second → OutFirst first second) × UnknownsFirst rest
 
 -- What holds of the places of a legal past with these moves, up to its newest street: each number
--- is below the number of places; a card is gone if it was discarded or its seat folded, on a street
--- later than its own; and the rest as for lawful places.
+-- is below the number of places; a card is gone if and only if it was discarded or its seat folded,
+-- which was on a street later than its own; and the rest as for lawful places.
 pub record PlacesLaw (code : Code) (moves : List Move) (newest : ℕ) (placed : List Place) : Type 0
   where
     pub number_within : (place : Place) → IsAmong placed place → place.number < length placed
