@@ -142,7 +142,7 @@ parts_again no_limit stacks blinds small big caps is =
 pub game_again : (game : GameSaid) → IsGame game → game_said (game_text game) ≡ Ok game
 game_again game is = parts_again game.no_limit game.stacks game.blinds game.small_raise game.big_raise game.caps is
 
--- a game of the code is one that handref plays
+-- a game of the code is one that handref supports
 pub kept_game : (game : Game) → IfSome game.caps (λ caps. are_caps caps ≡ true) → IsGame (game_in game)
 kept_game game fit =
     let stacks = game.stacks in

@@ -145,7 +145,7 @@ is_whole entries =
 abbrev pub end_line : ℕ → List EntrySaid → ℕ
 end_line count entries = option_map_or (λ entry. entry.line) (found keys.End entries) (max 1 count)
 
--- ---- which games handref plays
+-- ---- which games handref supports
 
 -- the stack of each player if the file says none, in chips
 abbrev pub default_stack : ℕ
@@ -198,7 +198,8 @@ abbrev pub are_sizes : List ℕ → Bool
 are_sizes (s ∷ t ∷ b ∷ c ∷ []) = (nat_le 1 s && s == t) && (nat_le 1 b && b == c)
 are_sizes _ = false
 
--- numbers of players, rounds or cards that handref does not play, each with the key that shows it
+-- numbers of players, rounds or cards that handref does not support, each with the key that shows
+-- it
 abbrev pub other_cards : List EntrySaid → List (Bool × GameKey)
 other_cards entries = (
   not
@@ -213,7 +214,8 @@ other_cards entries = (
     ∷ (not (are_four 0 3 1 1 (numbers_at keys.NumBoardCards entries)), keys.NumBoardCards)
     ∷ []
 
--- blinds, a first player or raise sizes that handref does not play, each with the key that shows it
+-- blinds, a first player or raise sizes that handref does not support, each with the key that shows
+-- it
 abbrev pub other_blinds : List EntrySaid → List (Bool × GameKey)
 other_blinds entries =
     (is_reversed (numbers_at keys.Blind entries), keys.Blind)
@@ -237,7 +239,7 @@ other_blinds entries =
     )
     ∷ []
 
--- chips that handref does not play, each with the key that shows it
+-- chips that handref does not support, each with the key that shows it
 abbrev pub other_chips : List EntrySaid → List (Bool × GameKey)
 other_chips entries = (
   has_short_stack (stacks_at entries) (numbers_at keys.Blind entries),
@@ -245,7 +247,7 @@ other_chips entries = (
 )
     ∷ other_blinds entries
 
--- the first key that shows that handref does not play the game, if any
+-- the first key that shows that handref does not support the game, if any
 unfoldable pub first_unsupported : List EntrySaid → Option GameKey
 first_unsupported entries =
     or_else (first_where (other_cards entries)) (first_where (other_chips entries))

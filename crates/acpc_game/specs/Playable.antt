@@ -1,4 +1,4 @@
--- What holds of the entries of a game that handref plays.
+-- What holds of the entries of a game that handref supports.
 use Rattle.std.specs.Prelude.{◌≡◌, ◌==◌, true, false, not, nat_lt, nat_le, ◌&&◌, List, slice_index}
 use Rattle.chip_ledger.specs.Greatest.{greatest}
 use Rattle.acpc_game.specs.declared.key.GameKey.TheVariants as keys

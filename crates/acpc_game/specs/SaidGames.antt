@@ -9,7 +9,7 @@ use Rattle.acpc_game.specs.Games.{are_chips, has_fitting_sizes}
 abbrev pub are_caps : List ℕ → Bool
 are_caps caps = length caps == 4 && list_all (λ cap. nat_le cap 4294967295) caps
 
--- The numbers are those of a game that handref plays: 2 to 10 seats, as many blinds as stacks,
+-- The numbers are those of a game that handref supports: 2 to 10 seats, as many blinds as stacks,
 -- amounts within the limit, no stack that is 0 or below its blind, with two seats no second blind
 -- above the first, raise sizes that fit, and either no caps or one for each of the four rounds.
 pub record IsGame (game : GameSaid) : Type 0 where

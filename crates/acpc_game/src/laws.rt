@@ -15,8 +15,8 @@ pub fn law_of_reading_again(game: Game)
     show_caps(game.caps);
 }
 
-/// If the numbers of a game are those of a game that handref plays, its written file reads back as
-/// that game. The function does nothing: its contract is a law.
+/// If the numbers of a game are those of a game that handref supports, its written file reads back
+/// as that game. The function does nothing: its contract is a law.
 pub fn law_of_spellings()
     ensures { (game : GameSaid) → IsGame game → game_said (game_text game) ≡ Ok game }
 {}

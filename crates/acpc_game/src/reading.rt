@@ -26,8 +26,8 @@ use std::alloc::Global;
 const DEFAULT_STACK: u64 = 2_147_483_647;
 
 /// The game that a game file says. Faults of single lines are reported first, in the order of the
-/// lines; then those of the whole file; and last that handref does not play the game. The byte of a
-/// fault is always 1.
+/// lines; then those of the whole file; and last that handref does not support the game. The byte
+/// of a fault is always 1.
 pub fn read_game(alloc: Global, bytes: &[u8]) -> Result<Game, AcpcFault>
     ensures { Answers game_in result (game_said bytes.now) }
 {
@@ -77,7 +77,7 @@ fn stacks_of(alloc: Global, entries: &[Entry]) -> Result<Vec<u64>, Stop<AcpcFaul
     }
 }
 
-// The game of entries that are complete and that handref plays.
+// The game of entries that are complete and that handref supports.
 #[tactic(auto, using(crate::proofs::Built::counted, crate::proofs::Built::sizes_fit))]
 fn build(entries: &[Entry], stacks: &[u64]) -> Game
     requires whole { is_whole_said (map entry_said entries.now) ≡ true }

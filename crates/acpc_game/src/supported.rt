@@ -1,5 +1,5 @@
 //! Checks a game file whose lines are right as a whole: what is missing, or why handref does not
-//! play its game.
+//! support its game.
 ghost use Rattle.std.specs.Prelude.{◌≡◌, ◌≤◌, ◌&&◌, nat_lt, length, map, slice_index};
 ghost use Rattle.std.specs.List.{list_all};
 ghost use Rattle.chip_ledger.specs.Greatest.{greatest as greatest_said};
@@ -58,7 +58,7 @@ pub fn end_line(entries: &[Entry], count: u64) -> u64
     }
 }
 
-/// The first key that shows that handref does not play the game, if any.
+/// The first key that shows that handref does not support the game, if any.
 #[tactic(auto, unfolding(crate::specs::GameFile::first_unsupported))]
 pub fn first_unsupported(entries: &[Entry], stacks: &[u64]) -> Option<GameKey>
     requires { stacks.now ≡ stacks_at (map entry_said entries.now) }
@@ -77,7 +77,7 @@ pub fn first_unsupported(entries: &[Entry], stacks: &[u64]) -> Option<GameKey>
     other_blinds(entries)
 }
 
-// The first number of players, rounds or cards that handref does not play.
+// The first number of players, rounds or cards that handref does not support.
 fn other_cards(entries: &[Entry]) -> Option<GameKey>
     ensures { result ≡ first_where (other_cards_said (map entry_said entries.now)) }
 {
@@ -103,7 +103,7 @@ fn other_cards(entries: &[Entry]) -> Option<GameKey>
     None
 }
 
-// The first blinds, first player or raise sizes that handref does not play.
+// The first blinds, first player or raise sizes that handref does not support.
 fn other_blinds(entries: &[Entry]) -> Option<GameKey>
     ensures { result ≡ first_where (other_blinds_said (map entry_said entries.now)) }
 {

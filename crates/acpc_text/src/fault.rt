@@ -19,7 +19,7 @@ pub enum LineFaultKind {
     SeatCount,
     /// A game file or a line of it that is not well formed.
     GameShape,
-    /// A game that handref does not play.
+    /// A game that handref does not support.
     UnsupportedGame,
     /// A number that is too great.
     AmountLimit,

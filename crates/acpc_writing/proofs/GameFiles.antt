@@ -1,4 +1,4 @@
--- If a hand with a valid setup fits a game, handref plays that game, and so its game file reads
+-- If a hand with a valid setup fits a game, handref supports that game, and so its game file reads
 -- back as that game.
 use Rattle.std.proofs.Common.{◌≡◌, Bool, true, false, not, nat_lt, if◌then◌else◌, length, Option, Some, None, Ok, Err, refl, sym, ap, subst, ◌∙◌, arith}
 use Rattle.std.specs.List.{list_any}

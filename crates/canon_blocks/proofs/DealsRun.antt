@@ -65,7 +65,7 @@ no_deal setup before street no_hole no_board =
     ap (λ b. b || nat_lt 0 (board_cards_owed setup before street)) (none_passes (λ seat. nat_lt 0 (hole_cards_owed setup before street seat)) (all_seats setup) (λ seat. nothing_owed_by (is_live (moves_of before) seat) (hole_cards_on setup.code street) (hole_cards_dealt before street seat) no_hole))
     ∙ le-ltb 0 (board_cards_owed setup before street) (omega (arith, no_board))
 
--- so does a street that draws, where discards are to be replaced
+-- so does a street that draws, if discards are to be replaced
 pub draw_street : (setup : Setup) (street : ℕ) → has_draw setup.code street ≡ true → hole_cards_on setup.code street ≡ 0 → board_cards_on setup.code street ≡ 0 → DealsOn setup street (dues.Draw street)
 draw_street setup street draws no_hole no_board =
     record {

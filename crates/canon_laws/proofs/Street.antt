@@ -32,7 +32,7 @@ use Rattle.play_laws.proofs.DrawTables.{IsDrawStreet}
 use Rattle.canon_blocks.proofs.DrawRun.{AreDiscarded, discards_run, with_discards, out_slots}
 use Rattle.play_event.specs.Trace.{places_on, owners}
 
--- the canonical past where a street begins; the street before it has this number
+-- the canonical past when a street begins; the street before it has this number
 pub record AtStreet (setup : Setup) (rules : Rules) (script : Past) (before : ℕ) (mine : Past) : Type 0 where
   pub led : IsLed setup rules mine
   pub same_moves : moves_of mine ≡ moves_before (before + 1) (moves_of script)

@@ -1,4 +1,4 @@
--- Each move of a legal past is of a seat of the hand, and goes to chips that may be stated.
+-- Each move of a legal past is by a seat of the hand, and its target may be stated.
 use Rattle.std.proofs.Common.{◌≡◌, ℕ, ◌≤◌, Bool, true, false, ◌==◌, if◌then◌else◌, List, [], ◌∷◌, ap, arith}
 use Rattle.std.specs.List.{AllByRecursion}
 use Rattle.std.proofs.Math.Nat.{min-le_right}
@@ -30,7 +30,7 @@ use Rattle.canon_ranges.proofs.MoverSeats.{mover_in_hand}
 use Rattle.chip_ledger.specs.Seat.{IsSeatOf}
 use Rattle.play_laws.proofs.ResolvedMoves.{target_of}
 
--- a move of a seat of the hand, to chips that may be stated
+-- a move of a seat of the hand, whose target may be stated
 pub record IsMoveInRange (setup : Setup) (move : Move) : Type 0 where
   pub seat : IsSeatOf setup.stacks.seats move.seat
   pub to : move.to ≤ MOST_CHIPS
