@@ -32,7 +32,7 @@ pub record IsOnStreet (streets : ℕ) (b : RunningNumbers) : Type 0 where
   pub fresh : StartsFresh b
 
 -- the turn may be passed on: the numbers are of this game and on one of its streets, and `next`, if
--- known, is the next seat to act
+-- known, is the only seat that can be next to act
 pub record IsReadyToPass (game : Code) (streets : ℕ) (b : RunningNumbers) (next : Option Seat)
     : Type 0 where
   pub code : b.setup.code ≡ game

@@ -67,8 +67,8 @@ fn stud<V: Variant>() -> bool
     }
 }
 
-// What comes if no bring-in is due: nothing if the hand is over, else a move of the player to act
-// or the next street. If the next seat to act is known, it is the player to act.
+// What comes if no bring-in is due: nothing if the hand is over, else a move of the player to act,
+// the next street, or the showdown. `behind`, if known, is the only seat that can be next to act.
 pub(crate) fn pass<V: Variant>(table: &mut RunningNumbers, over: bool, behind: Option<Seat>)
     requires { IsReadyToPass V.CODE V.STREETS table.old behind }
     ensures passed { IsPassedTo over table.old table.new }
@@ -89,8 +89,8 @@ pub(crate) fn pass<V: Variant>(table: &mut RunningNumbers, over: bool, behind: O
     }
 }
 
-// Whose turn it is in a game with blinds: nobody's if no move is due. If the next seat to act is
-// known, no other seat is looked at.
+// Whose turn it is in a game with blinds: nobody's if no move is due. `behind`, if known, is the
+// only seat that is looked at.
 fn mover(table: &RunningNumbers, behind: Option<Seat>) -> Option<Seat>
     requires behind { IfSome behind (IsNextUp table.now) }
     ensures turn { in_turn (seat_said result)
