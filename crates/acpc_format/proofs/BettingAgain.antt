@@ -1,4 +1,4 @@
--- Steps that were written as letters read back as these steps.
+-- Steps that were written as letters read back as the same steps.
 use Rattle.std.proofs.Common.{◌≡◌, ℕ, ◌+◌, ◌≤◌, Bool, true, false, eqb, List, [], ◌∷◌, ◌++◌, length, map, decimal, Result, Ok, refl, sym, ap, ◌∙◌, arith, append_assoc, true≢false}
 use Rattle.std.specs.List.{flat_map, AllByRecursion}
 use Rattle.std.specs.Char.{digit_value}
@@ -18,7 +18,7 @@ use Rattle.acpc_reading.specs.declared.step.BettingStep.TheVariants as steps
 use Rattle.acpc_format.proofs.NumbersAgain.{decimal_number}
 use Rattle.acpc_format.proofs.Steps.{moves_in, step_text, strokes_in}
 
--- a step has a letter in a game with or without limit
+-- a step has a letter in a limit or no-limit game
 abbrev pub HasLetter : Bool → BettingStep → Type 0
 HasLetter no_limit steps.Fold = Unit {0}
 HasLetter no_limit steps.Call = Unit {0}

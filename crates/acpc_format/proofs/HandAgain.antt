@@ -104,7 +104,7 @@ letters_played game setup rules script trace valid played is kind has same hide 
 
 -- ---- the hand
 
--- a spelled play, under the rules of the game, in letters
+-- a play that the logs can write, under the rules of the game, in letters
 pub play_again : (game : Game) (keep : Keep) (play : Play) → IsSound play → unspelled game keep play ≡ None
     → HasTraceOf play.hand.setup (rules_of game) (script_said play.hand) (script_again game.no_limit play.trace)
 play_again game keep play sound none =

@@ -1,4 +1,5 @@
--- Where undrawn mucked seat has all its hole cards known, each mucked seat holds a card that is not known.
+-- In a game without draws, if no seat mucks with known hole cards, each mucked seat holds an
+-- unknown card.
 use Rattle.std.proofs.Common.{◌≡◌, ℕ, ◌≤◌, Bool, true, false, ◌&&◌, ◌||◌, ◌==◌, not, nat_le, List, [], ◌∷◌, map, filter, Some, inl, inr, ◌⊎◌, refl, sym, ap, ◌∙◌, arith, true≢false}
 use Rattle.std.specs.List.{list_any}
 use Rattle.std.proofs.lemmas.Bool.{and_from, and_parts, cases_lt, eq-eqb, not-false, or_cases, or_left, or_right}
@@ -44,7 +45,7 @@ is_hidden_deal seat place = is_dealt_to (Some seat) 1 place && is_unknown place.
 abbrev is_hidden_held : ℕ → TracedPlace → Bool
 is_hidden_held seat place = is_discard_of seat 0 place && is_unknown place.slot
 
--- what is dealt is held, where nothing is discarded
+-- what is dealt is held if nothing is discarded
 deal_held : (seat : ℕ) (place : Place) → place.discarded ≡ 0 → is_hidden_deal seat (traced_place place) ≡ true → is_hidden_held seat (traced_place place) ≡ true
 deal_held seat place none is =
     let both = and_parts (is_dealt_to (Some seat) 1 (traced_place place)) (is_unknown place.slot) is in
@@ -82,7 +83,7 @@ hidden_held setup rules events seat legal undrawn low high live hides =
     ∙ unknown_of (is_discard_of seat 0) (map traced_place finals)
     ∙ held
 
--- so each mucked seat holds a card that is not known
+-- so each mucked seat holds an unknown card
 pub mucks_hide : (setup : Setup) (rules : Rules) (events : List Said) (row : LiveRow) → AreLegal setup rules events → ((street : ℕ) → has_draw setup.code street ≡ false)
     → flagged row ≡ filter (is_mucked setup (past_of setup events)) (all_seats setup)
     → list_any (is_open_muck (traced_places setup (past_of setup events)) row) (seats_of setup.stacks.seats) ≡ false → MucksHide setup (past_of setup events)

@@ -1,5 +1,5 @@
--- What the events of a log may say, whatever its bytes are: deals of two known or two unknown hole cards and of known cards of the
--- board, and letters, of which a raise is spelled as the game has it.
+-- The events that a log can say, whatever its bytes: deals of two known or two unknown hole cards,
+-- deals of known board cards, and letters, with raises written as the game has them.
 use Rattle.std.proofs.Common.{◌≡◌, ℕ, ◌+◌, Bool, true, false, ◌&&◌, not, eqb, nat_lt, nat_le, if◌then◌else◌, codes, List, [], ◌∷◌, ◌++◌, length, map, Option, Some, None, option_and_then, Result, Ok, Err, IfOk, refl, sym, ap, ◌∙◌}
 use Rattle.std.specs.List.{AllByRecursion, list_any}
 use Rattle.std.proofs.lemmas.Bool.{and_parts, eqb-true, not-true}
@@ -39,7 +39,7 @@ pub record AreWhole (cards : List Slot) : Type 0 where
   pub two : length cards ≡ 2
   pub whole : (list_any is_unknown cards && list_any (λ slot. not (is_unknown slot)) cards) ≡ false
 
--- how a game spells raises: by the chips of the hand where it has no limit, and by the unit where it has one
+-- how a game writes raises: in no-limit as the seat's chips in the whole hand, in limit by the unit
 abbrev pub IsRaiseOf : Bool → Spelled → Type 0
 IsRaiseOf no_limit (spelled.HandTotal total) = no_limit ≡ true
 IsRaiseOf no_limit spelled.Unit = no_limit ≡ false

@@ -1,4 +1,4 @@
--- What holds of a play that the logs of a game spell.
+-- What holds of a play that the logs of a game can write.
 use Rattle.std.proofs.Common.{◌≡◌, Bool, true, false, ◌==◌, ◌&&◌, not, nat_lt, bytes_eq, if◌then◌else◌, Option, Some, None, refl}
 use Rattle.std.specs.List.{list_any}
 use Rattle.std.proofs.lemmas.Bool.{eqb-true}
@@ -71,7 +71,7 @@ has_play game trace none =
     let five = where_none (list_any (is_open_muck (core_said trace).places trace.mucked) (seats_of trace.setup.stacks.seats)) facts.Muck _ four.1 in
     record { folds = one.0; caps = two.0; units = three.0; whole = four.0; mucks = five.0 }
 
--- what a play has that is spelled
+-- what holds of a play that can be written
 pub record IsSpelled (game : Game) (play : Play) : Type 0 where
   pub setup : HasSetupOf game play.trace.setup
   pub played : HasPlayOf game play.trace

@@ -1,4 +1,4 @@
--- A play that the logs of a game spell suits the rules of the game, and its moves have letters.
+-- A play that the logs of a game can write suits the rules of the game, and its moves have letters.
 use Rattle.std.proofs.Common.{◌≡◌, ℕ, zero, suc, ◌+◌, ◌-◌, ◌≤◌, Bool, true, false, ◌&&◌, ◌==◌, not, cond, if◌then◌else◌, List, [], ◌∷◌, map, count_by, slice_index, Option, Some, None, IfSome, refl, sym, ap, ◌∙◌, arith, true≢false}
 use Rattle.std.specs.List.{list_any}
 use Rattle.std.proofs.lemmas.Bool.{eqb-true, ltb-false, ne_eqb, not-false, or_parts}
@@ -125,7 +125,7 @@ by_unit setup older move fixed none raises =
     ∙ none in
     sym (eqb-true move.to (unit_target setup older move.street move.seat) (not-false (move.to == unit_target setup older move.street move.seat) off))
 
--- a traced raise that goes elsewhere than one by the unit
+-- a traced raise that is not by the unit
 abbrev pub is_off : TracedMove → Bool
 is_off move = is_raise move.act && not (move.to == move.unit_to)
 

@@ -1,5 +1,5 @@
-//! The logs of the competition: bytes are read as records under a game, and plays are written as
-//! lines that read as their hands again.
+//! Logs of the computer poker competition: reads bytes as records under a game, and writes plays as
+//! lines that read back as their hands.
 #![tactic(auto)]
 
 mod laws;

@@ -1,4 +1,4 @@
--- Words and lines that are read one after the other, as a loop does.
+-- Words and lines that are read one after another, as a loop does.
 use Rattle.std.proofs.Common.{◌≡◌, ℕ, ◌+◌, ◌≤◌, Bool, true, false, nat_le, if◌then◌else◌, List, [], ◌∷◌, ◌++◌, Some, None, Result, Ok, refl, sym, ap, ◌∙◌, arith}
 use Rattle.std.specs.Str.Parse.{digits_value}
 use Rattle.std.proofs.lemmas.Bool.{leb-true}
@@ -15,7 +15,7 @@ pub fails_first : {A B F : Type 0} (stop : Stop F) (first : Result A F) (next : 
 fails_first (stops.Memory memory) first next fails = tt
 fails_first (stops.At fault) first next fails = ap (λ read. read >>= next) fails
 
--- what fails is what is equal to it
+-- if two are equal and one fails, the other fails
 pub fails_at : {A F : Type 0} (stop : Stop F) (first second : Result A F) → first ≡ second → Fails stop first → Fails stop second
 fails_at (stops.Memory memory) first second same fails = tt
 fails_at (stops.At fault) first second same fails = sym same ∙ fails

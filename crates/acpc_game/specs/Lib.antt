@@ -1,4 +1,4 @@
--- Game files: keys, forms of lines, and the game that a file says.
+-- Game files: keys, line forms, and the game that a file says.
 pub mod Keys
 pub mod Forms
 pub mod GameFile

@@ -1,5 +1,4 @@
-//! A game file is read as the one game that it says, or its first fault is named; a game is written
-//! in one spelling.
+//! Game files: reads a file as the one game that it says, or names its first fault; writes a game.
 #![tactic(auto)]
 
 mod entry;

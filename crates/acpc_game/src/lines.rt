@@ -1,4 +1,4 @@
-//! The lines of a game file are read as its entries, or the first line that is wrong is named.
+//! Reads the lines of a game file as its entries, or names the first line that is wrong.
 ghost use Rattle.std.specs.Prelude.{◌≡◌, ◌≤◌, [], true, nat_le, length, map, Ok, OnOk, IfOk, IfErr, IsTrue};
 ghost use Rattle.std.specs.List.{list_all};
 ghost use Rattle.first_fault.specs.Digits.{are_digits};
@@ -18,7 +18,7 @@ use acpc_text::{AcpcFault, LineFault, LineFaultKind, fault_in_line, next_line};
 use first_fault::{Stop, next_word, read_digits};
 use std::alloc::Global;
 
-/// The entries of a file, and how many lines it has.
+/// The entries of a file, and its number of lines.
 pub fn read_entries(alloc: Global, bytes: &[u8]) -> Result<(Vec<Entry>, u64), Stop<AcpcFault>>
     ensures { Gives (λ found. (map entry_said found.0.items, found.1)) result
         (entries_said bytes.now) }
@@ -26,7 +26,7 @@ pub fn read_entries(alloc: Global, bytes: &[u8]) -> Result<(Vec<Entry>, u64), St
     read_lines(alloc, says_no_limit(bytes), bytes)
 }
 
-// The entries of the lines of a game that has a limit or none, and how many lines there are.
+// The entries of the lines of a limit or no-limit game, and the number of lines.
 fn read_lines(
     alloc: Global,
     no_limit: bool,
@@ -46,7 +46,7 @@ fn read_lines(
     Ok((entries, count))
 }
 
-// Whether some line says that the game has no limit.
+// Whether some line says that the game is no-limit.
 fn says_no_limit(bytes: &[u8]) -> bool
     ensures { result ≡ says_no_limit_said (lines_of bytes.now) }
 {
@@ -60,7 +60,7 @@ fn says_no_limit(bytes: &[u8]) -> bool
     false
 }
 
-// One more line of a game that has a limit or none.
+// One more line of a limit or no-limit game.
 #[tactic(auto, unfolding(crate::specs::GameFile::entries_after_line, crate::specs::GameFile::entries_with))]
 fn take_line(
     alloc: Global,
@@ -93,7 +93,7 @@ fn take_line(
     Ok(())
 }
 
-// Whether a key may stand after these entries.
+// Whether a key is allowed after these entries.
 fn may_stand(entries: &[Entry], key: GameKey) -> bool
     ensures { result ≡ may_stand_said key (map entry_said entries.now) }
 {
@@ -103,7 +103,7 @@ fn may_stand(entries: &[Entry], key: GameKey) -> bool
     }
 }
 
-// The numbers that the words of a text say behind a key.
+// The numbers that the words of a text give to a key.
 fn read_numbers(
     alloc: Global,
     line: u64,
@@ -127,7 +127,7 @@ fn read_numbers(
     Ok(numbers)
 }
 
-// The number that a word says, if it is not too great for its key.
+// The number that a word says, or a fault if it is too great for its key.
 #[tactic(auto, unfolding(crate::specs::GameFile::number_said))]
 fn read_number(line: u64, key: GameKey, word: &[u8]) -> Result<u64, Stop<AcpcFault>>
     requires { IsTrue (are_digits word.now) }

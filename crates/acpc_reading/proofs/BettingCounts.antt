@@ -1,4 +1,4 @@
--- The moves and the rounds of the betting that is read are counted, and are no more than they may be.
+-- The moves and rounds of the betting that is read are counted, and are within their limits.
 use Rattle.std.proofs.Common.{◌≡◌, ℕ, ◌+◌, ◌≤◌, Bool, true, false, not, cond, nat_le, nat_lt, eqb, List, [], ◌∷◌, length, count_by, IfOk, refl, arith}
 use Rattle.std.proofs.lemmas.Bool.Decides.{nat_tests}
 use Rattle.list_laws.proofs.Counting.{count_by-push}
@@ -28,7 +28,7 @@ is_letter steps.NextRound = false
 abbrev pub is_stroke : BettingStep → Bool
 is_stroke step = not (is_letter step)
 
--- the betting is counted, where the file had so many moves before the hand
+-- the moves of the hand and the file are counted; the file had `earlier` moves before the hand
 pub record AreCounted (earlier : ℕ) (bets : Bets) : Type 0 where
   pub moves : count_by is_letter bets.steps ≡ bets.moves
   pub rounds : count_by is_stroke bets.steps + 1 ≡ bets.round

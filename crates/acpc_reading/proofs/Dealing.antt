@@ -1,4 +1,4 @@
--- Hole cards and steps that are read one after the other, as a loop does.
+-- Hole cards and steps read one after another, as a loop does.
 use Rattle.std.proofs.Common.{◌≡◌, ℕ, ◌+◌, eqb, false, List, [], ◌∷◌, length, Result, Ok, refl, sym, ap, ◌∙◌, arith}
 use Rattle.std.proofs.lemmas.Bool.Decides.{nat_tests}
 use Rattle.std.proofs.lemmas.List.Splits.{length-slice_split}
@@ -55,7 +55,7 @@ module _ (at : ℕ) (so_far : Written) (all : List BettingStep) (whole : Result 
   unfolding steps_after
   steps_done none before = sym before ∙ ap (steps_after at so_far) none
 
--- cards that are left behind the last step
+-- cards that are left after the last step
 pub some_left : (at : ℕ) (events : List Numbered) (number size : ℕ) (text : List ℕ) → without_rest at (record { events = events; number = number; size = size; boards = parts_of 47 text }) ≡ bad_cards at
 some_left at events number size text =
     let some : eqb (length (parts_of 47 text)) 0 ≡ false = grind (arith, nat_tests, length-slice_split (λ b. eqb b 47) text) in

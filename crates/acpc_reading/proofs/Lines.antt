@@ -1,4 +1,4 @@
--- Lines of hands that are read one after the other, as a loop does.
+-- Lines of hands read one after another, as a loop does.
 use Rattle.std.proofs.Common.{◌≡◌, ℕ, ◌+◌, List, [], ◌∷◌, Result, Ok, refl, sym, ap, ◌∙◌}
 use Rattle.first_fault.specs.declared.stop.Stop.{Stop}
 use Rattle.first_fault.specs.Reading.{Fails}

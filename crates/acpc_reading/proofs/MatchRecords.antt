@@ -14,7 +14,7 @@ use Rattle.acpc_reading.specs.RecordView.{AreOfGame, IsOfGame, IsSetupOf, NotesN
 use Rattle.acpc_reading.proofs.MatchSetups.{setup_valid}
 use Rattle.hand_records.specs.Moves.{moves_of}
 
--- names and a number that may be noted are allowed notes
+-- names and a number that are allowed as notes
 notes_allowed : (players : ℕ) (notes : Notes) → NotesNames notes
     → ((seat : ℕ) → 1 ≤ seat → seat ≤ players → IfSome (slice_index_or notes.names (seat - 1) None) (IsName seat))
     → ((index : ℕ) → players ≤ index → slice_index_or notes.names index None ≡ None)

@@ -1,4 +1,4 @@
--- A number has one point at most.
+-- A number has at most one point.
 use Rattle.std.proofs.Common.{◌≡◌, ℕ, ◌<◌, Bool, eqb, List, [], ◌∷◌, length, refl, arith}
 use Rattle.std.proofs.lemmas.List.Splits.{length-slice_split}
 use Rattle.acpc_text.specs.declared.fault.LineFaultKind.TheVariants as whats

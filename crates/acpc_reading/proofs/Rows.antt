@@ -1,4 +1,4 @@
--- Rows that are written entry by entry, as the parts of a field are read.
+-- Rows written entry by entry, as the parts of a field are read.
 use Rattle.std.proofs.Common.{◌≡◌, ℕ, ◌+◌, List, [], ◌∷◌, ◌++◌, length, Option, Result, Ok, ℤ, refl, sym, ap, ◌∙◌}
 use Rattle.first_fault.specs.declared.stop.Stop.{Stop}
 use Rattle.first_fault.specs.Reading.{Fails}

@@ -21,15 +21,15 @@ use Rattle.acpc_reading.proofs.Checked.{after}
 use Rattle.acpc_reading.proofs.BettingCounts.{AreCounted, betting_counted, is_letter, is_stroke}
 use Rattle.list_laws.proofs.Results.{ok_either, ok_where_some}
 
--- how many moves events have
+-- the number of moves among events
 abbrev pub moves_in : List Numbered → ℕ
 moves_in events = count_by (λ event. is_move event.1) events
 
--- how many other events
+-- the number of other events
 abbrev pub others_in : List Numbered → ℕ
 others_in events = count_by (λ event. not (is_move event.1)) events
 
--- so many moves and other events come behind events
+-- this number of moves and other events follow some events
 pub record Adds (moves others : ℕ) (before after : List Numbered) : Type 0 where
   pub moves_are : moves_in after ≡ moves_in before + moves
   pub others_are : others_in after ≡ others_in before + others
@@ -106,7 +106,8 @@ all_steps at so_far all =
     after (steps_after at so_far all) (without_rest at) (AddsSteps all so_far) _ (steps_counted at so_far all)
     (λ written adds. ending at so_far.events (count_by is_letter all) (count_by is_stroke all) written adds)
 
--- a script of so many players has a move for each letter, and a deal for each seat and each further round
+-- a script has a move for each letter, and a deal for each of its `players` seats and each further
+-- round
 script_counted : (players : ℕ) (all : List BettingStep) (at : ℕ) (parts : List (List ℕ)) → IfOk (script_said players all at parts) (Adds (count_by is_letter all) (players + count_by is_stroke all) [])
 unfolding script_said
 script_counted players all at [] = tt

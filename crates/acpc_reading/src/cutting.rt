@@ -1,4 +1,4 @@
-//! A line of a hand is cut into its six fields, divided by colons.
+//! Cuts a line of a hand at its colons into six fields.
 ghost use Rattle.std.specs.Prelude.{◌<◌, ◌^◌, length, IfOk};
 ghost use Rattle.first_fault.specs.Reading.{Gives};
 ghost use Rattle.acpc_text.specs.Parts.{parts_of};

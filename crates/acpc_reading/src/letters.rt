@@ -1,4 +1,4 @@
-//! The betting of a line is read letter by letter, or the first byte that doesn't fit is named.
+//! Reads the betting of a line letter by letter, or names the first byte that does not fit.
 ghost use Rattle.std.specs.Prelude.{◌≡◌, ◌<◌, ◌+◌, ◌^◌, true, length, Ok, OnOk, IfErr};
 ghost use Rattle.std.specs.List.{list_all};
 ghost use Rattle.std.specs.Char.{is_digit};
@@ -48,7 +48,7 @@ pub fn read_betting(
     Ok(())
 }
 
-// A letter of the betting and the digits behind it, from this byte on.
+// A letter of the betting and the digits after it, from this byte on.
 #[derive(Clone, Copy)]
 struct Letter<'a> {
     at: u64,
@@ -88,7 +88,7 @@ fn take_letter(
     Err(wrong(LineFaultKind::BadBetting, next.at))
 }
 
-// A letter that has no digits behind it.
+// A letter that no digits follow.
 #[tactic(auto, unfolding(crate::specs::Betting::bare_said))]
 fn take_bare(
     betting: &mut ReadBetting,
@@ -141,7 +141,7 @@ fn take_move(betting: &mut ReadBetting, at: u64, step: BettingStep) -> Result<()
     Ok(())
 }
 
-// A stroke, which begins the next of at most four rounds.
+// A stroke (`/`), which begins the next of at most four rounds.
 #[tactic(auto, unfolding(crate::specs::Betting::stroke_said))]
 fn take_stroke(betting: &mut ReadBetting, next: &Letter<'_>) -> Result<(), Stop<LineFault>>
     ensures ok { OnOk result (stroke_said (bets_in betting.old) next.now.at next.now.digits.now

@@ -1,4 +1,4 @@
-//! A log is read line by line as the hands that it says, or its first fault is named.
+//! Reads a log line by line as the hands that it says, or names its first fault.
 ghost use Rattle.std.specs.Prelude.{◌≡◌, ℕ, ◌≤◌, ◌<◌, ◌^◌, map, sum_by, Ok, IfOk, IfErr, OnOk, length};
 ghost use Rattle.std.specs.List.{AllByRecursion};
 ghost use Rattle.first_fault.specs.declared.limits.TheConstants.{MOST_FILE_MOVES, MOST_HANDS};
@@ -21,7 +21,7 @@ use first_fault::{MOST_HANDS, Quantity, Stop};
 use hand_records::Records;
 use std::alloc::Global;
 
-// Few lines of hands are shorter than so many bytes.
+// Few lines of hands are shorter than this, in bytes.
 const USUAL_LINE: usize = 32;
 
 /// The records that a log says under its game, one for each line of a hand, in order; or the first
@@ -95,14 +95,14 @@ fn take_line(
     }
 }
 
-// Whether a line is passed over.
+// Whether a line is ignored.
 fn is_passed_over(line: &[u8]) -> bool
     ensures { result ≡ is_passed_over_said line.now }
 {
     line.is_empty() || line[0] == b'#' || has_prefix(line, b"SCORE:")
 }
 
-// The hand of a line behind others. Its record is made where it is kept: it has a thousand bytes.
+// Appends the hand of one line. The record is made in its place: it has a thousand bytes.
 #[tactic(auto, unfolding(crate::specs::Logs::line_said, crate::specs::Logs::hand_of))]
 fn read_line(
     alloc: Global,

@@ -1,4 +1,4 @@
-//! The names of the players and the number of the hand are read as notes.
+//! Reads the names of the players and the number of the hand as notes.
 ghost use Rattle.std.specs.Prelude.{◌≡◌, ℕ, ◌≤◌, ◌<◌, ◌+◌, ◌-◌, ◌^◌, ◌==◌, ◌||◌, length, take, bytes_eq, slice_index_or, is_some, None, IfOk, IfSome};
 ghost use Rattle.std.specs.Str.{is_utf8};
 ghost use Rattle.first_fault.specs.Reading.{Gives};
@@ -13,12 +13,12 @@ use chip_ledger::Seat;
 use first_fault::{MOST_TEXT_BYTES, Quantity, Stop, Text, are_digits, read_digits};
 use std::alloc::Global;
 
-// The most digits of a number of a hand, and the greatest such number.
+// The most digits of a hand's number, and the greatest such number.
 const MOST_HAND_DIGITS: usize = 18;
 
 const MOST_HAND: u64 = 999_999_999_999_999_999;
 
-/// The number of the hand at a place of its file, from 0, whose field begins at this byte.
+/// The number of the hand at this place of its file (from 0); the field begins at this byte.
 #[tactic(auto, unfolding(crate::specs::Names::hand_said))]
 pub fn read_hand(
     alloc: Global,
@@ -45,8 +45,8 @@ pub fn read_hand(
     }
 }
 
-/// The names field, which begins at this byte, in a hand of so many players. Past the last seat
-/// there are none.
+/// The names field, which begins at this byte, of a hand with `players` players. Seats above the
+/// last have no name.
 #[tactic(auto, unfolding(crate::specs::Names::names_said))]
 pub fn read_names(
     alloc: Global,
@@ -118,14 +118,14 @@ fn text_of(bytes: &[u8]) -> Option<&str>
     }
 }
 
-// Whether the name is none, or that of the seat where none is said.
+// Whether the name is empty, or the default name of the seat.
 fn says_nothing(seat: Seat, name: &[u8]) -> bool
     ensures { result ≡ (length name.now == 0 || bytes_eq name.now (default_name seat.number)) }
 {
     name.is_empty() || is_default(seat, name)
 }
 
-// Whether the text is the name of the seat where none is said.
+// Whether the text is the default name of the seat.
 fn is_default(seat: Seat, name: &[u8]) -> bool
     ensures { result ≡ bytes_eq name.now (default_name seat.number) }
 {

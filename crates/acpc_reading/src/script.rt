@@ -1,4 +1,4 @@
-//! The script of a hand is written from its cards and its betting.
+//! Writes the script of a hand from its cards and its betting.
 ghost use Rattle.std.specs.Prelude.{◌≡◌, ℕ, ◌≤◌, ◌<◌, ◌+◌, ◌-◌, ◌^◌, None, length, map, Ok, OnOk, IfOk, IfErr, IfSome};
 ghost use Rattle.play_event.specs.Said.{kind_said, numbered};
 ghost use Rattle.first_fault.specs.Reading.{Fails, Gives};
@@ -89,7 +89,7 @@ fn take_hole(script: &mut Script, seat: u8, at: u64, part: &[u8]) -> Result<(), 
     }
 }
 
-// The events of all steps, after which no cards are left.
+// The events of all steps, if no board cards are left over.
 #[tactic(auto, unfolding(crate::specs::Cards::steps_said))]
 fn take_steps(
     script: &mut Script,
@@ -149,7 +149,7 @@ fn take_step<'a>(
     })
 }
 
-// The move of a letter, which leaves its seat unsaid; `None` where the next round begins.
+// The move of a letter, which does not name its seat; `None` for a stroke.
 #[tactic(auto, unfolding(crate::specs::Cards::step_after))]
 fn letter_of(step: BettingStep) -> Option<Kind>
     ensures letter { IfSome result (λ kind. (at : ℕ) (so_far : Written)

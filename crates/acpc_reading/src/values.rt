@@ -1,4 +1,4 @@
-//! What each seat won or lost is read as the line states it.
+//! Reads what each seat won or lost, as the line states it.
 ghost use Rattle.std.specs.Prelude.{◌≡◌, ◌≤◌, ◌<◌, ◌+◌, ◌-◌, ◌^◌, ◌∷◌, length, slice_set, IfOk};
 ghost use Rattle.chip_ledger.specs.declared.seat_row.TheConstants.{MOST_AMOUNT};
 ghost use Rattle.first_fault.specs.Reading.{Gives};
@@ -13,7 +13,7 @@ use chip_ledger::MOST_AMOUNT;
 use first_fault::{Stop, are_digits, read_digits};
 use hand_records::NetRow;
 
-/// The values field, which begins at this byte, in a hand of so many players.
+/// The values field, which begins at this byte, of a hand with `players` players.
 #[tactic(auto, unfolding(crate::specs::Values::values_said))]
 pub fn read_values(players: u8, at: u64, text: &[u8]) -> Result<NetRow, Stop<LineFault>>
     requires few { players ≤ 10 }
@@ -55,7 +55,7 @@ fn read_value(at: u64, text: &[u8]) -> Result<i64, Stop<LineFault>>
     }
 }
 
-// Digits, and a point and zeros behind them or nothing.
+// Digits, optionally followed by a point and zeros.
 fn read_unsigned(is_negative: bool, at: u64, text: &[u8]) -> Result<i64, Stop<LineFault>>
     ensures { Gives (λ value. value) result (unsigned_said is_negative at (parts_of 46 text.now)) }
 {
@@ -66,7 +66,7 @@ fn read_unsigned(is_negative: bool, at: u64, text: &[u8]) -> Result<i64, Stop<Li
     }
 }
 
-// Zeros behind a point, in which no second point stands, behind these digits.
+// The zeros after a point, without a second point, and these digits.
 #[tactic(auto, using(crate::proofs::NumberLaws::no_third_part))]
 fn read_fraction(
     is_negative: bool,
@@ -130,7 +130,7 @@ fn signed(is_negative: bool, number: u64) -> i64
     }
 }
 
-// A row with this number at an index.
+// Sets the number at an index.
 fn put(nets: &mut [i64; 10], index: usize, net: i64)
     requires { index < 10 }
     ensures { nets.new ≡ slice_set nets.old index net }

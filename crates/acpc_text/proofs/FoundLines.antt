@@ -1,4 +1,5 @@
--- The first line of a text ends at the newline that a search finds first, or with the text where it finds none.
+-- The first line of a text ends at the first newline that a search finds or, if there is none, with
+-- the text.
 use Rattle.std.proofs.Common.{◌≡◌, ℕ, ◌+◌, ◌-◌, ◌<◌, eqb, List, [], ◌∷◌, length, take, drop, Some, None, sym, arith, length-drop}
 use Rattle.std.specs.List.{position_or_len}
 use Rattle.std.proofs.lemmas.Bool.{false_from_ne_true}

@@ -5,7 +5,7 @@ use Rattle.std.specs.List.{prefix_len, list_all}
 use Rattle.std.specs.Char.{is_digit}
 use Rattle.acpc_text.specs.Letters.{scan}
 
--- what the digits at the front of a text are, and what stands behind them
+-- the digits at the front of a text, and the rest
 pub record IsScanned (text : List ℕ) (len : ℕ) : Type 0 where
   pub digits : (scan text).0 ≡ take len text
   pub letters : (scan text).1 ≡ (scan (drop len text)).1
@@ -37,7 +37,7 @@ scanned (b ∷ rest) = one_more b rest (is_digit b 10) refl (scanned rest)
 pub digits_at_front : (text : List ℕ) → length (scan text).0 ≡ prefix_len (λ b. is_digit b 10) text
 digits_at_front text = let is = scanned text in ap length is.digits ∙ length-take-le (prefix_len (λ b. is_digit b 10) text) text is.within
 
--- a letter at the front, with the digits behind it
+-- a letter at the front, with the digits after it
 letter_from : (letter : ℕ) (text digits after : List ℕ) (digit : Bool) → is_digit letter 10 ≡ digit → (scan text).0 ≡ digits → (scan text).1 ≡ (scan after).1 → (scan (letter ∷ text)).0 ≡ [] → (scan (letter ∷ text)).1 ≡ (letter, digits) ∷ (scan after).1
 letter_from letter text digits after true is front rest begins = let none : letter ∷ (scan text).0 ≡ [] = rw is at begins in absurd (cc)
 letter_from letter text digits after false is front rest begins = rw (is, front, rest) refl

@@ -19,7 +19,7 @@ fault_of whats.UnsupportedGame line byte = faults.UnsupportedGame line byte
 fault_of whats.AmountLimit line byte = faults.AmountLimit line byte
 fault_of (whats.TooMany quantity) line byte = faults.TooMany quantity line byte
 
--- a fault of a line, as one of the file
+-- the fault of a line as a fault of the file
 abbrev pub fault_in_line : ℕ → LineFault → AcpcFault
 fault_in_line line fault = fault_of fault.what (kept_number line) (kept_number fault.byte)
 
@@ -27,13 +27,13 @@ fault_in_line line fault = fault_of fault.what (kept_number line) (kept_number f
 abbrev pub wrong : {A : Type 0} → LineFaultKind → ℕ → Result A LineFault
 wrong what byte = Err (record { what = what; byte = byte })
 
--- what a line says, or its fault as one of the file
+-- what a line says, or its fault as a fault of the file
 abbrev pub in_line : {A : Type 0} → ℕ → Result A LineFault → Result A AcpcFault
 in_line line (Ok said) = Ok said
 in_line line (Err fault) = Err (fault_in_line line fault)
 
--- What a reader returned, seen by a view, is what the reading gives, unless memory ran out. A
--- reading never gives Memory.
+-- The result of a reader, seen by a view, is what the definition says, unless memory ran out. The
+-- definition never gives Memory.
 abbrev pub Answers : {X Y : Type 0} → (X → Y) → Result X AcpcFault → Result Y AcpcFault → Type 0
 Answers view (Ok x) reading = reading ≡ Ok (view x)
 Answers view (Err (faults.Memory memory)) reading = Unit {0}

@@ -1,4 +1,4 @@
--- How logs and game files are cut into lines, parts and letters, and what their faults are.
+-- How logs and game files are cut into lines, parts and letters, and which faults they have.
 pub mod Faults
 pub mod Parts
 pub mod Letters

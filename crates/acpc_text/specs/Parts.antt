@@ -1,8 +1,8 @@
--- Texts that are cut at a sign: a file at newlines, a line at colons, a field at bars and strokes.
+-- Texts cut at a sign: a file at newlines, a line at colons, a field at bars and strokes.
 use Rattle.std.specs.Prelude.{ℕ, ◌-◌, ◌==◌, Bool, bytes_eq, if◌then◌else◌, List, [], ◌∷◌, length, take, map, slice_index}
 use Rattle.std.specs.List.{slice_split}
 
--- the parts of a text that a sign divides
+-- the parts into which a sign divides a text
 abbrev pub parts_of : ℕ → List ℕ → List (List ℕ)
 parts_of sign text = slice_split (λ b. b == sign) text
 
@@ -17,7 +17,7 @@ without_empty_end [] = []
 without_empty_end (part ∷ []) = if length part == 0 then [] else part ∷ []
 without_empty_end (part ∷ next ∷ more) = part ∷ without_empty_end (next ∷ more)
 
--- the lines of a text, each of which ends with a newline or with the text
+-- the lines of a text; the last one may end without a newline
 abbrev pub lines_of : List ℕ → List (List ℕ)
 lines_of text = map without_return (without_empty_end (parts_of 10 text))
 

@@ -1,4 +1,4 @@
-//! A fault of a log or a game file names its line, and the byte of it that shows the fault.
+//! The faults of a log or a game file, each with its line and the byte that shows it.
 ghost use Rattle.std.specs.Prelude.{◌≡◌};
 ghost use Rattle.acpc_text.specs.Faults.{fault_in_line as fault_in_line_said};
 ghost use Rattle.first_fault.specs.Numbers.{kept_number as kept_said};
@@ -9,32 +9,32 @@ use first_fault::Quantity;
 /// What is wrong with a line.
 #[derive(Clone, Copy, Debug, PartialEq, Eq)]
 pub enum LineFaultKind {
-    /// A line of a log is no state, has another number of fields, no number of a hand, or a name
-    /// that is no text.
+    /// A line of a log without STATE, with too many or too few fields, without a hand number, or
+    /// with a name that is no text.
     LineShape,
     BadBetting,
     BadCards,
     BadValue,
-    /// Hole cards, values or names are not as many as the players.
+    /// The number of hole cards, values or names is not the number of players.
     SeatCount,
-    /// A game file, or a line of it, has another form.
+    /// A game file or a line of it that is not well formed.
     GameShape,
-    /// A game that is not played here.
+    /// A game that handref does not support.
     UnsupportedGame,
     /// A number that is too great.
     AmountLimit,
     TooMany(Quantity),
 }
 
-/// What is wrong with a line, and the byte of it that shows it, from 1.
+/// What is wrong with a line, and the byte that shows it, from 1.
 #[derive(Clone, Copy, Debug, PartialEq, Eq)]
 pub struct LineFault {
     pub what: LineFaultKind,
     pub byte: u64,
 }
 
-/// Why a log or a game file is not read. Lines, and the bytes of a line, are counted from 1; a
-/// number that is greater than 4294967295 is told as 4294967295.
+/// Why a log or a game file cannot be read. Lines, and the bytes of a line, are counted from 1; a
+/// number above 4294967295 is reported as 4294967295.
 #[derive(Clone, Copy, Debug, PartialEq, Eq)]
 pub enum AcpcFault {
     LineShape {
@@ -100,7 +100,7 @@ pub fn fault_in_line(line: u64, fault: LineFault) -> AcpcFault
     }
 }
 
-/// The number, or the greatest that a fault tells.
+/// The number, or the greatest that a fault reports.
 pub fn kept(number: u64) -> u32
     ensures { result ≡ kept_said number }
 {

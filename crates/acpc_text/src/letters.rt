@@ -1,11 +1,11 @@
-//! A text is read letter by letter, each with the digits behind it.
+//! Cuts a text into letters, each with the digits after it.
 ghost use Rattle.std.specs.Prelude.{◌≡◌, ◌+◌, true, [], ◌∷◌, length};
 ghost use Rattle.std.specs.List.{list_all, prefix_len};
 ghost use Rattle.std.specs.Char.{is_digit};
 ghost use Rattle.std.specs.Option.{option_map_or};
 ghost use Rattle.acpc_text.specs.Letters.{scan};
 
-/// The digits at the front, and what stands behind them.
+/// The digits at the front, and the rest.
 pub fn cut_digits(text: &[u8]) -> (&[u8], &[u8])
     ensures digits { (scan text.now).0 ≡ result.0.now }
     ensures letters { (scan text.now).1 ≡ (scan result.1.now).1 }
@@ -17,7 +17,7 @@ pub fn cut_digits(text: &[u8]) -> (&[u8], &[u8])
     text.split_at(len)
 }
 
-// How many digits stand at the front.
+// The number of digits at the front.
 fn digits_len(text: &[u8]) -> usize
     ensures { result ≡ prefix_len (λ b. is_digit b 10) text.now }
 {
@@ -29,7 +29,7 @@ fn digits_len(text: &[u8]) -> usize
     text.len()
 }
 
-/// The first byte, and what stands behind it.
+/// The first byte, and the rest.
 pub fn cut_first(text: &[u8]) -> Option<(u8, &[u8])>
     ensures { text.now ≡ option_map_or (λ cut. cut.0 ∷ cut.1.now) result [] }
 {

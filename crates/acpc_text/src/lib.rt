@@ -1,4 +1,4 @@
-//! What logs and game files share: lines and their parts, digits behind letters, and faults with
+//! What logs and game files share: lines and their parts, digits after letters, and faults with
 //! their line and byte.
 #![tactic(auto)]
 

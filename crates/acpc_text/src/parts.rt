@@ -1,4 +1,4 @@
-//! A text is cut at a sign: a file at newlines, a line at colons, a field at bars and strokes.
+//! Cuts a text at a sign: a file at newlines, a line at colons, a field at bars and strokes.
 ghost use Rattle.std.specs.Prelude.{◌≡◌, ◌+◌, ◌<◌, ◌≤◌, [], ◌∷◌, length, IfSome};
 ghost use Rattle.std.specs.Option.{option_map_or};
 ghost use Rattle.acpc_text.specs.Parts.{has_front, lines_of, parts_of, without_return as without_return_said};
@@ -17,7 +17,7 @@ pub fn has_prefix(text: &[u8], front: &[u8]) -> bool
     first == front
 }
 
-/// The first line of a text, and what stands behind it, if the text is not empty.
+/// The first line of a text and the rest, if the text is not empty.
 pub fn next_line(text: &[u8]) -> Option<(&[u8], &[u8])>
     ensures lines { lines_of text.now
         ≡ option_map_or (λ cut. cut.0.now ∷ lines_of cut.1.now) result [] }
@@ -49,7 +49,7 @@ fn without_return(line: &[u8]) -> &[u8]
     }
 }
 
-/// How many parts the sign divides the text into.
+/// The number of parts into which the sign divides the text.
 pub fn count_parts(text: &[u8], sign: u8) -> usize
     ensures { result ≡ length (parts_of sign text.now) }
 {
@@ -64,7 +64,7 @@ pub fn count_parts(text: &[u8], sign: u8) -> usize
     count
 }
 
-/// The part before the first such sign, and what stands behind the sign, if there is one.
+/// The part before the first such sign, and what follows the sign, if there is one.
 pub fn cut_at(text: &[u8], sign: u8) -> (&[u8], Option<&[u8]>)
     ensures parts { parts_of sign text.now
         ≡ result.0.now ∷ option_map_or (λ rest. parts_of sign rest.now) result.1 [] }

@@ -1,4 +1,4 @@
-//! The cards of a line are those of each seat and, for each further round, those of the board.
+//! Writes the cards of a line: those of each seat, and those of the board for each further round.
 ghost use Rattle.std.specs.Prelude.{◌≡◌, ◌≤◌, ◌&&◌, ◌++◌, [], Some, None, if◌then◌else◌, map, not, OnOk};
 ghost use Rattle.std.specs.List.{list_any};
 ghost use Rattle.card_set.specs.Known.{is_unknown};
@@ -29,7 +29,7 @@ pub fn has_known(places: &[Place], owner: Option<Seat>, street: u8) -> bool
     false
 }
 
-/// The cards of a hand of so many seats.
+/// The cards of a hand with `seats` seats.
 #[tactic(auto, unfolding(crate::specs::Cards::cards_text, crate::specs::Cards::holes_text))]
 pub fn push_cards(out: &mut Vec<u8>, places: &[Place], seats: u8) -> Result<(), Memory>
     requires { seats ≤ 10 }
@@ -44,7 +44,7 @@ pub fn push_cards(out: &mut Vec<u8>, places: &[Place], seats: u8) -> Result<(), 
     push_boards(out, places)
 }
 
-/// A bar, in front of each seat's text but the first.
+/// A bar, before the text of each seat except the first.
 pub fn push_bar(out: &mut Vec<u8>, seat: Seat) -> Result<(), Memory>
     ensures { OnOk result (out.new.items ≡ out.old.items ++ bar_before seat.number) }
 {
@@ -142,7 +142,7 @@ fn push_dealt(
     Ok(())
 }
 
-// The card of a place, where it counts.
+// The card of a place, if `counts`.
 fn push_card(out: &mut Vec<u8>, place: Place, counts: bool) -> Result<(), Memory>
     ensures { OnOk result (out.new.items
         ≡ out.old.items ++ (if counts then slot_spelling place.slot else [])) }
@@ -160,7 +160,7 @@ pub fn is_dealt(place: Place, owner: Option<Seat>, street: u8) -> bool
     is_same_owner(place.owner, owner) && place.street == street
 }
 
-// Whether two owners are one.
+// Whether two owners are the same.
 fn is_same_owner(owner: Option<Seat>, other: Option<Seat>) -> bool
     ensures { result ≡ is_same_owner_said (seat_named owner) (seat_named other) }
 {

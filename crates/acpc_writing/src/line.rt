@@ -1,4 +1,4 @@
-//! A play is written as its one line.
+//! Writes a play as its line.
 ghost use Rattle.std.specs.Prelude.{◌≡◌, ◌++◌, OnErr, OnOk};
 ghost use Rattle.hand_canon.specs.Sound.{IsSound};
 ghost use Rattle.acpc_writing.specs.Line.{end_text, head_text, line_text, play_text};
@@ -14,8 +14,8 @@ use first_fault::Text;
 use hand_records::{Notes, Play, Trace};
 use std::alloc::Global;
 
-/// Puts the line of the play at a place of its file, from 0, behind those of the plays before it,
-/// whole or not at all. Raises have their totals where the game has no limit.
+/// Appends the line of the play at a place of its file (from 0), whole or not at all. In a no-limit
+/// game raises have their totals.
 #[tactic(auto, unfolding(crate::specs::Line::line_text))]
 pub fn push_line(
     alloc: Global,

@@ -1,4 +1,4 @@
-//! Plays are written as the lines of a log.
+//! Writes plays as the lines of a log.
 ghost use Rattle.std.specs.Prelude.{◌≡◌, ◌⊎◌, ◌≤◌, None, Some, length, IfErr, IfOk, OnOk};
 ghost use Rattle.std.specs.List.{AllByRecursion};
 ghost use Rattle.hand_canon.specs.Sound.{IsSound};
@@ -14,12 +14,12 @@ use acpc_game::Game;
 use hand_records::{Keep, Play, WriteRefusal};
 use std::alloc::Global;
 
-/// The lines of some plays, one a play. Nothing is written where the logs of the game do not spell
+/// The lines of some plays, one per play. Nothing is written if the logs of the game cannot write
 /// one of them.
 ///
 /// # Errors
 ///
-/// The number of the first such play, from 1, and its first fact without a spelling.
+/// The number of the first such play, from 1, and its first fact that cannot be written.
 pub fn write(
     alloc: Global,
     game: &Game,

@@ -1,4 +1,4 @@
-//! A deal, a draw or a show is ended, and the turn passes on.
+//! Ends a deal, a draw or a show, and passes the turn on.
 ghost use Rattle.std.specs.Prelude.{◌≡◌, ◌≤◌, true, false, IfSome, is_some};
 ghost use Rattle.play_event.specs.declared.reason.Due.TheVariants as dues;
 ghost use Rattle.play_event.specs.Past.{Past};
@@ -21,9 +21,9 @@ use play_event::Due;
 use variant_table::{Opener, Variant};
 
 impl<V: Variant> Betting<V> {
-    /// Ends the deal, the draw or the show that is due: the betting of the street begins, or what
-    /// comes behind it where nobody has to move, as the next street's deal. Where that is complete
-    /// in the past too it is ended by the next call; a showdown that is ended is over.
+    /// Ends the deal, the draw or the show that is due. Then the betting of the street begins or,
+    /// if nobody can act, the hand moves on, as to the next street's deal. If that is complete in
+    /// the past too, the next call ends it. After a showdown the hand is over.
     pub fn dealt(&mut self)
         requires { is_cards_due self.old.due ≡ true }
         ensures stands { (past : Past) → StandsUpTo self.old past
@@ -44,7 +44,7 @@ impl<V: Variant> Betting<V> {
         }
     }
 
-    // The deal or the draw of the street is ended.
+    // Ends the deal or the draw of the street.
     fn bet(&mut self)
         requires { is_deal_or_draw self.old.due ≡ true }
         ensures { IsDealtTo self.old self.new }
@@ -57,7 +57,7 @@ impl<V: Variant> Betting<V> {
     }
 }
 
-// The game is a game of stud.
+// Whether the game is a stud game.
 fn stud<V: Variant>() -> bool
     ensures { result ≡ is_stud V.CODE }
 {
@@ -67,8 +67,8 @@ fn stud<V: Variant>() -> bool
     }
 }
 
-// What is due where no bring-in is: nothing more where the hand is over, else a move of the seat in
-// turn, or the next street begins. Where it is known who is next up, that is this seat.
+// What comes if no bring-in is due: nothing if the hand is over, else a move of the player to act,
+// the next street, or the showdown. `behind`, if known, is the only seat that can be next to act.
 pub(crate) fn pass<V: Variant>(table: &mut RunningNumbers, over: bool, behind: Option<Seat>)
     requires { IsReadyToPass V.CODE V.STREETS table.old behind }
     ensures passed { IsPassedTo over table.old table.new }
@@ -89,8 +89,8 @@ pub(crate) fn pass<V: Variant>(table: &mut RunningNumbers, over: bool, behind: O
     }
 }
 
-// Whose turn it is, where the blinds say who opens: nobody's where no move is due. Where it is
-// known who is next up, no other seat is asked.
+// Whose turn it is in a game with blinds: nobody's if no move is due. `behind`, if known, is the
+// only seat that is looked at.
 fn mover(table: &RunningNumbers, behind: Option<Seat>) -> Option<Seat>
     requires behind { IfSome behind (IsNextUp table.now) }
     ensures turn { in_turn (seat_said result)
@@ -106,7 +106,7 @@ fn mover(table: &RunningNumbers, behind: Option<Seat>) -> Option<Seat>
     }
 }
 
-// The cards with which a street begins.
+// The deal or draw with which a street begins.
 fn cards<V: Variant>(street: u8) -> Due
     requires first { 1 ≤ street }
     requires last { street ≤ V.STREETS }

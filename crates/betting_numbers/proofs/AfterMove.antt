@@ -21,14 +21,14 @@ use Rattle.betting_numbers.proofs.Bridge.{price_is}
 use Rattle.list_laws.proofs.Numbers.{different_number, same_number}
 use Rattle.chip_ledger.specs.Seat.{IsSeatOf}
 
--- of a seat and of the others
+-- by cases: this seat, or another
 by_seat : (P : ℕ → Type 0) (seat k : ℕ) → P seat → (k ≢ seat → P k) → P k
 by_seat P seat k here there = elim (cases_eq k seat) [
   | inl same ↦ subst P (sym same) here
   | inr other ↦ there other
 ]
 
--- a move of this street is the newest of it
+-- a move of this street is its newest
 pub on_street : (street : ℕ) (move : Move) (before : List Move) → move.street ≡ street → moves_on street (move ∷ before) ≡ move ∷ moves_on street before
 on_street street move before same = ap (λ b. cond b (move ∷ moves_on street before) (moves_on street before)) (eq-eqb move.street street same)
 
@@ -171,7 +171,7 @@ module _ (b next : RunningNumbers) (moves : List Move) (seat target unit : ℕ) 
     opened = opened_after;
   }
 
-  -- so the running numbers stand for one move more
+  -- so the running numbers stand for the moves with one more
   pub standing_after : Standing next.setup next.street next (the_move ∷ moves)
   standing_after =
       subst (λ s. Standing s next.street next (the_move ∷ moves)) (sym mv.setup)

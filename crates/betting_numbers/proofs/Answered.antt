@@ -1,4 +1,5 @@
--- An event is answered as the rules do: refused where no seat is to move, or as the seat in turn moves.
+-- An event is answered as the rules do: refused if no seat is to move, or as a move of the player
+-- to act.
 use Rattle.std.proofs.Common.{◌≡◌, ◌≤◌, refl, ℕ, Bool, Option, Some, None, Ok, Err, subst}
 use Rattle.chip_ledger.specs.declared.numbers.Seat.{Seat}
 use Rattle.chip_ledger.specs.Seat.{IsSeatOf}
@@ -28,7 +29,7 @@ refused_answer b in_turn event reason refused = record {
   reach = tt;
 }
 
--- where no seat is to move, what holds of either reason holds of the one that is given
+-- if no seat is to move, what holds of both reasons holds of the one that is given
 reason_by : {P : Illegal → Type 0} (b : RunningNumbers) (named : Option ℕ) (in_turn : Option Seat) (now : Option Illegal) (reason : Illegal)
     → Err reason ≡ mover_or_why b named in_turn now
     → ((other : Illegal) → Some other ≡ now → P other)
@@ -38,7 +39,8 @@ reason_by {P} b named in_turn (Some other) reason is not_now unknown = subst P (
 reason_by {P} b named None None reason is not_now unknown = subst P (cc) (unknown refl refl)
 reason_by b named (Some seat) None reason is not_now unknown = absurd (cc)
 
--- where no seat is to move, an event is refused because it may not come now, or because it is not known whose turn it is
+-- if no seat is to move, an event is refused because it may not come now, or because it is not
+-- known whose turn it is
 pub no_mover_answer : (b : RunningNumbers) (in_turn : Option Seat) (named : Option ℕ) (event : Said) (at_move at_bring_in : Bool) (reason : Illegal)
     → Err reason ≡ mover_or_why b named in_turn (now_why at_move at_bring_in b.due)
     → ((past : Past) → StandsFor b past → (other : Illegal) → Some other ≡ now_why at_move at_bring_in b.due → reason_after b past event ≡ Some other)

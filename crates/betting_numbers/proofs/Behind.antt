@@ -1,4 +1,4 @@
--- The first able seat behind the opener is found as the seats are walked.
+-- The first seat after the opener that can act is found as the seats are walked.
 use Rattle.std.proofs.Common.{◌≡◌, ℕ, ◌+◌, ◌-◌, ◌<◌, ◌≤◌, Bool, true, false, ◌==◌, if◌then◌else◌, cond, Option, Some, None, IfSome, find, suc, refl, sym, ap, ◌∙◌, arith}
 use Rattle.std.specs.List.{range_with_len}
 use Rattle.std.specs.Option.{option_or}
@@ -13,11 +13,11 @@ use Rattle.play_event.specs.Openers.{in_turn}
 use Rattle.betting_numbers.specs.declared.running.RunningNumbers.{RunningNumbers}
 use Rattle.betting_numbers.specs.Seen.{first_behind_seen, is_able_seen}
 
--- the first able one of so many seats from a first one on
+-- the first of `count` seats, from seat `first` on, that can act
 abbrev pub able_from : RunningNumbers → (first count : ℕ) → Option ℕ
 able_from b first count = find (is_able_seen b) (range_with_len first count)
 
--- the first able seat above this one
+-- the first seat above this one that can act
 abbrev pub able_above : RunningNumbers → ℕ → Option ℕ
 able_above b seat = able_from b (seat + 1) (b.setup.stacks.seats - seat)
 
@@ -30,7 +30,7 @@ module _ (b : RunningNumbers) where
       ap (λ o. cond able (Some first) o) is
       ∙ ap (λ a. cond a (Some first) (able_from b (first + 1) count)) able_is
 
-  -- one seat more, of all, of which some were walked
+  -- one more seat, of all, of which some were walked
   pub nearest_more : (index seat : ℕ) (nearest : Option ℕ) (able : Bool) → index < seats → seat ≡ seats - index → able ≡ is_able_seen b seat → nearest ≡ able_from b (seats + 1 - index) index → (if able then Some seat else nearest) ≡ able_from b (seats + 1 - (index + 1)) (index + 1)
   nearest_more index seat nearest able less is able_is found =
       let from : seats + 1 - index ≡ seat + 1 = omega (arith, less, is) in
@@ -90,12 +90,12 @@ either_said : (one other : Option Seat) → seat_said (option_or one other) ≡ 
 either_said None other = refl
 either_said (Some seat) other = refl
 
--- what is so of both
+-- what holds of both
 pub either_in : (one other : Option Seat) (P : Seat → Type 0) → IfSome one P → IfSome other P → IfSome (option_or one other) P
 either_in None other P first second = second
 either_in (Some seat) other P first second = first
 
--- behind the opener that is found
+-- the seat after the opener that is found
 pub behind_found : (b : RunningNumbers) (first behind nearest : Option Seat) → IfSome first (λ seat. seat.number ≤ b.setup.stacks.seats) → IfSome first (λ seat. seat_said behind ≡ able_above b seat.number) → seat_said nearest ≡ able_from b (b.setup.stacks.seats + 1 - b.setup.stacks.seats) b.setup.stacks.seats → IfSome first (λ seat. in_turn (seat_said (option_or behind nearest)) ≡ first_behind_seen b seat.number)
 behind_found b None behind nearest in_hand behind_is nearest_is = tt
 behind_found b (Some seat) behind nearest in_hand behind_is nearest_is =

@@ -1,4 +1,4 @@
--- What the running numbers say is what the rules say of the moves for which they stand.
+-- What the running numbers say is what the rules say of the moves that they stand for.
 use Rattle.std.proofs.Common.{◌≡◌, ℕ, ◌+◌, ◌-◌, ◌≤◌, Bool, false, ◌&&◌, ◌||◌, ◌==◌, not, nat_lt, nat_le, if◌then◌else◌, List, [], ◌∷◌, refl, sym, ap, ◌∙◌, arith, find}
 use Rattle.std.specs.List.{range_with_len}
 use Rattle.std.specs.Option.{option_or}
@@ -30,7 +30,7 @@ StartsIn setup NoSeat = Unit {0}
 StartsIn setup Undecided = Unit {0}
 StartsIn setup (TheSeat seat) = IsSeatOf setup.stacks.seats seat
 
--- tests that agree at each seat find the same first seat in turn
+-- tests that agree at each seat find the same first seat
 pub first_same : (setup : Setup) (p q : ℕ → Bool) → ((k : ℕ) → IsSeatOf setup.stacks.seats k → p k ≡ q k) → (from : InTurn) → StartsIn setup from → first_in_turn setup p from ≡ first_in_turn setup q from
 first_same setup p q h NoSeat starts = refl
 first_same setup p q h Undecided starts = refl

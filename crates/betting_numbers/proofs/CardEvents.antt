@@ -1,4 +1,5 @@
--- An event of cards leaves the running numbers: the state stands for the longer past, or up to its due.
+-- An event of cards does not change the running numbers: the state stands for the longer past, or
+-- stands for it up to its due.
 use Rattle.std.proofs.Common.{◌≡◌, ℕ, ◌≤◌, true, false, nat_le, List, ◌∷◌, Some, sym, ap, subst, ◌∙◌, arith}
 use Rattle.std.proofs.lemmas.Bool.{and_from, le-leb}
 use Rattle.play_event.specs.declared.reason.Due.TheVariants as dues
@@ -36,7 +37,7 @@ module _ (b : RunningNumbers) (past : Past) (event : Resolved) (stands : StandsF
       still (sym (ap (λ (ms : List Move). is_settled b.setup ms (b.street, b.due)) (moves_kept event past card)) ∙ unended) seat
       (sym (ap (λ (ms : List Move). is_live ms seat) (moves_kept event past card)) ∙ live)
 
-  -- where the same thing is due on the street, the state stands
+  -- if the same thing is due on the street, the state stands for the past
   pub stands_still : (b.due ≡ dues.Over → ⊥) → due_on b.setup (event ∷ past) b.street ≡ Some b.due → StandsFor b (event ∷ past)
   stands_still other is = record {
     valid = stands.valid;
@@ -47,7 +48,7 @@ module _ (b : RunningNumbers) (past : Past) (event : Resolved) (stands : StandsF
     unshown = λ other. unshown_now;
   }
 
-  -- and where it is complete, up to its due
+  -- or, if it is complete, up to its due
   pub stands_up_to : (b.due ≡ dues.Over → ⊥) → HasCome b.setup (event ∷ past) b.street b.due → is_done b.setup (event ∷ past) b.due ≡ true → StandsUpTo b (event ∷ past)
   stands_up_to other come done = record {
     valid = stands.valid;

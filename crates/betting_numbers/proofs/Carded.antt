@@ -1,4 +1,5 @@
--- After a legal event of cards the state stands for the past, or up to its due where that is complete.
+-- After a legal event of cards the state stands for the past, or stands for it up to its due if
+-- that is complete.
 use Rattle.std.proofs.Common.{◌≡◌, ℕ, ◌≤◌, Bool, true, false, if◌then◌else◌, List, ◌∷◌, Some, None, refl, sym, ap, subst, ◌∙◌, arith}
 use Rattle.std.proofs.lemmas.Bool.{not-false}
 use Rattle.play_event.specs.declared.reason.Due.{Due}
@@ -70,7 +71,7 @@ module _ (b : RunningNumbers) (past : Past) (event : Resolved) (stands : StandsF
       differ : (n : ℕ) → dues.Draw n ≡ dues.Over → ⊥
       differ n e = cc
 
-  -- while seats show, which leaves the draws as they are
+  -- while seats show, which does not change the draws
   module _ (draws : is_draw_due b.setup past b.street ≡ false → is_draw_due b.setup (event ∷ past) b.street ≡ false) (reached : newest_street past ≤ b.street) where
     quiet_now : b.due ≡ dues.Show → due_on b.setup (event ∷ past) b.street ≡ None
     quiet_now is =

@@ -1,4 +1,5 @@
--- Where a deal or a draw is ended, the state stands for the past, or up to its new due.
+-- When a deal or a draw is ended, the state stands for the past, or stands for it up to its new
+-- due.
 use Rattle.std.proofs.Common.{◌≡◌, ℕ, ◌+◌, ◌<◌, ◌≤◌, Bool, true, false, ◌&&◌, ◌||◌, not, nat_lt, nat_le, if◌then◌else◌, inl, inr, ◌⊎◌, List, [], Some, None, is_some, refl, sym, ap, subst, ◌∙◌, arith}
 use Rattle.std.specs.List.{list_any}
 use Rattle.std.proofs.lemmas.Bool.{and_left, cases_eq, cases_lt, true≢false, ltb-true, ltb-false, not-true, ne_eqb}
@@ -33,7 +34,7 @@ use Rattle.street_laws.proofs.Walk.{walk_on, due_here}
 use Rattle.street_laws.proofs.LiveSeats.{one_of_several}
 use Rattle.list_laws.proofs.Numbers.{two_or_more}
 
--- the cards of a street are dealt where its deal or its draw is complete
+-- the cards of a street are dealt if its deal or its draw is complete
 no_draw : (setup : Setup) (past : Past) (street : ℕ) → has_draw setup.code street ≡ false → is_draw_due setup past street ≡ false
 no_draw setup past street none = and_left (has_draw setup.code street) (is_some (next_to_draw setup past street) || list_any (λ seat. nat_lt 0 (replacements_owed past street seat)) (all_seats setup)) none
 
@@ -71,7 +72,7 @@ settled_more true true true after owes_now less is = refl
 settled_more true true false true owes_now less is = absurd (true≢false is)
 settled_more true true false false owes_now less is = absurd (true≢false (sym (ap not (less refl)) ∙ is))
 
--- what comes with the cards of a street is not complete
+-- what is due together with the cards of a street is not complete
 cards_not_done : (street : ℕ) (draws deal draw bring_in move : Bool) → due_by street deal draw bring_in move ≡ Some (if draws then dues.Draw street else dues.Deal street) → (if draws then not draw else not deal) ≡ false
 cards_not_done street true true draw bring_in move is = absurd cc
 cards_not_done street true false true bring_in move is = refl
@@ -88,7 +89,7 @@ done_by : (setup : Setup) (past : Past) (street : ℕ) (draws : Bool) → is_don
 done_by setup past street true = refl
 done_by setup past street false = refl
 
--- what is due where the cards of a street are dealt
+-- what is due once the cards of a street are dealt
 abbrev after_cards : Code → ℕ → (bring_in move before : Bool) → Due → ℕ × Due
 after_cards code street bring_in move before last =
     if bring_in then (street, dues.BringIn) else if move then (street, dues.Move) else if before then (street + 1, street_cards code (street + 1)) else (street, last)
@@ -96,14 +97,14 @@ after_cards code street bring_in move before last =
 abbrev the_showdown : ℕ → ℕ × Due
 the_showdown street = (street, dues.Show)
 
--- the showdown is read where it comes alone
+-- the showdown is read if it comes alone
 walked_other : (code : Code) (street : ℕ) (bring_in move before : Bool) (last : Due) → (after_cards code street bring_in move before dues.Show ≡ the_showdown street → ⊥) → after_cards code street bring_in move before last ≡ after_cards code street bring_in move before dues.Show
 walked_other code street true move before last other = refl
 walked_other code street false true before last other = refl
 walked_other code street false false true last other = refl
 walked_other code street false false false last other = absurd (other refl)
 
--- no betting came before the cards
+-- there was no betting before the cards
 cards_before : (setup : Setup) (past : Past) (street : ℕ) (due : Due) → (due ≡ dues.Show → ⊥) → HasCome setup past street due → is_after_betting due ≡ false
 cards_before setup past street (dues.Deal on) other come = refl
 cards_before setup past street (dues.Draw on) other come = refl

@@ -1,4 +1,4 @@
--- Who opens a street on which nobody moved has to move where somebody has.
+-- The opener of a street on which nobody has moved has to move if anybody has.
 use Rattle.std.proofs.Common.{◌≡◌, ℕ, ◌+◌, ◌-◌, ◌≤◌, Bool, true, false, ◌&&◌, ◌||◌, ◌==◌, not, nat_lt, nat_le, cond, if◌then◌else◌, List, [], ◌∷◌, Option, Some, None, find, refl, sym, ap, ◌∙◌, arith}
 use Rattle.std.specs.List.{list_any, range_with_len}
 use Rattle.std.specs.Option.{option_or}
@@ -24,7 +24,7 @@ use Rattle.betting_numbers.specs.Standing.{StandsFor, newest_seat}
 use Rattle.betting_numbers.proofs.OneChanged.{another_passes}
 use Rattle.chip_ledger.specs.Seat.{IsSeatOf}
 
--- nobody has moved on the street where nobody moved last
+-- nobody has moved on the street if there is no last move
 pub no_moves : (moves : List Move) → newest_seat moves ≡ None → moves ≡ []
 no_moves [] is = refl
 no_moves (move ∷ before) is = absurd cc
@@ -43,7 +43,7 @@ all_true true true = refl
 all_true true false = refl
 all_true false x = refl
 
--- of fewer than two able seats each is this one
+-- if fewer than two seats can act, each that can is this one
 pub only_able : (b : RunningNumbers) (first : ℕ) → IsSeatOf b.setup.stacks.seats first → is_able_seen b first ≡ true → nat_le 2 (able_count_seen b) ≡ false → (k : ℕ) → 1 ≤ k → k ≤ b.setup.stacks.seats → is_able_seen b k ≡ true → k ≡ first
 only_able b first in_hand able few k low high able_k =
     let none : list_any (λ j. is_able_seen b j && not (j == first)) (all_seats b.setup) ≡ false =
@@ -73,7 +73,7 @@ module _ (b : RunningNumbers) (past : Past) (stands : StandsFor b past) (last : 
       ∙ none_passes (λ k. false) (all_seats b.setup) (λ k. refl) in
       true≢false (sym some ∙ none))
 
-  -- so the turn is its own
+  -- so it is its turn
   pub opener_turn : in_turn (Some first) ≡ mover_seen b (TheSeat first)
   opener_turn =
       let n = b.setup.stacks.seats in

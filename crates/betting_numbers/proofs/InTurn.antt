@@ -1,4 +1,4 @@
--- Whose turn it is, and what an event comes to where that is known, and where it is not.
+-- Whose turn it is, and the answer to an event if that is known and if it is not.
 use Rattle.std.proofs.Common.{nat_lt, min, ◌≡◌, ℕ, ◌+◌, ◌-◌, ◌≤◌, Bool, true, false, ◌&&◌, ◌==◌, not, List, ◌∷◌, ◌++◌, if◌then◌else◌, Option, Some, None, is_some, find, refl, sym, ap, subst, ◌∙◌, arith}
 use Rattle.std.specs.List.{list_any, range_with_len}
 use Rattle.std.proofs.lemmas.Bool.{eqb-true, ltb-false, true≢false, eqb-false}
@@ -47,14 +47,14 @@ use Rattle.chip_ledger.specs.SeatsSaid.{seat_said}
 use Rattle.play_event.specs.Targets.{greatest_by}
 use Rattle.chip_ledger.specs.Seat.{IsSeatOf}
 
--- why an event is refused where this is due
+-- why an event is refused when this is due
 pub why_where : (b : RunningNumbers) (past : Past) (event : Said) (due : Due) → StandsFor b past → b.due ≡ due → why b.setup b.rules past event ≡ first_reason (all_reasons b.setup b.rules past (b.street, due) event)
 unfolding why
 why_where b past event due stands is =
     ap (λ now. first_reason (all_reasons b.setup b.rules past now event)) stands.turn_is
     ∙ ap (λ d. first_reason (all_reasons b.setup b.rules past (b.street, d) event)) is
 
--- a seat is found where one passes, from whichever seat one starts
+-- if a seat passes, one is found from whichever seat the search starts
 pub found_some : (setup : Setup) (p : ℕ → Bool) (start : ℕ) → IsSeatOf setup.stacks.seats start → is_some (find p (seats_from setup start)) ≡ list_any p (all_seats setup)
 found_some setup p start in_hand =
     let n = setup.stacks.seats in
@@ -107,7 +107,7 @@ passed_by b opener in_hand (Some s) is = record {
 pub passed : (b : RunningNumbers) (opener : ℕ) → IsSeatOf b.setup.stacks.seats opener → Passed b opener
 passed b opener in_hand = passed_by b opener in_hand b.last refl
 
--- a seat is in turn where some seat has a move to make
+-- it is some seat's turn if some seat has a move to make
 same_found : (found other : Option ℕ) → in_turn found ≡ in_turn other → is_some found ≡ is_some other
 same_found None None same = refl
 same_found None (Some seat) same = absurd (cc)
@@ -124,7 +124,7 @@ pub seat_found : (found : Option Seat) → is_some found ≡ is_some (seat_said 
 seat_found None = refl
 seat_found (Some seat) = refl
 
--- what is due where an event may come
+-- what is due when an event may come
 pub move_now : (due : Due) → now_why true false due ≡ None → due ≡ dues.Move
 move_now dues.Move is = refl
 move_now dues.Over is = absurd (cc)
@@ -147,7 +147,7 @@ no_bring_in b past stands game due_is =
     let stud : is_stud b.setup.code ≡ true = bring_in_is_due b.setup past b.street (stands.turn_is ∙ ap (λ (d : Due). (b.street, d)) due_is) in
     true≢false (sym stud ∙ ap is_opened_by_up_cards game)
 
--- somebody has to move where betting is due in a game with blinds
+-- somebody has to move if betting is due in a game with blinds
 bets_are_moves : (b : RunningNumbers) (past : Past) → StandsFor b past → opener_of b.setup.code ≡ openers.Blinds → (due : Due) → b.due ≡ due → is_bet_due due ≡ true → is_move_due_seen b ≡ true
 bets_are_moves b past stands game dues.Move is bets = move_due_is b (moves_of past) stands.standing ∙ move_is_due b.setup past b.street (stands.turn_is ∙ ap (λ (d : Due). (b.street, d)) is)
 bets_are_moves b past stands game dues.BringIn is bets = absurd (no_bring_in b past stands game is)
@@ -156,7 +156,7 @@ bets_are_moves b past stands game (dues.Draw street) is bets = absurd (true≢fa
 bets_are_moves b past stands game dues.Show is bets = absurd (true≢false (sym bets))
 bets_are_moves b past stands game dues.Over is bets = absurd (true≢false (sym bets))
 
--- a seat that is found is in turn
+-- it is the turn of a seat that is found
 pub found_turn : (found : Option ℕ) (in_seen : InTurn) → in_turn found ≡ in_seen → (in_seen ≡ NoSeat → ⊥) → turn_of found ≡ in_seen
 found_turn None in_seen is some = absurd (some (sym is))
 found_turn (Some seat) in_seen is some = is
@@ -169,7 +169,7 @@ module _ (b : RunningNumbers) (past : Past) (stands : StandsFor b past) (opener 
   pub somebody : is_move_due_seen b ≡ true → mover_seen b (TheSeat opener) ≡ NoSeat → ⊥
   somebody some none = nobody_by b.setup (has_to_move_seen b) (after_last (last_seen b) (seat_after b.setup) (TheSeat opener)) passed_to.seat passed_to.is passed_to.in_hand some none
 
-  -- the seat that the numbers name is the mover of the rules
+  -- the seat that the numbers name is the player to act by the rules
   pub mover_blinds : opener ≡ blinds_opener b.setup b.street → opener_of b.setup.code ≡ openers.Blinds → mover_seen b (TheSeat opener) ≡ mover b.setup (up_cards b.setup.code past) (moves_of past) b.street
   mover_blinds opens game =
       mover_is b (moves_of past) stands.standing (TheSeat opener) (subst (StartsIn b.setup) (sym passed_to.is) passed_to.in_hand)
@@ -179,7 +179,7 @@ module _ (b : RunningNumbers) (past : Past) (stands : StandsFor b past) (opener 
   pub turn_blinds : (found : Option ℕ) → in_turn found ≡ mover_seen b (TheSeat opener) → is_bet_due b.due ≡ true → opener ≡ blinds_opener b.setup b.street → opener_of b.setup.code ≡ openers.Blinds → IsTurn b past (turn_of found)
   turn_blinds found is bets opens game = found_turn found (mover_seen b (TheSeat opener)) is (somebody (bets_are_moves b past stands game b.due refl bets)) ∙ mover_blinds opens game
 
--- where no reason holds, the seat in turn moves
+-- if there is no reason against it, the player to act moves
 actor_by : (named : Option ℕ) (m : ℕ) (another : Bool) → is_another named m ≡ another → another ≡ false → actor_of named (TheSeat m) ≡ m
 actor_by None m another is none = refl
 actor_by (Some seat) m another is none = eqb-true seat m (same_by (seat == m) (is ∙ none))
@@ -204,7 +204,7 @@ raise_actor : (limit : Limit) (b : RunningNumbers) (floor : ℕ) (named : Option
 raise_actor limit b floor named amount m none =
     actor_by named m (is_another named m) refl (passes_by (is_another named m) (raise_to_why limit b floor m (target_seen b m amount)) none)
 
--- a legal raise goes no further than all-in
+-- the target of a legal raise is at most all-in
 reach_by : (closed small big : Bool) → (if closed then Some reasons.RaiseClosed else if small then Some reasons.RaiseTooSmall else if big then Some reasons.RaiseTooBig else None) ≡ None → big ≡ false
 reach_by true small big is = absurd cc
 reach_by false true big is = absurd cc
@@ -228,13 +228,13 @@ raise_reach limit b floor named amount m none =
     (rest_by (is_another named m) (raise_to_why limit b floor m (target_seen b m amount)) (sym none))) in
     omega (arith, most, greatest_within limit (all_in_seen b m) (ceiling_seen b m) (fulls_seen b))
 
--- a call goes where the rules have it
+-- the target of a call is that of the rules
 call_is : (b : RunningNumbers) (moves : List Move) → Standing b.setup b.street b moves → (m : ℕ) → IsSeatOf b.setup.stacks.seats m → call_seen b m ≡ call_target b.setup moves b.street m
 call_is b moves st m in_m =
     ap (λ p. min p (all_in_seen b m)) (price_is b moves st)
     ∙ ap (λ a. min (price b.setup moves b.street) a) (all_in_is b moves st m in_m)
 
--- a bring-in goes where the rules have it
+-- the target of a bring-in is that of the rules
 bring_in_is : (b : RunningNumbers) (moves : List Move) → Standing b.setup b.street b moves → (m : ℕ) → IsSeatOf b.setup.stacks.seats m → bring_in_seen b m ≡ bring_in_target b.setup moves b.street m
 bring_in_is b moves st m in_m = ap (λ a. min b.setup.bring_in a) (all_in_is b moves st m in_m)
 
@@ -273,7 +273,7 @@ bring_in_not_now b past named reason (dues.Deal street) is = is
 bring_in_not_now b past named reason (dues.Draw street) is = is
 bring_in_not_now b past named reason dues.Show is = is
 
--- the reason where it is not known whose turn it is
+-- the reason if it is not known whose turn it is
 unknown_by : (b : RunningNumbers) (named : Option ℕ) (other : Bool) → other ≡ is_unable b named → (if other then Some reasons.WrongSeat else Some reasons.UpCardUnknown) ≡ Some (unknown_why b named)
 unknown_by b named other is = ap (λ (o : Bool). if o then Some reasons.WrongSeat else Some reasons.UpCardUnknown) is ∙ each (is_unable b named)
   where
@@ -281,7 +281,7 @@ unknown_by b named other is = ap (λ (o : Bool). if o then Some reasons.WrongSea
     each true = refl
     each false = refl
 
--- another thing is due
+-- something else is due
 module _ (b : RunningNumbers) (past : Past) (stands : StandsFor b past) where
   pub fold_now : (named : Option ℕ) (reason : Illegal) → Some reason ≡ now_why true false b.due → why b.setup b.rules past (said.Fold named) ≡ Some reason
   fold_now named reason is = why_where b past (said.Fold named) b.due stands refl ∙ fold_not_now b past named reason b.due (sym is)
@@ -295,7 +295,7 @@ module _ (b : RunningNumbers) (past : Past) (stands : StandsFor b past) where
   pub bring_in_refused : (named : Option ℕ) (reason : Illegal) → Some reason ≡ now_why false true b.due → why b.setup b.rules past (said.BringIn named) ≡ Some reason
   bring_in_refused named reason is = why_where b past (said.BringIn named) b.due stands refl ∙ bring_in_not_now b past named reason b.due (sym is)
 
-  -- how a legal move takes place, where the seat in turn is known
+  -- how a legal move takes place, if it is known whose turn it is
   took_place : (event : Said) (m : ℕ) → IsTurn b past (TheSeat m) → with_event b.setup event past ≡ resolved_by b.setup (moves_of past) b.street (TheSeat m) event ∷ past
   unfolding with_event
   took_place event m turn =
@@ -374,7 +374,7 @@ module _ (b : RunningNumbers) (past : Past) (stands : StandsFor b past) where
   pub bring_in_unknown : (actor : Option Seat) → now_why false true b.due ≡ None → IsTurn b past Undecided → why b.setup b.rules past (said.BringIn (seat_said actor)) ≡ Some (unknown_why b (seat_said actor))
   bring_in_unknown actor now turn = bring_in_undecided b past stands (bring_in_now b.due now) (sym turn) (seat_said actor) ∙ undecided_is actor
 
--- a fold or a call comes where a move is due
+-- a fold or a call comes when a move is due
 pub move_fits : (due : Due) → now_why true false due ≡ None → is_move due ≡ true
 move_fits dues.Move is = refl
 move_fits dues.Over is = absurd (cc)
@@ -383,7 +383,7 @@ move_fits (dues.Draw street) is = absurd (cc)
 move_fits dues.BringIn is = absurd (cc)
 move_fits dues.Show is = absurd (cc)
 
--- a bring-in or a move is due where an event may come
+-- a bring-in or a move is due when an event may come
 pub bets_now : (at_move at_bring_in : Bool) (due : Due) → now_why at_move at_bring_in due ≡ None → is_bet_due due ≡ true
 bets_now at_move at_bring_in dues.Move is = refl
 bets_now at_move at_bring_in dues.BringIn is = refl

@@ -1,4 +1,5 @@
--- The seats are walked from the last to the first: of those so far one leads, and the first before which none opens is kept.
+-- The seats are walked from the last to the first: one of those so far leads, and the first before
+-- which none opens is kept.
 use Rattle.std.proofs.Common.{◌≡◌, ℕ, ◌+◌, ◌-◌, ◌<◌, ◌≤◌, Bool, true, false, ◌&&◌, ◌||◌, ◌==◌, not, if◌then◌else◌, cond, List, Option, Some, None, find, suc, zero, inl, inr, refl, sym, ap, subst, ◌∙◌, arith}
 use Rattle.std.specs.List.{list_any, range_with_len}
 use Rattle.std.proofs.lemmas.Bool.{true≢false, and_parts, and_from, or_from, or_left, or_right, cases_lt, false_from_ne_true, true_from_ne_false, not-false}
@@ -26,7 +27,7 @@ some_at p first (suc n) k low high passes = elim (cases_lt first k) [
   | inr here ↦ let same : first ≡ k = omega (arith, low, here) in or_left (p first) (list_any p (range_with_len (first + 1) n)) (ap p same ∙ passes)
 ]
 
--- some number passes where one does that passes wherever another does
+-- some number passes a test if one passes a stronger test
 leads_by : (p : ℕ → Bool) (first n lead : ℕ) → first ≤ lead → lead < first + n → ((k : ℕ) → first ≤ k → k < first + n → p k ≡ true → p lead ≡ true) → (passes : Bool) → p lead ≡ passes → list_any p (range_with_len first n) ≡ passes
 leads_by p first n lead low high leads true is = some_at p first n lead low high is
 leads_by p first n lead low high leads false is =
@@ -41,7 +42,7 @@ known_by : (unknown : Bool) (seat : ℕ) (found : Option ℕ) → Some seat ≡ 
 known_by true seat found is = absurd cc
 known_by false seat found is = (refl, is)
 
--- none of so many seats from a first one on opens before this one, which is able
+-- none of `count` seats from a first one on opens before this one, which can act
 abbrev pub opens_from : Opener → RunningNumbers → UpRow → (first count seat : ℕ) → Bool
 opens_from opener b up first count seat = is_able_seen b seat && not (list_any (is_before_seen opener b up seat) (range_with_len first count))
 
@@ -75,11 +76,11 @@ module _ (opener : Opener) (b : RunningNumbers) (up : UpRow) where
       | inr here ↦ let same : other ≡ first = omega (arith, least, here) in new seat (ap (λ (k : ℕ). before seat k) (sym same) ∙ is)
     ]
 
-    -- the new seat opens where the leader does not open before it
+    -- the new seat opens if the leader does not open before it
     opens_now : opens_from opener b up first (suc count) first ≡ (is_able_seen b first && not (before first next))
     opens_now = ap (λ some. is_able_seen b first && not some) (leads_by (before first) first (suc count) next low high (leads_more first) (before first next) refl)
 
-    -- where it does not open, it opens before none before which no other does
+    -- if it does not open, it does not open before those before which no other does
     same_later : (is_able_seen b first && not (before first next)) ≡ false → (seat : ℕ) → opens_from opener b up first (suc count) seat ≡ opens_from opener b up (first + 1) count seat
     same_later fails seat =
         ap (λ some. is_able_seen b seat && not some) (sym (only_second (before seat first) (list_any (before seat) (range_with_len (first + 1) count)) (λ is.
@@ -105,7 +106,7 @@ module _ (opener : Opener) (b : RunningNumbers) (up : UpRow) where
     found_is = found_more first count lead next walked.leads kept new low high found walked.found_is opens is;
   }
 
-  -- one seat more, of so many, of which some were walked
+  -- one more seat, of all, of which some were walked
   pub walked_more : (n index seat lead next : ℕ) (found : Option ℕ) (opens : Bool) → index < n → seat ≡ n - index → IsWalked opener b up (n + 1 - index) index lead found → has_unknown_seen b up seat ≡ false → ((other : ℕ) → is_before_seen opener b up other lead ≡ true → is_before_seen opener b up other next ≡ true) → ((other : ℕ) → is_before_seen opener b up other seat ≡ true → is_before_seen opener b up other next ≡ true) → seat ≤ next → next ≤ n → opens ≡ (is_able_seen b seat && not (is_before_seen opener b up seat next)) → IsWalked opener b up (n + 1 - (index + 1)) (index + 1) next (if opens then Some seat else found)
   walked_more n index seat lead next found opens less is walked known kept new low high opens_is =
       let from : n + 1 - index ≡ seat + 1 = omega (arith, less, is) in
@@ -129,11 +130,11 @@ module _ (opener : Opener) (b : RunningNumbers) (up : UpRow) where
   walked_unknown seat low high is =
       sym (ap (λ (unknown : Bool). if unknown then None else up_opener_seen opener b up) (true_from_ne_false (has_unknown_up_card_seen b up) (λ none. true≢false (sym is ∙ none_at (has_unknown_seen b up) b.setup.stacks.seats seat low high none))))
 
-  -- a seat opens where each up-card is known
+  -- a seat opens if each up-card is known
   pub opens_known : (seat : ℕ) → Some seat ≡ known_opener_seen opener b up → (false ≡ has_unknown_up_card_seen b up) × (Some seat ≡ up_opener_seen opener b up)
   opens_known seat is = known_by (has_unknown_up_card_seen b up) seat (up_opener_seen opener b up) is
 
-  -- the other is able, and as early as the leader
+  -- the other can act, and is as early as the leader
   pub other_leads : (lead other seat : ℕ) → is_able_seen b other ≡ true → is_as_early_seen opener b up other lead ≡ true → is_before_seen opener b up seat lead ≡ true → is_before_seen opener b up seat other ≡ true
   other_leads lead other seat able early before =
       let first = b.street == 1 in

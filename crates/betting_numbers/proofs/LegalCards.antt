@@ -1,4 +1,5 @@
--- After a legal event of cards the state stands for the longer past, or up to its due where that is complete.
+-- After a legal event of cards the state stands for the longer past, or stands for it up to its due
+-- if that is complete.
 use Rattle.std.proofs.Common.{◌≡◌, ℕ, ◌≤◌, Bool, true, false, nat_le, List, ◌∷◌, None, refl, sym, ap, subst, ◌∙◌, arith}
 use Rattle.std.proofs.lemmas.Bool.{true≢false, not-false, and_from, le-leb}
 use Rattle.play_event.specs.declared.reason.Due.{Due}

@@ -46,7 +46,7 @@ bet_at_start setup (move ∷ before) street later early less =
     ap (λ b. if b && (is_raise move.act || is_bring_in move.act) && nat_le (prices.full_bet setup before later + streets.unit setup later) move.to then move.to else prices.full_bet setup before later) parts.0
     ∙ bet_at_start setup before street later parts.1 less
 
--- a later street than the first begins without chips
+-- a street after the first begins without chips
 nothing_brought : (setup : Setup) (later seat : ℕ) → 1 < later → brought setup later seat ≡ 0
 nothing_brought setup later seat less = ap (λ b. if b then blind_posted setup seat else 0) (ne_eqb later 1 (λ same. omega (arith, same, less)))
 

@@ -1,4 +1,5 @@
--- After the first move of a street the first able seat behind is in turn, or none is.
+-- After the first move of a street it is the turn of the first seat after it that can act, or
+-- nobody's.
 use Rattle.std.proofs.Common.{◌≡◌, ◌≢◌, ℕ, ◌+◌, ◌-◌, ◌<◌, ◌≤◌, Bool, true, false, ◌&&◌, ◌||◌, ◌==◌, nat_lt, nat_le, if◌then◌else◌, cond, List, ◌++◌, [], ◌⊎◌, Option, Some, None, is_some, find, zero, suc, inl, inr, refl, sym, ap, subst, ◌∙◌, arith}
 use Rattle.std.specs.List.{range_with_len}
 use Rattle.std.proofs.lemmas.Bool.{true≢false, and_parts, cases_eq, cases_order, eqb-true, false_from_ne_true, or_parts, and_right}
@@ -24,7 +25,7 @@ use Rattle.betting_numbers.proofs.InTurn.{after_in_by, found_some}
 use Rattle.betting_numbers.proofs.TargetEnds.{same_turn}
 use Rattle.chip_ledger.specs.Seat.{IsSeatOf}
 
--- what is found among numbers in a row, and others behind them, is no number behind one that passes
+-- the number found among numbers in a row, and others after them, is not after one that passes
 low_by : (p : ℕ → Bool) (first n k m : ℕ) (rest : List ℕ) (here : Bool) → p first ≡ here → first ≤ k → p k ≡ true → (first + 1 ≤ k → find p (range_with_len (first + 1) n ++ rest) ≡ Some m → (first + 1 ≤ m) × (m ≤ k)) → (if here then Some first else find p (range_with_len (first + 1) n ++ rest)) ≡ Some m → (first ≤ m) × (m ≤ k)
 low_by p first n k m rest true is low passes later found =
     let same : first ≡ m = same_Some first m found in
@@ -39,7 +40,7 @@ found_low p first zero k m rest low high passes found = absurd (omega (arith, lo
 found_low p first (suc n) k m rest low high passes found =
     low_by p first n k m rest (p first) refl low passes (λ above later. found_low p (first + 1) n k m rest above (omega (arith, high)) passes later) found
 
--- what is found and is below those numbers is found among the others
+-- a number that is found and is below those numbers is found among the others
 rest_by : (p : ℕ → Bool) (first n m : ℕ) (rest : List ℕ) (here : Bool) → (find p (range_with_len (first + 1) n ++ rest) ≡ Some m → find p rest ≡ Some m) → m < first → (if here then Some first else find p (range_with_len (first + 1) n ++ rest)) ≡ Some m → find p rest ≡ Some m
 rest_by p first n m rest true later below found = let same : first ≡ m = same_Some first m found in absurd (omega (arith, same, below))
 rest_by p first n m rest false later below found = later found
@@ -49,7 +50,7 @@ found_rest p first zero m rest below found = found
 found_rest p first (suc n) m rest below found =
     rest_by p first n m rest (p first) (found_rest p (first + 1) n m rest (omega (arith, below))) below found
 
--- no other seat passes where going round from behind a seat that seat is found
+-- no other seat passes if going round from the seat after it finds that seat
 alone_by : (setup : Setup) (p : ℕ → Bool) (seat k : ℕ) (last : Bool) → (seat == setup.stacks.seats) ≡ last → IsSeatOf setup.stacks.seats seat → IsSeatOf setup.stacks.seats k → k ≢ seat → p k ≡ true → find p (seats_from setup (if last then 1 else seat + 1)) ≡ Some seat → ⊥
 alone_by setup p seat k true is in_hand in_k other passes found =
     let n = setup.stacks.seats in
@@ -71,7 +72,8 @@ alone_by setup p seat k false is in_hand in_k other passes found =
       ]
     ]
 
--- what is found among numbers in a row, and others behind them, is found by a test that passes there too, and nowhere that the first does not
+-- the number found among numbers in a row, and others after them, is also found by another test
+-- that passes there and that passes nowhere that the first does not
 still_by : (p q : ℕ → Bool) (first n m : ℕ) (rest : List ℕ) (here : Bool) → p first ≡ here → (q first ≡ true → p first ≡ true) → q m ≡ true → (find p (range_with_len (first + 1) n ++ rest) ≡ Some m → find q (range_with_len (first + 1) n ++ rest) ≡ Some m) → (if here then Some first else find p (range_with_len (first + 1) n ++ rest)) ≡ Some m → find q (range_with_len first (suc n) ++ rest) ≡ Some m
 still_by p q first n m rest true is weaker passes later found =
     let same : first ≡ m = same_Some first m found in
@@ -101,7 +103,7 @@ the_same : (found : Option ℕ) (seat : ℕ) → TheSeat seat ≡ in_turn found 
 the_same None seat is = absurd cc
 the_same (Some other) seat is = ap Some (same_turn other seat (sym is))
 
--- a seat that is able and is not flagged has a move to make where several are able
+-- a seat that can act and is not flagged has a move to make if several can act
 few_by : (able flagged owes many : Bool) → able ≡ true → flagged ≡ false → (able && (if flagged then false else (owes || many))) ≡ false → many ≡ false
 few_by able true owes many able_is unflagged is = absurd (true≢false unflagged)
 few_by false false owes many able_is unflagged is = absurd (true≢false (sym able_is))
@@ -120,7 +122,7 @@ module _ (b next : RunningNumbers) (seat : ℕ) (act : Act) (target unit : ℕ) 
   abbrev able : ℕ → Bool
   able = is_able_seen b
 
-  -- from where the next seat is looked for
+  -- where the search for the next seat starts
   abbrev start : ℕ
   start = seat_after b.setup seat
 
@@ -130,7 +132,7 @@ module _ (b next : RunningNumbers) (seat : ℕ) (act : Act) (target unit : ℕ) 
   found : find able (seats_from b.setup start) ≡ Some behind
   found = the_same (find able (seats_from b.setup start)) behind first
 
-  -- the other seats are able as they were
+  -- the other seats can act if they could before
   able_still : (k : ℕ) → IsSeatOf b.setup.stacks.seats k → k ≢ seat → is_able_seen next k ≡ able k
   able_still k in_k other =
       ap (λ live. live && nat_lt 0 (amount_of next.setup.stacks k - amount_of next.puts k)) (moved.other_live k in_k.first other)
@@ -153,7 +155,7 @@ module _ (b next : RunningNumbers) (seat : ℕ) (act : Act) (target unit : ℕ) 
   in_next : (k : ℕ) → IsSeatOf b.setup.stacks.seats k → IsSeatOf next.setup.stacks.seats k
   in_next k in_k = subst (λ (setup : Setup). IsSeatOf setup.stacks.seats k) (sym moved.setup) in_k
 
-  -- where the seat behind has no move to make, it alone is able beside the one that moved
+  -- if the next seat has no move to make, only it and the seat that moved can act
   none_by : moves behind ≡ false → (k : ℕ) → IsSeatOf b.setup.stacks.seats k → moves k ≡ true → (behind ≡ seat) ⊎ (behind ≡ seat → ⊥) → ⊥
   none_by stays k in_k moves_k (inl same) =
       alone_by b.setup able seat k (seat == b.setup.stacks.seats) refl in_hand in_k (another k moves_k) (was_able k in_k moves_k) (found ∙ ap Some same)

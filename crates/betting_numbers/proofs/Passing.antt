@@ -1,4 +1,5 @@
--- The first seat in turn with a move to make is among those up to the last seat, or those from the first on.
+-- The first seat with a move to make is among those up to the last seat, or those from the first
+-- on.
 use Rattle.std.proofs.Common.{◌≡◌, ℕ, ◌+◌, ◌-◌, ◌==◌, Bool, true, false, if◌then◌else◌, Option, Some, None, find, sym, ap, ◌∙◌, arith}
 use Rattle.std.specs.List.{range_with_len}
 use Rattle.std.specs.Option.{option_or}
@@ -23,7 +24,7 @@ pub mover_behind : (b : RunningNumbers) (opener : InTurn) (start : ℕ) (found :
 mover_behind b opener start found is none later =
     turn_from b opener start found is (later ∙ ap (λ o. option_or o (find (has_to_move_seen b) (range_with_len 1 (start - 1)))) none ∙ sym (joined b start))
 
--- who opens where the blinds say it is of the hand
+-- who opens by the blinds is a seat of the hand
 opener_by : (b : RunningNumbers) (one : Bool) → IsSeatOf b.setup.stacks.seats (if one then blinds_opener b.setup 1 else 1)
 opener_by b true = record { first = omega (arith, b.first_opener.first, b.first_opener_is); last = omega (arith, b.first_opener_in, b.first_opener_is) }
 opener_by b false = record { first = omega arith; last = omega (arith, b.setup.stacks.least) }

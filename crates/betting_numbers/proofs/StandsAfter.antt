@@ -37,7 +37,7 @@ use Rattle.play_event.proofs.StillAble.{able_still, still_live}
 use Rattle.play_event.proofs.FloorLaws.{bet_unfinished}
 use Rattle.chip_ledger.specs.Seat.{IsSeatOf}
 
--- the numbers stand whatever is due
+-- the numbers stand for the same moves, whatever is due
 pub standing_with_turn : (setup : Setup) (street : ℕ) (b : RunningNumbers) (due : Due) (next : Option Seat) (moves : List Move) → Standing setup street b moves → Standing setup street (with_turn b due next) moves
 standing_with_turn setup street b due next moves st = record {
   puts = st.puts;
@@ -76,7 +76,7 @@ no_bring_in_by : (street : ℕ) (bring_in move : Bool) → due_by street false f
 no_bring_in_by street true move is = absurd cc
 no_bring_in_by street false move is = refl
 
--- a seat that had to show has still to show after a move that leaves it live
+-- a seat that had to show still has to show after a move that leaves it live
 shows_still : (past : Past) (move : Move) → ((seat : ℕ) → is_live (moves_of past) seat ≡ true → has_to_show past seat ≡ true) → (seat : ℕ) → is_live (move ∷ moves_of past) seat ≡ true → has_to_show (Moved move ∷ past) seat ≡ true
 shows_still past move each seat live =
     let both = and_parts (is_live (moves_of past) seat) (not (has_shown past seat || has_mucked past seat)) (each seat (still_live move (moves_of past) seat live)) in
@@ -114,7 +114,7 @@ module _ (b mid next : RunningNumbers) (past : Past) (seat target unit : ℕ) (a
   each_shows : (k : ℕ) → is_live (new_move ∷ moves_of past) k ≡ true → has_to_show (Moved new_move ∷ past) k ≡ true
   each_shows = shows_still past new_move (stands.unshown (λ over. true≢false (sym bets ∙ ap is_bet_due over)) (unsettled b.setup past b.street b.due stands.turn_is bets))
 
-  -- of the numbers, and where they are
+  -- what the numbers are, and where
   record Comes : Type 0 where
     setup : next.setup ≡ b.setup
     standing : Standing next.setup next.street next (new_move ∷ moves_of past)
@@ -170,7 +170,7 @@ module _ (b mid next : RunningNumbers) (past : Past) (seat target unit : ℕ) (a
       let at : next.street ≡ (turn_after mid.setup.code mid.street (nat_le (live_count_seen mid) 1) false (is_move_due_seen mid)).0 = ap (λ (p : ℕ × Due). p.0) to.turn_is in
       omega (arith, up, at, mv.street)
 
-  -- so the state stands for one move more
+  -- so the state stands for the past with one more move
   pub stands_after : StandsFor next (Moved new_move ∷ past)
   stands_after = record {
     valid = subst (λ s. IsValid s) (sym comes.setup) stands.valid;

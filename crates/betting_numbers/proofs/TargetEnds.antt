@@ -1,4 +1,4 @@
--- The ends of the legal targets by the running numbers are those of the rules.
+-- The least and the greatest legal target by the running numbers are those of the rules.
 use Rattle.std.proofs.Common.{◌≡◌, ℕ, List, sym, ap, subst, ◌∙◌}
 use Rattle.play_event.specs.declared.limit.Limit.{Limit}
 use Rattle.play_event.specs.Price.{starting_price}
@@ -17,7 +17,7 @@ use Rattle.betting_numbers.proofs.Bridge.{all_in_is}
 use Rattle.betting_numbers.proofs.WhyRaise.{least_target_is, greatest_is}
 use Rattle.chip_ledger.specs.Seat.{IsSeatOf}
 
--- numbers that are the least target, the greatest and all-in by the running numbers
+-- numbers that are the least and the greatest legal target and all-in by the running numbers
 pub targets_are : (b : RunningNumbers) (moves : List Move) (st : Standing b.setup b.street b moves) (m : ℕ) (in_hand : IsSeatOf b.setup.stacks.seats m) (limit : Limit) (limit_is : limit_of b.setup.code ≡ limit) (least greatest whole : ℕ)
     → least ≡ least_seen limit b (floor_by b.rules.reopen (starting_price b.setup b.street) b) m → greatest ≡ greatest_seen limit b m → whole ≡ all_in_seen b m → AreTargets b.setup b.rules moves b.street m least greatest whole
 targets_are b moves st m in_hand limit limit_is least greatest whole is_least is_greatest is_whole =
@@ -27,7 +27,7 @@ targets_are b moves st m in_hand limit limit_is least greatest whole is_least is
     (subst (λ (n : ℕ). AreTargets b.setup b.rules moves at m (least_target b.rules.reopen b.setup moves at m) (greatest_target b.setup moves at m) n) (sym (all_in_is b moves st m in_hand) ∙ sym is_whole)
     (targets_end b.setup b.rules moves at m)))
 
--- the seat in turn
+-- the player to act
 seat_in : InTurn → ℕ
 seat_in (TheSeat seat) = seat
 seat_in NoSeat = 0

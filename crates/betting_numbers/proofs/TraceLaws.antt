@@ -42,7 +42,7 @@ module _ (b : RunningNumbers) (moves : List Move) (st : Standing b.setup b.stree
       ∙ ap (λ u. traced_by b.street m act (street_chips b.setup moves b.street m) target (price b.setup moves b.street) (is_raise act && is_closed b.setup moves b.street m target) u) (unit_by limit)
       ∙ ap (λ l. traced_by b.street m act (street_chips b.setup moves b.street m) target (price b.setup moves b.street) (is_raise act && is_closed b.setup moves b.street m target) (unit_target_in l b.setup moves b.street m)) (sym limit_is)
 
--- the move by which a past ends, else this one
+-- the move that ends a past, or this one
 newest_move : Move → Past → Move
 newest_move other [] = other
 newest_move other (Moved move ∷ before) = move

@@ -1,4 +1,4 @@
--- Whose turn it is where up-cards open.
+-- Whose turn it is in a game that opens by up-cards.
 use Rattle.std.proofs.Common.{◌≡◌, ℕ, ◌≤◌, Bool, true, false, ◌&&◌, ◌||◌, ◌==◌, not, nat_lt, nat_le, if◌then◌else◌, List, [], ◌∷◌, Option, Some, None, is_some, find, refl, sym, ap, subst, ◌∙◌, arith, IfSome}
 use Rattle.std.specs.List.{list_any}
 use Rattle.std.proofs.lemmas.Bool.{true≢false, and_parts, leb-true}
@@ -73,7 +73,7 @@ module _ (b : RunningNumbers) (past : Past) (stands : StandsFor b past) (up : Up
       find_agree (is_opener_seen opener b up) (λ seat. is_able b.setup (moves_of past) seat && not (list_any (opens_earlier opener seat) (able_seats b.setup (moves_of past)))) 1 b.setup.stacks.seats (λ k low high. opens_is opener k (record { first = low; last = omega (arith, high) }))
       ∙ sym (find-filter (is_able b.setup (moves_of past)) (λ seat. not (list_any (opens_earlier opener seat) (able_seats b.setup (moves_of past)))) (all_seats b.setup))
 
-  -- among some able seats one opens
+  -- among some seats that can act one opens
   one_opens_by : (opener : Opener) (ables : List ℕ) → list_any (λ x. true) ables ≡ true → is_some (find (λ seat. not (list_any (opens_earlier opener seat) ables)) ables) ≡ true
   one_opens_by opener [] some = absurd (true≢false (sym some))
   one_opens_by opener (m ∷ ys) some =
@@ -102,7 +102,7 @@ module _ (b : RunningNumbers) (past : Past) (stands : StandsFor b past) (up : Up
       )
 
 module _ (b : RunningNumbers) (past : Past) (stands : StandsFor b past) where
-  -- where a bring-in is due and nobody moved, each able seat has to move
+  -- if a bring-in is due and nobody moved, each seat that can act has to move
   bring_in_moves : b.due ≡ dues.BringIn → b.last ≡ None → is_move_due_seen b ≡ true
   bring_in_moves is last =
       let st = stands.standing in
@@ -118,7 +118,7 @@ module _ (b : RunningNumbers) (past : Past) (stands : StandsFor b past) where
       )))
       ∙ counted_some (is_able_seen b) (all_seats b.setup) (omega (arith, enough))
 
-  -- somebody has to move where betting is due
+  -- somebody has to move if betting is due
   pub bets_move : (due : Due) → b.due ≡ due → is_bet_due due ≡ true → (due ≡ dues.BringIn → b.last ≡ None) → is_move_due_seen b ≡ true
   bets_move dues.Move is bets last = move_due_is b (moves_of past) stands.standing ∙ move_is_due b.setup past b.street (stands.turn_is ∙ ap (λ (d : Due). (b.street, d)) is)
   bets_move dues.BringIn is bets last = bring_in_moves is (last refl)
@@ -127,7 +127,7 @@ module _ (b : RunningNumbers) (past : Past) (stands : StandsFor b past) where
   bets_move dues.Show is bets last = absurd (true≢false (sym bets))
   bets_move dues.Over is bets last = absurd (true≢false (sym bets))
 
-  -- the seat in turn, whoever the opener is
+  -- the player to act, whoever the opener is
   seen_turn : (opener : InTurn) → StartsIn b.setup (after_last (last_seen b) (seat_after b.setup) opener) → opener ≡ opener_by (opener_of b.setup.code) b.setup (up_cards b.setup.code past) (moves_of past) b.street → mover_seen b opener ≡ mover b.setup (up_cards b.setup.code past) (moves_of past) b.street
   seen_turn opener starts is = mover_is b (moves_of past) stands.standing opener starts ∙ ap (λ (o : InTurn). mover_after b.setup o (moves_of past) b.street) is
 
@@ -136,7 +136,7 @@ module _ (b : RunningNumbers) (past : Past) (stands : StandsFor b past) where
       let to : Passed b opener = passed b opener in_hand in
       nobody_by b.setup (has_to_move_seen b) (after_last (last_seen b) (seat_after b.setup) (TheSeat opener)) to.seat to.is to.in_hand some none
 
-  -- after a move the opener does not count
+  -- after a move the opener does not matter
   pub turn_later : (last : Seat) → b.last ≡ Some last → (one : ℕ) → IsSeatOf b.setup.stacks.seats one → (found : Option ℕ) → in_turn found ≡ mover_seen b (TheSeat one) → is_move_due_seen b ≡ true → IsTurn b past (turn_of found)
   turn_later last is one in_hand found found_is some =
       let opener = opener_by (opener_of b.setup.code) b.setup (up_cards b.setup.code past) (moves_of past) b.street in
@@ -193,7 +193,7 @@ module _ (b : RunningNumbers) (past : Past) (stands : StandsFor b past) where
     turn_never : {A : Type 0} → None ≡ up_opener_seen opener b up → is_move_due_seen b ≡ true → A
     turn_never none some = absurd (true≢false (sym (one_opens b past stands up holds opener some) ∙ ap is_some (sym none)))
 
-    -- this seat opens, where all are known
+    -- this seat opens if all are known
     turn_opened : is_opened_by_up_cards opener ≡ true → b.last ≡ None → (first : ℕ) → IsSeatOf b.setup.stacks.seats first → Some first ≡ known_opener_seen opener b up → is_move_due_seen b ≡ true → IsTurn b past (TheSeat first)
     turn_opened cards last first in_hand opens some =
         let parts = opens_known opener b up first opens in

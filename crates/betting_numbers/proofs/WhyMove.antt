@@ -24,7 +24,8 @@ use Rattle.betting_numbers.specs.Why.{bring_in_why, is_another, fold_why, call_w
 use Rattle.betting_numbers.proofs.Bridge.{able_is, price_is, owed_is, all_in_is}
 use Rattle.chip_ledger.specs.Seat.{IsSeatOf}
 
--- a reason that reads the seat that moves reads the seat in turn, where the seat that is named is that
+-- a reason that reads the seat that moves reads the player to act, if that is the seat that is
+-- named
 by_named : (f : ℕ → Option Illegal) (named : Option ℕ) (mover : ℕ) (another : Bool) → is_another named mover ≡ another → (if another then Some reasons.WrongSeat else f (actor_of named (TheSeat mover))) ≡ (if another then Some reasons.WrongSeat else f mover)
 by_named f named mover true is = refl
 by_named f None mover false is = refl
@@ -37,7 +38,7 @@ by_named f (Some seat) mover false is = ap f (eqb-true seat mover (same_by (seat
 pub read_mover : (f : ℕ → Option Illegal) (named : Option ℕ) (mover : ℕ) → (if is_another named mover then Some reasons.WrongSeat else f (actor_of named (TheSeat mover))) ≡ (if is_another named mover then Some reasons.WrongSeat else f mover)
 read_mover f named mover = by_named f named mover (is_another named mover) refl
 
--- whose turn it is not, where it is known
+-- whose turn it is not, if that is known
 pub other_is : (setup : Setup) (moves : List Move) (named : Option ℕ) (mover : ℕ) → is_other_seat setup moves named (TheSeat mover) ≡ is_another named mover
 other_is setup moves None mover = refl
 other_is setup moves (Some seat) mover = refl
@@ -85,7 +86,7 @@ module _ (b : RunningNumbers) (past : Past) (stands : StandsFor b past) (due_is 
       ∙ read_mover (λ seat. stated_why (Some stated) (chips_to_call b.setup (moves_of past) b.street seat)) named m
       ∙ ap (λ due. if is_another named m then Some reasons.WrongSeat else stated_why (Some stated) due) chips_is
 
--- a number that is no seat's is not that of an able seat; 0 reads as the first seat
+-- a number that is no seat's is not that of a seat that can act; 0 reads as the first seat
 module _ (b : RunningNumbers) (moves : List Move) (st : Standing b.setup b.street b moves) where
   pub able_anywhere : (seat : ℕ) → 1 ≤ seat → is_able_seen b seat ≡ is_able b.setup moves seat
   able_anywhere seat some = elim (cases_lt b.setup.stacks.seats seat) [

@@ -1,4 +1,4 @@
--- The reasons against a raise by the running numbers are those of the rules, in no limit.
+-- The reasons against a raise by the running numbers are those of the rules, in no-limit.
 use Rattle.std.proofs.Common.{◌≡◌, ℕ, ◌+◌, ◌-◌, ◌*◌, ◌≤◌, true, ◌&&◌, ◌||◌, not, nat_lt, nat_le, min, max, if◌then◌else◌, inl, inr, List, Option, Some, None, refl, sym, ap, ◌∙◌, arith, sum_by}
 use Rattle.std.specs.Prelude.{slice_index}
 use Rattle.std.proofs.lemmas.Bool.{cases_lt, lt-ltb, le-ltb}

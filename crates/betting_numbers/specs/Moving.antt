@@ -1,4 +1,4 @@
--- How the running numbers change by a move, and where a street begins.
+-- How the running numbers change with a move and with a new street.
 use Rattle.std.specs.Prelude.{◌≡◌, ◌≢◌, ℕ, ◌+◌, ◌-◌, ◌*◌, ◌≤◌, true, false, ◌&&◌, ◌||◌, nat_le, not, min, max, if◌then◌else◌, Some, None}
 use Rattle.chip_ledger.specs.LiveRow.{flag_of}
 use Rattle.chip_ledger.specs.SeatRow.{amount_of}
@@ -11,7 +11,7 @@ use Rattle.betting_numbers.specs.Seen.{price_seen, last_seen}
 abbrev pub most_raises : ℕ
 most_raises = 4294967295
 
--- a seat made a move to a target, where bets have this unit
+-- a seat made a move to a target (chips of the street); `unit` is the bet size
 pub record IsMoved (b next : RunningNumbers) (seat : ℕ) (act : Act) (target unit : ℕ) : Type 0 where
   pub setup : next.setup ≡ b.setup
   pub rules : next.rules ≡ b.rules
@@ -43,7 +43,7 @@ pub record IsMoved (b next : RunningNumbers) (seat : ℕ) (act : Act) (target un
       next.doubled ≡ (if is_raise act then max (2 * target - price_seen b) b.doubled else b.doubled)
   pub opened : next.opened ≡ (has_opened_betting act || b.opened)
 
--- the next street begins, on which nobody has moved
+-- the next street begins, and nobody has moved on it
 pub record IsNextStreet (b next : RunningNumbers) : Type 0 where
   pub setup : next.setup ≡ b.setup
   pub rules : next.rules ≡ b.rules

@@ -1,4 +1,5 @@
--- What the running numbers say of the table: who is able, what the price is, who is to move.
+-- What the running numbers say of the table: who can act, what the current bet is, whose turn it
+-- is.
 use Rattle.std.specs.Prelude.{ℕ, ◌+◌, ◌-◌, Bool, false, ◌&&◌, ◌||◌, ◌==◌, nat_lt, nat_le, not, if◌then◌else◌, map, count_by, Option, Some, None}
 use Rattle.std.specs.List.{list_any}
 use Rattle.std.specs.Option.{option_map}
@@ -17,27 +18,27 @@ use Rattle.betting_numbers.specs.declared.running.RunningNumbers.{RunningNumbers
 abbrev pub left_seen : RunningNumbers → ℕ → ℕ
 left_seen b seat = amount_of b.setup.stacks seat - amount_of b.puts seat
 
--- the seat is able to act
+-- the seat can act: it is live and has chips left
 abbrev pub is_able_seen : RunningNumbers → ℕ → Bool
 is_able_seen b seat = flag_of b.live seat && nat_lt 0 (left_seen b seat)
 
--- the price of the street
+-- the current bet of the street, in chips
 abbrev pub price_seen : RunningNumbers → ℕ
 price_seen b = greatest (map (amount_of b.bets) (all_seats b.setup))
 
--- what a seat owes
+-- what a seat owes to call, in chips
 abbrev pub owed_seen : RunningNumbers → ℕ → ℕ
 owed_seen b seat = price_seen b - amount_of b.bets seat
 
--- the street's chips of a seat that puts all it has left
+-- the seat's chips on the street once it is all-in
 abbrev pub all_in_seen : RunningNumbers → ℕ → ℕ
 all_in_seen b seat = amount_of b.bets seat + left_seen b seat
 
--- how many seats are live
+-- the number of live seats
 abbrev pub live_count_seen : RunningNumbers → ℕ
 live_count_seen b = count_by (flag_of b.live) (all_seats b.setup)
 
--- how many seats are able
+-- the number of seats that can act
 abbrev pub able_count_seen : RunningNumbers → ℕ
 able_count_seen b = count_by (is_able_seen b) (all_seats b.setup)
 
@@ -58,12 +59,12 @@ abbrev pub is_bring_in_due_seen : RunningNumbers → Bool
 is_bring_in_due_seen b =
     is_stud b.setup.code && (b.street == 1) && nat_le 2 (able_count_seen b) && not b.opened
 
--- another seat is able
+-- another seat can act
 abbrev pub has_opponent_seen : RunningNumbers → ℕ → Bool
 has_opponent_seen b seat =
     list_any (λ other. is_able_seen b other && not (other == seat)) (all_seats b.setup)
 
--- where the turn is passed to: after a seat to the next one, and before any to the opener
+-- whose turn it is: after a seat has moved, that of the next one; before that, that of the opener
 abbrev pub after_last : Option ℕ → (ℕ → ℕ) → InTurn → InTurn
 after_last None after opener = opener
 after_last (Some seat) after opener = TheSeat (after seat)
@@ -72,23 +73,23 @@ after_last (Some seat) after opener = TheSeat (after seat)
 abbrev pub last_seen : RunningNumbers → Option ℕ
 last_seen b = option_map (λ (s : Seat). s.number) b.last
 
--- whose turn it is, the opener being this
+-- whose turn it is, given the opener
 abbrev pub mover_seen : RunningNumbers → InTurn → InTurn
 mover_seen b opener =
     first_in_turn b.setup (has_to_move_seen b)
     (after_last (last_seen b) (seat_after b.setup) opener)
 
--- the first able seat behind this one, going round, with this one as the last
+-- the first seat after this one that can act, going round; this seat is the last
 abbrev pub first_behind_seen : RunningNumbers → ℕ → InTurn
 first_behind_seen b seat =
     first_in_turn b.setup (is_able_seen b) (TheSeat (seat_after b.setup seat))
 
--- an able seat owes chips
+-- a seat that can act owes chips
 abbrev pub has_able_seat_to_call_seen : RunningNumbers → Bool
 has_able_seat_to_call_seen b =
     list_any (λ seat. is_able_seen b seat && nat_lt 0 (owed_seen b seat)) (all_seats b.setup)
 
--- the hand is settled
+-- two or more seats are live, and no more betting is possible
 abbrev pub is_settled_seen : RunningNumbers → Bool
 is_settled_seen b =
     nat_le 2 (live_count_seen b)

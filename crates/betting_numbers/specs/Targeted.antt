@@ -1,4 +1,4 @@
--- The least legal target of a seat, by the running numbers.
+-- The least legal target of a raise, by the running numbers.
 use Rattle.std.specs.Prelude.{ℕ, ◌+◌, List}
 use Rattle.play_event.specs.declared.limit.Limit.{Limit}
 use Rattle.play_event.specs.Targets.{least_by}
@@ -9,12 +9,12 @@ use Rattle.play_event.specs.Past.{Move}
 use Rattle.play_event.specs.TurnTargets.{AreTargets}
 use Rattle.betting_numbers.specs.declared.targeting.Targets.{Targets}
 
--- and that of a seat, where the floor is this
+-- the least legal target of a seat, given the floor (the least no-limit raise that is not all-in)
 abbrev pub least_seen : Limit → RunningNumbers → (floor seat : ℕ) → ℕ
 least_seen limit b floor seat =
     least_by limit floor (price_seen b + b.full_raise) (all_in_seen b seat) (fulls_seen b)
 
--- these are the ends of the legal targets of a seat after these moves, and its all-in
+-- these are the least and the greatest legal target of a seat after these moves, and its all-in
 abbrev pub AreEndsFor : RunningNumbers → List Move → ℕ → Targets → Type 0
 AreEndsFor b moves seat targets =
     AreTargets b.setup b.rules moves b.street seat targets.least targets.greatest targets.all_in

@@ -1,4 +1,4 @@
--- A move of the trace by the running numbers before it.
+-- A move of the trace, by the running numbers before it.
 use Rattle.std.specs.Prelude.{ℕ, Bool, ◌&&◌, ◌||◌, not}
 use Rattle.chip_ledger.specs.LiveRow.{flag_of}
 use Rattle.chip_ledger.specs.SeatRow.{amount_of}
@@ -13,7 +13,7 @@ use Rattle.betting_numbers.specs.declared.running.RunningNumbers.{RunningNumbers
 use Rattle.betting_numbers.specs.Seen.{price_seen, owed_seen}
 use Rattle.betting_numbers.specs.Why.{is_open_by, is_legal_seen, floor_by, target_seen}
 
--- a raise needs rules by which betting always reopens
+-- a raise is legal only under rules by which a raise always reopens the betting
 abbrev pub is_closed_seen : Limit → RunningNumbers → (seat target : ℕ) → Bool
 is_closed_seen limit b seat target =
     not
@@ -21,7 +21,7 @@ is_closed_seen limit b seat target =
     (owed_seen b seat))
     || not (is_legal_seen limit b (floor_by reopen.Full 0 b) seat target)
 
--- where a raise by the unit goes, in fixed limit
+-- the target of a raise by the bet size, in fixed limit
 abbrev pub unit_seen : Limit → RunningNumbers → ℕ → ℕ
 unit_seen limits.Fixed b seat = target_seen b seat spelled.Unit
 unit_seen limits.Pot b seat = 0

@@ -20,49 +20,49 @@ HoldsUps setup up past =
     (seat : ℕ) → 1 ≤ seat → seat ≤ setup.stacks.seats
     → ups_of up seat ≡ up_cards setup.code past seat
 
--- a row holds what is read of the up-cards of a past: who opens a street is asked only until a seat
--- has moved on it
+-- a row has the up-cards of a past that are read: who opens is asked only until a seat has moved on
+-- the street
 pub record HoldsOpeningUps (b : RunningNumbers) (up : UpRow) (past : Past) : Type 0 where
-  -- the row holds the up-cards of the past, where no seat has moved on the street yet
+  -- the row has the up-cards of the past if no seat has moved on the street yet
   pub held : b.last ≡ None → HoldsUps b.setup up past
 
--- an up-card of an able seat is unknown
+-- the seat can act and has an unknown up-card
 abbrev pub has_unknown_seen : RunningNumbers → UpRow → ℕ → Bool
 has_unknown_seen b up seat = is_able_seen b seat && list_any is_unknown (ups_of up seat)
 
--- such a seat is there
+-- some seat that can act has an unknown up-card
 abbrev pub has_unknown_up_card_seen : RunningNumbers → UpRow → Bool
 has_unknown_up_card_seen b up = list_any (has_unknown_seen b up) (all_seats b.setup)
 
--- an able seat opens before this one
+-- the other seat can act and opens before this one
 abbrev pub is_before_seen : Opener → RunningNumbers → UpRow → (seat other : ℕ) → Bool
 is_before_seen opener b up seat other =
     is_able_seen b other
     && is_opener_before opener (b.street == 1) (known_cards (ups_of up other))
     (known_cards (ups_of up seat))
 
--- a seat opens before each seat that the leader opens before
+-- a seat opens before each seat before which the leader opens
 abbrev pub LeadsAsWell : Opener → RunningNumbers → UpRow → (lead other : ℕ) → Type 0
 LeadsAsWell opener b up lead other =
     (seat : ℕ) → is_before_seen opener b up seat lead ≡ true
     → is_before_seen opener b up seat other ≡ true
 
--- a seat's up-cards open before all that another's open before
+-- the seat's up-cards open before all before which the other's open
 abbrev pub is_as_early_seen : Opener → RunningNumbers → UpRow → (seat other : ℕ) → Bool
 is_as_early_seen opener b up seat other =
     is_as_early opener (b.street == 1) (known_cards (ups_of up seat))
     (known_cards (ups_of up other))
 
--- a seat is able, and no able seat opens before it
+-- the seat can act, and no seat that can act opens before it
 abbrev pub is_opener_seen : Opener → RunningNumbers → UpRow → ℕ → Bool
 is_opener_seen opener b up seat =
     is_able_seen b seat && not (list_any (is_before_seen opener b up seat) (all_seats b.setup))
 
--- the first able seat before which no other opens
+-- the first seat that can act and before which none opens
 abbrev pub up_opener_seen : Opener → RunningNumbers → UpRow → Option ℕ
 up_opener_seen opener b up = find (is_opener_seen opener b up) (all_seats b.setup)
 
--- who opens, where each up-card of an able seat is known
+-- who opens, if no seat that can act has an unknown up-card
 abbrev pub known_opener_seen : Opener → RunningNumbers → UpRow → Option ℕ
 known_opener_seen opener b up =
     if has_unknown_up_card_seen b up then None else up_opener_seen opener b up

@@ -1,4 +1,4 @@
--- Why a move is refused, by the running numbers, where it is known whose turn it is.
+-- Why a move is refused, by the running numbers, if it is known whose turn it is.
 use Rattle.std.specs.Prelude.{ℕ, ◌+◌, ◌-◌, ◌*◌, Bool, true, false, ◌&&◌, ◌||◌, ◌==◌, nat_lt, nat_le, not, min, max, if◌then◌else◌, List, [], ◌∷◌, slice_index, Option, Some, None, Result, Ok, Err}
 use Rattle.std.specs.Option.{option_map_or}
 use Rattle.chip_ledger.specs.declared.numbers.Seat.{Seat}
@@ -20,7 +20,7 @@ use Rattle.betting_numbers.specs.declared.running.RunningNumbers.{RunningNumbers
 use Rattle.betting_numbers.specs.Seen.{price_seen, owed_seen, is_able_seen, all_in_seen, has_opponent_seen}
 use Rattle.play_event.specs.Price.{starting_price}
 
--- a seat is named whose turn it is not
+-- the event names a seat whose turn it is not
 abbrev pub is_another : Option ℕ → ℕ → Bool
 is_another None mover = false
 is_another (Some seat) mover = not (seat == mover)
@@ -32,11 +32,11 @@ fold_why b named mover =
     else if not b.rules.free_fold && (owed_seen b mover == 0) then Some reasons.NothingToCall
     else None
 
--- where a call goes
+-- the target of a call: the current bet, or all-in if that is less
 abbrev pub call_seen : RunningNumbers → ℕ → ℕ
 call_seen b seat = min (price_seen b) (all_in_seen b seat)
 
--- a call states other chips than it adds
+-- a call states a different number of chips than it adds
 abbrev pub stated_why : Option ℕ → ℕ → Option Illegal
 stated_why None due = None
 stated_why (Some stated) due =
@@ -49,7 +49,7 @@ call_why b named stated mover =
     then Some reasons.WrongSeat
     else stated_why stated (call_seen b mover - amount_of b.bets mover)
 
--- where a raise goes
+-- the target of a raise
 abbrev pub target_seen : RunningNumbers → ℕ → Spelled → ℕ
 target_seen b seat (spelled.To amount) = amount
 target_seen b seat (spelled.Added amount) = amount_of b.bets seat + amount
@@ -62,13 +62,13 @@ target_seen b seat spelled.Unit =
     else price_seen b + unit b.setup b.street)
     (all_in_seen b seat)
 
--- the raises are within the cap
+-- the number of raises is within the cap
 abbrev pub is_within_cap_by : Option (List ℕ) → ℕ → ℕ → Bool
 is_within_cap_by None raises street = true
 is_within_cap_by (Some caps) raises street =
     nat_lt 4 street || nat_lt raises (slice_index caps (street - 1))
 
--- what a seat owes reopens the betting to it
+-- what a seat owes is enough to reopen the betting to it
 abbrev pub is_reopened_by : Limit → (least size owes : ℕ) → Bool
 is_reopened_by limits.No least size owes = nat_le least owes
 is_reopened_by limits.Pot least size owes = nat_le least owes
@@ -88,32 +88,32 @@ may_raise_seen limit b seat =
     && is_open_by b.rules.reopen limit (flag_of b.moved seat) b.full_raise (unit b.setup b.street)
     (owed_seen b seat)
 
--- the least raise that is not all-in, in no limit, where the street started at this price
+-- the least no-limit raise that is not all-in, given the current bet at the start of the street
 abbrev pub floor_by : Reopen → (start : ℕ) → RunningNumbers → ℕ
 floor_by reopen.Full start b = price_seen b + b.full_raise
 floor_by reopen.Always start b = max (start + b.setup.min_bet) b.doubled
 
--- and where it started at the price of the rules
+-- the least no-limit raise that is not all-in, by the rules of the hand
 abbrev pub floor_seen : RunningNumbers → ℕ
 floor_seen b = floor_by b.rules.reopen (starting_price b.setup b.street) b
 
--- the greatest raise of pot limit
+-- the greatest raise in pot limit
 abbrev pub ceiling_seen : RunningNumbers → ℕ → ℕ
 ceiling_seen b seat =
     max (price_seen b + b.full_raise) (price_seen b + total_of b.puts + owed_seen b seat)
 
--- the full raises of fixed limit
+-- the full raises in fixed limit
 abbrev pub fulls_by : (price size full_bet : ℕ) → List ℕ
 fulls_by price size full_bet =
     if nat_lt price size
     then (size ∷ [])
     else ((price + size) ∷ above_price price (full_bet + size))
 
--- those of the street
+-- the full raises of the street
 abbrev pub fulls_seen : RunningNumbers → List ℕ
 fulls_seen b = fulls_by (price_seen b) (unit b.setup b.street) b.full_bet
 
--- a target of a seat is legal, where the floor is this
+-- a target of a seat is legal, given the floor (the least no-limit raise that is not all-in)
 abbrev pub is_legal_seen : Limit → RunningNumbers → (floor seat target : ℕ) → Bool
 is_legal_seen limit b floor seat target =
     is_legal_by limit floor (price_seen b + b.full_raise) (all_in_seen b seat) (ceiling_seen b seat)
@@ -134,7 +134,7 @@ raise_to_why limit b floor mover target =
     else if nat_lt (greatest_seen limit b mover) target then Some reasons.RaiseTooBig
     else None
 
--- why a raise is refused, however it is spelled
+-- why a raise is refused, in whatever form it is written
 abbrev pub raise_why : Limit → RunningNumbers → (floor : ℕ) → Option ℕ → Spelled → ℕ
     → Option Illegal
 raise_why limit b floor named amount mover =
@@ -142,8 +142,8 @@ raise_why limit b floor named amount mover =
     then Some reasons.WrongSeat
     else raise_to_why limit b floor mover (target_seen b mover amount)
 
--- why an event may not come that may come at a move or not, and at a bring-in or not: the hand is
--- over, or something else is due
+-- why an event may not come now: the hand is over, or something else is due; the event is possible
+-- at a move or not, and at a bring-in or not
 abbrev pub now_why : (at_move at_bring_in : Bool) → Due → Option Illegal
 now_why at_move at_bring_in dues.Move = if at_move then None else Some reasons.WrongKind
 now_why at_move at_bring_in dues.BringIn = if at_bring_in then None else Some reasons.WrongKind
@@ -152,28 +152,28 @@ now_why at_move at_bring_in (dues.Deal street) = Some reasons.WrongKind
 now_why at_move at_bring_in (dues.Draw street) = Some reasons.WrongKind
 now_why at_move at_bring_in dues.Show = Some reasons.WrongKind
 
--- the seat that is named is not able
+-- the seat that the event names cannot act
 abbrev pub is_unable : RunningNumbers → Option ℕ → Bool
 is_unable b None = false
 is_unable b (Some seat) = not (is_able_seen b seat)
 
--- why a move is refused where it is not known whose turn it is
+-- why a move is refused if it is not known whose turn it is
 abbrev pub unknown_why : RunningNumbers → Option ℕ → Illegal
 unknown_why b named = if is_unable b named then reasons.WrongSeat else reasons.UpCardUnknown
 
--- the seat in turn, or why a move is refused where it is not known
+-- the seat whose turn it is, or why a move is refused if that is not known
 abbrev pub turn_or_why : RunningNumbers → Option ℕ → Option Seat → Result Seat Illegal
 turn_or_why b named None = Err (unknown_why b named)
 turn_or_why b named (Some seat) = Ok seat
 
--- the seat that is to move, or why a move is refused where it may not come now or where it is not
--- known whose turn it is
+-- the seat that moves, or why the move is refused: it may not come now, or it is not known whose
+-- turn it is
 abbrev pub mover_or_why : RunningNumbers → Option ℕ → Option Seat → Option Illegal
     → Result Seat Illegal
 mover_or_why b named in_turn (Some reason) = Err reason
 mover_or_why b named in_turn None = turn_or_why b named in_turn
 
--- where a bring-in goes
+-- the target of a bring-in: the bring-in, or all-in if that is less
 abbrev pub bring_in_seen : RunningNumbers → ℕ → ℕ
 bring_in_seen b seat = min b.setup.bring_in (all_in_seen b seat)
 

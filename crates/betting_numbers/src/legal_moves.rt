@@ -1,4 +1,5 @@
-//! An event is allowed as a legal move: whose it is, and where it goes. It is made elsewhere.
+//! Checks whether an event is a legal move: which seat's, and to which target. The move is made
+//! elsewhere.
 ghost use Rattle.std.specs.Prelude.{◌≡◌, ◌≤◌, Some};
 ghost use Rattle.chip_ledger.specs.declared.numbers.Seat.{Seat};
 ghost use Rattle.play_event.specs.Said as said;
@@ -12,8 +13,8 @@ use crate::running::RunningNumbers;
 use chip_ledger::Seat;
 use play_event::{Act, Due, Illegal, Limit, Spelled};
 
-/// A legal move before it is made: the seat, what it does, and the chips of the street that it has
-/// then.
+/// A legal move before it is made: the seat, what it does, and the seat's chips of the street after
+/// it.
 #[derive(Clone, Copy, Debug, PartialEq, Eq)]
 pub struct LegalMove {
     pub seat: Seat,
@@ -21,7 +22,7 @@ pub struct LegalMove {
     pub target: u64,
 }
 
-/// The seat in turn, if it is known, as events are answered by it.
+/// The betting and the player to act, if known: what events are answered by.
 #[derive(Clone, Copy)]
 pub struct Turn<'a> {
     pub numbers: &'a RunningNumbers,
@@ -62,7 +63,7 @@ impl Turn<'_> {
         })
     }
 
-    /// The bet or raise that an event says, if it is legal, where bets have this size.
+    /// The bet or raise that an event says, if it is legal; `size` is the bet size.
     pub fn raise(
         &self,
         limit: Limit,
@@ -110,8 +111,7 @@ impl Turn<'_> {
         })
     }
 
-    // The seat that is to move, where an event may come that may come at a move or not, and at a
-    // bring-in or not.
+    // The seat that moves. The event is possible at a move or not, and at a bring-in or not.
     fn seat_to_move(
         &self,
         at_move: bool,
@@ -133,7 +133,7 @@ impl Turn<'_> {
 }
 
 impl RunningNumbers {
-    // Why a move is refused where it is not known whose turn it is.
+    // Why a move is refused if it is not known whose turn it is.
     fn unknown(&self, named: Option<Seat>) -> Illegal
         ensures { result ≡ unknown_why self.now (seat_said named) }
     {
@@ -144,7 +144,7 @@ impl RunningNumbers {
         }
     }
 
-    // The seat that is named is not able.
+    // The seat that the event names cannot act.
     fn unable(&self, named: Option<Seat>) -> bool
         ensures { result ≡ is_unable self.now (seat_said named) }
     {
@@ -155,7 +155,7 @@ impl RunningNumbers {
     }
 }
 
-// Why an event may not come that may come at a move or not, and at a bring-in or not.
+// Why an event may not come now. It is possible at a move or not, and at a bring-in or not.
 fn not_now(due: Due, at_move: bool, at_bring_in: bool) -> Option<Illegal>
     ensures { result ≡ now_why at_move at_bring_in due }
 {

@@ -1,4 +1,4 @@
-//! The running numbers of the betting, and what the rules come to by them.
+//! The running numbers of the betting, and what the rules say by them.
 #![tactic(auto)]
 
 mod caps;

@@ -1,4 +1,4 @@
-//! What the running numbers say: who is live and able, the price, and what is owed.
+//! What the running numbers say: who is live and can act, the current bet, and what is owed.
 ghost use Rattle.std.specs.Prelude.{◌≡◌, ◌≤◌, ◌<◌};
 ghost use Rattle.chip_ledger.specs.declared.seat_row.TheConstants.{MOST_AMOUNT};
 ghost use Rattle.play_event.specs.Streets.{is_stud};
@@ -8,7 +8,7 @@ use crate::running::RunningNumbers;
 use chip_ledger::Seat;
 
 impl RunningNumbers {
-    /// The price of the street.
+    /// The current bet of the street, in chips.
     pub fn price(&self) -> u64
         ensures value { result ≡ price_seen self.now }
         ensures bounded { result ≤ MOST_AMOUNT }
@@ -16,7 +16,7 @@ impl RunningNumbers {
         self.price
     }
 
-    /// The street's chips of the seat where it puts all it has left.
+    /// The seat's chips on the street once it is all-in.
     pub fn all_in(&self, seat: Seat) -> u64
         ensures value { result ≡ all_in_seen self.now seat.number }
         ensures bounded { result ≤ MOST_AMOUNT }
@@ -25,7 +25,7 @@ impl RunningNumbers {
         bet + self.left(seat)
     }
 
-    /// How many seats are live.
+    /// The number of live seats.
     pub fn live_count(&self) -> u8
         ensures { result ≡ live_count_seen self.now }
     {
@@ -41,14 +41,14 @@ impl RunningNumbers {
             && (0 < self.owed(seat) || 2 <= self.able_count())
     }
 
-    /// What the seat owes.
+    /// What the seat owes to call, in chips.
     pub fn owed(&self, seat: Seat) -> u64
         ensures { result ≡ owed_seen self.now seat.number }
     {
         self.price.saturating_sub(self.bets.get(seat))
     }
 
-    /// Another seat is able.
+    /// Another seat can act.
     pub fn has_opponent(&self, seat: Seat) -> bool
         ensures { result ≡ has_opponent_seen self.now seat.number }
     {
@@ -61,7 +61,7 @@ impl RunningNumbers {
         }
     }
 
-    /// The seat is live and has chips left.
+    /// The seat can act: it is live and has chips left.
     pub fn able(&self, seat: Seat) -> bool
         ensures { result ≡ is_able_seen self.now seat.number }
     {
@@ -78,7 +78,7 @@ impl RunningNumbers {
             .saturating_sub(self.puts.get(seat))
     }
 
-    /// A bring-in is due, in a game of stud or another.
+    /// Whether a bring-in is due; `stud` says whether the game is stud.
     pub fn is_bring_in_due(&self, stud: bool) -> bool
         requires { stud ≡ is_stud self.now.setup.code }
         ensures { result ≡ is_bring_in_due_seen self.now }
@@ -86,7 +86,7 @@ impl RunningNumbers {
         stud && self.street == 1 && 2 <= self.able_count() && !self.opened
     }
 
-    /// How many seats are able.
+    /// The number of seats that can act.
     pub fn able_count(&self) -> u8
         ensures { result ≡ able_count_seen self.now }
     {

@@ -13,7 +13,7 @@ use chip_ledger::{LiveRow, Seat, SeatRow};
 use play_event::{Act, Due};
 
 impl RunningNumbers {
-    /// A move of the seat to a target, where bets have this unit.
+    /// Makes a move of the seat to a target (chips of the street); `unit` is the bet size.
     pub fn make(&mut self, seat: Seat, act: Act, target: u64, unit: u64)
         requires in_hand { seat.number ≤ self.old.setup.stacks.seats }
         requires reach { target ≤ all_in_seen self.old seat.number }
@@ -50,7 +50,7 @@ impl RunningNumbers {
         self.opened = opened;
     }
 
-    /// The next street begins with this due.
+    /// Begins the next street, on which this is due.
     pub fn next_street(&mut self, due: Due)
         requires { self.old.street < 255 }
         ensures numbers { IsNextStreet self.old self.new }
@@ -71,7 +71,7 @@ impl RunningNumbers {
         self.opened = false;
     }
 
-    /// Something else is due.
+    /// Sets what is due.
     pub fn set_due(&mut self, due: Due)
         ensures { self.new ≡ with_due self.old due }
     {
@@ -79,7 +79,7 @@ impl RunningNumbers {
         self.set_turn(due, next);
     }
 
-    /// Something else is due, of this seat where it is a move.
+    /// Sets what is due and, if that is a move, the player to act.
     pub fn set_turn(&mut self, due: Due, next: Option<Seat>)
         ensures { self.new ≡ with_turn self.old due next }
     {
@@ -108,7 +108,7 @@ fn brings_in(act: Act) -> bool
     }
 }
 
-// The flags stay, or none of them.
+// Keeps the flags, or clears them all.
 fn keep(row: &mut LiveRow, kept: bool)
     ensures seats { row.new.seats ≡ row.old.seats }
     ensures flags { (n : ℕ) → flag_of row.new n ≡ (kept && flag_of row.old n) }
@@ -118,7 +118,7 @@ fn keep(row: &mut LiveRow, kept: bool)
     }
 }
 
-// A live seat stays live, but where it folds.
+// A live seat stays live unless it folds.
 fn live_after(live: bool, act: Act) -> bool
     ensures { result ≡ (live && not (is_fold (act_said act))) }
 {
@@ -135,14 +135,14 @@ fn folds(act: Act) -> bool
     }
 }
 
-// A live seat is able with so many chips put of its stack.
+// Whether a live seat can act after it has put `put` chips of its stack.
 fn able_after(live: bool, stack: u64, put: u64) -> bool
     ensures { result ≡ (live && nat_lt 0 (stack - put)) }
 {
     live && put < stack
 }
 
-// One seat less, where it was counted and is not any more.
+// Decrements the count if the seat no longer belongs to it.
 fn count_after(count: u8, was: bool, is: bool) -> u8
     ensures { result ≡ (if was && not is then count - 1 else count) }
 {
@@ -153,7 +153,7 @@ fn count_after(count: u8, was: bool, is: bool) -> u8
     }
 }
 
-// One raise more, as far as a u32 counts.
+// Increments the number of raises after a raise, up to the greatest u32.
 fn raises_after(count: u32, raised: bool) -> u32
     ensures { result ≡ (if raised then min (count + 1) most_raises else count) }
 {
@@ -164,7 +164,7 @@ fn raises_after(count: u32, raised: bool) -> u32
     }
 }
 
-// The least full raise after a move that goes so far above the price.
+// The size of a full raise after a move that goes `rise` chips above the current bet.
 fn full_raise_after(full_raise: u64, raised: bool, rise: u64) -> u64
     ensures { result
         ≡ (if raised && nat_le full_raise rise then max rise full_raise else full_raise) }

@@ -44,7 +44,7 @@ impl RunningNumbers {
         }
     }
 
-    /// Where a call goes.
+    /// The target of a call: the current bet, or all-in if that is less.
     pub fn call_target(&self, seat: Seat) -> u64
         ensures value { result ≡ call_seen self.now seat.number }
         ensures reach { result ≤ all_in_seen self.now seat.number }
@@ -52,7 +52,7 @@ impl RunningNumbers {
         self.price().min(self.all_in(seat))
     }
 
-    /// Where a bring-in goes.
+    /// The target of a bring-in: the bring-in, or all-in if that is less.
     pub fn bring_in_target(&self, seat: Seat) -> u64
         ensures value { result ≡ bring_in_seen self.now seat.number }
         ensures reach { result ≤ all_in_seen self.now seat.number }
@@ -71,7 +71,8 @@ impl RunningNumbers {
         }
     }
 
-    /// The least raise that is not all-in, in no limit, where the street started at this price.
+    /// The least no-limit raise that is not all-in, given the current bet at the start of the
+    /// street.
     pub fn floor(&self, start: u64) -> u64
         requires { start ≤ MOST_AMOUNT }
         ensures { result ≡ floor_by self.now.rules.reopen start self.now }
@@ -82,7 +83,7 @@ impl RunningNumbers {
         }
     }
 
-    /// The raises are within the cap.
+    /// The number of raises is within the cap.
     pub fn is_within_cap(&self) -> bool
         ensures { result ≡ is_within_cap_by self.now.rules.caps self.now.raises self.now.street }
     {
@@ -93,13 +94,13 @@ impl RunningNumbers {
     }
 }
 
-/// A seat as it bets or raises, with the limit and the unit that its targets are judged by.
+/// A seat that bets or raises, with the limit and the bet size by which its targets are judged.
 #[derive(Clone, Copy)]
 pub struct Raiser<'a> {
     pub numbers: &'a RunningNumbers,
     pub seat: Seat,
     pub limit: Limit,
-    /// The unit of the street's bets.
+    /// The bet size of the street.
     pub size: u64,
     pub ghost in_hand: { seat.number ≤ numbers.now.setup.stacks.seats },
     pub ghost size_is: { size ≡ unit numbers.now.setup numbers.now.street },
@@ -119,7 +120,7 @@ impl Raiser<'_> {
         }
     }
 
-    /// Where a raise goes.
+    /// The target of a raise.
     pub fn target(&self, amount: Spelled) -> u128
         ensures { result ≡ target_seen self.now.numbers.now self.now.seat.number amount }
     {
@@ -161,7 +162,7 @@ impl Raiser<'_> {
         }
     }
 
-    /// Whether a target is legal, and the greatest that is, in chips of the street.
+    /// Whether a target is legal, and the greatest legal one, in chips of the street.
     pub fn judge(&self, floor: u64, target: u128) -> (bool, u128)
         ensures legal { result.0
             ≡ is_legal_seen self.now.limit self.now.numbers.now floor self.now.seat.number
@@ -189,8 +190,8 @@ impl Raiser<'_> {
         }
     }
 
-    /// The greatest raise of pot limit, in chips of the street: the price, and the pot with what
-    /// the seat owes in it.
+    /// The greatest raise in pot limit, in chips of the street: the current bet plus the pot after
+    /// a call.
     pub fn ceiling(&self) -> u64
         ensures { result ≡ ceiling_seen self.now.numbers.now self.now.seat.number }
     {
@@ -199,7 +200,7 @@ impl Raiser<'_> {
         (price + numbers.full_raise).max(price + numbers.pot + numbers.owed(self.seat))
     }
 
-    /// The first full raise of fixed limit, and the other one where there is one, in chips of the
+    /// The first full raise in fixed limit, and the other one if there is one, in chips of the
     /// street.
     pub fn fulls(&self) -> (u128, Option<u128>)
         ensures { fulls_seen self.now.numbers.now ≡ fulls_list result }
@@ -232,7 +233,7 @@ impl Raiser<'_> {
             && open
     }
 
-    /// What the seat owes reopens the betting to it.
+    /// What the seat owes is enough to reopen the betting to it.
     pub fn owes_enough(&self) -> bool
         ensures { result
             ≡ is_reopened_by self.now.limit self.now.numbers.now.full_raise self.now.size
@@ -246,7 +247,7 @@ impl Raiser<'_> {
     }
 }
 
-// Whether a target is legal, and the greatest that is, in fixed limit.
+// Whether a target is legal, and the greatest legal one, in fixed limit.
 fn judge_fixed(fulls: (u128, Option<u128>), all_in: u128, target: u128) -> (bool, u128)
     ensures legal { result.0 ≡ is_legal_by limits.Fixed 0 0 all_in 0 (fulls_list fulls) target }
     ensures greatest { result.1 ≡ greatest_by limits.Fixed all_in 0 (fulls_list fulls) }
@@ -265,7 +266,7 @@ fn judge_fixed(fulls: (u128, Option<u128>), all_in: u128, target: u128) -> (bool
     }
 }
 
-// A seat is named whose turn it is not.
+// The event names a seat whose turn it is not.
 fn another(named: Option<Seat>, mover: Seat) -> bool
     ensures { result ≡ is_another (seat_said named) mover.number }
 {
@@ -275,7 +276,7 @@ fn another(named: Option<Seat>, mover: Seat) -> bool
     }
 }
 
-// A call states other chips than it adds.
+// A call states a different number of chips than it adds.
 fn stated_differs(stated: Option<u64>, due: u64) -> Option<Illegal>
     ensures { result ≡ stated_why stated due }
 {

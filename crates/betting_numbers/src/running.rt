@@ -1,5 +1,5 @@
-//! The running numbers of the betting: what each seat put, who is live, and what the moves of the
-//! street came to.
+//! The running numbers of the betting: what each seat has put, who is live, and what the moves of
+//! the street have changed.
 ghost use Rattle.std.specs.Prelude.{◌≡◌, ◌≤◌, ◌-◌, ◌*◌, ℕ, ◌&&◌, nat_lt, map, count_by, Some};
 ghost use Rattle.chip_ledger.specs.declared.numbers.Seat.{Seat};
 ghost use Rattle.betting_numbers.specs.Caps.{cap_at};
@@ -14,22 +14,22 @@ ghost use Rattle.play_event.specs.Price.{starting_price};
 use chip_ledger::{LiveRow, Seat, SeatRow};
 use play_event::{Due, Rules, Setup};
 
-/// The betting as it stands: a few rows and numbers, which each move changes, in place of the moves
-/// themselves. What would be counted over all seats again and again is kept as a number: the pot,
-/// the price, how many seats are live and able; and so is the seat in turn. What a seat owes and
-/// whether it is able are read from the rows.
+/// The betting at one moment: a few rows and numbers, which each move updates, in place of the
+/// moves themselves. Numbers that would otherwise be recounted over all seats are kept: the pot,
+/// the current bet, how many seats are live and can act, and the player to act. What a seat owes
+/// and whether it can act are read from the rows.
 ///
-/// The fields are public since the contracts of the machine speak of them; the facts below them
-/// keep sums from wrapping and seats in the hand, and each number that is kept equal to what it
-/// counts, whatever is done with them.
+/// The fields are public because the contracts of the machine name them. The facts below them keep
+/// sums from overflowing and seats within the hand, and keep each number equal to what it counts,
+/// whatever is done with them.
 #[derive(Clone, Copy, Debug, PartialEq, Eq)]
 pub struct RunningNumbers {
-    /// What stood before the first card.
+    /// What was set before the first card.
     pub setup: Setup,
     pub rules: Rules,
-    /// The price before the first move of the hand.
+    /// The current bet before the first move of the hand.
     pub first_price: u64,
-    /// Who opens the first street of a game with blinds.
+    /// Who opens the first street in a game with blinds.
     pub first_opener: Seat,
     /// The street, from 1.
     pub street: u8,
@@ -37,38 +37,38 @@ pub struct RunningNumbers {
     pub due: Due,
     /// The chips that each seat has put in this hand, antes included.
     pub puts: SeatRow,
-    /// Those of all seats together.
+    /// The chips that all seats together have put in this hand.
     pub pot: u64,
     /// The chips that each seat has put on this street, without its ante.
     pub bets: SeatRow,
-    /// The price of the street: the greatest of those chips.
+    /// The current bet of the street: the greatest of those chips.
     pub price: u64,
     /// Which seats have not folded.
     pub live: LiveRow,
-    /// How many seats are live.
+    /// The number of live seats.
     pub live_count: u8,
-    /// How many seats are able: live, with chips left.
+    /// The number of seats that can act: live, with chips left.
     pub able_count: u8,
     /// Which seats have moved on this street.
     pub moved: LiveRow,
-    /// Which seats have moved since the price last rose.
+    /// Which seats have moved since the current bet last rose.
     pub since_rise: LiveRow,
     /// The seat that moved last on this street.
     pub last: Option<Seat>,
-    /// Where a move is due: the seat with that move, from the opener of a game with blinds on or
-    /// from behind the seat that moved last. Before the first move of a street of stud the up-cards
-    /// say whose turn it is, and not this.
+    /// If a move is due: the player to act, the first with a move to make from the opener in a game
+    /// with blinds, or after the seat that moved last. Before the first move of a stud street the
+    /// up-cards say whose turn it is, and not this.
     pub next: Option<Seat>,
-    /// How many raises there were on this street, as far as a u32 counts.
+    /// The number of raises on this street, up to the greatest u32.
     pub raises: u32,
-    /// How far a raise has to go above the price to be full.
+    /// How far a full raise has to go above the current bet.
     pub full_raise: u64,
-    /// The last full bet of fixed limit.
+    /// The last full bet in fixed limit.
     pub full_bet: u64,
-    /// The greatest of twice the target less the price before it, over the raises of the street:
-    /// the least raise where betting always reopens.
+    /// The greatest, over the raises of the street, of twice the target minus the current bet
+    /// before it: the least raise if a raise always reopens the betting.
     pub doubled: u64,
-    /// Whether a bring-in or a raise came on this street.
+    /// Whether a bring-in or a raise opened the betting of this street.
     pub opened: bool,
     pub ghost first_price_is: { first_price ≡ starting_price setup 1 },
     pub ghost first_price_bounded: { first_price ≤ MOST_AMOUNT },

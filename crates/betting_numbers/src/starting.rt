@@ -14,7 +14,7 @@ use crate::running::RunningNumbers;
 use chip_ledger::{LiveRow, Seat, SeatRow};
 use play_event::{Due, Rules, Setup};
 
-/// What the seats so far post before the first card, and what it comes to.
+/// What the seats so far post before the first card.
 #[derive(Clone, Copy)]
 pub struct Posted {
     /// The blinds as far as the stacks go.
@@ -23,19 +23,19 @@ pub struct Posted {
     pub puts: SeatRow,
     /// The seats so far.
     pub live: LiveRow,
-    /// The chips of all seats together.
+    /// The chips of all seats so far.
     pub pot: u64,
-    /// The greatest of the blinds as far as the stacks go.
+    /// The greatest of the posted blinds.
     pub price: u64,
-    /// How many seats have chips left.
+    /// The number of seats with chips left.
     pub able_count: u8,
-    /// The greatest blind that is named.
+    /// The greatest blind of the setup.
     pub big_blind: u64,
     /// The number of the last seat with that blind, or 0.
     pub last_big: u8,
 }
 
-/// The numbers before the first card, where bets have this size on the first street.
+/// The numbers before the first card; `size` is the bet size of the first street.
 pub fn start(setup: &Setup, rules: &Rules, size: u64) -> RunningNumbers
     requires valid { IsValid setup.now }
     requires antes { setup.now.antes.seats ≡ setup.now.stacks.seats }
@@ -98,7 +98,7 @@ impl Posted {
         }
     }
 
-    // One seat more posts, behind so many.
+    // One more seat posts, after the first `index`.
     fn post(&mut self, setup: &Setup, index: u8)
         requires posts { IsPostable setup.now }
         requires less { index < setup.now.stacks.seats }
@@ -122,7 +122,7 @@ impl Posted {
     }
 }
 
-// One seat more, where it counts.
+// Increments the count if the seat counts.
 fn one_more(count: u8, counts: bool) -> u8
     requires { count < 255 }
     ensures value { result ≡ count + cond counts 1 0 }
@@ -131,7 +131,7 @@ fn one_more(count: u8, counts: bool) -> u8
     if counts { count + 1 } else { count }
 }
 
-// The number of the last seat with the greatest blind, after one seat more.
+// The number of the last seat with the greatest blind, after one more seat.
 fn last_after(last: u8, big: bool, number: u8) -> u8
     requires { last ≤ number }
     ensures value { result ≡ cond big number last }
@@ -140,8 +140,7 @@ fn last_after(last: u8, big: bool, number: u8) -> u8
     if big { number } else { last }
 }
 
-// The full bet at which the first street starts, where it starts at this price and bets have this
-// size.
+// The full bet at the start of the first street, given the current bet and the bet size.
 fn full_bet(price: u64, size: u64) -> u64
     ensures { result ≡ (if nat_le size price then price else 0) }
 {

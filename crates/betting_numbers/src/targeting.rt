@@ -1,4 +1,4 @@
-//! Where the seat in turn may raise to.
+//! Where the player to act may raise to.
 ghost use Rattle.std.specs.Prelude.{◌≡◌, ◌≤◌, ℕ, IfSome, is_some};
 ghost use Rattle.play_event.specs.Openers.{TheSeat};
 ghost use Rattle.play_event.specs.Past.{Past, moves_of};
@@ -18,7 +18,7 @@ use chip_ledger::Seat;
 use play_event::Limit;
 
 /// Where a seat may raise to, in chips of the street: its least and its greatest legal target, and
-/// the target at which it is all-in. Not every amount between the ends is legal.
+/// its all-in. Not every amount between the two is legal.
 #[derive(Clone, Copy, Debug, PartialEq, Eq)]
 pub struct Targets {
     pub least: u64,
@@ -27,7 +27,7 @@ pub struct Targets {
 }
 
 impl RunningNumbers {
-    /// Where the seat in turn may raise to, if it is known and may.
+    /// Where the player to act, if known, may raise to; `None` if it may not.
     pub fn targets_of(&self, turn: Option<Seat>, limit: Limit, size: u64) -> Option<Targets>
         requires in_hand { IfSome turn (λ seat. seat.number ≤ self.now.setup.stacks.seats) }
         requires limit { limit_of self.now.setup.code ≡ limit }

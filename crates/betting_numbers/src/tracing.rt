@@ -54,7 +54,7 @@ impl Raiser<'_> {
         }
     }
 
-    // The raise needs rules by which betting always reopens.
+    // The raise is legal only under rules by which a raise always reopens the betting.
     fn closed(&self, target: u64) -> bool
         ensures { result
             ≡ is_closed_seen self.now.limit self.now.numbers.now self.now.seat.number target }
@@ -65,7 +65,7 @@ impl Raiser<'_> {
         !open || !legal
     }
 
-    // Where a raise by the unit goes, in fixed limit, else 0.
+    // The target of a raise by the bet size in fixed limit, else 0.
     fn unit_to(&self) -> u64
         ensures { result ≡ unit_seen self.now.limit self.now.numbers.now self.now.seat.number }
     {

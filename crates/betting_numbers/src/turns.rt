@@ -10,7 +10,7 @@ use crate::running::RunningNumbers;
 use chip_ledger::Seat;
 
 impl RunningNumbers {
-    /// Whose turn it is, where the blinds say who opens: nobody's where no move is due.
+    /// Whose turn it is in a game with blinds: nobody's if no move is due.
     pub fn mover(&self) -> Option<Seat>
         ensures turn { in_turn (seat_said result)
             ≡ mover_seen self.now
@@ -26,8 +26,8 @@ impl RunningNumbers {
         }
     }
 
-    // Where the turn is passed to, where the blinds say who opens: to the seat after the one that
-    // moved last, going round.
+    // The next seat to look at in a game with blinds: the one after the seat that moved last, going
+    // round, or the opener.
     fn passed_to(&self) -> Seat
         ensures value { TheSeat result.number
             ≡ after_last (last_seen self.now) (openers.seat_after self.now.setup)
@@ -48,7 +48,7 @@ impl RunningNumbers {
         }
     }
 
-    // The first of so many seats, from this number on, with a move to make.
+    // The first of `count` seats, from seat `first` on, with a move to make.
     #[tactic(auto, using(list_laws::proofs::Finding::find_step))]
     fn first_to_move(&self, first: u8, count: u8) -> Option<Seat>
         requires from_one { 1 ≤ first }

@@ -1,4 +1,4 @@
-//! Who opens a street by up-cards, and who is behind.
+//! Who opens a street by up-cards, and which seat acts after the opener.
 ghost use Rattle.std.specs.Prelude.{◌≡◌, ◌≤◌, ◌&&◌, not, IfSome};
 ghost use Rattle.chip_ledger.specs.SeatsSaid.{seat_said};
 ghost use Rattle.play_event.specs.Openers.{in_turn};
@@ -10,24 +10,24 @@ use chip_ledger::Seat;
 use play_event::{Opener, UpRow};
 use up_card_order::{has_unknown, is_as_early, is_opener_before, known};
 
-/// Whose turn it is, if it is known, and who is behind.
+/// Whose turn it is, if known, and the seat after it.
 #[derive(Clone, Copy, Debug, PartialEq, Eq)]
 pub struct SeatInTurn {
     pub seat: Option<Seat>,
-    /// The first able seat behind that one, going round, where it was looked for: the same seat
-    /// where no other is able.
+    /// The first seat after that one that can act, going round, if it was looked for: the same seat
+    /// if no other can act.
     pub behind: Option<Seat>,
 }
 
 impl RunningNumbers {
-    /// Who opens, where each up-card of an able seat is known: the first able seat before which no
-    /// other opens. The walk goes from the last seat to the first, and keeps of the seats so far
-    /// the leader, which opens before all that any of them opens before, and the first before which
-    /// none of them opens. Going this way a new seat takes the place of that one, or leaves it as
-    /// it is.
+    /// Who opens, if each up-card of a seat that can act is known: the first seat that can act and
+    /// before which no other opens. The walk goes from the last seat to the first and keeps two of
+    /// the seats so far: the leader, which opens before all that any of them opens before, and the
+    /// first before which none of them opens. In this direction a new seat either replaces the
+    /// latter or leaves it.
     ///
-    /// The same walk finds who is behind the opener: the able seat that was walked last before it
-    /// or, where none was able before it, the one that was walked last of all.
+    /// The same walk finds the seat after the opener: the seat that can act and was walked last
+    /// before the opener or, if there was none, the one that was walked last of all.
     pub fn up_opener(&self, opener: Opener, up: &UpRow) -> SeatInTurn
         ensures found { seat_said result.seat ≡ known_opener_seen opener self.now up.now }
         ensures behind { IfSome result.seat
@@ -73,7 +73,7 @@ impl RunningNumbers {
     }
 }
 
-// The up-cards of the seats, of which the one that opens is sought.
+// The up-cards of the seats, among which the opener is looked for.
 #[derive(Clone, Copy)]
 struct Ups<'a> {
     numbers: &'a RunningNumbers,
@@ -83,15 +83,15 @@ struct Ups<'a> {
 }
 
 impl Ups<'_> {
-    // The seat is able, and an up-card of it is unknown.
+    // The seat can act and has an unknown up-card.
     fn unknown(&self, seat: Seat) -> bool
         ensures { result ≡ has_unknown_seen self.now.numbers.now self.now.up.now seat.number }
     {
         self.numbers.able(seat) && has_unknown(self.up.get(seat).as_slice())
     }
 
-    // The able one of two seats or, where both are, the one that opens before all that the other
-    // opens before.
+    // The one of two seats that can act or, if both can, the one that opens before all that the
+    // other opens before.
     fn earlier(&self, lead: Seat, other: Seat) -> Seat
         requires { other.number ≤ lead.number }
         ensures within { result.number ≤ lead.number }
@@ -116,7 +116,7 @@ impl Ups<'_> {
         if early { other } else { lead }
     }
 
-    // The seat is able, and the leader does not open before it.
+    // The seat can act, and the leader does not open before it.
     fn opens(&self, lead: Seat, seat: Seat) -> bool
         ensures { result
             ≡ (is_able_seen self.now.numbers.now seat.number

@@ -24,7 +24,7 @@ use Rattle.canon_blocks.proofs.Runs.{Runs}
 use Rattle.canon_blocks.proofs.CardEvents.{HasCome, due_there, board_legal, board_placed}
 use Rattle.canon_blocks.proofs.CleanShow.{known_length}
 
--- a past with a deal of the board, where it has cards
+-- a past with a deal of the board, if it has cards
 abbrev pub with_board : ℕ → List Slot → Past → Past
 with_board street [] before = before
 with_board street (slot ∷ rest) before = past.Boarded street (known_cards (slot ∷ rest)) ∷ before
@@ -35,7 +35,7 @@ known_again [] known = refl
 known_again (slots.Known card ∷ rest) known = ap (λ l. slots.Known card ∷ l) (known_again rest (λ slot among. known slot (inr among)))
 known_again (slots.Unknown ∷ rest) known = false_true (sym (known slots.Unknown (inl refl)))
 
--- a deal is due where the board is owed cards
+-- a deal is due if the board is owed cards
 board_due : (setup : Setup) (before : Past) (street : ℕ) → 0 < board_cards_owed setup before street → due_on setup before street ≡ Some (dues.Deal street)
 board_due setup before street some =
     ap (λ b. if b then Some (dues.Deal street) else if is_draw_due setup before street then Some (dues.Draw street) else if is_bring_in_due setup (moves_of before) street then Some dues.BringIn else if is_move_due setup (moves_of before) street then Some dues.Move else None)

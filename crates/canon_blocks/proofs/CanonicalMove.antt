@@ -1,5 +1,6 @@
--- The moves of a legal past fit; and each of them, as the canonical script says it, is legal after every past with the same
--- older moves, where its street's cards are dealt and drawn and the up-cards of able seats are the same.
+-- The moves of a legal past fit. Each of them, as the canonical script says it, is legal after
+-- every past with the same older moves, if the cards of its street are dealt and drawn and the
+-- up-cards of seats that can act are the same.
 use Rattle.std.proofs.Common.{◌≡◌, ℕ, false, Some, None, List, ◌∷◌, sym, ◌∙◌, ap, subst, if◌then◌else◌}
 use Rattle.play_event.specs.declared.reason.Due.{Due}
 use Rattle.play_event.specs.declared.reason.Due.TheVariants as dues
@@ -23,7 +24,8 @@ use Rattle.play_laws.proofs.NamedMoves.{move_reasons, why_move, named_move, name
 use Rattle.play_laws.proofs.MovesLaw.{ups_by, IsMover, free, shown, IsBetDue, bring_first, move_now, FitsMove}
 use Rattle.canon_blocks.proofs.CardEvents.{HasCome, due_there}
 
--- who is in turn, as the places of the script's end tell it, is in turn by up-cards that are the same
+-- whose turn it is by the places at the script's end is whose turn it is by up-cards that are the
+-- same
 pub told_mover : (setup : Setup) (placed : List Place) (older : List Move) (street seat : ℕ) (ups : UpCards) → IsMover setup placed older street seat → SameUps setup older ups (ups_by setup.code placed street) → mover setup ups older street ≡ TheSeat seat
 told_mover setup placed older street seat ups (free by) same = by ups
 told_mover setup placed older street seat ups (shown known by) same = mover_same setup older street ups (ups_by setup.code placed street) same ∙ by
@@ -40,7 +42,7 @@ bet_due setup before street _ no_deal no_draw (move_now no_bring so) =
     ∙ ap (λ b. if b then Some dues.BringIn else if is_move_due setup (moves_of before) street then Some dues.Move else None) no_bring
     ∙ ap (λ b. if b then Some dues.Move else None) so
 
--- the canonical word of a move that took place is its named word
+-- the canonical event of a move that took place is its named event
 made : Resolved → Move → Move
 made (Moved move) other = move
 made (Dealt street seat cards) other = other
@@ -70,12 +72,12 @@ pub record IsReady (setup : Setup) (placed : List Place) (before : Past) (older 
   pub no_draw : is_draw_due setup before street ≡ false
   pub ups : SameUps setup older (up_cards setup.code before) (ups_by setup.code placed street)
 
--- a move is legal as the canonical script says it, and takes place alike
+-- a move is legal as the canonical script says it, and takes place in the same way
 pub record IsPlayedAgain (setup : Setup) (rules : Rules) (before : Past) (move : Move) : Type 0 where
   pub legal : why setup rules before (move_named move) ≡ None
   pub after : with_event setup (move_named move) before ≡ Moved move ∷ before
 
--- a move that fits is played again wherever the same moves and up-cards stand
+-- a move that fits is played again wherever the moves and up-cards are the same
 pub move_again : (setup : Setup) (rules : Rules) (placed : List Place) (before : Past) (older : List Move) (move : Move) → FitsMove setup rules placed older move → IsReady setup placed before older move.street → IsPlayedAgain setup rules before move
 unfolding with_event
 move_again setup rules placed before older move fits ready =

@@ -25,19 +25,19 @@ use Rattle.play_event.specs.Laws.{NoneHold}
 use Rattle.play_event.proofs.StreetLaws.{first_is_due}
 use Rattle.play_event.proofs.ReasonLaws.{legal_without_reason}
 
--- a past has come to a street: nothing is due before it, and two seats or more are live
+-- a past has reached a street: nothing is due before it, and two or more seats are live
 pub record HasCome (setup : Setup) (before : Past) (street : ℕ) : Type 0 where
   pub several : nat_le (live_count setup (moves_of before)) 1 ≡ false
   pub reached : newest_street before ≤ street
   pub last : street ≤ street_count setup.code
   pub quiet : (between : ℕ) → newest_street before ≤ between → between < street → due_on setup before between ≡ None
 
--- what is due on the street to which it has come, is due
+-- what is due on the street that it has reached is due
 pub due_there : (setup : Setup) (before : Past) (street : ℕ) (due : Due) → HasCome setup before street → due_on setup before street ≡ Some due → turn setup before ≡ (street, due)
 due_there setup before street due come is =
     first_is_due setup before street due come.several (record { reached = come.reached; is_due = is; quiet = come.quiet }) come.last
 
--- and stays so after an event on it that is no move
+-- and is still due after an event on it that is no move
 pub still_there : (setup : Setup) (before : Past) (street : ℕ) (event : Resolved) → HasCome setup before street → street_of event ≡ street → moves_of (event ∷ before) ≡ moves_of before → HasCome setup (event ∷ before) street
 still_there setup before street event come on same =
     record {
@@ -47,34 +47,34 @@ still_there setup before street event come on same =
       quiet = λ between least most. absurd (omega (arith, on, least, most));
     }
 
--- the reasons where this is due
+-- the reasons when this is due
 abbrev pub NoneHoldAt : Setup → Rules → Past → ℕ × Due → Said → Type 0
 NoneHoldAt setup rules before now event = NoneHold (all_reasons setup rules before now event)
 
--- an event is legal where none of the reasons holds
+-- an event is legal if no reason holds against it
 pub legal_at : (setup : Setup) (rules : Rules) (before : Past) (now : ℕ × Due) (event : Said) → turn setup before ≡ now → NoneHoldAt setup rules before now event → why setup rules before event ≡ None
 legal_at setup rules before now event turned none =
     let P : ℕ × Due → Type 0 = λ at. NoneHoldAt setup rules before at event in
     legal_without_reason setup rules before event (subst P (sym turned) none)
 
--- a deal is legal where it may come and its seat is owed so many cards, and none of them is taken
+-- a deal is legal if it is due, its seat is owed this number of cards, and none of them is taken
 pub deal_legal : (setup : Setup) (rules : Rules) (before : Past) (street : ℕ) (due : Due) (seat : ℕ) (cards : List Slot) → turn setup before ≡ (street, due) → is_over due ≡ false → is_due_kind setup.code due (said.Hole seat cards) ≡ true → is_owed_nothing setup before street seat ≡ false → is_wrong_deal (cards_owed setup before street seat) (length cards) ≡ false → has_taken_card setup.code (places_of setup.code before) street cards ≡ false → why setup rules before (said.Hole seat cards) ≡ None
 deal_legal setup rules before street due seat cards turned going kind owed count free =
     legal_at setup rules before (street, due) (said.Hole seat cards) turned
     (ap (λ b. b && true) going, (ap (λ b. not (b || false)) kind, (owed, (count, (free, (refl, (refl, (refl, (refl, (refl, (refl, (refl, tt))))))))))))
 
--- what a deal leaves
+-- what a deal changes
 pub deal_placed : (setup : Setup) (before : Past) (street : ℕ) (due : Due) (seat : ℕ) (cards : List Slot) → turn setup before ≡ (street, due) → with_event setup (said.Hole seat cards) before ≡ past.Dealt street seat cards ∷ before
 unfolding with_event
 deal_placed setup before street due seat cards turned = ap (λ (at : ℕ × Due). past.Dealt at.0 seat cards ∷ before) turned
 
--- a deal of the board is legal where it is owed and free
+-- a deal of the board is legal if it is owed and its cards are not taken
 pub board_legal : (setup : Setup) (rules : Rules) (before : Past) (street : ℕ) (cards : List Card) → turn setup before ≡ (street, dues.Deal street) → is_due_kind setup.code (dues.Deal street) (said.Board cards) ≡ true → is_wrong_deal (board_cards_owed setup before street) (length cards) ≡ false → has_taken_card setup.code (places_of setup.code before) street (map (λ card. slots.Known card) cards) ≡ false → why setup rules before (said.Board cards) ≡ None
 board_legal setup rules before street cards turned kind count free =
     legal_at setup rules before (street, dues.Deal street) (said.Board cards) turned
     (refl, (ap (λ b. not (b || false)) kind, (refl, (count, (free, (refl, (refl, (refl, (refl, (refl, (refl, (refl, tt))))))))))))
 
--- what it leaves
+-- what it changes
 pub board_placed : (setup : Setup) (before : Past) (street : ℕ) (due : Due) (cards : List Card) → turn setup before ≡ (street, due) → with_event setup (said.Board cards) before ≡ past.Boarded street cards ∷ before
 unfolding with_event
 board_placed setup before street due cards turned = ap (λ (at : ℕ × Due). past.Boarded at.0 cards ∷ before) turned
@@ -85,7 +85,7 @@ discard_legal setup rules before street seat cards turned next count free held =
     legal_at setup rules before (street, dues.Draw street) (said.Discard seat cards) turned
     (refl, (refl, (ap not next, (count, (free, (held, (refl, (refl, (refl, (refl, (refl, (refl, tt))))))))))))
 
--- what it leaves
+-- what it changes
 pub discard_placed : (setup : Setup) (before : Past) (street : ℕ) (due : Due) (seat : ℕ) (cards : List Slot) → turn setup before ≡ (street, due) → with_event setup (said.Discard seat cards) before ≡ past.Discarded street seat cards ∷ before
 unfolding with_event
 discard_placed setup before street due seat cards turned = ap (λ (at : ℕ × Due). past.Discarded at.0 seat cards ∷ before) turned

@@ -1,5 +1,5 @@
--- A discard that names some of the cards that a seat holds, as they are known, takes just these; a show of all cards that
--- a seat holds takes them all and leaves the places as they are.
+-- A discard that names some of the cards that a seat holds, as they are known, takes just these; a
+-- show of all cards that a seat holds takes them all and leaves the places unchanged.
 use Rattle.std.proofs.Common.{◌≡◌, ℕ, suc, ◌+◌, ◌≤◌, Bool, true, false, ◌&&◌, not, nat_lt, List, [], ◌∷◌, map, filter, length, count_by, refl, sym, ◌∙◌, ap, arith, if◌then◌else◌}
 use Rattle.std.specs.List.{list_any}
 use Rattle.std.proofs.lemmas.Bool.{le-ltb}
@@ -30,7 +30,7 @@ blanks_length taken (place ∷ rest) = blanks_step taken place rest place.slot (
 pub blanks_same : (taken : Place → Bool) (placed : List Place) → blanks_in (slots_taken taken placed) ≡ blanks_taken taken placed
 blanks_same taken placed = sym (length-filter is_unknown (slots_taken taken placed)) ∙ blanks_length taken placed
 
--- there are unknown covered places enough
+-- there are enough unknown covered places
 fewer_step : (covers taken : Place → Bool) (place : Place) (rest : List Place) (slot : Slot) (c t : Bool) → place.slot ≡ slot → (t ≡ true → c ≡ true) → blanks_taken taken rest ≤ length (filter (λ (place : Place). is_unknown place.slot) (filter covers rest)) → (if t && is_unknown slot then suc (blanks_taken taken rest) else blanks_taken taken rest) ≤ length (filter (λ (place : Place). is_unknown place.slot) (if c then (place ∷ filter covers rest) else filter covers rest))
 fewer_step covers taken place rest slot false true here sub later = false_true (sub refl)
 fewer_step covers taken place rest slot false false here sub later = later
@@ -47,7 +47,7 @@ fewer_blanks : (covers taken : Place → Bool) (placed : List Place) → ((place
 fewer_blanks covers taken [] sub = omega arith
 fewer_blanks covers taken (place ∷ rest) sub = fewer_step covers taken place rest place.slot (covers place) (taken place) refl (sub place) (fewer_blanks covers taken rest sub)
 
--- and covered places enough
+-- and enough covered places
 count_step : (covers taken : Place → Bool) (place : Place) (rest : List Place) (c t : Bool) → (t ≡ true → c ≡ true) → length (slots_taken taken rest) ≤ length (filter covers rest) → length (map (λ (place : Place). place.slot) (if t then (place ∷ filter taken rest) else filter taken rest)) ≤ length (if c then (place ∷ filter covers rest) else filter covers rest)
 count_step covers taken place rest false true sub later = false_true (sub refl)
 count_step covers taken place rest false false sub later = later
@@ -62,7 +62,7 @@ marked_slot : (taken : Place → Bool) (mark : Place → Place) (place : Place) 
 marked_slot taken mark place true same = same
 marked_slot taken mark place false same = refl
 
--- a discard by known names makes no further card known
+-- a discard by known names makes no other card known
 pub none_known : (taken : Place → Bool) (mark : Place → Place) (placed : List Place) → ((place : Place) → (mark place).slot ≡ place.slot) → newly_known placed (map (marked_if taken mark) placed) ≡ []
 none_known taken mark [] same = refl
 none_known taken mark (place ∷ rest) same =

@@ -1,4 +1,5 @@
--- A show of all cards that a seat holds, where they are known, takes them all and leaves the places as they are.
+-- A show of all cards that a seat holds, if they are known, takes them all and leaves the places
+-- unchanged.
 use Rattle.std.proofs.Common.{◌≡◌, ℕ, suc, ◌+◌, Bool, true, false, ◌&&◌, inl, inr, List, [], ◌∷◌, map, filter, length, count_by, refl, sym, ◌∙◌, ap, arith, if◌then◌else◌}
 use Rattle.std.specs.List.{list_any}
 use Rattle.std.proofs.lemmas.Bool.{and_parts, or_from, le-ltb, eq-eqb, both_ways, false_from_ne_true, not_from_true}
@@ -30,7 +31,7 @@ HoldsKnown seat placed = (place : Place) → IsAmong placed place → is_held_by
 abbrev pub held_cards : ℕ → List Place → List Card
 held_cards seat placed = names_taken (is_held_by seat) placed
 
--- where all slots are known there are as many cards
+-- if all slots are known there are as many cards
 pub known_length : (list : List Slot) → ((slot : Slot) → IsOneOf list slot → is_unknown slot ≡ false) → length (known_cards list) ≡ length list
 known_length [] known = refl
 known_length (slots.Known card ∷ rest) known = ap suc (known_length rest (λ slot among. known slot (inr among)))
@@ -51,7 +52,7 @@ held_length seat placed known =
     ∙ length-map (filter (is_held_by seat) placed) (λ (p : Place). p.slot)
     ∙ length-filter (is_held_by seat) placed
 
--- the cover of a show of all
+-- what a show of all cards applies to
 abbrev covers_all : ℕ → Place → Bool
 covers_all seat place = is_held_by seat place && true
 

@@ -1,4 +1,5 @@
--- The canonical deals of a street: to each seat in one event as many cards as it is owed. They are legal one after another.
+-- The canonical deals of a street: to each seat, in one event, as many cards as it is owed. They
+-- are legal one after another.
 use Rattle.play_laws.proofs.SeatRanges.{any_seat}
 use Rattle.std.proofs.Common.{◌≡◌, ℕ, zero, suc, ◌+◌, ◌-◌, ◌≤◌, ◌<◌, true, false, ◌&&◌, ◌||◌, ◌==◌, not, nat_lt, nat_le, Some, None, is_some, List, [], ◌∷◌, ◌++◌, length, refl, sym, ◌∙◌, ap, subst, arith, if◌then◌else◌}
 use Rattle.std.specs.List.{list_any, flat_map, range_with_len}
@@ -28,7 +29,7 @@ use Rattle.canon_blocks.proofs.CardEvents.{HasCome, due_there, still_there, deal
 use Rattle.list_laws.proofs.Any.{none_passes}
 use Rattle.street_laws.proofs.TurnAfter.{nothing_owed_by}
 
--- a past with a deal, where it has cards
+-- a past with a deal, if it has cards
 abbrev pub with_deal : ℕ → ℕ → List Slot → Past → Past
 with_deal street seat [] before = before
 with_deal street seat (slot ∷ rest) before = past.Dealt street seat (slot ∷ rest) ∷ before
@@ -38,7 +39,7 @@ abbrev pub with_deals : ℕ → (ℕ → List Slot) → List ℕ → Past → Pa
 with_deals street cards [] before = before
 with_deals street cards (seat ∷ rest) before = with_deals street cards rest (with_deal street seat (cards seat) before)
 
--- on this street a deal to a seat may come wherever the seat is owed cards
+-- on this street a deal to a seat may come if the seat is owed cards
 pub record DealsOn (setup : Setup) (street : ℕ) (due : Due) : Type 0 where
   pub kind : (seat : ℕ) (cards : List Slot) → is_due_kind setup.code due (said.Hole seat cards) ≡ true
   pub going : is_over due ≡ false
@@ -64,7 +65,7 @@ no_deal setup before street no_hole no_board =
     ap (λ b. b || nat_lt 0 (board_cards_owed setup before street)) (none_passes (λ seat. nat_lt 0 (hole_cards_owed setup before street seat)) (all_seats setup) (λ seat. nothing_owed_by (is_live (moves_of before) seat) (hole_cards_on setup.code street) (hole_cards_dealt before street seat) no_hole))
     ∙ le-ltb 0 (board_cards_owed setup before street) (omega (arith, no_board))
 
--- so does a street that draws, where discards are to be replaced
+-- so does a street that draws, if discards are to be replaced
 pub draw_street : (setup : Setup) (street : ℕ) → has_draw setup.code street ≡ true → hole_cards_on setup.code street ≡ 0 → board_cards_on setup.code street ≡ 0 → DealsOn setup street (dues.Draw street)
 draw_street setup street draws no_hole no_board =
     record {
@@ -80,13 +81,13 @@ draw_street setup street draws no_hole no_board =
           ∙ ap (λ b. if b then Some (dues.Draw street) else if is_bring_in_due setup (moves_of before) street then Some dues.BringIn else if is_move_due setup (moves_of before) street then Some dues.Move else None) due;
     }
 
--- a deal to one seat leaves what others are owed
+-- a deal to one seat does not change what others are owed
 owed_still : (setup : Setup) (before : Past) (street seat other : ℕ) (cards : List Slot) → (seat ≡ other → ⊥) → cards_owed setup (past.Dealt street seat cards ∷ before) street other ≡ cards_owed setup before street other
 owed_still setup before street seat other cards differ =
     let added : (if (street == street) && (seat == other) then length cards else 0) ≡ 0 = ap (λ b. if b then length cards else 0) (and_right (street == street) (seat == other) (ne_eqb seat other differ)) in
     ap (λ n. if has_draw setup.code street then cards_discarded before street other - n else (if is_live (moves_of before) other then hole_cards_on setup.code street - n else 0)) (omega (arith, added))
 
--- none of the cards is taken where it is dealt
+-- none of the cards is taken when it is dealt
 abbrev pub AllFree : Code → ℕ → (ℕ → List Slot) → List ℕ → Past → Type 0
 AllFree code street cards [] before = Unit {0}
 AllFree code street cards (seat ∷ rest) before = (has_taken_card code (places_of code before) street (cards seat) ≡ false) × AllFree code street cards rest (with_deal street seat (cards seat) before)

@@ -63,12 +63,12 @@ none_count moves placed street owner (mine ∷ mines) (final ∷ finals) mirrore
     ap (λ b. if b then (mine ∷ filter (is_in_group owner street) mines) else filter (is_in_group owner street) mines) not_in
     ∙ none_count moves placed street owner mines finals mirrored.1 (λ other among. before other (inr among))
 
--- what stands after some of the deals of a street
+-- the places after some of the deals of a street
 pub record AreDealt (code : Code) (moves : List Move) (placed : List Place) (street : ℕ) (mines finals : List Place) : Type 0 where
   pub mirrored : AreMirrored (moves_before street moves) (is_out_by street) mines finals
   pub as_late : IsAsLate code placed mines street
 
--- one deal more
+-- one more deal
 pub deal_more : (code : Code) (moves : List Move) (placed mines finals : List Place) (street : ℕ) (owner : Option ℕ) → AreLawful code moves placed → AreIndexed 0 (group_of placed street owner) → AreDealt code moves placed street mines finals → ((final : Place) → IsAmong finals final → IsBefore placed street owner final) → AreDealt code moves placed street (after_deal code owner street (group_slots placed street owner) mines) (finals ++ group_of placed street owner)
 deal_more code moves placed mines finals street owner law indexed so_far before =
     let late : Bool = is_past_deck code mines street in
@@ -84,14 +84,14 @@ deal_more code moves placed mines finals street owner law indexed so_far before 
       };
     }
 
--- a deal of no cards is none
+-- a deal of no cards is no deal
 pub maybe_dealt : (code : Code) (moves : List Move) (placed : List Place) (street seat : ℕ) (before : Past) (finals : List Place) (cards : List Slot) (group : List Place) → AreDealt code moves placed street (places_of code before) finals → AreDealt code moves placed street (after_deal code (Some seat) street cards (places_of code before)) (finals ++ group) → (cards ≡ [] → group ≡ []) → AreDealt code moves placed street (places_of code (with_deal street seat cards before)) (finals ++ group)
 maybe_dealt code moves placed street seat before finals [] group so_far more none =
     let P : List Place → Type 0 = λ all. AreDealt code moves placed street (places_of code before) all in
     subst P (sym (append-nil finals) ∙ ap (λ g. finals ++ g) (sym (none refl))) so_far
 maybe_dealt code moves placed street seat before finals (slot ∷ rest) group so_far more none = more
 
--- where no cards are dealt there is no group
+-- if no cards are dealt, the group is empty
 pub no_cards : (group : List Place) → map (λ (place : Place). place.slot) group ≡ [] → group ≡ []
 no_cards [] is = refl
 no_cards (first ∷ rest) is = absurd cc

@@ -20,11 +20,12 @@ use Rattle.play_event.proofs.OwnerLaws.{is_same_owner-true}
 use Rattle.std.proofs.lemmas.List.{append_assoc, length-append}
 use Rattle.list_laws.proofs.Options.{none_some}
 
--- A place of the canonical script is taken where the final place at its number is one that the seat discarded in this draw.
+-- A place of the canonical script is taken if the seat discarded the final place with the same
+-- number in this draw.
 abbrev pub taken_by : List Place → ℕ → ℕ → Place → Bool
 taken_by finals street seat place = is_held_by seat place && option_map_or (is_out_of street seat) (slice_get finals place.number) false
 
--- each place stands at its number
+-- each place is at its number
 abbrev pub AllTaken : (taken : Place → Bool) (street seat : ℕ) → List Place → List Place → Type 0
 AllTaken taken street seat [] [] = Unit {0}
 AllTaken taken street seat [] (final ∷ finals) = ⊥
@@ -151,7 +152,8 @@ mirrored_out moves out taken street seat count (mine ∷ mines) (final ∷ final
   mirrored_out moves out taken street seat count mines finals mirrored.1 all.1 (drawing_rest moves out street seat final finals is),
 )
 
--- the canonical discard of a seat: it may come as far as cards are concerned, names what the script's discard took, and takes just that
+-- the canonical discard of a seat: as far as cards are concerned it is due, it names what the
+-- script's discard took, and it takes just that
 pub record IsDiscardedAgain (code : Code) (moves : List Move) (out : Place → Bool) (street seat : ℕ) (mines finals : List Place) : Type 0 where
   pub names : slots_taken (taken_by finals street seat) mines ≡ map (λ (p : Place). p.slot) (filter (is_out_of street seat) finals)
   pub clean : IsCleanDiscard code street seat (taken_by finals street seat) mines

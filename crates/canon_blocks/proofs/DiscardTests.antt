@@ -1,4 +1,5 @@
--- Cards of the board are never discarded, and a card is discarded on streets that draw; so the tests of what is out agree.
+-- Cards of the board are never discarded, and a card is discarded only on streets with a draw; so
+-- the tests of what is out agree.
 use Rattle.std.proofs.Common.{◌≡◌, ℕ, ◌+◌, ◌≤◌, ◌<◌, Bool, true, false, ◌&&◌, ◌||◌, ◌==◌, nat_lt, nat_le, inl, inr, Option, Some, None, List, [], ◌∷◌, map, filter, length, count_by, refl, sym, ◌∙◌, ap, subst, arith, if◌then◌else◌}
 use Rattle.std.proofs.lemmas.Bool.{and_right, eq-eqb, ne_eqb, cases_lt, cases_eq, both_ways, lt-ltb, le-ltb, le-leb, lt-leb, ltb-true, or_right}
 use Rattle.card_set.specs.declared.card.Slot.{Slot}

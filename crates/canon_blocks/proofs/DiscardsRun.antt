@@ -14,7 +14,7 @@ use Rattle.play_laws.proofs.PlaceGroups.{AreRising, one_number}
 use Rattle.play_laws.proofs.QuietEvents.{held_parts}
 use Rattle.play_laws.proofs.DiscardCounts.{is_out_of}
 
--- held cards that are one are one place
+-- if two held cards are the same, so are their places
 pub together : (seat : ℕ) (taken : Place → Bool) (placed : List Place) → NoneClash placed → AreRising placed → TakenTogether (is_held_by seat) taken placed
 together seat taken placed none up a b in_a in_b held_a held_b one = elim (cases_eq a.number b.number) [
   | inl same ↦ ap taken (one_number placed a b up in_a in_b same)
@@ -33,7 +33,7 @@ is_below first None = false
 abbrev pub is_out_to : ℕ → ℕ → Place → Bool
 is_out_to street first place = nat_lt 0 place.discarded && (nat_lt place.discarded street || ((place.discarded == street) && is_below first place.owner))
 
--- tests that agree mirror alike
+-- tests that agree mirror in the same way
 pub mirrored_as : (moves : List Move) (out other : Place → Bool) (mines finals : List Place) → ((final : Place) → IsAmong finals final → out final ≡ other final) → AreMirrored moves out mines finals → AreMirrored moves other mines finals
 mirrored_as moves out other [] [] same mirrored = tt
 mirrored_as moves out other [] (final ∷ finals) same mirrored = absurd mirrored

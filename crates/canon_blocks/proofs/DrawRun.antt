@@ -197,7 +197,7 @@ skipped_first setup rules before street first finals at folded =
       ];
     }
 
--- the seats that have yet to draw hold what the script's discards took
+-- the seats that still have to draw hold what the script's discards took
 pub AllLater : Setup → Rules → ℕ → List Place → ℕ → ℕ → Type 0
 AllLater setup rules street finals first count = (p : Past) → IsAtDraw setup rules p street first finals → 1 ≤ first → first + count ≤ setup.stacks.seats + 1 → AreDiscarded setup rules p (with_discards street (out_slots finals street) (filter (is_live (moves_of p)) (range_with_len first count)) p) street first count (filter (is_live (moves_of p)) (range_with_len first count)) finals
 

@@ -1,4 +1,5 @@
--- In the canonical order no card is taken: a card that stands twice was gone before, and is dealt past the deck again.
+-- In the canonical order no card is taken: if a card occurs twice, it was gone before and is dealt
+-- again after the deck ran out.
 use Rattle.std.proofs.Common.{◌≡◌, ◌≢◌, ◌≤◌, Bool, true, false, ◌&&◌, ◌||◌, not, inl, inr, is_some, List, [], ◌∷◌, refl, sym, ◌∙◌, ap, arith}
 use Rattle.std.specs.List.{list_any}
 use Rattle.std.proofs.lemmas.Bool.{and_parts, or_cases, or_from, and_from, and_right}
@@ -14,12 +15,13 @@ use Rattle.list_laws.proofs.Tests.{false_true}
 use Rattle.play_laws.specs.LegalPlaces.{has_owner_folded, is_gone_by, AreLawful}
 use Rattle.canon_blocks.proofs.Mirrors.{Mirrors, AreMirrored}
 
--- two cards that are one: either may repeat the other
+-- two places with the same card: one may repeat the other
 either_repeats : (a b : Place) (m : Bool) → (may_repeat a b || may_repeat b a) ≡ m → is_clash a b ≡ false → is_one_card a.slot b.slot ≡ true → m ≡ true
 either_repeats a b true same apart one = refl
 either_repeats a b false same apart one = false_true (sym apart ∙ (ap (λ m. not m && is_one_card a.slot b.slot) same ∙ one))
 
--- a card of a street that stands on this street or before was gone by the street, and the card is dealt past the deck
+-- if a card of a street occurs on this street or before, it was gone by the street, and is dealt
+-- again after the deck ran out
 pub late_and_gone : (code : Code) (moves : List Move) (placed : List Place) (old new : Place) → AreLawful code moves placed → IsAmong placed old → IsAmong placed new → old.street ≤ new.street → new.number ≢ old.number → is_one_card new.slot old.slot ≡ true → (new.past_deck ≡ true) × (is_gone_by moves new.street old ≡ true)
 late_and_gone code moves placed old new law in_old in_new before differ one = elim (or_cases (may_repeat new old) (may_repeat old new) (either_repeats new old (may_repeat new old || may_repeat old new) refl (law.apart new old in_new in_old differ) one)) [
   | inl is ↦ let parts = and_parts new.past_deck (is_gone_before old.gone_after new.number) is in (parts.0, law.gone_when old new in_old in_new parts.1)
@@ -38,7 +40,8 @@ street_apart code moves placed a b law in_a in_b same differ = not_one (is_one_c
     not_one false never = refl
     not_one true never = absurd (never refl)
 
--- the canonical script's cards of other streets: one that stands again is gone, and the street deals past the deck
+-- the canonical script's cards of other streets: one that occurs again is gone, and the street
+-- deals after the deck ran out
 pub record IsFreeOver (out : Place → Bool) (moves : List Move) (late : Bool) (slot : Slot) (final : Place) : Type 0 where
   pub when : is_one_card slot final.slot ≡ true → (late ≡ true) × ((out final || has_owner_folded moves final.owner) ≡ true)
 

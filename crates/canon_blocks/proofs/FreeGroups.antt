@@ -1,4 +1,5 @@
--- In the canonical order no deal of a street has a taken card, and the places that it makes mirror those of the script.
+-- In the canonical order no deal of a street has a taken card, and the places that it makes mirror
+-- those of the script.
 use Rattle.play_laws.proofs.PlaceGroups.{AreRising, one_number, Passed, passed, rising_filter, group_slots}
 use Rattle.std.proofs.Common.{◌≡◌, ◌≢◌, ℕ, ◌+◌, ◌≤◌, ◌<◌, Bool, true, false, ◌&&◌, ◌==◌, nat_lt, nat_le, inl, inr, Option, List, [], ◌∷◌, map, count_by, refl, sym, ◌∙◌, ap, subst, arith}
 use Rattle.std.specs.List.{list_any}
@@ -15,13 +16,14 @@ use Rattle.play_laws.specs.LegalPlaces.{is_gone_by, AreLawful}
 use Rattle.canon_blocks.proofs.Mirrors.{AreMirrored}
 use Rattle.canon_blocks.proofs.FreeCards.{late_and_gone, street_apart, IsFreeOver, not_taken}
 
--- a card of the street's groups before an owner's: of an earlier street, or of this one and another owner
+-- a card of the street's groups before an owner's: of an earlier street, or of this one and another
+-- owner
 pub record IsBefore (placed : List Place) (street : ℕ) (owner : Option ℕ) (place : Place) : Type 0 where
   pub among : IsAmong placed place
   pub reached : place.street ≤ street
   pub apart : place.street ≡ street → is_same_owner place.owner owner ≡ true → ⊥
 
--- the draw is as far past the deck
+-- if the deck has run out in the script's draw, it has in this one
 pub record IsAsLate (code : Code) (placed mines : List Place) (street : ℕ) : Type 0 where
   pub dealt : count_by (λ place. nat_lt place.street street) placed ≤ count_by (λ place. nat_lt place.street street) mines
   pub discarded : count_by (λ place. place.discarded == street) placed ≤ count_by (λ place. place.discarded == street) mines
@@ -60,7 +62,7 @@ none_taken code moves placed mines finals street owner (card ∷ cards) law risi
     (not_taken code (moves_before street moves) (is_out_by street) (is_past_deck code mines street) card.slot mines finals mirrored (deck card (group card (inl refl)).among) (λ final among. group_free code moves placed mines street owner card final law rising as_late (group card (inl refl)) (before final among)))
     (none_taken code moves placed mines finals street owner cards law rising deck as_late mirrored before (λ other among. group other (inr among)))
 
--- and no two of them are one
+-- and no two of them are the same
 again_free : (slot : Slot) (cards : List Place) → ((card : Place) → IsAmong cards card → is_one_card slot card.slot ≡ false) → is_repeated slot (map (λ (place : Place). place.slot) cards) ≡ false
 again_free slots.Unknown cards apart = refl
 again_free (slots.Known card) [] apart = refl

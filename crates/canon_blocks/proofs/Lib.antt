@@ -1,4 +1,5 @@
--- How the parts of a canonical script take place, and how the cards that they leave stand to those of the script.
+-- How the parts of a canonical script take place, and how the cards that they leave relate to those
+-- of the script.
 pub mod CardEvents
 pub mod MatchedNames
 pub mod Mirrors

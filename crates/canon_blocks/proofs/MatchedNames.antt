@@ -1,4 +1,4 @@
--- Names that are those of some of the covered places mark just these places.
+-- Names of some of the places that an event applies to mark just these places.
 use Rattle.std.proofs.Common.{◌≡◌, ℕ, zero, suc, Bool, true, false, ◌&&◌, ◌||◌, inl, inr, List, [], ◌∷◌, map, filter, refl, sym, ◌∙◌, ap, arith, if◌then◌else◌}
 use Rattle.std.proofs.lemmas.Bool.{false_from_ne_true, or_cases, or_right}
 use Rattle.card_set.specs.declared.card.Card.{Card}
@@ -22,22 +22,22 @@ slots_taken taken placed = map (λ place. place.slot) (filter taken placed)
 abbrev pub names_taken : (Place → Bool) → List Place → List Card
 names_taken taken placed = known_cards (slots_taken taken placed)
 
--- how many of them are unknown
+-- the number of unknown ones
 abbrev pub blanks_taken : (Place → Bool) → List Place → ℕ
 blanks_taken taken [] = 0
 blanks_taken taken (place ∷ rest) = if taken place && is_unknown place.slot then suc (blanks_taken taken rest) else blanks_taken taken rest
 
--- a place is marked where it is taken
+-- a place is marked if it is taken
 abbrev pub marked_if : (Place → Bool) → (Place → Place) → Place → Place
 marked_if taken mark place = if taken place then mark place else place
 
--- behind an unknown covered place that is not taken no unknown one is taken
+-- after an unknown covered place that is not taken, no unknown one is taken
 abbrev pub BlanksFirst : (covers taken : Place → Bool) → List Place → Type 0
 BlanksFirst covers taken [] = Unit {0}
 BlanksFirst covers taken (place ∷ rest) =
     (covers place ≡ true → is_unknown place.slot ≡ true → taken place ≡ false → blanks_taken taken rest ≡ 0) × BlanksFirst covers taken rest
 
--- covered known places are taken where their card is named
+-- covered known places are taken if their card is named
 abbrev pub NamedWhereTaken : (covers taken : Place → Bool) → List Card → List Place → Type 0
 NamedWhereTaken covers taken names placed = (place : Place) (card : Card) → IsAmong placed place → place.slot ≡ slots.Known card → covers place ≡ true → is_named card names ≡ taken place
 
@@ -66,7 +66,7 @@ names_mark covers taken mark names (place ∷ rest) sub named first =
     marked_at covers taken mark names place rest place.slot (covers place) (taken place) (blanks_taken taken rest) (sub place) (λ card is here. named place card (inl refl) is here) first.0
     (names_mark covers taken mark names rest sub (λ other card among is here. named other card (inr among) is here) first.1)
 
--- where covered places that bear one card are taken together, the names are found
+-- if covered places with the same card are taken together, the names are found
 abbrev pub TakenTogether : (covers taken : Place → Bool) → List Place → Type 0
 TakenTogether covers taken placed = (a b : Place) → IsAmong placed a → IsAmong placed b → covers a ≡ true → covers b ≡ true → is_one_card a.slot b.slot ≡ true → taken a ≡ taken b
 
@@ -92,7 +92,7 @@ named_at taken card first rest (slots.Known other) true here is later named = el
   | inr more ↦ bears_later taken card first rest (later more)
 ]
 
--- a card that is named is borne by a place that is taken
+-- a card is named if a place that is taken has it
 pub is_named_by : (taken : Place → Bool) (card : Card) (placed : List Place) → is_named card (names_taken taken placed) ≡ true → BearsName taken card placed
 is_named_by taken card [] named = false_true named
 is_named_by taken card (first ∷ rest) named = named_at taken card first rest first.slot (taken first) refl refl (is_named_by taken card rest) named
@@ -115,7 +115,7 @@ taken_is_named taken card [] place among here is = absurd among
 taken_is_named taken card (first ∷ rest) place (inl same) here is = named_first taken card first rest (taken first) (ap (λ (p : Place). p.slot) same ∙ here) (ap taken same ∙ is)
 taken_is_named taken card (first ∷ rest) place (inr later) here is = named_still taken card first rest first.slot (taken first) refl (taken_is_named taken card rest place later here is)
 
--- so names are found where covered places that bear one card are taken together
+-- so names are found if covered places with the same card are taken together
 named_or_not : (taken : Place → Bool) (card : Card) (placed : List Place) (place : Place) (n t : Bool) → is_named card (names_taken taken placed) ≡ n → taken place ≡ t → (is_named card (names_taken taken placed) ≡ true → taken place ≡ true) → (taken place ≡ true → is_named card (names_taken taken placed) ≡ true) → n ≡ t
 named_or_not taken card placed place true true n t there back = refl
 named_or_not taken card placed place false false n t there back = refl
@@ -132,7 +132,7 @@ pub named_where_taken : (covers taken : Place → Bool) (placed : List Place) �
 named_where_taken covers taken placed sub together place card among here covered =
     named_or_not taken card placed place (is_named card (names_taken taken placed)) (taken place) refl refl (named_is_taken covers taken card placed place sub together among here covered) (taken_is_named taken card placed place among here)
 
--- behind a covered known place that is not taken its card is not named
+-- after a covered known place that is not taken, its card is not named
 abbrev pub Apart : (covers taken : Place → Bool) → List Place → Type 0
 Apart covers taken [] = Unit {0}
 Apart covers taken (place ∷ rest) = ((card : Card) → place.slot ≡ slots.Known card → covers place ≡ true → taken place ≡ false → is_named card (names_taken taken rest) ≡ false) × Apart covers taken rest

@@ -1,11 +1,11 @@
--- How the places of the canonical script stand to those of the script.
+-- How the places of the canonical script relate to those of the script.
 use Rattle.std.specs.Prelude.{◌≡◌, Bool, ◌||◌, if◌then◌else◌, List, [], ◌∷◌, is_some}
 use Rattle.play_event.specs.Past.{Move}
 use Rattle.play_event.specs.Places.{Place}
 use Rattle.play_laws.specs.LegalPlaces.{has_owner_folded}
 
--- how a place of the canonical script stands to the place of the same card in the script: what is gone is told by the
--- moves so far and by the discards so far
+-- how a place of the canonical script relates to the place of the same card in the script: the
+-- moves so far and the discards so far decide what is gone
 pub record Mirrors (moves : List Move) (out : Place → Bool) (mine final : Place) : Type 0 where
   pub owner : mine.owner ≡ final.owner
   pub street : mine.street ≡ final.street

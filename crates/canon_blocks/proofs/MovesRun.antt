@@ -30,14 +30,14 @@ pub record IsLed (setup : Setup) (rules : Rules) (before : Past) : Type 0 where
   pub legal : AreLegal setup rules events
   pub past : past_of setup events ≡ before
 
--- what takes place after a past with events that lead to it leads further
+-- events that lead to a past, followed by what takes place after it, lead further
 pub led_on : (setup : Setup) (rules : Rules) (before after : Past) (script : List Said) → IsLed setup rules before → Runs setup rules before script after → IsLed setup rules after
 led_on setup rules before after script led run =
     let P : Past → Type 0 = λ start. Runs setup rules start script after in
     let it = run_legal setup rules led.events script after led.legal (subst P (sym led.past) run) in
     record { events = reverse script ++ led.events; legal = it.legal; past = it.past }
 
--- up-cards of a led past
+-- up-cards of such a past
 pub led_ups : (setup : Setup) (rules : Rules) (before : Past) (street seat : ℕ) → IsLed setup rules before → newest_street before ≤ street → is_live (moves_of before) seat ≡ true → ups_by setup.code (places_of setup.code before) street seat ≡ up_cards setup.code before seat
 led_ups setup rules before street seat led on live =
     let P : Past → Type 0 = λ p. newest_street p ≤ street → is_live (moves_of p) seat ≡ true → ups_by setup.code (places_of setup.code p) street seat ≡ up_cards setup.code p seat in
@@ -59,7 +59,7 @@ abbrev pub AreAllOn : ℕ → List Move → Type 0
 AreAllOn street [] = Unit {0}
 AreAllOn street (move ∷ rest) = (move.street ≡ street) × AreAllOn street rest
 
--- moves leave what is not due, and the up-cards dealt by the street
+-- moves do not change what is not due, and the up-cards dealt by the street
 pub still_none : (setup : Setup) (list : List Move) (before : Past) (street : ℕ) → is_deal_due setup before street ≡ false → is_draw_due setup before street ≡ false → (is_deal_due setup (with_moves list before) street ≡ false) × (is_draw_due setup (with_moves list before) street ≡ false)
 still_none setup [] before street no_deal no_draw = (no_deal, no_draw)
 still_none setup (move ∷ rest) before street no_deal no_draw =
@@ -90,7 +90,7 @@ still_ups code (move ∷ rest) before street seat = by_fold (is_fold move.act) �
     by_fold true = fold_ups code street seat move.seat (length (places_of code (with_moves rest before))) (places_of code (with_moves rest before))
     by_fold false = refl
 
--- the past has still come to the street
+-- the past is still on the street
 come_with : (setup : Setup) (list : List Move) (before : Past) (street : ℕ) → AreAllOn street list → HasCome setup before street → nat_le (live_count setup (list ++ moves_of before)) 1 ≡ false → HasCome setup (with_moves list before) street
 come_with setup [] before street on come several = come
 come_with setup (move ∷ rest) before street on come several =

@@ -16,7 +16,7 @@ use Rattle.canon_blocks.proofs.Mirrors.{Mirrors, AreMirrored}
 use Rattle.canon_blocks.proofs.FreeGroups.{is_out_by}
 use Rattle.canon_blocks.proofs.TraceOrder.{IsOwner, a_seat, the_board, finals_of, finals_group, street_pieces}
 
--- one place, where all its discards are over
+-- one place, once all its discards are over
 same_place : (list : List Move) (last : ℕ) (mine final : Place) → Mirrors list (is_out_by last) mine final → final.discarded ≤ last → traced_place mine ≡ traced_place final
 same_place list last mine final mirror most =
     let P : Option ℕ → Type 0 = λ o. traced_place mine ≡ (record { owner = o; street = final.street; slot = final.slot; discarded = final.discarded }) in

@@ -1,4 +1,4 @@
--- What the canonical discards, deals and board of a street leave counted.
+-- The counts after the canonical discards, deals and board of a street.
 use Rattle.std.proofs.Common.{◌≡◌, ◌≢◌, ℕ, zero, suc, ◌+◌, ◌≤◌, ◌<◌, Bool, true, false, ◌&&◌, ◌||◌, ◌==◌, inl, inr, List, [], ◌∷◌, filter, length, refl, sym, ◌∙◌, ap, subst, arith, if◌then◌else◌}
 use Rattle.std.specs.List.{range_with_len}
 use Rattle.std.proofs.lemmas.Bool.{and_from, and_right, eq-eqb, ne_eqb, cases_eq, cases_lt}
@@ -12,7 +12,7 @@ use Rattle.canon_blocks.proofs.DealsRun.{with_deal, with_deals}
 use Rattle.canon_blocks.proofs.DrawRun.{with_discards}
 use Rattle.canon_blocks.proofs.BoardRun.{with_board}
 
--- what events of cards on a street leave of other streets, and of moves and shows
+-- what events of cards on a street do not change: the counts of other streets, moves and shows
 pub record IsAside (street : ℕ) (before after : Past) : Type 0 where
   pub moves : moves_of after ≡ moves_of before
   pub newest : newest_street before ≤ street → newest_street after ≤ street
@@ -23,11 +23,11 @@ pub record IsAside (street : ℕ) (before after : Past) : Type 0 where
   pub shown : (seat : ℕ) → has_shown after seat ≡ has_shown before seat
   pub mucked : (seat : ℕ) → has_mucked after seat ≡ has_mucked before seat
 
--- a past is aside from itself
+-- a past is unchanged from itself
 pub aside_same : (street : ℕ) (before : Past) → IsAside street before before
 aside_same street before = record { moves = refl; newest = λ on. on; holes = λ other seat differ. refl; board = λ other differ. refl; out = λ other seat differ. refl; drawn = λ other seat differ. refl; shown = λ seat. refl; mucked = λ seat. refl }
 
--- what is aside from what is aside is so
+-- two steps that leave them unchanged are one such step
 pub aside_more : (street : ℕ) (one two three : Past) → IsAside street one two → IsAside street two three → IsAside street one three
 aside_more street one two three first second =
     record {
@@ -70,7 +70,7 @@ aside_discard street owner cards before =
       mucked = λ seat. refl;
     }
 
--- discards leave the counts of other streets
+-- discards do not change the counts of other streets
 pub aside_discards : (street : ℕ) (names : ℕ → List Slot) (seats : List ℕ) (before : Past) → IsAside street before (with_discards street names seats before)
 aside_discards street names [] before = aside_same street before
 aside_discards street names (seat ∷ rest) before =

@@ -1,4 +1,4 @@
--- The moves of a street, and streets that no event came to.
+-- The moves of a street, and streets that no event reached.
 use Rattle.std.proofs.Common.{◌≡◌, ℕ, ◌+◌, Bool, true, false, ◌&&◌, ◌||◌, ◌==◌, nat_lt, inl, inr, ◌⊎◌, List, [], ◌∷◌, length, refl, sym, ◌∙◌, ap, subst, arith, if◌then◌else◌}
 use Rattle.std.specs.List.{list_any}
 use Rattle.std.proofs.lemmas.Bool.{or_parts, ltb-true, eqb-true}
@@ -26,7 +26,7 @@ law_at setup rules placed street first older law reached later true less =
     subst P (sym (all_early first.street street older reached (ltb-true first.street street less))) law
 law_at setup rules placed street first older law reached later false less = later
 
--- moves that fit fit up to a street
+-- moves that fit still fit up to a street
 pub law_before : (setup : Setup) (rules : Rules) (placed : List Place) (street : ℕ) (list : List Move) → AreFalling list → MovesLaw setup rules placed list → MovesLaw setup rules placed (moves_before street list)
 law_before setup rules placed street [] falling law = tt
 law_before setup rules placed street (first ∷ older) falling law =
@@ -41,7 +41,7 @@ pub own_on : (street : ℕ) (list : List Move) → AreAllOn street (own_moves st
 own_on street [] = tt
 own_on street (first ∷ rest) = on_step street first (own_moves street rest) (first.street == street) refl (own_on street rest)
 
--- a street that no event came to
+-- a street that no event reached
 pub record IsUnplayed (street : ℕ) (before : Past) : Type 0 where
   pub own : own_moves street (moves_of before) ≡ []
   pub holes : (seat : ℕ) → hole_cards_dealt before street seat ≡ 0

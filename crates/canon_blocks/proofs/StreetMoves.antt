@@ -1,4 +1,5 @@
--- The canonical moves of a street keep the mirror, and the moves before a street are those before the one before it and its own.
+-- The canonical moves of a street keep the mirror, and the moves before a street are those before
+-- the previous street and the previous street's own.
 use Rattle.std.proofs.Common.{◌≡◌, ℕ, ◌+◌, ◌≤◌, ◌<◌, Bool, true, false, ◌&&◌, ◌||◌, ◌==◌, nat_lt, inl, inr, Option, Some, None, is_some, is_none, List, [], ◌∷◌, ◌++◌, map, filter, length, refl, sym, ◌∙◌, ap, arith, if◌then◌else◌}
 use Rattle.std.proofs.lemmas.Bool.{or_right, cases_eq, cases_lt, lt-ltb, le-ltb, eq-eqb, ne_eqb, eqb-true, not-false}
 use Rattle.play_event.specs.declared.code.Code.{Code}
@@ -23,7 +24,7 @@ use Rattle.canon_blocks.proofs.MovesRun.{with_moves}
 use Rattle.play_laws.proofs.PastLawKept.{reached_more}
 use Rattle.list_laws.proofs.Options.{some_or_none}
 
--- streets do not grow from a move to an older one
+-- streets do not increase from a move to an older one
 abbrev pub AreFalling : List Move → Type 0
 AreFalling [] = Unit {0}
 AreFalling (first ∷ older) = AreReached first.street older × AreFalling older
@@ -36,7 +37,7 @@ falling_step setup before at _ past come (shows who cards may free) falling = fa
 falling_step setup before at _ past come (mucks who may) falling = falling
 falling_step setup before at _ past come (moves played no_deal no_draw on) falling = (reached_more (newest_street before) played.street (moves_of before) (omega (arith, on, come.on)) past.moved, falling)
 
--- after legal events no move is of a later street than one after it
+-- after legal events no move is on a later street than one after it
 pub legal_falling : (setup : Setup) (rules : Rules) (events : List Said) → AreLegal setup rules events → AreFalling (moves_of (past_of setup events))
 unfolding with_event
 legal_falling setup rules [] legal = tt
@@ -121,7 +122,7 @@ others_mirrored played list out (mine ∷ mines) (final ∷ finals) other mirror
       others_mirrored played list out mines finals other mirrored.1,
     )
 
--- moves keep the mirror, but for who has folded
+-- moves keep the mirror, except who has folded
 pub moves_mirrored : (code : Code) (list older : List Move) (out : Place → Bool) (before : Past) (finals : List Place) → AreMirrored older out (places_of code before) finals → AreMirrored (list ++ older) out (places_of code (with_moves list before)) finals
 moves_mirrored code [] older out before finals mirrored = mirrored
 moves_mirrored code (played ∷ rest) older out before finals mirrored = by_fold (is_fold played.act) refl (moves_mirrored code rest older out before finals mirrored)

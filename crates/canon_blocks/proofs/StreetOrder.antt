@@ -42,7 +42,7 @@ seats_out placed street start (suc count) before =
     let it = from_seats placed street (start + 1) count y in_y in
     absurd (omega (arith, it.least, same_Some start it.seat (sym (owned_by placed street (Some start) x in_x) ∙ (owner ∙ it.owner)))))
 
--- owner by owner the unknown cards of a street go in the order of dealing
+-- owner by owner, the unknown cards of a street are in the order of dealing
 pub street_pieces_out : (setup : Setup) (placed : List Place) (street : ℕ) → UnknownsFirst placed → UnknownsFirst (places_on setup placed street)
 street_pieces_out setup placed street before =
     let P : List Place → Type 0 = UnknownsFirst in

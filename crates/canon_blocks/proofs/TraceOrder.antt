@@ -152,7 +152,7 @@ pub data IsOwner (setup : Setup) : Option ℕ → Type 0 where
   a_seat : (seat : ℕ) → 1 ≤ seat → seat ≤ setup.stacks.seats → IsOwner setup (Some seat)
   the_board : IsOwner setup None
 
--- an owner's group stands once among all owners'
+-- an owner's group is once among all owners'
 pub owners_hit : (setup : Setup) (placed : List Place) (owner : Option ℕ) (street at : ℕ) → IsOwner setup owner → (at == street) ≡ true → flat_map (piece_if placed owner street at) (owners setup) ≡ group_of placed street owner
 owners_hit setup placed _ street at (a_seat seat least most) on =
     flat_append (piece_if placed (Some seat) street at) (map Some (all_seats setup)) (None ∷ [])
@@ -207,7 +207,7 @@ pub finals_group : (setup : Setup) (placed : List Place) (owner : Option ℕ) (s
 finals_group setup placed owner street count own least most =
     filter_flat (is_in_group owner street) (places_on setup placed) (range_with_len 1 count) ∙ streets_hit setup placed owner street 1 count own least (omega (arith, most))
 
--- one street more
+-- one more street
 pub finals_more : (setup : Setup) (placed : List Place) (count : ℕ) → finals_of setup placed (suc count) ≡ finals_of setup placed count ++ places_on setup placed (1 + count)
 finals_more setup placed count = flat_more (places_on setup placed) 1 count
 

@@ -68,7 +68,7 @@ legal_owned setup rules [] legal = λ place among. absurd among
 legal_owned setup rules (event ∷ events) legal =
     owned_step setup (past_of setup events) (turn setup (past_of setup events)).0 _ (stepped setup rules (past_of setup events) event legal.0) (legal_owned setup rules events legal.1)
 
--- a card stands in the trace's order
+-- a card is in the trace's order
 pub in_filter : (p : Place → Bool) (placed : List Place) (place : Place) → IsAmong placed place → p place ≡ true → IsAmong (filter p placed) place
 in_filter p [] place among is = absurd among
 in_filter p (first ∷ rest) place (inl same) is =
@@ -91,7 +91,7 @@ in_finals setup placed count place owned among least most =
     self (Some seat) = eq-eqb seat seat refl
     self None = refl
 
--- different places that are all among others are no more than these
+-- different places that are all among others are at most as many
 less_one : (place : Place) (places : List Place) → IsAmong places place → length (filter (λ (other : Place). not (other.number == place.number)) places) + 1 ≤ length places
 less_one place [] among = absurd among
 less_one place (first ∷ rest) (inl same) =
@@ -105,7 +105,7 @@ less_one place (first ∷ rest) (inr later) = by_first (not (first.number == pla
     by_first true it = omega (arith, it)
     by_first false it = omega (arith, it)
 
--- places with rising numbers that are all among others are no more than these
+-- places with rising numbers that are all among others are at most as many
 pub no_more : (some all : List Place) → AreRising some → ((place : Place) → IsAmong some place → IsAmong all place) → length some ≤ length all
 no_more [] all up sub = omega arith
 no_more (first ∷ rest) all up sub =
@@ -121,13 +121,13 @@ all_there setup placed p count up owned within =
     let on = within place it.among it.passes in
     in_filter p (finals_of setup placed count) place (in_finals setup placed count place owned it.among on.0 on.1) it.passes)
 
--- two rising lists of the same places are one list
+-- two ascending lists of the same places are the same
 first_of : (xs : List Place) (x y : Place) (ys : List Place) → AreRising (x ∷ xs) → AreRising (y ∷ ys) → IsAmong (y ∷ ys) x → IsAmong (x ∷ xs) y → x ≡ y
 first_of xs x y ys up_x up_y (inl same) in_y = sym same
 first_of xs x y ys up_x up_y (inr later) (inl same) = same
 first_of xs x y ys up_x up_y (inr x_later) (inr y_later) = absurd (omega (arith, up_y.0 x x_later, up_x.0 y y_later))
 
--- lists of rising numbers with the same places are one list
+-- lists of ascending numbers with the same places are the same
 pub rising_same : (xs ys : List Place) → AreRising xs → AreRising ys → ((place : Place) → IsAmong xs place → IsAmong ys place) → ((place : Place) → IsAmong ys place → IsAmong xs place) → xs ≡ ys
 rising_same [] [] up_x up_y there back = refl
 rising_same [] (y ∷ ys) up_x up_y there back = absurd (back y (inl refl))
@@ -138,7 +138,7 @@ rising_same (x ∷ xs) (y ∷ ys) up_x up_y there back =
     (λ place among. elim (there place (inr among)) [ inl is ↦ absurd (omega (arith, up_x.0 place among, ap (λ (p : Place). p.number) (same ∙ is))) | inr later ↦ later ])
     (λ place among. elim (back place (inr among)) [ inl is ↦ absurd (omega (arith, up_y.0 place among, ap (λ (p : Place). p.number) (sym same ∙ is))) | inr later ↦ later ]))
 
--- the cards of one owner rise in the trace's order
+-- the numbers of one owner's cards are ascending in the trace's order
 rising_append : (xs ys : List Place) → AreRising xs → AreRising ys → ((x y : Place) → IsAmong xs x → IsAmong ys y → x.number < y.number) → AreRising (xs ++ ys)
 rising_append [] ys up_x up_y cross = up_y
 rising_append (x ∷ xs) ys up_x up_y cross = (
@@ -211,7 +211,7 @@ mirror_count list out p q (mine ∷ mines) (final ∷ finals) mirrored both =
     by_both false true it later = omega (arith, later)
     by_both false false it later = later
 
--- the draw is as far past the deck in the canonical order
+-- the deck has run out in the canonical order if it has in the script
 pub as_late : (setup : Setup) (placed mines : List Place) (list : List Move) (before : ℕ) → AreRising placed → AreOwned setup placed → ((place : Place) → IsAmong placed place → 1 ≤ place.street) → ((place : Place) → IsAmong placed place → 0 < place.discarded → place.street < place.discarded) → AreMirrored list (is_out_by (before + 1)) mines (finals_of setup placed before) → IsAsLate setup.code placed mines (before + 1)
 as_late setup placed mines list before up owned since out_after mirrored =
     let street : ℕ = before + 1 in

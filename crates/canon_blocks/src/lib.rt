@@ -1,3 +1,2 @@
-//! How the parts of a canonical script take place: deals, discards, moves and shows, each legal
-//! after the one before it.
+//! The parts of a canonical script (deals, discards, moves, shows) are legal one after another.
 #![tactic(auto)]

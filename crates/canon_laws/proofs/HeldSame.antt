@@ -105,12 +105,12 @@ any_step : (seat : ℕ) (place : Place) (rest : List Place) (a : Bool) → is_he
 any_step seat place rest true is later = ap (λ b. is_unknown place.slot || b) later
 any_step seat place rest false is later = later
 
--- a seat holds an unknown card where one is unknown of what it holds
+-- a seat holds an unknown card if one of its cards is unknown
 pub any_held : (seat : ℕ) (placed : List Place) → list_any (λ place. is_held_by seat place && is_unknown place.slot) placed ≡ list_any is_unknown (slots_held seat placed)
 any_held seat [] = refl
 any_held seat (place ∷ rest) = any_step seat place rest (is_held_by seat place) refl (any_held seat rest)
 
--- the same cards are unknown alike
+-- the same cards have the same unknown cards
 pub unknown_same : (seat : ℕ) (some all : List Place) → slots_held seat some ≡ slots_held seat all → list_any (λ place. is_held_by seat place && is_unknown place.slot) some ≡ list_any (λ place. is_held_by seat place && is_unknown place.slot) all
 unknown_same seat some all same = any_held seat some ∙ (ap (list_any is_unknown) same ∙ sym (any_held seat all))
 

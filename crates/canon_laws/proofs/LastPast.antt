@@ -45,7 +45,7 @@ pub record IsLast (setup : Setup) (rules : Rules) (script : Past) (words : List 
   pub mucked : nat_le (live_count setup (moves_of script)) 1 ≡ false → (seat : ℕ) → 1 ≤ seat → seat ≤ setup.stacks.seats → is_live (moves_of script) seat ≡ true → has_mucked after seat ≡ not (is_shown setup script seat)
   pub ends : is_unfinished (turn setup after).1 ≡ false
 
--- a hand that one seat alone is left in is over
+-- a hand in which only one seat is left is over
 pub over_ends : (setup : Setup) (mine : Past) → nat_le (live_count setup (moves_of mine)) 1 ≡ true → is_unfinished (turn setup mine).1 ≡ false
 unfolding turn
 over_ends setup mine over = ap (λ b. is_unfinished (turned_by setup mine b (first_due (due_on setup mine) (street_count setup.code + 1 - newest_street mine) (newest_street mine))).1) over

@@ -1,4 +1,5 @@
--- Scripts that are played to their ends have one trace exactly where they have one canonical script.
+-- Scripts that are played to their ends have the same trace if and only if they have the same
+-- canonical script.
 use Rattle.std.proofs.Common.{◌≡◌, ◌↔◌, List, ap, sym, ◌∙◌}
 use Rattle.play_event.specs.Said.{Said}
 use Rattle.play_event.specs.declared.setup.Rules.{Rules}

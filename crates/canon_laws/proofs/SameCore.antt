@@ -31,7 +31,7 @@ plain_again setup (move ∷ before) =
     ∙ (reverse-append (map plain_move (traced_moves setup before)) (move ∷ [])
     ∙ ap (λ l. move ∷ l) (plain_again setup before))
 
--- who is shown
+-- who shows
 same_shown : (m u : Bool) → (not (not (not m && not u)) && not u) ≡ (not m && not u)
 same_shown true true = refl
 same_shown true false = refl
@@ -61,7 +61,7 @@ unfoldable pub core_by : Setup → List TracedPlace → List Move → List ℕ �
 core_by setup places list shown mucked =
     record { places = places; moves = traced_moves setup list; shown = shown; mucked = mucked; pots = pots_after setup list; returned = map (returned_after setup list) (all_seats setup) }
 
--- traces of the same parts are one
+-- traces with the same parts are the same
 pub core_parts : (setup : Setup) (places places' : List TracedPlace) (list list' : List Move) (shown shown' mucked mucked' : List ℕ) → places ≡ places' → list ≡ list' → shown ≡ shown' → mucked ≡ mucked' → core_by setup places list shown mucked ≡ core_by setup places' list' shown' mucked'
 core_parts setup places places' list list' shown shown' mucked mucked' one two three four =
     ap (λ x. core_by setup x list shown mucked) one ∙ (ap (λ x. core_by setup places' x shown mucked) two

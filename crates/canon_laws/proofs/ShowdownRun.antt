@@ -131,7 +131,7 @@ one_muck setup rules list placed shown first mine several at least most live not
       };
     }
 
--- the word of a seat
+-- the event of a seat
 abbrev pub show_word : List Place → (ℕ → Bool) → ℕ → Said
 show_word placed shown seat = if shown seat then said.Show seat (held_cards seat placed) else said.Muck seat
 
@@ -161,7 +161,7 @@ passed_by setup list placed shown first mine at folded =
       ];
     }
 
--- for so many seats
+-- for this number of seats
 pub AllShown : Setup → Rules → List Move → List Place → (ℕ → Bool) → ℕ → ℕ → Type 0
 AllShown setup rules list placed shown first count = (p : Past) → AtShow setup list placed shown first p → 1 ≤ first → first + count ≤ setup.stacks.seats + 1 → AreShown setup rules list placed shown (first + count) p (map (show_word placed shown) (filter (is_live list) (range_with_len first count)))
 

@@ -32,7 +32,7 @@ use Rattle.play_laws.proofs.DrawTables.{IsDrawStreet}
 use Rattle.canon_blocks.proofs.DrawRun.{AreDiscarded, discards_run, with_discards, out_slots}
 use Rattle.play_event.specs.Trace.{places_on, owners}
 
--- the canonical past where a street begins; the street before it has this number
+-- the canonical past when a street begins; the street before it has this number
 pub record AtStreet (setup : Setup) (rules : Rules) (script : Past) (before : ℕ) (mine : Past) : Type 0 where
   pub led : IsLed setup rules mine
   pub same_moves : moves_of mine ≡ moves_before (before + 1) (moves_of script)
@@ -46,7 +46,7 @@ pub record AtStreet (setup : Setup) (rules : Rules) (script : Past) (before : �
   pub no_shown : (seat : ℕ) → has_shown mine seat ≡ false
   pub no_mucked : (seat : ℕ) → has_mucked mine seat ≡ false
 
--- the hand came to the street
+-- the hand reached the street
 pub at_come : (setup : Setup) (rules : Rules) (script mine : Past) (before : ℕ) → AtStreet setup rules script before mine → IsReached setup (moves_of script) (before + 1) → before + 1 ≤ street_count setup.code → HasCome setup mine (before + 1)
 at_come setup rules script mine before at reached most =
     let P : Past → Type 0 = λ p. 1 ≤ newest_street p in

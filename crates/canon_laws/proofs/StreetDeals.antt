@@ -1,4 +1,4 @@
--- The deals of a street in the canonical script, and what stands after them.
+-- The deals of a street in the canonical script, and the past after them.
 use Rattle.std.proofs.Common.{◌≡◌, ℕ, zero, suc, ◌+◌, ◌-◌, ◌≤◌, ◌<◌, Bool, true, false, ◌&&◌, ◌||◌, ◌==◌, not, nat_lt, nat_le, inl, inr, Option, Some, None, is_some, List, [], ◌∷◌, ◌++◌, map, length, refl, sym, ◌∙◌, ap, subst, arith, if◌then◌else◌}
 use Rattle.std.specs.List.{flat_map, list_any, range_with_len}
 use Rattle.std.proofs.lemmas.Bool.{and_parts, and_left, and_right, or_from, cases_lt, eqb-true, le-ltb, not_from_true, both_ways}
@@ -49,7 +49,7 @@ use Rattle.list_laws.proofs.NumbersOfRange.{flat_same, any_none, find_no}
 use Rattle.canon_laws.proofs.StreetDiscards.{AtDeals}
 use Rattle.play_event.proofs.OwnerLaws.{is_same_owner-true}
 
--- events of a street leave the past on it
+-- events of a street keep the past on it
 pub come_block : (setup : Setup) (street : ℕ) (before after : Past) → IsBlock street before after → moves_of after ≡ moves_of before → HasCome setup before street → HasCome setup after street
 come_block setup street before after (inl same) moves come = let P : Past → Type 0 = λ p. HasCome setup p street in subst P (sym same) come
 come_block setup street before after (inr on) moves come =
@@ -78,7 +78,7 @@ owed_cards setup rules events start mine before seat false false legal done at l
     let placed : List Place = places_of setup.code script in
     sym (length-map (group_of placed (before + 1) (Some seat)) (λ (p : Place). p.slot) ∙ folded_group setup script (before + 1) seat (legal_past setup rules events legal).places (sym (ap (λ l. is_live l seat) at.same_moves) ∙ folded))
 
--- a deal of no board cards is none
+-- a deal of no board cards is no deal
 maybe_board : (code : Code) (moves : List Move) (placed : List Place) (street : ℕ) (before : Past) (finals : List Place) (cards : List Slot) (group : List Place) → AreDealt code moves placed street (places_of code before) finals → AreDealt code moves placed street (after_deal code None street cards (places_of code before)) (finals ++ group) → (cards ≡ [] → group ≡ []) → ((slot : Slot) → IsOneOf cards slot → is_unknown slot ≡ false) → AreDealt code moves placed street (places_of code (with_board street cards before)) (finals ++ group)
 maybe_board code moves placed street before finals [] group so_far more none known =
     let P : List Place → Type 0 = λ all. AreDealt code moves placed street (places_of code before) all in

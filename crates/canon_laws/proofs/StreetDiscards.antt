@@ -1,4 +1,4 @@
--- The discards of a street in the canonical script, and what stands after them.
+-- The discards of a street in the canonical script, and the past after them.
 use Rattle.std.proofs.Common.{◌≡◌, ℕ, ◌+◌, ◌≤◌, Bool, true, false, ◌&&◌, ◌==◌, inl, Some, List, [], map, filter, length, refl, sym, ◌∙◌, ap, subst, arith, if◌then◌else◌}
 use Rattle.std.proofs.lemmas.Bool.{and_parts, eqb-true, le-leb, leb-false}
 use Rattle.std.proofs.lemmas.List.{length-map}

@@ -1,4 +1,5 @@
--- A street that the hand came to, in the canonical script: discards, deals, the board and the moves.
+-- A street that the hand reached, in the canonical script: discards, deals, the board and the
+-- moves.
 use Rattle.std.proofs.Common.{◌≡◌, ℕ, ◌+◌, ◌≤◌, ◌<◌, Bool, true, false, ◌&&◌, nat_lt, nat_le, inl, inr, Some, None, List, [], ◌∷◌, ◌++◌, map, reverse, refl, sym, ◌∙◌, ap, subst, arith, if◌then◌else◌}
 use Rattle.std.proofs.lemmas.Bool.{cases_lt}
 use Rattle.play_event.specs.declared.code.Code.{Code}
@@ -61,7 +62,7 @@ up_same code list out street seat mine final mirror =
 ups_mirrored : (code : Code) (list : List Move) (out : Place → Bool) (street seat : ℕ) (mines finals : List Place) → AreMirrored list out mines finals → ups_by code mines street seat ≡ ups_by code finals street seat
 ups_mirrored code list out street seat mines finals = slots_mirrored list out (is_up_by code street seat) (is_up_by code street seat) mines finals (λ mine final among. up_same code list out street seat mine final)
 
--- moves leave all counts of cards
+-- moves do not change the counts of cards
 record KeepsCounts (before after : Past) : Type 0 where
   holes : (street seat : ℕ) → hole_cards_dealt after street seat ≡ hole_cards_dealt before street seat
   board : (street : ℕ) → board_cards_dealt after street ≡ board_cards_dealt before street
@@ -80,7 +81,7 @@ pub record IsNext (setup : Setup) (rules : Rules) (script : Past) (before : ℕ)
   pub run : Runs setup rules mine (street_said setup (traced_places setup script) (moves_of script) (before + 1)) after
   pub at : AtStreet setup rules script (before + 1) after
 
--- a street that the hand came to takes place, and the next one begins as in the script
+-- a street that the hand reached takes place, and the next one begins as in the script
 pub played : (setup : Setup) (rules : Rules) (events : List Said) (mine : Past) (before : ℕ) → AreLegal setup rules events → is_unfinished (turn setup (past_of setup events)).1 ≡ false → AtStreet setup rules (past_of setup events) before mine → IsReached setup (moves_of (past_of setup events)) (before + 1) → before + 1 ≤ street_count setup.code → IsNext setup rules (past_of setup events) before mine
 played setup rules events mine before legal complete at reached last =
     let script : Past = past_of setup events in

@@ -1,4 +1,4 @@
--- A street that the hand did not come to: the canonical script says nothing of it.
+-- A street that the hand did not reach: the canonical script has no events of it.
 use Rattle.std.proofs.Common.{◌≡◌, ℕ, suc, ◌+◌, ◌≤◌, true, false, ◌&&◌, nat_lt, nat_le, inl, inr, Option, Some, None, List, [], ◌++◌, map, reverse, length, refl, sym, ◌∙◌, ap, subst, arith, if◌then◌else◌}
 use Rattle.std.specs.List.{list_any}
 use Rattle.std.proofs.lemmas.Bool.{and_right, both_ways, false_from_ne_true, cases_lt, lt-leb, le-leb, leb-true}
@@ -36,7 +36,7 @@ use Rattle.canon_laws.proofs.StreetPlay.{IsNext}
 use Rattle.canon_laws.proofs.Street.{AtStreet}
 use Rattle.play_event.specs.Dealing.{has_drawn}
 
--- a street that the hand did not come to says nothing, and nothing changes
+-- a street that the hand did not reach has no events, and nothing changes
 pub skipped : (setup : Setup) (rules : Rules) (events : List Said) (mine : Past) (before : ℕ) → AreLegal setup rules events → AtStreet setup rules (past_of setup events) before mine → nat_le (live_count setup (moves_before (before + 1) (moves_of (past_of setup events)))) 1 ≡ true → before + 1 ≤ street_count setup.code → IsNext setup rules (past_of setup events) before mine
 skipped setup rules events mine before legal at over last =
     let script : Past = past_of setup events in

@@ -24,7 +24,7 @@ use Rattle.canon_laws.proofs.SameCore.{plain_again}
 abbrev pub AreWithin : Option (List ℕ) → List Move → Type 0
 AreWithin caps moves = IfSome caps (λ caps. (street : ℕ) → street ≤ 4 → raises_on moves street ≤ slice_index caps (street - 1))
 
--- how many raises there are with one move more
+-- the number of raises with one more move
 pub one_more : (move : Move) (older : List Move) (street : ℕ) (b : Bool) → (move.street == street) ≡ b → raises_on (move ∷ older) street ≡ cond (b && is_raise move.act) 1 0 + raises_on older street
 one_more move older street true here =
     ap (λ c. count_by (λ m. is_raise m.act) (if c then (move ∷ moves_on street older) else moves_on street older)) here
@@ -38,7 +38,7 @@ within_older : (caps : Option (List ℕ)) (move : Move) (older : List Move) → 
 within_older None move older within = tt
 within_older (Some caps) move older within = λ street first. omega (arith, within street first, one_more move older street (move.street == street) refl)
 
--- and a raise is one more than the cap allowed before it
+-- and a raise is one more than those before it, which are below the cap
 within_raise : (caps : Option (List ℕ)) (move : Move) (older : List Move) → is_raise move.act ≡ true → AreWithin caps (move ∷ older) → is_within_cap caps older move.street ≡ true
 within_raise None move older raises within = refl
 within_raise (Some caps) move older raises within = elim (cases_lt 4 move.street) [
@@ -50,7 +50,7 @@ within_raise (Some caps) move older raises within = elim (cases_lt 4 move.street
       (lt-ltb (raises_on older move.street) (slice_index caps (move.street - 1)) (omega (arith, within move.street (omega (arith, early)), count, one)))
 ]
 
--- what no traced move is, the newest is not, and none before it
+-- if no traced move passes a test, the newest does not, and none before it does
 newest_not : (p : TracedMove → Bool) (setup : Setup) (move : Move) (older : List Move) → list_any p (traced_moves setup (move ∷ older)) ≡ false → (list_any p (traced_moves setup older) ≡ false) × (p (traced_move setup move older) ≡ false)
 newest_not p setup move older none =
     or_parts (list_any p (traced_moves setup older)) (p (traced_move setup move older)) (sym (list_any-push p (traced_moves setup older) (traced_move setup move older)) ∙ none)

@@ -1,5 +1,5 @@
 //! The law of confluence: a script that is played to its end and the canonical script of its trace
-//! have one trace.
+//! have the same trace.
 #![tactic(auto)]
 
 mod laws;

@@ -1,4 +1,4 @@
--- How many cards the events of a canonical script have: of the board, of a discard and of a show.
+-- How many cards the events of a canonical script have: a deal of the board, a discard, a show.
 use Rattle.std.proofs.Common.{◌≡◌, ℕ, ◌+◌, ◌-◌, ◌≤◌, true, false, ◌&&◌, ◌==◌, not, nat_lt, nat_le, List, filter, length, Some, None, sym, ◌∙◌, ap, arith}
 use Rattle.std.specs.List.{list_any}
 use Rattle.std.proofs.lemmas.Bool.{and_parts, and_from, and_right, eqb-true, leb-true, lt-leb, lt-ltb, le-ltb, not_from_false}
@@ -54,7 +54,7 @@ module _ (setup : Setup) (rules : Rules) (events : List Said) (legal : AreLegal 
   abbrev core : TraceCore
   core = core_of setup past
 
-  -- the board has five cards of a street at most
+  -- the board has at most five cards of a street
   pub board_few : (street : ℕ) → 1 ≤ street → street ≤ street_count setup.code → length (dealt_slots core.places None street) ≤ 5
   board_few street some within =
       omega (
@@ -89,7 +89,7 @@ module _ (setup : Setup) (rules : Rules) (events : List Said) (legal : AreLegal 
             (not_from_false (nat_lt 0 place.discarded && nat_lt place.discarded street) (and_right (nat_lt 0 place.discarded) (nat_lt place.discarded street) (le-ltb place.discarded street (omega (arith, here))))))),
       )
 
-  -- a discard has five cards at most
+  -- a discard has at most five cards
   pub discard_few : (seat street : ℕ) → IsSeatOf setup.stacks.seats seat → 1 ≤ street → street ≤ street_count setup.code → has_draw setup.code street ≡ true → length (discarded_slots core.places seat street) ≤ 5
   discard_few seat street in_hand some within draws =
       omega (

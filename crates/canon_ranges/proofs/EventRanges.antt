@@ -1,4 +1,4 @@
--- Each event of a canonical script lies in its range.
+-- Each event of a canonical script is within its range.
 use Rattle.std.proofs.Common.{◌≡◌, ℕ, zero, suc, ◌+◌, ◌≤◌, ◌<◌, Bool, true, false, ◌&&◌, ◌==◌, nat_le, if◌then◌else◌, List, [], ◌∷◌, ◌++◌, map, filter, flat_map, reverse, length, Some, None, refl, sym, ◌∙◌, ap, subst, arith}
 use Rattle.std.specs.List.{AllByRecursion, list_any, range_with_len}
 use Rattle.std.proofs.lemmas.Bool.{and_parts}
@@ -30,7 +30,7 @@ use Rattle.chip_ledger.specs.Seat.{IsSeatOf}
 use Rattle.play_event.specs.Ranges.{IsInRange}
 use Rattle.play_event.proofs.ScriptLaws.{at_end}
 
--- numbers in a row lie between the first and the last
+-- numbers in a row are between the first and the last
 abbrev IsBetween : ℕ → ℕ → ℕ → Type 0
 IsBetween first behind number = (first ≤ number) × (number < behind)
 

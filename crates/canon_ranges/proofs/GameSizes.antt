@@ -1,4 +1,4 @@
--- How many cards and streets a game has at most.
+-- The most cards and streets that a game has.
 use Rattle.std.proofs.Common.{◌≡◌, ℕ, zero, suc, ◌-◌, ◌≤◌, Bool, true, false, ◌&&◌, ◌||◌, not, nat_le, List, [], ◌∷◌, length, slice_get, refl, sym, ◌∙◌, ap, arith}
 use Rattle.std.specs.List.{list_all, list_any}
 use Rattle.std.specs.Option.{option_map_or}
@@ -11,15 +11,15 @@ use Rattle.play_event.specs.declared.street.Street.{Street}
 use Rattle.list_laws.proofs.Tests.{false_true}
 use Rattle.play_laws.proofs.HeldFew.{first_holes, all_holes, not_more}
 
--- a street deals five cards to the board at most
+-- a street deals at most five cards to the board
 has_small_board : Street → Bool
 has_small_board s = nat_le s.board 5
 
--- the streets draw, if one does, for hands of five cards at most
+-- if a street draws, hands have at most five cards
 has_small_draws : List Street → Bool
 has_small_draws streets = not (list_any (λ s. s.draws) streets) || nat_le (all_holes streets) 5
 
--- a hand has one card to seven, and a game five streets at most
+-- a hand has one to seven cards, and a game at most five streets
 is_small : Game → Bool
 is_small game =
     (list_all has_small_board game.streets && has_small_draws game.streets)
@@ -75,7 +75,7 @@ some_draws [] index is = false_true is
 some_draws (first ∷ rest) zero is = or_left first.draws (list_any (λ s. s.draws) rest) is
 some_draws (first ∷ rest) (suc index) is = or_right first.draws (list_any (λ s. s.draws) rest) (some_draws rest index is)
 
--- where a street draws, a hand has five cards at most
+-- if a street draws, a hand has at most five cards
 pub few_drawn : (code : Code) (street count : ℕ) → has_draw code street ≡ true → first_holes (game_of code).streets count ≤ 5
 unfolding has_small_draws
 few_drawn code street count draws =
@@ -83,7 +83,7 @@ few_drawn code street count draws =
     let is : nat_le (all_holes streets) 5 ≡ true = sym (ap (λ some. not some || nat_le (all_holes streets) 5) (some_draws streets (street - 1) draws)) ∙ (small code).draws in
     omega (arith, not_more streets count, leb-true (all_holes streets) 5 is)
 
--- a hand has one card to seven
+-- a hand has one to seven cards
 pub hand_some : (code : Code) → 1 ≤ (game_of code).hole
 hand_some code = (small code).some
 

@@ -1,4 +1,5 @@
--- The moves, the cards and the counts of a canonical script, what a hand has of each street, and the script in other words.
+-- The moves, cards and counts of a canonical script, what a hand has of each street, and the script
+-- in other words.
 pub mod MoverSeats
 pub mod MoveRanges
 pub mod GameSizes

@@ -1,4 +1,4 @@
--- Each move of a legal past is of a seat of the hand, and goes to chips that may be stated.
+-- Each move of a legal past is by a seat of the hand, and its target may be stated.
 use Rattle.std.proofs.Common.{◌≡◌, ℕ, ◌≤◌, Bool, true, false, ◌==◌, if◌then◌else◌, List, [], ◌∷◌, ap, arith}
 use Rattle.std.specs.List.{AllByRecursion}
 use Rattle.std.proofs.Math.Nat.{min-le_right}
@@ -30,7 +30,7 @@ use Rattle.canon_ranges.proofs.MoverSeats.{mover_in_hand}
 use Rattle.chip_ledger.specs.Seat.{IsSeatOf}
 use Rattle.play_laws.proofs.ResolvedMoves.{target_of}
 
--- a move of a seat of the hand, to chips that may be stated
+-- a move of a seat of the hand, whose target may be stated
 pub record IsMoveInRange (setup : Setup) (move : Move) : Type 0 where
   pub seat : IsSeatOf setup.stacks.seats move.seat
   pub to : move.to ≤ MOST_CHIPS
@@ -44,7 +44,7 @@ added_less street seat (move ∷ before) = by_street (move.street == street) (ad
     by_street true less = omega (arith, less)
     by_street false less = omega (arith, less)
 
--- and brings no more to a street than it posted
+-- and puts no more on a street than it posted and added
 pub brought_less : (setup : Setup) (street seat : ℕ) → brought setup street seat ≤ posted setup seat
 brought_less setup street seat = by_first (street == 1)
   where
@@ -69,7 +69,7 @@ module _ (setup : Setup) (rules : Rules) (older : List Move) (street seat : ℕ)
   abbrev most : ℕ
   most = all_in setup older street seat
 
-  -- a move goes no further than all-in
+  -- the target of a move is at most all-in
   reaches : (event : Said) (move : Move) (due : Rattle.play_event.specs.declared.reason.Due.Due) → IsMoveSaid event → NoneHold (move_reasons setup rules older (street, due) (TheSeat seat) event) → resolved_by setup older street (TheSeat seat) event ≡ Moved move → move.to ≤ most
   unfolding target_of
   reaches _ move due (fold_said named) none is =

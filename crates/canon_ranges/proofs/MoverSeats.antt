@@ -1,4 +1,4 @@
--- The seat in turn is a seat of the hand.
+-- The player to act is a seat of the hand.
 use Rattle.std.proofs.Common.{◌≡◌, ℕ, zero, suc, ◌+◌, ◌-◌, ◌≤◌, ◌<◌, Bool, true, false, ◌==◌, nat_lt, if◌then◌else◌, List, [], ◌∷◌, ◌++◌, filter, find, Option, Some, None, inl, inr, refl, sym, subst, arith}
 use Rattle.std.specs.List.{AllByRecursion, range_with_len}
 use Rattle.std.proofs.lemmas.Bool.{and_parts, cases_lt, ltb-true}
@@ -46,7 +46,7 @@ found_from_one p (first ∷ seats) seat one is = by_first (p first) is (found_fr
     by_first true it later = omega (arith, one.0, same_Some first seat it)
     by_first false it later = later it
 
--- a seat in turn, if there is one, is at least 1
+-- the player to act, if there is one, is seat 1 or higher
 abbrev IsFromOne : InTurn → Type 0
 IsFromOne NoSeat = Unit {0}
 IsFromOne Undecided = Unit {0}
@@ -86,7 +86,7 @@ first_from_one setup holds (TheSeat seat) one =
     found_from_one holds (seats_from setup seat) found
     (both_from_one (range_with_len seat (setup.stacks.seats + 1 - seat)) (range_with_len 1 (seat - 1)) (range_from_one seat (setup.stacks.seats + 1 - seat) one) (range_from_one 1 (seat - 1) (omega arith))) is)
 
--- the seat in turn is one of the hand
+-- the player to act is a seat of the hand
 pub mover_in_hand : (setup : Setup) (ups : UpCards) (moves : List Move) (street seat : ℕ) → mover setup ups moves street ≡ TheSeat seat → IsSeatOf setup.stacks.seats seat
 mover_in_hand setup ups moves street seat is =
     let opener : InTurn = opener_by (opener_of setup.code) setup ups moves street in

@@ -1,4 +1,4 @@
--- A canonical script has few events but for its moves.
+-- A canonical script has few events other than its moves.
 use Rattle.std.proofs.Common.{◌≡◌, ℕ, ◌+◌, ◌*◌, ◌≤◌, Bool, true, false, ◌&&◌, ◌==◌, not, nat_le, if◌then◌else◌, List, [], ◌∷◌, ◌++◌, length, map, filter, flat_map, reverse, count_by, cond, Some, None, refl, ap, arith, length-append}
 use Rattle.std.proofs.lemmas.List.{length-map}
 use Rattle.std.proofs.lemmas.List.FromFn.{length-range_with_len}
@@ -19,7 +19,7 @@ use Rattle.canon_script.proofs.Deals.{one_board, one_deal}
 use Rattle.list_laws.proofs.Lists.{kept_few}
 use Rattle.list_laws.proofs.FlatMaps.{flat_few}
 
--- how many of some events are no moves
+-- the number of events that are no moves
 abbrev others : List Said → ℕ
 others events = count_by (λ event. not (is_move event)) events
 
@@ -29,7 +29,7 @@ both (x ∷ xs) ys =
     let p : Said → Bool = λ event. not (is_move event) in
     omega (arith, count_by-cons p x (xs ++ ys), count_by-cons p x xs, both xs ys)
 
--- no more than there are events
+-- at most as many as there are events
 few : (events : List Said) (most : ℕ) → length events ≤ most → others events ≤ most
 few events most short = omega (arith, short, count_by-le-length (λ event. not (is_move event)) events)
 
@@ -46,7 +46,7 @@ act_moves Called seat target = refl
 act_moves Raised seat target = refl
 act_moves BroughtIn seat target = refl
 
--- moves are no other events
+-- moves are not other events
 none_other : (moves : List Move) → others (map move_named moves) ≡ 0
 none_other [] = refl
 none_other (move ∷ rest) =

@@ -1,5 +1,5 @@
--- The canonical script of a game without draws, but for its showdown, beside the same events in other words, where all that is no
--- move stays as it is.
+-- The canonical script of a game without draws, except its showdown, next to the same events in
+-- other words; only moves change.
 use Rattle.std.proofs.Common.{◌≡◌, ℕ, zero, suc, ◌+◌, ◌&&◌, if◌then◌else◌, false, List, [], ◌∷◌, ◌++◌, map, reverse, Some, None, refl, sym, ap, subst, ◌∙◌, arith, append_assoc}
 use Rattle.std.specs.List.{flat_map, range_with_len}
 use Rattle.std.proofs.lemmas.List.{append-nil, map-append, reverse-append, reverse-reverse}
@@ -15,7 +15,7 @@ use Rattle.play_event.specs.declared.setup.Setup.{Setup}
 use Rattle.canon_blocks.proofs.StreetMoves.{AreFalling, moves_split, own_moves}
 use Rattle.canon_blocks.proofs.Runs.{more_events}
 
--- events of which none is a move
+-- no event is a move
 abbrev pub NoMoves : List Said → Type 0
 NoMoves [] = Unit {0}
 NoMoves (event ∷ events) = (is_move event ≡ false) × NoMoves events
@@ -65,9 +65,9 @@ no_discards setup placed list street undrawn =
 abbrev pub street_as : Setup → List TracedPlace → (ℕ → List Said) → ℕ → List Said
 street_as setup placed moves_as street = deals_said setup placed street ++ moves_as street
 
--- events, the newest first, with their moves, say the same as other words; what is no move stays as it is
+-- events (newest first) with their moves, and the same events in other words; only moves change
 module _ (Says : List Said → List Move → List Said → Type 0) (stays : (event : Said) (events : List Said) (moves : List Move) (words : List Said) → is_move event ≡ false → Says events moves words → Says (event ∷ events) moves (event ∷ words)) where
-  -- so do events of which none is a move
+  -- this holds of events that are not moves
   pub quiet_stay : (quiet events : List Said) (moves : List Move) (words : List Said) → NoMoves quiet → Says events moves words → Says (reverse quiet ++ events) moves (reverse quiet ++ words)
   quiet_stay [] events moves words none before = before
   quiet_stay (event ∷ quiet) events moves words none before =
@@ -94,7 +94,7 @@ module _ (Says : List Said → List Move → List Said → Type 0) (stays : (eve
         (subst (λ (l : List Said). Says (map move_named own ++ (reverse deals ++ events)) (moves_before (street + 1) list) l) (sym again)
         (subst (λ (l : List Move). Says (map move_named own ++ (reverse deals ++ events)) l (reverse (moves_as street) ++ (reverse deals ++ words))) (sym (moves_split street list falling)) it))
 
-    -- so many streets
+    -- this number of streets
     streets_too : (first count : ℕ) (events words : List Said) → Says events (moves_before first list) words
         → Says (reverse (flat_map (street_said setup placed list) (range_with_len first count)) ++ events) (moves_before (first + count) list) (reverse (flat_map (street_as setup placed moves_as) (range_with_len first count)) ++ words)
     streets_too first zero events words before =

@@ -1,4 +1,4 @@
--- A legal raise leaves its seat no fewer chips on the street than it had.
+-- A legal raise does not reduce its seat's chips on the street.
 use Rattle.std.proofs.Common.{◌≡◌, ℕ, ◌+◌, ◌≤◌, Bool, true, false, ◌&&◌, ◌||◌, ◌==◌, not, min, nat_le, nat_lt, if◌then◌else◌, List, [], ◌∷◌, None, Some, inl, inr, refl, sym, ap, ◌∙◌, arith, true≢false}
 use Rattle.std.specs.List.{list_any}
 use Rattle.std.proofs.lemmas.Bool.{and_parts, eqb-true, leb-true, ltb-false, ltb-true, not-false, or_cases}
@@ -31,7 +31,7 @@ use Rattle.play_laws.proofs.NamedMoves.{move_reasons, named_in, why_move}
 use Rattle.play_laws.specs.Spellings.{in_turn_after}
 use Rattle.canon_ranges.proofs.MoverSeats.{mover_in_hand}
 
--- a seat that a legal move names is in turn
+-- it is the turn of a seat that a legal move names
 pub named_in_turn : (setup : Setup) (rules : Rules) (past : Past) (event : Said) (seat : ℕ) → IsMoveSaid event → named_in event ≡ Some seat → why setup rules past event ≡ None → IsInTurn setup past seat
 named_in_turn setup rules past event seat is named legal =
     let moves = moves_of past in
@@ -44,11 +44,11 @@ named_in_turn setup rules past event seat is named legal =
     by_turn moves Undecided other decided = absurd (true≢false decided)
     by_turn moves (TheSeat mover) other decided = ap TheSeat (sym (eqb-true seat mover (not-false (seat == mover) other)))
 
--- no seat of the hand has more chips on a street than the price
+-- no seat of the hand has more chips on a street than the current bet
 within_price : (setup : Setup) (moves : List Move) (street seat : ℕ) → 1 ≤ seat → seat ≤ setup.stacks.seats → street_chips setup moves street seat ≤ price setup moves street
 within_price setup moves street seat low high = greatest_reaches (street_chips setup moves street) 1 setup.stacks.seats seat low (omega (arith, high))
 
--- the full targets of fixed limit are no less than the price
+-- the full targets in fixed limit are not below the current bet
 module _ (the_price the_unit last target : ℕ) where
   abbrev fulls : Bool → Bool → List ℕ
   fulls less above = if less then (the_unit ∷ []) else ((the_price + the_unit) ∷ (if above then ((last + the_unit) ∷ []) else []))
@@ -75,7 +75,7 @@ module _ (the_price the_unit last target : ℕ) where
   most_of false true is = omega arith
   most_of false false is = omega arith
 
--- a target that is not refused leaves its seat no fewer chips on the street
+-- a target that is not refused does not reduce its seat's chips on the street
 goes_up : (limit : Limit) (reopen : Reopen) (setup : Setup) (moves : List Move) (street seat target : ℕ) → street_chips setup moves street seat ≤ price setup moves street
     → (is_fixed limit ≡ false → price setup moves street ≤ floor reopen setup moves street)
     → (legal : Bool) → is_target_in limit reopen setup moves street seat target ≡ legal
@@ -120,7 +120,7 @@ goes_up limits.Fixed reopen setup moves street seat target low above false is be
       most_of the_price the_unit last target (nat_lt the_price the_unit) (nat_lt the_price (last + the_unit)) refl,
     )
 
--- a legal raise takes its seat up
+-- a legal raise increases its seat's chips
 pub raise_up : (setup : Setup) (rules : Rules) (events : List Said) (seat target : ℕ) → IsValid setup → AreLegal setup rules events
     → why setup rules (past_of setup events) (said.Raise (Some seat) (spelled.To target)) ≡ None → street_chips setup (moves_of (past_of setup events)) (turn setup (past_of setup events)).0 seat ≤ target
 raise_up setup rules events seat target valid legal_before legal =

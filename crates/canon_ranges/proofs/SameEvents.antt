@@ -1,4 +1,5 @@
--- The same events in other words: legal where the events are, and leaving the same past, one event after the other.
+-- The same events in other words: legal if the events are, and leaving the same past, one event
+-- after another.
 use Rattle.std.proofs.Common.{◌≡◌, false, List, ◌∷◌, None, refl, sym, ap, ◌∙◌, true≢false}
 use Rattle.canon_script.specs.CanonScript.{act_named}
 use Rattle.canon_script.specs.PlayedScript.{is_move}
@@ -18,12 +19,12 @@ pub record IsSame (setup : Setup) (rules : Rules) (before : Past) (event word : 
   pub legal : why setup rules before word ≡ None
   pub past : with_event setup word before ≡ with_event setup event before
 
--- words are legal, and leave the past of events
+-- the words are legal, and leave the past of the events
 pub record AreSame (setup : Setup) (rules : Rules) (events words : List Said) : Type 0 where
   pub legal : AreLegal setup rules words
   pub past : past_of setup words ≡ past_of setup events
 
--- one event more
+-- one more event
 pub one_more : (setup : Setup) (rules : Rules) (events words : List Said) (event word : Said) → AreSame setup rules events words → IsSame setup rules (past_of setup events) event word → AreSame setup rules (event ∷ events) (word ∷ words)
 one_more setup rules events words event word same is =
     record {
@@ -31,7 +32,7 @@ one_more setup rules events words event word same is =
       past = ap (with_event setup word) same.past ∙ is.past;
     }
 
--- an event that is no move leaves the moves
+-- an event that is no move does not change the moves
 pub same_moves : (setup : Setup) (past : Past) (event : Said) → is_move event ≡ false → moves_of (with_event setup event past) ≡ moves_of past
 unfolding with_event
 same_moves setup past (said.Hole seat cards) still = refl
@@ -44,7 +45,7 @@ same_moves setup past (said.Call named stated) still = absurd (true≢false stil
 same_moves setup past (said.Raise named amount) still = absurd (true≢false still)
 same_moves setup past (said.BringIn named) still = absurd (true≢false still)
 
--- what the newest of the moves tells of the past before it
+-- what the newest of the moves says of the past before it
 pub record IsNewest (setup : Setup) (past : Past) (move : Move) (older : List Move) : Type 0 where
   pub moves : moves_of past ≡ older
   pub street : move.street ≡ (turn setup past).0

@@ -1,4 +1,5 @@
--- A canonical script has as many moves as its script, and so is within the limits of a hand where the script is.
+-- A canonical script has as many moves as its script, and so is within the limits of a hand if the
+-- script is.
 use Rattle.std.proofs.Common.{◌≡◌, ◌≤◌, List, length, count_by, reverse, sym, ap, ◌∙◌, arith}
 use Rattle.list_laws.proofs.Reversed.{count_reversed}
 use Rattle.play_event.specs.Past.{moves_of}
@@ -26,7 +27,7 @@ same_moves setup rules script played =
     sym (traced_count setup (canon_of setup script))
     ∙ (ap (λ core. length core.moves) (confluent setup rules script played).same ∙ traced_count setup script)
 
--- and is within the limits where the moves of the script are
+-- and is within the limits if the moves of the script are
 pub canon_within : (setup : Setup) (rules : Rules) (script : List Said) → IsPlayed setup rules script → count_by is_move script ≤ MOST_MOVES → IsWithinLimits (canon_of setup script)
 canon_within setup rules script played few =
     record { moves = omega (arith, few, same_moves setup rules script played); others = few_others setup (core_after setup script) }

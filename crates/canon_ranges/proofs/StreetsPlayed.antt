@@ -1,5 +1,5 @@
--- What a legal hand that is played to its end has of each street: where the hand came to the street, all its cards; and else
--- no cards and no moves.
+-- What a legal hand that is played to its end has of each street: all its cards if the hand reached
+-- the street, and otherwise no cards and no moves.
 use Rattle.std.proofs.Common.{◌≡◌, ℕ, zero, suc, ◌+◌, ◌≤◌, ◌&&◌, ◌==◌, Bool, true, false, cond, nat_lt, nat_le, List, [], ◌∷◌, length, Option, Some, None, filter, refl, sym, ap, subst, ◌∙◌, arith, ltb-false}
 use Rattle.std.specs.List.{list_any}
 use Rattle.std.proofs.lemmas.Bool.{and_parts, both_ways, false_from_ne_true, le-ltb, lt-leb, leb-false}
@@ -32,7 +32,7 @@ use Rattle.play_laws.proofs.LegalPlaces.{group_count, legal_past}
 use Rattle.play_laws.proofs.PlayedStreets.{board_count, board_group, hole_group, reached_done}
 use Rattle.play_laws.specs.PastLaws.{is_played_on}
 
--- a hand does not come to a street with one live seat
+-- a hand with one live seat does not reach a street
 abbrev pub is_passed : Setup → List Move → ℕ → Bool
 is_passed setup list street = nat_le (live_count setup (moves_before street list)) 1
 
@@ -64,7 +64,7 @@ has_street setup rules events before legal complete no_draw last =
       no_moves = λ over. (quiet over).own;
     }
 
--- a hand came to its first street, where each seat has all its cards
+-- a hand reached its first street, on which each seat has all its cards
 pub first_holes : (setup : Setup) (rules : Rules) (events : List Said) (seat : ℕ) → AreLegal setup rules events → is_unfinished (turn setup (past_of setup events)).1 ≡ false → has_draw setup.code 1 ≡ false → 1 ≤ street_count setup.code → 1 ≤ seat → seat ≤ setup.stacks.seats
     → length (dealt_slots (traced_places setup (past_of setup events)) (Some seat) 1) ≡ hole_cards_on setup.code 1
 first_holes setup rules events seat legal complete no_draw last low high =
@@ -89,7 +89,7 @@ before_before early late (move ∷ rest) order = by_late (nat_lt move.street lat
     by_late false is later =
         later ∙ ap (λ b. cond b (move ∷ moves_before early rest) (moves_before early rest)) (sym (le-ltb move.street early (omega (arith, order, ltb-false move.street late is))))
 
--- a hand that came to a street came to those before it
+-- a hand that reached a street reached those before it
 pub came_before : (setup : Setup) (list : List Move) (early late : ℕ) → early ≤ late → is_passed setup list late ≡ false → is_passed setup list early ≡ false
 came_before setup list early late order reached =
     let more = counts_fewer (is_live (moves_before late list)) (is_live (moves_before early (moves_before late list))) (live_before (moves_before late list) early) (all_seats setup) in

@@ -1,5 +1,6 @@
--- The moves of a legal script suit the rules under which it is legal: where full raises alone reopen the betting no raise is
--- closed, where folds are not free each fold pays for something, and the raises of each street are within its cap.
+-- The moves of a legal script suit the rules under which it is legal: if only full raises reopen
+-- the betting, no raise is made where it would be closed; if a fold needs a bet to fold to, each
+-- fold has one; and the raises of each street are within its cap.
 use Rattle.std.proofs.Common.{◌≡◌, ℕ, ◌+◌, ◌-◌, ◌≤◌, Bool, true, false, ◌&&◌, ◌||◌, ◌==◌, not, nat_le, nat_lt, cond, Option, Some, None, List, [], ◌∷◌, reverse, slice_index, inl, inr, refl, sym, ap, subst, ◌∙◌, arith}
 use Rattle.std.specs.List.{list_any}
 use Rattle.std.proofs.lemmas.Bool.{and_parts, eq-eqb, eqb-true, false_from_ne_true, leb-true, ltb-true, not-false, or_cases}
@@ -35,7 +36,7 @@ use Rattle.canon_laws.proofs.SameCore.{plain_again}
 use Rattle.canon_laws.proofs.SuitedMoves.{AreWithin, one_more}
 use Rattle.play_event.proofs.FloorLaws.{fits_target}
 
--- a fold with something to call pays for it
+-- if a fold needs a bet to fold to, each fold has one
 pays : (free : Bool) (the_price from : ℕ) → (not free && (the_price - from == 0)) ≡ false → free ≡ false → nat_le the_price from ≡ false
 pays true the_price from none is = false_true (sym is)
 pays false the_price from none is =
@@ -47,13 +48,13 @@ may_parts opponent above cap free may =
     let all = and_parts (opponent && above && cap) free (not-false (opponent && above && cap && free) may) in
     ((and_parts (opponent && above) cap all.0).1, all.1)
 
--- what is open and goes to a legal target is not closed
+-- a raise to a legal target is not closed if the betting is open
 open_both : (reopened legal : Bool) → reopened ≡ true → legal ≡ true → (not reopened || not legal) ≡ false
 open_both true true is also = refl
 open_both true false is also = false_true also
 open_both false legal is also = false_true is
 
--- the move that an event came to
+-- the move of an event
 nobody : Move
 nobody = record { street = 0; seat = 0; act = Folded; from = 0; to = 0 }
 
@@ -62,7 +63,7 @@ moved_of (Moved move) = move
 moved_of _ = nobody
 
 module _ (setup : Setup) (rules : Rules) (older : List Move) (street seat : ℕ) where
-  -- what a legal move came to suits the rules
+  -- the move of a legal event suits the rules
   suits_by : (event : Said) (move : Move) (due : Due) → IsMoveSaid event → NoneHold (move_reasons setup rules older (street, due) (TheSeat seat) event) → resolved_by setup older street (TheSeat seat) event ≡ Moved move → IsSuited rules setup older move
   unfolding moved_of
   suits_by _ move due (fold_said named) none is =
@@ -122,7 +123,7 @@ within rules setup (Some caps) is [] suits = λ street first. omega arith
 within rules setup (Some caps) is (move ∷ older) suits = λ street first.
     within_more caps move older street (λ raise. sym (ap (λ c. is_within_cap c older move.street) is) ∙ suits.0.caps raise) (within rules setup (Some caps) is older suits.1 street first) first (move.street == street) (is_raise move.act) refl refl
 
--- what none of the moves is
+-- what no move is
 none_more : (p : TracedMove → Bool) (setup : Setup) (move : Move) (older : List Move) → list_any p (traced_moves setup older) ≡ false → p (traced_move setup move older) ≡ false → list_any p (traced_moves setup (move ∷ older)) ≡ false
 none_more p setup move older before newest =
     list_any-push p (traced_moves setup older) (traced_move setup move older) ∙ ap (λ b. b || p (traced_move setup move older)) before ∙ newest

@@ -1,5 +1,5 @@
-//! What the events of a canonical script may be, how many there are, and what rules a play suits.
-//! The functions do nothing: each contract is a law.
+//! Which events a canonical script can have, how many, and which rules a play suits. The functions
+//! do nothing: each contract is a law.
 ghost use Rattle.std.specs.Prelude.{◌≡◌, ◌≤◌, List, count_by};
 ghost use Rattle.std.specs.List.{AllByRecursion};
 ghost use Rattle.canon_script.specs.CanonScript.{canon_of};
@@ -13,8 +13,8 @@ ghost use Rattle.play_event.specs.declared.setup.Setup.{Setup};
 ghost use Rattle.canon_laws.specs.OtherRules.{SuitsRules};
 ghost use Rattle.play_event.specs.Ranges.{IsInRange};
 
-/// Each event of the canonical script of a script that is played to its end lies in its range, and
-/// the canonical script is within the limits of a hand where the moves of the script are.
+/// If a script is played to its end, each event of its canonical script is within its range, and
+/// the canonical script is within the limits of a hand if the moves of the script are.
 pub fn law_of_ranges()
     ensures in_range { (setup : Setup) (rules : Rules) (script : List Said)
         → IsValid setup → IsPlayed setup rules script
@@ -31,8 +31,9 @@ pub fn law_of_move_counts()
         → count_by is_move (canon_of setup script) ≡ count_by is_move script }
 {}
 
-/// A play that is legal under some rules suits them: no raise is closed where full raises alone
-/// reopen the betting, no fold is free where folds are not, and raises are within the caps.
+/// A play that is legal under some rules suits them: if only full raises reopen the betting, no
+/// raise is made where it would be closed; if a fold needs a bet to fold to, each fold has one; and
+/// raises are within the caps.
 pub fn law_of_own_rules()
     ensures { (setup : Setup) (rules : Rules) (script : List Said)
         → IsPlayed setup rules script → SuitsRules rules (core_after setup script) }

@@ -1,4 +1,4 @@
-//! What a canonical script says lies in its range: seats of the hand, cards that an event may have,
+//! What a canonical script says is within range: seats of the hand, cards that an event may have,
 //! chips that may be stated, and no more events than a hand may have. And a legal play suits the
 //! rules under which it is legal.
 #![tactic(auto)]

@@ -1,4 +1,4 @@
--- The cards of an owner on a street are dealt in one event at most.
+-- The cards of an owner on a street are dealt in at most one event.
 use Rattle.std.proofs.Common.{ℕ, ◌≤◌, List, [], ◌∷◌, length, arith}
 use Rattle.card_set.specs.declared.card.Slot.{Slot}
 use Rattle.canon_script.specs.CanonScript.{board_said, deal_said}

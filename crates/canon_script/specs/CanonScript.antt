@@ -1,5 +1,5 @@
 -- The canonical script of a trace: cards as they are known at the end, in the order of streets and
--- seats; each draw's discards before its deals; moves named and spelled by their target; and a
+-- seats; each draw's discards before its deals; moves with their seat and their target; and a
 -- showdown in the order of seats.
 use Rattle.std.specs.Prelude.{ℕ, Bool, ◌&&◌, ◌==◌, nat_le, if◌then◌else◌, List, [], ◌∷◌, ◌++◌, map, filter, flat_map, reverse, Option, Some, None}
 use Rattle.std.specs.List.{list_any}
@@ -15,21 +15,21 @@ use Rattle.play_event.specs.Places.{is_same_owner}
 use Rattle.play_event.specs.Trace.{TracedMove, TracedPlace, streets_of}
 use Rattle.canon_script.specs.TraceCore.{TraceCore, core_after}
 
--- a move of a trace without what is computed of the moves before it
+-- a move of a trace without the numbers computed from the moves before it
 abbrev pub plain_move : TracedMove → Move
 plain_move move =
     record
     { street = move.street; seat = move.seat; act = move.act; from = move.from; to = move.to }
 
--- the moves of a trace, the newest first
+-- the moves of a trace, newest first
 abbrev pub plain_moves : List TracedMove → List Move
 plain_moves moves = reverse (map plain_move moves)
 
--- a card was dealt to an owner on a street
+-- a card was dealt to an owner (a seat or the board) on a street
 abbrev pub is_dealt_to : Option ℕ → ℕ → TracedPlace → Bool
 is_dealt_to owner street place = is_same_owner place.owner owner && (place.street == street)
 
--- the cards of an owner of one street
+-- the cards that an owner was dealt on a street
 abbrev pub dealt_slots : List TracedPlace → Option ℕ → ℕ → List Slot
 dealt_slots placed owner street =
     map (λ place. place.slot) (filter (is_dealt_to owner street) placed)
@@ -48,27 +48,27 @@ discarded_slots placed seat street =
 abbrev pub held_slots : List TracedPlace → ℕ → List Slot
 held_slots placed seat = discarded_slots placed seat 0
 
--- a deal of these cards to a seat, where there are some
+-- the deal of these cards to a seat, if there are any
 abbrev pub deal_said : ℕ → List Slot → List Said
 deal_said seat [] = []
 deal_said seat (slot ∷ rest) = Hole seat (slot ∷ rest) ∷ []
 
--- a deal of these cards to the board, where there are some
+-- the deal of these cards to the board, if there are any
 abbrev pub board_said : List Slot → List Said
 board_said [] = []
 board_said (slot ∷ rest) = Board (known_cards (slot ∷ rest)) ∷ []
 
--- the deals of a street: to each seat in one event, and to the board
+-- the deals of a street: one event for each seat, and one for the board
 abbrev pub deals_said : Setup → List TracedPlace → ℕ → List Said
 deals_said setup placed street =
     flat_map (λ seat. deal_said seat (dealt_slots placed (Some seat) street)) (all_seats setup)
     ++ board_said (dealt_slots placed None street)
 
--- the seats that draw on a street: those that are live when it begins
+-- the seats that draw on a street: those that are live when the street begins
 abbrev pub drawing_seats : Setup → List Move → ℕ → List ℕ
 drawing_seats setup moves street = filter (is_live (moves_before street moves)) (all_seats setup)
 
--- the hand came to a street: two seats or more are live when it begins
+-- the hand reached a street: two or more seats are live when it begins
 abbrev pub is_reached : Setup → List Move → ℕ → Bool
 is_reached setup moves street = nat_le 2 (live_count setup (moves_before street moves))
 
@@ -81,18 +81,18 @@ discards_said setup placed moves street =
     (drawing_seats setup moves street)
     else []
 
--- what a seat did, named and spelled by its target
+-- what a seat did, with its number and target
 abbrev pub act_named : Act → ℕ → ℕ → Said
 act_named Folded seat target = Fold (Some seat)
 act_named Called seat target = Call (Some seat) None
 act_named Raised seat target = Raise (Some seat) (spelled.To target)
 act_named BroughtIn seat target = BringIn (Some seat)
 
--- a move, named and spelled by its target
+-- a move, with its seat and target
 abbrev pub move_named : Move → Said
 move_named move = act_named move.act move.seat move.to
 
--- the moves of a street, the oldest first
+-- the moves of a street, oldest first
 abbrev pub moves_named : List Move → ℕ → List Said
 moves_named moves street = map move_named (reverse (filter (λ move. move.street == street) moves))
 
@@ -116,7 +116,7 @@ showdown_said setup placed moves shown =
     then map (showing_said placed shown) (filter (is_live moves) (all_seats setup))
     else []
 
--- the canonical script of places, moves (the newest first) and shown seats
+-- the canonical script of places, moves (newest first) and shown seats
 abbrev pub script_of : Setup → List TracedPlace → List Move → List ℕ → List Said
 script_of setup placed moves shown =
     flat_map (street_said setup placed moves) (streets_of setup)

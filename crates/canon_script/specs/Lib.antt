@@ -1,5 +1,5 @@
--- What a trace keeps of a hand but for its shares, its canonical script, and scripts that are
--- played to their end.
+-- What a trace keeps of a hand except its shares, its canonical script, and scripts played to their
+-- end.
 pub mod TraceCore
 pub mod CanonScript
 pub mod PlayedScript

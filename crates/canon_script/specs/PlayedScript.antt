@@ -1,4 +1,4 @@
--- Scripts that are played to their end, and what a hand may have of events.
+-- Scripts that are played to their end, and the most events that a hand may have.
 use Rattle.std.specs.Prelude.{◌≡◌, ◌≤◌, Bool, true, false, not, List, reverse, count_by}
 use Rattle.play_event.specs.declared.setup.Setup.{Setup}
 use Rattle.play_event.specs.declared.setup.Rules.{Rules}
@@ -8,13 +8,13 @@ use Rattle.play_event.specs.Scripts.{has_early_end}
 use Rattle.play_event.specs.Laws.{AreLegal}
 use Rattle.canon_script.specs.declared.limits.TheConstants.{MOST_MOVES, MOST_OTHER_EVENTS}
 
--- a script is played to its end: each of its events is legal, and after the last one nothing is due
--- but shows
+-- a script is played to its end: each event is legal, and after the last one nothing is due except
+-- shows
 pub record IsPlayed (setup : Setup) (rules : Rules) (script : List Said) : Type 0 where
   pub legal : AreLegal setup rules (reverse script)
   pub complete : has_early_end setup script ≡ false
 
--- an event says a move
+-- an event is a move
 abbrev pub is_move : Said → Bool
 is_move (said.Fold actor) = true
 is_move (said.Call actor stated) = true

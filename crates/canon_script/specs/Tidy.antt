@@ -1,4 +1,4 @@
--- Tidy traces: cards that must be known are, and no event needs more cards than a row holds.
+-- Tidy traces: cards that must be known are known, and no event needs more cards than a row holds.
 use Rattle.std.specs.Prelude.{◌≡◌, ℕ, ◌≤◌, ◌&&◌, ◌==◌, true, false, length, Option, None}
 use Rattle.std.specs.List.{list_any}
 use Rattle.card_set.specs.Known.{is_unknown}
@@ -7,9 +7,9 @@ use Rattle.canon_script.specs.declared.limits.TheConstants.{MOST_MOVES}
 use Rattle.canon_script.specs.TraceCore.{TraceCore}
 use Rattle.canon_script.specs.CanonScript.{dealt_slots, discarded_slots, held_slots}
 
--- The cards of a trace: the board and what shown seats hold are known; no owner has more than seven
--- cards of one street, no seat discards more than seven in one draw, and none holds more than
--- seven.
+-- The cards of a trace: the board and the cards of shown seats are known; no owner is dealt more
+-- than seven cards on one street, no seat discards more than seven in one draw, and none holds more
+-- than seven.
 pub record HasTidyCards (trace : TraceCore) : Type 0 where
   pub board_known :
       list_any (λ place. is_same_owner place.owner None && is_unknown place.slot) trace.places
@@ -22,7 +22,7 @@ pub record HasTidyCards (trace : TraceCore) : Type 0 where
       → length (discarded_slots trace.places seat street) ≤ 7
   pub held_few : (seat : ℕ) → length (held_slots trace.places seat) ≤ 7
 
--- a trace is tidy: its cards are, and its moves are within the limit
+-- a trace is tidy: its cards are, and its number of moves is within the limit
 pub record IsTidy (trace : TraceCore) : Type 0 where
   pub cards : HasTidyCards trace
   pub moves_few : length trace.moves ≤ MOST_MOVES

@@ -1,5 +1,5 @@
--- What a trace keeps of a hand, but for the shares of its pots: places and moves, who is shown, and
--- the pots.
+-- What a trace keeps of a hand except the shares of its pots: places and moves, who shows, and the
+-- pots.
 use Rattle.std.specs.Prelude.{ℕ, List, map, filter}
 use Rattle.chip_ledger.specs.Pots.{PlainPot}
 use Rattle.play_event.specs.declared.setup.Setup.{Setup}
@@ -10,8 +10,8 @@ use Rattle.play_event.specs.Stakes.{pots_after, returned_after}
 use Rattle.play_event.specs.Scripts.{past_at_end}
 use Rattle.play_event.specs.Trace.{TracedMove, TracedPlace, traced_moves, traced_places, is_shown, is_mucked}
 
--- The places, the moves, the shown and the mucked seats, the pots before rakes are taken, and what
--- is returned to each seat. Shares and finishing stacks are read from these.
+-- The places, the moves, the seats that showed and mucked, the pots before the rake, and what is
+-- returned to each seat. Shares and finishing stacks are computed from these.
 pub record TraceCore : Type 0 where
   pub places : List TracedPlace
   pub moves : List TracedMove

@@ -1,5 +1,5 @@
-//! What the trace of a hand keeps but for its shares, its canonical script, and how many events a
-//! hand may have.
+//! What the trace of a hand keeps except its shares, its canonical script, and the most events of a
+//! hand.
 #![tactic(auto)]
 
 mod limits;

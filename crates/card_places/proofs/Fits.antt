@@ -1,4 +1,4 @@
--- What may be dealt is owed, and has room.
+-- What may be dealt is owed, and there is room for it.
 use Rattle.std.proofs.Common.{◌≡◌, ℕ, zero, suc, ◌+◌, ◌-◌, ◌≤◌, Bool, true, false, ◌||◌, ◌==◌, not, nat_lt, nat_le, if◌then◌else◌, Option, Some, None, List, length, count_by, refl, sym, subst, arith}
 use Rattle.std.proofs.lemmas.Bool.{ltb-false, le-leb, and_from}
 use Rattle.card_set.specs.declared.card.Slot.{Slot}
@@ -43,7 +43,7 @@ owed_few false false hole named dealt count some within = absurd (omega (arith, 
 street_is : (code : Code) (on : ℕ) → 1 ≤ on → on ≤ street_count code → is_street code on ≡ true
 street_is code on first last = and_from (nat_le 1 on) (nat_le on (street_count code)) (le-leb 1 on first) (le-leb on (street_count code) last)
 
--- so many cards are owed
+-- this number of cards is owed
 abbrev pub IsOwedIn : CardState → Option ℕ → ℕ → ℕ → Type 0
 IsOwedIn t owner street count = IsOwed t.table.code t.seats t.draws (placed t.places) owner street count
 
@@ -102,7 +102,7 @@ named_most : (draws : Bool) (named most hole dealt count : ℕ) → named ≤ mo
 named_most true named most hole dealt count less some few = omega (arith, less, some, few)
 named_most false named most hole dealt count less some few = omega (arith, some, few)
 
--- what is owed has room
+-- there is room for what is owed
 pub owed_room : (code : Code) (seats : ℕ) (draws : Draws) (placed : List Place) (owner : Option ℕ) (on count : ℕ) → seats ≤ 10 → AreNamedWithin code draws → IsOwed code seats draws placed owner on count → count_by (is_in_group owner on) placed + count ≤ most_of code seats owner on
 owed_room code seats draws placed (Some seat) on count ten named owed =
     let at = street_parts code on owed.street_in in

@@ -1,4 +1,4 @@
--- What holds where a discard has no reason against it.
+-- What holds if there is no reason against a discard.
 use Rattle.std.proofs.Common.{◌≡◌, ℕ, ◌+◌, ◌≤◌, Bool, true, false, not, nat_le, filter, if◌then◌else◌, Some, None, List, length, count_by, refl, arith}
 use Rattle.std.proofs.lemmas.Bool.{and_from, and_parts, le-leb, not-true}
 use Rattle.card_set.specs.declared.card.Slot.{Slot}
@@ -25,7 +25,7 @@ chain_parts true false true lacking is = absurd cc
 chain_parts true false false true is = absurd cc
 chain_parts true false false false is = (refl, refl)
 
--- the seat that discards is one of the hand and did not draw, and its names find their places
+-- the seat that discards is a seat of the hand and has not drawn, and its names find their places
 pub record IsDrawer (t : CardState) (on seat : ℕ) (cards : List Slot) : Type 0 where
   pub first : 1 ≤ seat
   pub last : seat ≤ t.seats

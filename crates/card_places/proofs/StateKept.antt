@@ -1,4 +1,4 @@
--- What is asked of a state holds after each change of it.
+-- The conditions of a state hold after each change of it.
 use Rattle.std.proofs.Common.{◌≡◌, ◌≢◌, ◌⊎◌, inl, inr, ℕ, ◌+◌, ◌≤◌, Bool, true, false, nat_eq, Some, List, length, count_by, refl, sym, ap, subst, ◌∙◌, arith}
 use Rattle.std.proofs.lemmas.Bool.{eqb-true, eq-eqb}
 use Rattle.card_set.specs.declared.card.Card.{Card}
@@ -40,7 +40,7 @@ bounded_show code seats draws before after seat cards is bounded =
       held = held_still code seats draws before (after_show code seat cards before) (show_still code seat cards before) (λ owner. show_fewer owner code seat cards before) bounded.held;
     })
 
--- a seat named so many cards in a draw, and the other draws are as they were
+-- a seat discarded `count` cards in a draw, and the other draws are unchanged
 pub record IsDrawnBy (old new : Draws) (on seat count : ℕ) : Type 0 where
   pub named : named_at new on seat ≡ count
   pub others : (street number : ℕ) → 1 ≤ number → number ≤ 10 → (street ≢ on) ⊎ (number ≢ seat) → named_at new street number ≡ named_at old street number

@@ -1,4 +1,4 @@
--- Folds, discards and shows leave each owner as many cards.
+-- Folds, discards and shows do not change how many cards each owner was dealt.
 use Rattle.std.proofs.Common.{ℕ, Bool, List, filter, length, refl, arith}
 use Rattle.std.proofs.lemmas.List.Sums.{length-filter}
 use Rattle.card_set.specs.declared.card.Card.{Card}

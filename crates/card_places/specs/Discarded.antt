@@ -1,4 +1,4 @@
--- What changes in the state where a seat discards.
+-- What changes when a seat discards.
 use Rattle.std.specs.Prelude.{◌≡◌, ◌≢◌, ◌⊎◌, ℕ, ◌≤◌, true, List, filter, length}
 use Rattle.card_set.specs.declared.card.Slot.{Slot}
 use Rattle.card_set.specs.Known.{known_cards}
@@ -12,7 +12,7 @@ use Rattle.card_places.specs.Drawn.{has_drawn_at, named_at}
 use Rattle.card_places.specs.Placed.{placed}
 use Rattle.card_places.specs.Searches.{has_unplaced_name, searched}
 
--- a search is that of a discard: what it makes of the places, and whether it lacks some
+-- a search is that of a discard: what it makes of the places, and whether some names find no place
 pub record IsDiscardSearch (code : Code) (s : Search) (placed : List Place) (on seat : ℕ)
     (cards : List Slot) : Type 0 where
   pub after : searched code s placed ≡ after_discard on seat cards placed

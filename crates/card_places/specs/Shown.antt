@@ -1,4 +1,4 @@
--- What changes in the state where a seat shows or mucks.
+-- What changes when a seat shows or mucks.
 use Rattle.std.specs.Prelude.{◌≡◌, ◌≢◌, ℕ, ◌≤◌, ◌||◌, true, List}
 use Rattle.card_set.specs.declared.card.Card.{Card}
 use Rattle.chip_ledger.specs.LiveRow.{flag_of}
@@ -12,8 +12,8 @@ use Rattle.card_places.specs.declared.search.Search.{Search}
 use Rattle.card_places.specs.Placed.{placed}
 use Rattle.card_places.specs.Searches.{has_unplaced_name, has_left_out_card, searched}
 
--- a search is that of a show: what it makes of the places, and whether it names others than they
--- have
+-- a search is that of a show: what it makes of the places, and whether it names other cards than
+-- they have
 pub record IsShowSearch (code : Code) (s : Search) (placed : List Place) (seat : ℕ)
     (cards : List Card) : Type 0 where
   pub after : searched code s placed ≡ after_show code seat cards placed

@@ -1,4 +1,4 @@
-//! A discard is refused exactly by the rules, and else takes the cards that its names find.
+//! Refuses a discard by the rules, or removes the cards that it names.
 ghost use Rattle.std.specs.Prelude.{◌≡◌, ◌≤◌, None, Some, IfErr, OnErr, OnOk};
 ghost use Rattle.card_set.specs.Row.{slots_of};
 ghost use Rattle.card_places.specs.Placed.{placed};
@@ -17,7 +17,7 @@ use card_set::SlotRow;
 use chip_ledger::{LiveRow, Seat};
 use play_event::Illegal;
 
-/// The seat discards the cards on the street, where it may; else the state is as it was.
+/// Discards the cards on the street if that is legal; otherwise changes nothing.
 pub fn discard_on(
     state: &mut CardState,
     live: &LiveRow,

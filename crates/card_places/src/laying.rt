@@ -1,4 +1,4 @@
-//! Cards are dealt behind those that were dealt before, and what is owed has room.
+//! Deals cards that are owed; there is room for them.
 ghost use Rattle.std.specs.Prelude.{length};
 ghost use Rattle.card_places.specs.Dealt.{IsDealt};
 ghost use Rattle.card_places.specs.Placed.{placed};

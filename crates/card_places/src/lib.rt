@@ -1,5 +1,5 @@
-//! Each dealt card of a hand has its place, and deals, discards, shows, mucks and folds change
-//! places as the rules say.
+//! The place of each dealt card of a hand, changed by deals, discards, shows, mucks and folds as
+//! the rules say.
 #![tactic(auto)]
 
 mod card_state;

@@ -1,5 +1,5 @@
-//! Names are judged by the places as they are: what the names would make of them is looked at place
-//! by place, and written nowhere.
+//! Checks the names of an event against the places without changing them: what the names would make
+//! of the places is looked at one by one.
 ghost use Rattle.std.specs.Prelude.{◌≡◌, ◌&&◌, ◌==◌, not, map};
 ghost use Rattle.std.specs.List.{list_any};
 ghost use Rattle.card_set.specs.Known as known;
@@ -13,7 +13,7 @@ use crate::names::is_unknown;
 use crate::search::{Search, look};
 use crate::taken::{is_clash, is_foreign};
 
-/// Whether a card that the names make known may not lie among the places after them.
+/// Whether the names make a card known that cannot be where it then is.
 pub fn is_misplacing(table: &DealTable, rows: &[DealtCard], search: &Search) -> bool
     ensures { result ≡ taken.has_misplaced_card table.now.code (map place_of rows.now)
         (searched table.now.code search.now (map place_of rows.now)) }
@@ -31,7 +31,7 @@ pub fn is_misplacing(table: &DealTable, rows: &[DealtCard], search: &Search) -> 
     false
 }
 
-// The names make the old place this new one, and a card known that may not lie there.
+// The names turn the old place into this new one, and make a card known that cannot be there.
 fn is_newly_misplaced(
     table: &DealTable,
     rows: &[DealtCard],
@@ -46,7 +46,7 @@ fn is_newly_misplaced(
     is_unknown(old.slot) && !is_unknown(new.slot) && is_misplaced(table, rows, search, new)
 }
 
-// A place may not bear its card among those after the names.
+// The card of a place cannot be there, among the places after the names.
 fn is_misplaced(table: &DealTable, rows: &[DealtCard], search: &Search, card: &DealtCard) -> bool
     ensures { result ≡ taken.is_misplaced table.now.code
         (searched table.now.code search.now (map place_of rows.now)) (place_of card.now) }
@@ -54,7 +54,7 @@ fn is_misplaced(table: &DealTable, rows: &[DealtCard], search: &Search, card: &D
     is_foreign(table, card.slot) || clashes(table, rows, search, card)
 }
 
-// The place clashes with another of those after the names.
+// The place clashes with another one after the names.
 fn clashes(table: &DealTable, rows: &[DealtCard], search: &Search, card: &DealtCard) -> bool
     ensures { result ≡ list_any (λ other. not (other.number == card.now.number)
         && taken.is_clash (place_of card.now) other)

@@ -1,4 +1,4 @@
-//! Names may find no place among the covered ones, and a show may leave a known card out.
+//! Finds names without a place, and known cards that a show leaves out.
 ghost use Rattle.std.specs.Prelude.{◌≡◌, ◌≤◌, map, length, count_by, ◌&&◌};
 ghost use Rattle.play_event.specs.Naming as naming;
 ghost use Rattle.card_set.specs.Known as known;
@@ -11,7 +11,7 @@ use crate::dealt_card::DealtCard;
 use crate::names::{is_unknown, left_out};
 use crate::search::{Search, covers};
 
-/// Whether a known card of the covered places is not named.
+/// Whether a known card that the event applies to is not named.
 pub fn has_left_out_card(table: &DealTable, rows: &[DealtCard], search: &Search) -> bool
     ensures { result
         ≡ searches.has_left_out_card table.now.code search.now (map place_of rows.now) }
@@ -26,7 +26,7 @@ pub fn has_left_out_card(table: &DealTable, rows: &[DealtCard], search: &Search)
     false
 }
 
-/// Whether fewer of the covered places are unknown than names and blanks look for one.
+/// Whether more names and blanks need an unknown place than there are.
 pub fn has_unplaced_name(table: &DealTable, rows: &[DealtCard], search: &Search) -> bool
     ensures { result
         ≡ searches.has_unplaced_name table.now.code search.now (map place_of rows.now) }
@@ -34,7 +34,7 @@ pub fn has_unplaced_name(table: &DealTable, rows: &[DealtCard], search: &Search)
     free_count(table, rows, search) < search.others.len as usize + search.blanks as usize
 }
 
-// How many covered places are unknown.
+// The number of unknown places that the event applies to.
 #[tactic(auto, using(crate::proofs::Covered::free_more))]
 fn free_count(table: &DealTable, rows: &[DealtCard], search: &Search) -> usize
     ensures value { result ≡ count_by (λ place. known.is_unknown place.slot)
@@ -50,7 +50,7 @@ fn free_count(table: &DealTable, rows: &[DealtCard], search: &Search) -> usize
     count
 }
 
-// A covered place is unknown.
+// The event applies to the place, and its card is unknown.
 fn is_free(table: &DealTable, card: &DealtCard, search: &Search) -> bool
     ensures { result ≡ (naming.is_covered table.now.code search.now.seat.number search.now.all
         (place_of card.now) && known.is_unknown card.now.slot) }

@@ -1,4 +1,4 @@
-//! A deal is refused exactly by the rules.
+//! Why a deal is refused.
 ghost use Rattle.std.specs.Prelude.{◌≡◌, ◌||◌, ◌==◌, Some};
 ghost use Rattle.play_event.specs.CardReasons as reasons;
 ghost use Rattle.card_places.specs.Refusals as why;
@@ -92,7 +92,7 @@ fn board_why_on(state: &CardState, on: u8, cards: &[Slot]) -> Option<Illegal>
     }
 }
 
-// A deal has no card, or more than are owed.
+// Whether a deal has no card, or more than are owed.
 fn is_wrong_deal(owed: u8, count: usize) -> bool
     ensures { result ≡ reasons.is_wrong_deal owed count }
 {

@@ -1,4 +1,4 @@
-//! The names of a discard or a show find the places that it covers in the order of dealing.
+//! Matches the names of a discard or a show with places, in the order of dealing.
 ghost use Rattle.std.specs.Prelude.{◌≡◌, ◌∷◌, List, length, map};
 ghost use Rattle.std.specs.List.{list_any};
 ghost use Rattle.card_set.specs.Row.{cards_of};
@@ -20,9 +20,9 @@ use crate::names::without;
 use card_set::CardRow;
 use chip_ledger::Seat;
 
-/// What is looked for: cards of a seat, all of them or those face down; where they are discarded on
-/// a street, after so many deals; the names, those of them that no known card bears, and how many
-/// blanks come with them.
+/// What is looked for: cards of a seat, all of them or those face down; the street on which they
+/// are discarded, if they are, and after how many dealt cards; the names, which of them no known
+/// card has, and the number of blanks that come with them.
 #[derive(Clone, Copy)]
 pub struct Search {
     pub seat: Seat,
@@ -34,8 +34,8 @@ pub struct Search {
     pub blanks: u8,
 }
 
-/// Looks for the names and so many blanks among the covered places. With a street, the cards that
-/// are found are discarded on it; without one they stay.
+/// Looks for the names and `blanks` blanks among the places that the event applies to. With a
+/// street, the cards found are discarded on it; without one they stay.
 pub fn search_of(
     table: &DealTable,
     places: &DealtCards,
@@ -67,7 +67,8 @@ pub fn search_of(
     }
 }
 
-// The names that no known card of the covered places bears: unknown places may take them.
+// The names that no known card has among the places that the event applies to: unknown places may
+// take them.
 fn other_names(
     table: &DealTable,
     rows: &[DealtCard],
@@ -87,7 +88,7 @@ fn other_names(
     others
 }
 
-/// The names find their places, in the order of dealing.
+/// Matches the names with places, in the order of dealing.
 pub fn run(table: &DealTable, places: &mut DealtCards, search: &Search)
     ensures { placed places.new
         ≡ searches.searched table.now.code search.now (placed places.old) }
@@ -102,8 +103,7 @@ pub fn run(table: &DealTable, places: &mut DealtCards, search: &Search)
     }
 }
 
-/// What the names make of the next place, so many of the other names being taken and so many
-/// blanks left.
+/// Matches the next place with the names; `taken` and `blanks` say how far earlier places got.
 pub fn look(
     table: &DealTable,
     search: &Search,
@@ -135,7 +135,8 @@ pub fn look(
     }
 }
 
-/// Whether a discard or a show of the seat covers the card: all its cards, or those face down.
+/// Whether a discard or a show of the seat applies to the card: to all its cards, or those face
+/// down.
 pub fn covers(table: &DealTable, card: &DealtCard, seat: Seat, all: bool) -> bool
     ensures { result ≡ naming.is_covered table.now.code seat.number all (place_of card.now) }
 {

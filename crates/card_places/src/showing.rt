@@ -1,4 +1,4 @@
-//! A show or a muck is refused exactly by the rules, and a show makes its cards known.
+//! Refuses a show or a muck by the rules; a show makes its cards known.
 ghost use Rattle.std.specs.Prelude.{◌≡◌, ◌≤◌, ◌&&◌, map, length, count_by, Some, IfErr, OnErr, OnOk, IsTrue, List, IfNone, IfSome, None};
 ghost use Rattle.card_set.specs.declared.card.Card.{Card};
 ghost use Rattle.std.specs.List.{list_any};
@@ -23,7 +23,7 @@ use card_set::CardRow;
 use chip_ledger::{LiveRow, Seat};
 use play_event::{Due, Illegal};
 
-/// The seat shows the cards, where it may; else the state is as it was.
+/// Shows the cards if that is legal; otherwise changes nothing.
 pub fn show_on(
     state: &mut CardState,
     live: &LiveRow,
@@ -79,7 +79,7 @@ fn show_why_on(
     }
 }
 
-// A show may have so many cards.
+// Whether a show may have `count` cards.
 fn may_show_many(state: &CardState, seat: Seat, count: u8) -> bool
     ensures { result ≡ why.may_show_many state.now.table.code
         (placed state.now.places) seat.number count }
@@ -90,7 +90,7 @@ fn may_show_many(state: &CardState, seat: Seat, count: u8) -> bool
             && !hides_up(&state.table, rows, seat)
 }
 
-// How many cards the seat holds face down.
+// The number of cards that the seat holds face down.
 fn held_down(table: &DealTable, rows: &[DealtCard], seat: Seat) -> usize
     ensures value { result ≡ count_by (naming.is_held_down table.now.code seat.number)
         (map place_of rows.now) }
@@ -141,7 +141,7 @@ fn is_show_of_all(places: &DealtCards, seat: Seat, cards: &CardRow) -> bool
     cards.len == places.held(Some(seat))
 }
 
-/// Why no show may come now, if none may.
+/// Why a show is not due, if it is not.
 pub fn shut(
     state: &CardState,
     live: &LiveRow,

@@ -1,4 +1,4 @@
-//! Playing cards, slots whose card may be unknown, rows of both, and their spelling.
+//! Playing cards, slots whose card may be unknown, rows of both, and how they are written.
 #![tactic(auto)]
 
 mod card;

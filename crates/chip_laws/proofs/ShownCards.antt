@@ -54,7 +54,7 @@ board_length code past =
     ∙ sym (length-map (board_cards past) (λ (card : Card). slots.Known card))
     ∙ ap length (sym (board_held code past))
 
--- where the hand is played to its end, each shown seat has a whole hand
+-- if the hand is played to its end, each shown seat has a whole hand
 pub shown_whole : (setup : Setup) (rules : Rules) (events : List Said) (seat : ℕ)
     → AreLegal setup rules events → is_unfinished (turn setup (past_of setup events)).1 ≡ false
     → (showdown_in setup (core_of setup (past_of setup events))).shown seat ≡ true

@@ -13,7 +13,7 @@ first_seat p index seats within none passes =
     find_first p 1 seats (index + 1) (omega arith) (omega (arith, within)) passes
     (λ other least most. none_at p index other least (omega (arith, most)) none)
 
--- the same, where a search before it finds none
+-- the same, if a search before it finds none
 pub found_first : (p : ℕ → Bool) (index seats : ℕ) → index < seats → find p (seats_of index) ≡ None → p (index + 1) ≡ true → find p (seats_of seats) ≡ Some (index + 1)
 found_first p index seats within none passes =
     first_seat p index seats within (sym (some_found p (seats_of index)) ∙ ap is_some none) passes

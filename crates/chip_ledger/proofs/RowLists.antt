@@ -20,6 +20,6 @@ row_listed f row seats same each =
     back : (k : ℕ) → 1 + k - 1 ≡ k
     back k = omega arith
 
--- where no rake is taken, none is taken from any pot
+-- if no rake is taken, none is taken from any pot
 pub no_rake : (rakes : RakeRow) → rakes ≡ no_rakes → (pot : ℕ) → rake_of rakes pot ≡ 0
 no_rake rakes none pot = subst (λ (row : RakeRow). rake_of row pot ≡ 0) (sym none) (index-replicate {X = ℕ} 11 0 (pot - 1))

@@ -31,7 +31,7 @@ seats_kept puts live q (n ∷ ns) =
     kept_seat puts live n (filter (λ m. q (stake_of puts live m)) ns)
     (filter q (map (stake_of puts live) ns)) (q (stake_of puts live n)) (seats_kept puts live q ns)
 
--- a row of flags that says of each seat whether it is live and reaches a level
+-- a row of flags that says for each seat whether it is live and reaches a level
 pub flagged-reaching : (row : LiveRow) (puts : SeatRow) (live : LiveRow) (level : ℕ)
     → row.seats ≡ puts.seats
     → ((n : ℕ) → 1 ≤ n → n ≤ puts.seats → flag_of row n ≡ (flag_of live n && nat_le level (amount_of puts n)))

@@ -1,4 +1,5 @@
--- An event of cards is answered: by the state and by the rules the reasons are the same, and the state after it stands for the past with it.
+-- An event of cards is answered: the reasons by the state are those by the rules, and the state
+-- after it stands for the past with it.
 use Rattle.std.proofs.Common.{◌≡◌, ℕ, Bool, List, Option, Some, None, Result, Ok, Err, OnOk, OnErr, IfErr, refl, sym, subst, ◌∙◌, arith}
 use Rattle.card_set.specs.declared.card.Card.{Card}
 use Rattle.card_set.specs.declared.card.Slot.{Slot}
@@ -33,7 +34,7 @@ use Rattle.deal_core.proofs.WhyDiscard.{why_discard}
 use Rattle.deal_core.proofs.WhyShow.{why_show, why_muck}
 use Rattle.list_laws.proofs.Results.{on_ok}
 
--- the reason of the rules is this one, which the state gives too
+-- the reason of the rules is this one, which the state also gives
 answered_by : (t next : CardState) (due : Due) (live : LiveRow) (asks : Setup → Past → Type 0) (event : Said) (answer : Result (Unit {0}) Illegal) (reason : Option Illegal)
     → ((rules : Rules) → WhereNow t due live (λ setup past. asks setup past → why setup rules past event ≡ reason))
     → OnOk answer (reason ≡ None) → IfErr answer (λ found. reason ≡ Some found)

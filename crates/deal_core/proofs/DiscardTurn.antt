@@ -1,4 +1,4 @@
--- Where a seat may discard, its draw is due, and it did not draw yet.
+-- If a seat may discard, its draw is due, and it has not drawn yet.
 use Rattle.std.proofs.Common.{◌≡◌, ℕ, false, List, None, sym, ap, ◌∙◌}
 use Rattle.card_set.specs.declared.card.Slot.{Slot}
 use Rattle.chip_ledger.specs.declared.live_row.LiveRow.{LiveRow}

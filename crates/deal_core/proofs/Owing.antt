@@ -1,4 +1,4 @@
--- What the state says that a street deals next, the past says too.
+-- What a street deals next by the state is what it deals next by the past.
 use Rattle.std.proofs.Common.{◌≡◌, ℕ, nat_lt, find, Option, Some, None, sym, ap, ◌∙◌, arith}
 use Rattle.chip_ledger.specs.declared.live_row.LiveRow.{LiveRow}
 use Rattle.chip_ledger.specs.Seat.{seats_of}

@@ -1,4 +1,4 @@
--- The reasons of a deal by the state are the reasons of the rules.
+-- The reasons against a deal by the state are the reasons of the rules.
 use Rattle.std.proofs.Common.{◌≡◌, ℕ, ◌-◌, Bool, true, false, ◌||◌, ◌==◌, not, nat_lt, nat_le, if◌then◌else◌, List, length, count_by, Option, Some, None, refl, sym, ap, ◌∙◌}
 use Rattle.std.proofs.lemmas.Bool.{and_parts, leb-true}
 use Rattle.std.proofs.lemmas.List.{length-map}
@@ -88,7 +88,7 @@ module _ (t : CardState) (due : Due) (live : LiveRow) (setup : Setup) (past : Pa
       ap (λ (o : ℕ). if is_wrong_deal o (length cards) then Some reasons.WrongCount else if has_taken_card setup.code (places_of setup.code past) on cards then Some reasons.CardTaken else None) (board_owed_is on)
       ∙ ap (λ (b : Bool). if is_wrong_deal (board_owed_in t on) (length cards) then Some reasons.WrongCount else if b then Some reasons.CardTaken else None) (taken_is on cards)
 
--- where this is due
+-- when this is due
 hole_by : (t : CardState) (due : Due) (live : LiveRow) (setup : Setup) (rules : Rules) (past : Past) (seat : ℕ) (cards : List Slot) → IsNow t due live setup past → first_reason (all_reasons setup rules past ((turn setup past).0, due) (said.Hole seat cards)) ≡ hole_why t live due seat cards
 hole_by t dues.Over live setup rules past seat cards now = refl
 hole_by t dues.BringIn live setup rules past seat cards now = refl
@@ -133,7 +133,7 @@ why_board t due live setup rules past cards now =
     ap (λ (d : Due). first_reason (all_reasons setup rules past ((turn setup past).0, d) (said.Board cards))) now.due_is
     ∙ board_by t due live setup rules past cards now
 
--- where cards may be dealt, the street that is due is that of the turn
+-- if cards may be dealt, the street that is due is that of the turn
 pub hole_turn : (t : CardState) (due : Due) (live : LiveRow) (setup : Setup) (past : Past) (seat : ℕ) (cards : List Slot) → (turn setup past).1 ≡ due → hole_why t live due seat cards ≡ None → due_street due ≡ Some (turn setup past).0
 hole_turn t (dues.Deal on) live setup past seat cards due_is none = ap Some (deal_street setup past on due_is)
 hole_turn t (dues.Draw on) live setup past seat cards due_is none = ap Some (draw_street setup past on due_is)

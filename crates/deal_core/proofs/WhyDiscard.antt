@@ -1,4 +1,4 @@
--- The reasons of a discard by the state are the reasons of the rules.
+-- The reasons against a discard by the state are the reasons of the rules.
 use Rattle.std.proofs.Common.{◌≡◌, ℕ, false, ◌&&◌, ◌==◌, not, find, filter, List, length, Option, refl, sym, ap, ◌∙◌, arith}
 use Rattle.std.specs.Option.{option_map_or}
 use Rattle.card_set.specs.declared.card.Slot.{Slot}

@@ -1,4 +1,4 @@
--- The reasons of a show or a muck by the state are the reasons of the rules.
+-- The reasons against a show or a muck by the state are the reasons of the rules.
 use Rattle.std.proofs.Common.{◌≡◌, ℕ, Bool, true, false, ◌&&◌, ◌||◌, not, if◌then◌else◌, filter, List, length, Option, Some, None, refl, sym, ap, ◌∙◌}
 use Rattle.card_set.specs.declared.card.Card.{Card}
 use Rattle.chip_ledger.specs.declared.live_row.LiveRow.{LiveRow}

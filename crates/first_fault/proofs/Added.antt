@@ -1,4 +1,4 @@
--- Items that are added one after the other to what was read before, as a loop does.
+-- Items added one after another to what was read before, as a loop does.
 use Rattle.std.proofs.Common.{◌≡◌, ℕ, ◌+◌, ◌<◌, ◌≤◌, List, length, map, drop, get_or, Result, Ok, Err, refl, sym, ◌∙◌}
 use Rattle.std.proofs.lemmas.List.{drop_more, drop_all}
 use Rattle.first_fault.specs.declared.stop.Stop.{Stop}

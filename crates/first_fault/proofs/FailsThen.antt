@@ -1,4 +1,4 @@
--- What is read first stops what is read after it.
+-- A fault of the first reading stops the second.
 use Rattle.std.proofs.Common.{Result, refl}
 use Rattle.first_fault.specs.declared.stop.Stop.{Stop}
 use Rattle.first_fault.specs.declared.stop.Stop.TheVariants as stops

@@ -1,4 +1,4 @@
--- Items that are read one after the other, with what is counted handed on, as a loop does.
+-- Items read one after another, with a count passed on, as a loop does.
 use Rattle.std.proofs.Common.{◌≡◌, ℕ, ◌+◌, ◌<◌, ◌≤◌, List, ◌++◌, length, map, drop, get_or, Result, Ok, Err, refl, sym, ap, ◌∙◌, append_assoc, IfOk}
 use Rattle.std.proofs.lemmas.List.{append-nil, drop_more, drop_all}
 use Rattle.first_fault.specs.declared.stop.Stop.{Stop}
@@ -46,7 +46,7 @@ module _ {F V D A S : Type 0} (seen : V → D) (form : S → ℕ → D → Resul
       rw (drop_all index values le) (ap (λ all. Ok (all, so_far)) (append-nil front)) in
       sym before ∙ one
 
--- what holds of what follows holds of the whole
+-- what holds of the rest holds of the whole
 pub bound : {A B F : Type 0} (P : B → Type 0) (first : Result A F) (next : A → Result B F) → ((a : A) → IfOk (next a) P) → IfOk (first >>= next) P
 bound P (Ok a) next each = each a
 bound P (Err fault) next each = tt

@@ -1,5 +1,5 @@
-//! Reading in a fixed order gives a value or the first fault, whatever the notation and its faults
-//! are; and texts are cut into words.
+//! Reading in a fixed order, which gives a value or the first fault in every notation; and cutting
+//! texts into words.
 #![tactic(auto)]
 
 mod bounds;

@@ -1,4 +1,4 @@
-//! Reading stops at the first fault, or where memory was refused.
+//! Why a reader stops: at the first fault, or because memory was refused.
 ghost use Rattle.std.specs.Prelude.{◌≡◌};
 ghost use Rattle.card_set.specs.declared.memory.Memory.{Memory as Refused};
 ghost use Rattle.first_fault.specs.declared.stop.Stop.TheVariants.{Memory as OutOfMemory};

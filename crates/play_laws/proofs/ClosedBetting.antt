@@ -1,4 +1,4 @@
--- Betting that is closed on a street stays closed there under moves of other streets.
+-- Betting that is closed on a street stays closed under moves of other streets.
 use Rattle.std.proofs.Common.{◌≡◌, ◌≢◌, ℕ, ◌+◌, ◌-◌, ◌≤◌, Bool, true, false, ◌&&◌, ◌||◌, ◌==◌, not, nat_lt, nat_le, inl, inr, List, ◌∷◌, map, refl, sym, ◌∙◌, ap, if◌then◌else◌}
 use Rattle.std.specs.List.{list_any}
 use Rattle.std.proofs.lemmas.Bool.{and_parts, and_from, and_right, ne_eqb, false_from_ne_true, both_ways, or_left, or_cases, or_right}
@@ -18,7 +18,7 @@ use Rattle.play_event.proofs.StillAble.{able_still}
 use Rattle.list_laws.proofs.Counting.{counts_fewer}
 use Rattle.list_laws.proofs.Numbers.{two_still}
 
--- no move makes more seats able
+-- no move increases the number of seats that can act
 pub able_fewer : (setup : Setup) (move : Move) (moves : List Move) → able_count setup (move ∷ moves) ≤ able_count setup moves
 able_fewer setup move moves = counts_fewer (is_able setup (move ∷ moves)) (is_able setup moves) (able_still setup move moves) (all_seats setup)
 
@@ -26,7 +26,7 @@ able_fewer setup move moves = counts_fewer (is_able setup (move ∷ moves)) (is_
 pub other_moves : (move : Move) (moves : List Move) (street : ℕ) → move.street ≢ street → moves_on street (move ∷ moves) ≡ moves_on street moves
 other_moves move moves street differ = ap (λ b. if b then (move ∷ moves_on street moves) else moves_on street moves) (ne_eqb move.street street differ)
 
--- what is owed on a street is changed by moves of that street alone
+-- what is owed on a street is changed only by moves of that street
 pub owed_same : (setup : Setup) (move : Move) (moves : List Move) (street seat : ℕ) → move.street ≢ street → owed setup (move ∷ moves) street seat ≡ owed setup moves street seat
 owed_same setup move moves street seat differ =
     ap (λ l. greatest (map (λ other. brought setup street other + chips_added other l) (all_seats setup)) - (brought setup street seat + chips_added seat l)) (other_moves move moves street differ)
@@ -44,7 +44,7 @@ has_to_by true before_able false owes less more both on is =
       | inr two ↦ or_right (nat_lt 0 owes) (nat_le 2 more) (two_still less more on two)
     ])
 
--- who has to move on a street after a move of another one had to before it
+-- a seat that has to move on a street after a move of another street had to before it
 pub has_to_still : (setup : Setup) (move : Move) (moves : List Move) (street seat : ℕ) → move.street ≢ street → has_to_move setup (move ∷ moves) street seat ≡ true → has_to_move setup moves street seat ≡ true
 has_to_still setup move moves street seat differ is =
     has_to_by (is_able setup (move ∷ moves) seat) (is_able setup moves seat) (has_moved_since_rise setup moves street seat) (owed setup moves street seat) (able_count setup (move ∷ moves)) (able_count setup moves) (able_still setup move moves seat) (able_fewer setup move moves)

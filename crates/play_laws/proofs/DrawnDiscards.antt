@@ -63,7 +63,7 @@ fold_not_out seat_folding count street seat (first ∷ rest) place (inl same) is
 fold_not_out seat_folding count street seat (first ∷ rest) place (inr later) is =
     let it = fold_not_out seat_folding count street seat rest place later is in (it.0, (inr it.1.0, it.1.1))
 
--- who has a card that was discarded on a street has drawn there
+-- a seat with a card that was discarded on a street has drawn there
 pub out_drawn : (code : Code) (before : Past) (street seat : ℕ) (place : Place) → IsAmong (places_of code before) place → IsOut street seat place → has_drawn before street seat ≡ true
 out_drawn code [] street seat place among is = absurd among
 out_drawn code (Dealt on owner cards ∷ before) street seat place among is = out_drawn code before street seat place (new_not_out code (Some owner) on cards (places_of code before) street seat place among is) is

@@ -32,7 +32,7 @@ use Rattle.play_event.proofs.OwnerLaws.{is_same_owner-true}
 use Rattle.list_laws.proofs.Options.{none_some}
 use Rattle.list_laws.proofs.NumbersOfRange.{none_kept_passes}
 
--- where somebody has moved on the street, who moves is told by the moves alone
+-- if somebody has moved on the street, the moves alone decide whose turn it is
 some_on : (street : ℕ) (list : List Move) → has_move street list ≡ true → (first : Move) × ((rest : List Move) × (moves_on street list ≡ first ∷ rest))
 some_on street [] is = false_true is
 some_on street (move ∷ rest) is = by_street (move.street == street) (some_on street rest) is
@@ -52,7 +52,7 @@ blinds_free : (setup : Setup) (ups others : UpCards) (list : List Move) (street 
 blinds_free setup ups others list street seat opener is =
     ap (λ o. mover_after setup (opener_by o setup others list street) list street) opener ∙ (sym (ap (λ o. mover_after setup (opener_by o setup ups list street) list street) opener) ∙ is)
 
--- else the up-cards of able seats are known
+-- otherwise the up-cards of seats that can act are known
 no_moves_on : (street : ℕ) (list : List Move) → has_move street list ≡ false → moves_on street list ≡ []
 no_moves_on street [] is = refl
 no_moves_on street (move ∷ rest) is =
@@ -76,7 +76,7 @@ decided openers.LowUp setup ups list street seat none is =
 decided openers.HighUp setup ups list street seat none is =
     inr (decided_by setup ups list street seat (has_unknown_up_card setup ups list) (up_cards_opener setup ups list street) (sym (ap (λ l. first_in_turn setup (has_to_move setup list street) (next_in_turn setup (opener_by openers.HighUp setup ups list street) l)) (no_moves_on street list none)) ∙ is))
 
--- the seat in turn by the up-cards of able seats is so by the places
+-- the player to act by the up-cards of seats that can act is the player to act by the places
 pub is_mover : (setup : Setup) (placed : List Place) (ups : UpCards) (list : List Move) (street seat : ℕ) → SameUps setup list (ups_by setup.code placed street) ups → mover setup ups list street ≡ TheSeat seat → IsMover setup placed list street seat
 is_mover setup placed ups list street seat same is = elim (cases_Bool (has_move street list)) [
   | inl has ↦ free (λ others. moved_free setup ups others list street seat has is)
@@ -130,7 +130,7 @@ up_by false none up early there is = refl
 up_by true none false early there is = sym (and_right none false refl)
 up_by true none true early there is = is ∙ sym (ap (λ b. b && true) (there refl refl))
 
--- the up-cards of an able seat are those of its places
+-- the up-cards of a seat that can act are those of its places
 pub ups_now : (setup : Setup) (before : Past) (at seat : ℕ) → PastLaw setup before → PlacesOf setup before → newest_street before ≤ at → ((street other : ℕ) → has_drawn before street other ≡ true → has_draw setup.code street ≡ true) → is_live (moves_of before) seat ≡ true → ups_by setup.code (places_of setup.code before) at seat ≡ up_cards setup.code before seat
 ups_now setup before at seat past law on drew live =
     ap (map (λ (p : Place). p.slot)) (same_filter (is_up_by setup.code at seat) (λ place. is_held_by seat place && is_up setup.code place) (places_of setup.code before) (λ place among.
@@ -144,7 +144,7 @@ ups_now setup before at seat past law on drew live =
         (drew place.discarded seat (out_drawn setup.code before place.discarded seat place among (owner, (refl, omega (arith, ltb-true 0 place.discarded out)))))))
         (ap (has_owner_folded (moves_of before)) owner ∙ not_from_true (is_live (moves_of before) seat) live))
 
--- where no place passes none is kept
+-- if no place passes, none is kept
 pub none_pass : (p : Place → Bool) (places : List Place) → ((place : Place) → IsAmong places place → p place ≡ false) → filter p places ≡ []
 none_pass p [] pass = refl
 none_pass p (first ∷ rest) pass = ap (λ b. if b then (first ∷ filter p rest) else filter p rest) (pass first (inl refl)) ∙ none_pass p rest (λ place among. pass place (inr among))

@@ -70,7 +70,7 @@ made_act setup older street turn_is _ move (bring_said named) kind is = sym (ap 
     acts : Resolved → Bool
     acts event = elim event [ Moved m ↦ has_opened_betting m.act | Dealt s o c ↦ true | Boarded s c ↦ true | Discarded s o c ↦ true | Shown s o c ↦ true | Mucked s o ↦ true ]
 
--- a move on the first street of a hand in which a bring-in was due brings chips in
+-- on the first street of a hand in which a bring-in was due, every move puts chips in
 opened_by : (setup : Setup) (rules : Rules) (placed : List Place) (older : List Move) (move : Move) (due : Due) (fits : FitsMove setup rules placed older move) → fits.due ≡ due → IsBetDue setup older move.street due → is_bring_in_due setup older move.street ≡ true → has_opened_betting move.act ≡ true
 opened_by setup rules placed older move _ fits same (move_now no_bring so) bring = false_true (sym no_bring ∙ bring)
 opened_by setup rules placed older move _ fits same (bring_first so) bring =
@@ -114,7 +114,7 @@ to_bring setup rules placed list street law is =
     (all_seats setup)
     (any_from_length (is_able setup list) (all_seats setup) (omega (arith, bring.two, length-filter (is_able setup list) (all_seats setup))))
 
--- where a bring-in or a move is due some seat is in turn, or it is not known which
+-- if a bring-in or a move is due it is some seat's turn, or it is not known whose
 pub has_movers : (setup : Setup) (rules : Rules) → HasMovers setup rules
 has_movers setup rules placed list ups street _ law (bring_first so) = mover_found setup ups list street (to_bring setup rules placed list street law so)
 has_movers setup rules placed list ups street _ law (move_now no_bring so) = mover_found setup ups list street so

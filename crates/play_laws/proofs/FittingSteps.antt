@@ -38,11 +38,11 @@ use Rattle.std.specs.Prelude.{length}
 use Rattle.play_event.specs.TurnTargets.{is_bet_due}
 use Rattle.play_event.proofs.FloorLaws.{bet_unfinished}
 
--- where a bring-in or a move is due, some seat is in turn, or it is not known which
+-- if a bring-in or a move is due, it is some seat's turn, or it is not known whose
 abbrev pub HasMovers : Setup → Rules → Type 0
 HasMovers setup rules = (placed : List Place) (list : List Move) (ups : UpCards) (street : ℕ) (due : Due) → MovesLaw setup rules placed list → IsBetDue setup list street due → mover setup ups list street ≡ NoSeat → ⊥
 
--- who drew on a street, it draws
+-- if a seat drew on a street, the street draws
 drew_step : (setup : Setup) (before : Past) (at : ℕ) (event : Resolved) (street other : ℕ) → Stepped setup before at event → (has_drawn before street other ≡ true → has_draw setup.code street ≡ true) → has_drawn (event ∷ before) street other ≡ true → has_draw setup.code street ≡ true
 drew_step setup before at _ street other (deals seat cards due is some few free) law has = law has
 drew_step setup before at _ street other (boards cards due some few free) law has = law has
@@ -77,7 +77,7 @@ FitsIf setup rules placed older (Discarded street seat cards) = Unit {0}
 FitsIf setup rules placed older (Shown street seat cards) = Unit {0}
 FitsIf setup rules placed older (Mucked street seat) = Unit {0}
 
--- what a move tells, at its street and of its seat
+-- what a move says of its street and its seat
 record Told (setup : Setup) (rules : Rules) (placed : List Place) (older : List Move) (due : Due) (event : Said) (move : Move) (street seat : ℕ) : Type 0 where
   is_due : IsBetDue setup older street due
   in_turn : IsMover setup placed older street seat
@@ -135,7 +135,7 @@ fit_move setup rules events event movers law legal_before legal is several kind 
         let Q : InTurn → Type 0 = λ t. FitsIf setup rules (places_of setup.code (past_of setup events)) (moves_of (past_of setup events)) (resolved_by setup (moves_of (past_of setup events)) (turn setup (past_of setup events)).0 t event) in
         subst Q (sym same) (fits_seat setup rules (places_of setup.code (past_of setup events)) (moves_of (past_of setup events)) (turn setup (past_of setup events)).0 (turn setup (past_of setup events)).1 event seat (several (turn setup (past_of setup events)).0) is due in_turn none)
 
--- one event more
+-- one more event
 are_before : (newest street : ℕ) (list : List Move) → AreReached newest list → newest ≤ street → has_move street list ≡ false → AreBefore street list
 are_before newest street [] reached on none = tt
 are_before newest street (move ∷ rest) reached on none =

@@ -1,4 +1,4 @@
--- Laws of legal pasts: what is due, whose turn it is, and how cards lie.
+-- Laws of legal pasts: what is due, whose turn it is, and where the cards are.
 pub mod DueAtEvents
 pub mod MoveKinds
 pub mod MoverUps

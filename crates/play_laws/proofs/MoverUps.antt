@@ -1,4 +1,4 @@
--- Whose turn it is depends on the up-cards of able seats alone.
+-- Whose turn it is depends only on the up-cards of seats that can act.
 use Rattle.std.proofs.Common.{◌≡◌, ℕ, ◌+◌, ◌≤◌, ◌<◌, arith, Bool, true, not, List, refl, ◌∙◌, ap, ◌==◌, if◌then◌else◌}
 use Rattle.std.specs.List.{list_any}
 use Rattle.play_event.specs.declared.setup.Setup.{Setup}
@@ -13,7 +13,7 @@ use Rattle.card_set.specs.Known.{known_cards, is_unknown}
 use Rattle.play_event.specs.Mover.{mover, first_in_turn, next_in_turn}
 use Rattle.list_laws.proofs.NumbersOfRange.{any_same, find_same}
 
--- two rows of up-cards are the same for able seats
+-- two rows of up-cards are the same for seats that can act
 abbrev pub SameUps : Setup → List Move → UpCards → UpCards → Type 0
 SameUps setup moves ups others = (seat : ℕ) → 1 ≤ seat → seat ≤ setup.stacks.seats → is_able setup moves seat ≡ true → ups seat ≡ others seat
 
@@ -43,7 +43,7 @@ opener_same openers.HighUp setup moves street ups others same =
     ap (λ b. if b then Undecided else in_turn (up_cards_opener setup ups moves street)) (unknown_same setup moves ups others same)
     ∙ ap (λ o. if has_unknown_up_card setup others moves then Undecided else in_turn o) (found_same setup moves street ups others same)
 
--- whose turn it is depends on the up-cards of able seats alone
+-- whose turn it is depends only on the up-cards of seats that can act
 pub mover_same : (setup : Setup) (moves : List Move) (street : ℕ) (ups others : UpCards) → SameUps setup moves ups others → mover setup ups moves street ≡ mover setup others moves street
 mover_same setup moves street ups others same =
     ap (λ o. first_in_turn setup (has_to_move setup moves street) (next_in_turn setup o (moves_on street moves))) (opener_same (opener_of setup.code) setup moves street ups others same)

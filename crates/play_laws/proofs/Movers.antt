@@ -1,4 +1,5 @@
--- Where a bring-in or a move is due, some seat is in turn, or it is not known which; and so the moves of every legal past fit.
+-- If a bring-in or a move is due, it is some seat's turn, or it is not known whose; and so the
+-- moves of every legal past fit.
 use Rattle.std.proofs.Common.{◌≡◌, ℕ, zero, suc, ◌+◌, ◌-◌, ◌≤◌, ◌<◌, Bool, true, false, ◌||◌, ◌==◌, not, nat_lt, nat_le, inl, inr, ◌⊎◌, Option, Some, None, List, [], ◌∷◌, ◌++◌, filter, find, refl, ◌∙◌, ap, subst, arith, if◌then◌else◌}
 use Rattle.std.specs.List.{list_any, range_with_len}
 use Rattle.std.proofs.lemmas.Bool.{or_parts, or_from, and_parts, both_ways, cases_lt, cases_Bool, false_from_ne_true, not_from_false}
@@ -79,7 +80,7 @@ opener_found setup ups list street some none = by_able (able_seats setup list) r
         let P : List ℕ → Type 0 = λ l. find (λ seat. not (list_any (λ other. is_opener_before (opener_of setup.code) (street == 1) (known_cards (ups other)) (known_cards (ups seat))) l)) l ≡ None in
         find_in (λ seat. not (list_any (λ other. is_opener_before (opener_of setup.code) (street == 1) (known_cards (ups other)) (known_cards (ups seat))) (first ∷ rest))) (first ∷ rest) least.seat least.is_in (not_from_false _ least.least) (subst P same is)
 
--- going round the table from any seat, each seat is met
+-- going round the table from any seat, each seat is reached
 range_in : (start count seat : ℕ) → start ≤ seat → seat < start + count → (rest : List ℕ) → IsIn (range_with_len start count ++ rest) seat
 unfolding IsIn
 range_in start zero seat least most rest = absurd (omega (arith, least, most))
@@ -148,7 +149,7 @@ able_some setup list street some =
     any_seat setup (is_able setup list) seat.0 seat.1.0 (omega (arith, seat.1.1.0))
     (and_parts (is_able setup list seat.0) (if has_moved_since_rise setup list street seat.0 then false else (nat_lt 0 (owed setup list street seat.0) || nat_le 2 (able_count setup list))) seat.1.1.1).0
 
--- where some seat has to move some seat is in turn, or it is not known which
+-- if some seat has to move, it is some seat's turn, or it is not known whose
 pub mover_found : (setup : Setup) (ups : UpCards) (list : List Move) (street : ℕ) → list_any (has_to_move setup list street) (all_seats setup) ≡ true → mover setup ups list street ≡ NoSeat → ⊥
 mover_found setup ups list street some is =
     turn_found setup (has_to_move setup list street) (next_in_turn setup (opener_by (opener_of setup.code) setup ups list street) (moves_on street list))

@@ -1,5 +1,5 @@
--- What holds of the moves of a legal past: each is legal after the moves before it, by the seat whose turn it was, as the
--- up-cards of its street tell it, which were known then.
+-- What holds of the moves of a legal past: each is legal after the moves before it, by the seat
+-- whose turn it was by the up-cards of its street, which were known then.
 use Rattle.std.specs.Prelude.{◌≡◌, ℕ, ◌≤◌, Bool, true, false, ◌&&◌, nat_le, List, [], ◌∷◌, map, filter, Some}
 use Rattle.std.specs.List.{list_any}
 use Rattle.play_event.specs.declared.code.Code.{Code}
@@ -28,7 +28,8 @@ is_up_by code street seat place = is_same_owner place.owner (Some seat) && (is_u
 abbrev pub ups_by : Code → List Place → ℕ → UpCards
 ups_by code placed street seat = map (λ place. place.slot) (filter (is_up_by code street seat) placed)
 
--- who moves is told by the moves alone, or by up-cards of able seats that are all known
+-- the moves alone decide whose turn it is, or the up-cards of seats that can act do, and all of
+-- these are known
 pub data IsMover (setup : Setup) (placed : List Place) (older : List Move) (street seat : ℕ) : Type 0 where
   free : ((ups : UpCards) → mover setup ups older street ≡ TheSeat seat) → IsMover setup placed older street seat
   shown : ((other : ℕ) → 1 ≤ other → other ≤ setup.stacks.seats → is_able setup older other ≡ true → list_any is_unknown (ups_by setup.code placed street other) ≡ false) → mover setup (ups_by setup.code placed street) older street ≡ TheSeat seat → IsMover setup placed older street seat
@@ -38,7 +39,7 @@ pub data IsBetDue (setup : Setup) (older : List Move) (street : ℕ) : Due → T
   bring_first : is_bring_in_due setup older street ≡ true → IsBetDue setup older street dues.BringIn
   move_now : is_bring_in_due setup older street ≡ false → is_move_due setup older street ≡ true → IsBetDue setup older street dues.Move
 
--- a move fits the moves before it: it is what a legal event came to, by the seat in turn
+-- a move fits the moves before it: it is the move of a legal event, by the player to act
 pub record FitsMove (setup : Setup) (rules : Rules) (placed : List Place) (older : List Move) (move : Move) : Type 0 where
   pub several : nat_le (live_count setup older) 1 ≡ false
   pub due : Due

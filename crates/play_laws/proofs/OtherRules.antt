@@ -1,4 +1,5 @@
--- A play that is legal under the rules of one notation is legal under those of another, where each of its moves suits these.
+-- A play that is legal under the rules of one notation is legal under those of another if each of
+-- its moves suits these.
 use Rattle.std.proofs.Common.{◌≡◌, ℕ, ◌+◌, ◌-◌, ◌≤◌, Bool, true, false, ◌&&◌, ◌==◌, not, nat_le, nat_lt, inl, inr, None, List, [], ◌∷◌, refl, sym, ◌∙◌, ap, arith}
 use Rattle.std.proofs.lemmas.Bool.{and_from, and_parts, le-leb, leb-true, ne_eqb, not-false, not_from_true, or_cases, or_left, or_parts, or_right}
 use Rattle.play_event.specs.Due.{turn}
@@ -29,8 +30,8 @@ use Rattle.play_laws.specs.Spellings.{in_turn_after}
 use Rattle.play_laws.proofs.MoveKinds.{fold_said, raise_said}
 use Rattle.play_laws.proofs.NamedMoves.{move_reasons, why_move}
 
--- a move suits rules: a fold pays for something where folds are not free, and a raise is within the caps and, where full
--- raises alone reopen the betting, is not closed
+-- a move suits rules: if a fold needs a bet to fold to, it has one; a raise is within the caps; and
+-- if only full raises reopen the betting, the betting was open to it
 pub record IsSuited (others : Rules) (setup : Setup) (older : List Move) (move : Move) : Type 0 where
   pub folds : is_fold move.act ≡ true → others.free_fold ≡ false → nat_le (price setup older move.street) move.from ≡ false
   pub caps : is_raise move.act ≡ true → is_within_cap others.caps older move.street ≡ true
@@ -58,12 +59,12 @@ event_suited others setup (Discarded street seat cards) before all = (tt, all)
 event_suited others setup (Shown street seat cards) before all = (tt, all)
 event_suited others setup (Mucked street seat) before all = (tt, all)
 
--- a fold that pays for something is none with nothing to call
+-- a fold that has a bet to fold to is not a fold with nothing to call
 paid : (free : Bool) (price from : ℕ) → (free ≡ false → nat_le price from ≡ false) → (not free && (price - from == 0)) ≡ false
 paid true price from pays = refl
 paid false price from pays = ne_eqb (price - from) 0 (λ none. false_true (sym (pays refl) ∙ le-leb price from (omega (arith, none))))
 
--- where betting always reopens, each target is legal that is where full raises alone reopen it
+-- if betting always reopens, each target is legal that is legal if only full raises reopen it
 always_legal : (limit : Limit) (reopen : Reopen) (setup : Setup) (moves : List Move) (street seat target : ℕ) → (is_fixed limit ≡ false → floor reopens.Always setup moves street ≤ price setup moves street + full_raise setup moves street) → is_target_in limit reopen setup moves street seat target ≡ true → is_target_in limit reopens.Always setup moves street seat target ≡ true
 always_legal limits.Pot reopen setup moves street seat target low is = is
 always_legal limits.Fixed reopen setup moves street seat target low is = is
@@ -77,7 +78,7 @@ always_legal limits.No reopens.Full setup moves street seat target low is = elim
   | inr all ↦ or_right (nat_le (floor reopens.Always setup moves street) target && nat_le target (all_in setup moves street seat)) (target == all_in setup moves street seat) all
 ]
 
--- what a raise that is not closed is, where full raises alone reopen the betting
+-- what a raise that is not closed is, if only full raises reopen the betting
 record IsOpen (reopen : Reopen) (setup : Setup) (moves : List Move) (street seat target : ℕ) (was : Reopen) : Type 0 where
   reopened : is_reopened reopen setup moves street seat ≡ true
   legal : is_legal_target was setup moves street seat target ≡ true → is_legal_target reopen setup moves street seat target ≡ true
@@ -105,7 +106,7 @@ may_still opponent above cap cap' free free' may is_cap is_open =
     let first = and_parts (opponent && above) cap all.0 in
     not_from_true (opponent && above && cap' && free') (and_from (opponent && above && cap') free' (and_from (opponent && above) cap' first.0 is_cap) is_open)
 
--- an event that is legal under some rules is so under others that it suits
+-- an event that is legal under some rules is legal under others that it suits
 legal_again : (setup : Setup) (rules others : Rules) (before : Past) (event : Said)
     → (is_fixed (limit_of setup.code) ≡ false → floor reopens.Always setup (moves_of before) (turn setup before).0 ≤ price setup (moves_of before) (turn setup before).0 + full_raise setup (moves_of before) (turn setup before).0)
     → why setup rules before event ≡ None → IsSuitedEvent others setup (moves_of before) (resolved_on setup before (turn setup before).0 event) → why setup others before event ≡ None

@@ -1,4 +1,4 @@
--- What a legal past guarantees of its streets and of the places of its cards; and events with their
+-- What a legal past guarantees about its streets and the places of its cards; and events with their
 -- actors named.
 pub mod PastLaws
 pub mod LegalPlaces

@@ -1,5 +1,5 @@
-//! Laws of legal pasts: what is due, whose turn it is, and how cards lie, after events that were
-//! legal one by one.
+//! Laws of legal pasts: what is due, whose turn it is, and where the cards are after events that
+//! were legal one by one.
 #![tactic(auto)]
 
 mod laws;

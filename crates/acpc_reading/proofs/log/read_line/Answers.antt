@@ -1,4 +1,4 @@
--- One hand more is one of the game, and within the limits.
+-- One more hand is one of the game, and within the limits.
 use Rattle.acpc_text.specs.Parts.{parts_of}
 use Rattle.acpc_reading.specs.Views.{bets_in}
 use Rattle.acpc_reading.proofs.MatchRecords.{one_more_hand}

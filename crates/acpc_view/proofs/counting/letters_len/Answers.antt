@@ -1,4 +1,4 @@
--- One letter more.
+-- One more letter.
 use Rattle.std.proofs.Common.{map, take, sym, refl, arith}
 use Rattle.canon_script.specs.CanonScript.{plain_moves}
 use Rattle.play_event.specs.Played.{move_said}

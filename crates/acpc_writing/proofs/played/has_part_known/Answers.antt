@@ -1,4 +1,4 @@
--- One seat more, or one that was found.
+-- One more seat, or one that was found.
 use Rattle.std.proofs.Common.{◌+◌, List, map, ap, sym, ◌∙◌, arith}
 use Rattle.list_laws.proofs.NumbersOfRange.{any_in_range}
 use Rattle.chip_ledger.proofs.SeatLists.{any_more}

@@ -1,4 +1,4 @@
--- A move is due where the seat that is next up has one to make.
+-- A move is due if the next seat to act has one to make.
 use Rattle.std.proofs.Common.{true, false, sym, ◌∙◌}
 use Rattle.betting_core.proofs.KeptTurn.{next_due}
 use Rattle.betting_core.proofs.dealt.mover.Goals as goal

@@ -1,4 +1,4 @@
--- A discard that is legal takes as many cards as it names, and the seat may get as many as it named.
+-- A legal discard takes as many cards as it names, and the seat may be dealt as many.
 use Rattle.std.proofs.Common.{◌≡◌, ◌+◌, ◌≤◌, ◌∙◌, List, length, count_by, sym, subst, arith}
 use Rattle.std.proofs.lemmas.List.{length-take}
 use Rattle.card_set.specs.Row.{slots_of}

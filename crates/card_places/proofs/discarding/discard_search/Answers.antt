@@ -1,4 +1,4 @@
--- A discard covers all cards of its seat.
+-- A discard applies to all cards of its seat.
 use Rattle.std.proofs.Common.{◌≡◌, ℕ, Bool, List, filter, length, ap, ◌∙◌}
 use Rattle.card_set.specs.declared.card.Card.{Card}
 use Rattle.card_set.specs.Row.{cards_of, slots_of}

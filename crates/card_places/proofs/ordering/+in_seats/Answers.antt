@@ -1,4 +1,4 @@
--- The first seat, and those behind it.
+-- The first seat, and those after it.
 use Rattle.std.proofs.Common.{◌+◌, ◌-◌, Some, List, map}
 use Rattle.play_event.specs.Places.{Place, group_of}
 use Rattle.card_places.specs.Ordered.{on_seats}

@@ -1,4 +1,4 @@
--- The first street, and those behind it.
+-- The first street, and those after it.
 use Rattle.std.proofs.Common.{◌+◌, ◌-◌, ℕ, List}
 use Rattle.play_event.specs.Places.{Place}
 use Rattle.card_places.specs.Ordered.{on_street, on_streets}

@@ -1,4 +1,4 @@
--- The seats, and the board behind them.
+-- The seats, and then the board.
 use Rattle.std.proofs.Common.{ℕ, None, List, map, subst, sym}
 use Rattle.play_event.specs.Places.{Place, group_of}
 use Rattle.card_places.specs.Ordered.{on_seats, on_street}

@@ -1,4 +1,4 @@
--- One place more is looked at in each turn.
+-- One more place is looked at in each step.
 use Rattle.std.proofs.Common.{arith}
 use Rattle.card_places.specs.Placed.{placed}
 use Rattle.card_places.specs.Searches.{search_from, searched}

@@ -1,4 +1,4 @@
--- All cards are covered, or those face down.
+-- It applies to all cards, or to those face down.
 use Rattle.std.proofs.Common.{Bool, ◌||◌, filter, ap, ◌∙◌}
 use Rattle.card_set.specs.Row.{cards_of}
 use Rattle.play_event.specs.CardReasons.{has_no_place, is_show_of_others}

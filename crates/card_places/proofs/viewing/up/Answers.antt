@@ -1,4 +1,4 @@
--- A card that is up is of a seat of the hand, and its row has room for it.
+-- An up-card belongs to a seat of the hand, and its row has room for it.
 use Rattle.std.proofs.Common.{Bool, ◌&&◌, List, sym, ◌∙◌, arith}
 use Rattle.std.proofs.lemmas.Bool.{and_from}
 use Rattle.list_laws.proofs.Tests.{first_of_both}

@@ -1,4 +1,4 @@
--- The hole cards of a seat count where they are seen.
+-- The hole cards of a seat count if they are seen.
 use Rattle.std.proofs.Common.{List, Some, length, map, sym, ap, ◌∙◌, arith}
 use Rattle.canon_script.specs.CanonScript.{dealt_slots}
 use Rattle.hand_records.specs.TraceRows.{core_said, place_said}

@@ -1,4 +1,5 @@
--- After the showdown the hand is over; after a deal or a draw what is due next is read from the numbers, which stand.
+-- After the showdown the hand is over; after a deal or a draw the next due is read from the
+-- numbers, which stand for the past.
 use Rattle.std.proofs.Common.{◌≢◌, ◌≤◌, sym, subst, arith}
 use Rattle.play_event.specs.declared.code.Code.{Code}
 use Rattle.play_event.specs.declared.reason.Due.TheVariants as dues

@@ -1,4 +1,4 @@
--- Another thing is due, or the seat in turn moves, or it is not known.
+-- Something else is due, or the player to act moves, or it is not known who that is.
 use Rattle.std.proofs.Common.{rules, ℕ, true, false, sym, subst, ◌∙◌}
 use Rattle.std.proofs.lemmas.Result.{err_from_is_err_and}
 use Rattle.chip_ledger.specs.SeatsSaid.{seat_said}

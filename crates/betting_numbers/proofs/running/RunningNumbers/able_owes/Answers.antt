@@ -1,4 +1,4 @@
--- A seat that owes is one of all.
+-- A seat that owes is one of all seats.
 use Rattle.std.proofs.Common.{◌+◌, ◌&&◌, nat_lt, sym, ◌∙◌, arith}
 use Rattle.std.proofs.lemmas.Bool.{and_from, lt-ltb}
 use Rattle.betting_numbers.specs.Seen.{is_able_seen, owed_seen}

@@ -1,4 +1,4 @@
--- Another seat is able where more are able than this one.
+-- Another seat can act if more can act than this one.
 use Rattle.std.proofs.Common.{Bool, nat_lt, cond, sym, ap, ◌∙◌, arith}
 use Rattle.betting_numbers.specs.Seen.{able_count_seen, is_able_seen}
 use Rattle.betting_numbers.proofs.OneChanged.{another_passes, any_passes}

@@ -1,4 +1,4 @@
--- A street begins at the price 0.
+-- A new street begins with a current bet of 0.
 use Rattle.std.proofs.Common.{sym}
 use Rattle.chip_ledger.specs.SeatRow.{amount_of}
 use Rattle.betting_numbers.proofs.NextStreet.{zero_greatest}

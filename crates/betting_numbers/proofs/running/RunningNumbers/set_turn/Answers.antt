@@ -1,4 +1,4 @@
--- Only what is due and of whom changes, and no fact of the table speaks of them.
+-- Only what is due, and for whom, changes, and no fact of the table is about that.
 use Rattle.std.proofs.Common.{◌≡◌, ◌≤◌, ◌-◌, ◌*◌, ℕ, ◌&&◌, nat_lt, map, count_by, Option, Some, ap}
 use Rattle.std.proofs.Props.{props}
 use Rattle.chip_ledger.specs.declared.numbers.Seat.{Seat}

@@ -1,4 +1,4 @@
--- The seat in turn may raise to the targets of the rules.
+-- The player to act may raise to the targets of the rules.
 use Rattle.std.proofs.Common.{◌≡◌, ◌≤◌, ℕ, Option, IfSome, sym, ap, subst, ◌∙◌}
 use Rattle.chip_ledger.specs.declared.numbers.Seat.{Seat}
 use Rattle.play_event.specs.Past.{moves_of}

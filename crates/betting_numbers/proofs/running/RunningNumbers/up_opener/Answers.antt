@@ -1,4 +1,4 @@
--- One seat more is walked, and at the end all are.
+-- One more seat is walked, and at the end all are.
 use Rattle.std.proofs.Common.{◌≡◌, ◌≤◌, ◌<◌, ◌+◌, ◌-◌, ℕ, Bool, true, false, if◌then◌else◌, Option, Some, IfSome, refl, sym, subst, ◌∙◌, arith}
 use Rattle.chip_ledger.specs.declared.numbers.Seat.{Seat}
 use Rattle.chip_ledger.specs.SeatsSaid.{seat_said}

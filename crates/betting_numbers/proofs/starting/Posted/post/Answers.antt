@@ -1,4 +1,4 @@
--- Each number counts one seat more.
+-- Each number counts one more seat.
 use Rattle.std.proofs.Common.{◌≡◌, ℕ, ◌+◌, ◌-◌, ◌≤◌, ◌==◌, Bool, true, nat_lt, cond, max, count_by, sym, ap, ◌∙◌, arith}
 use Rattle.chip_ledger.specs.LiveRow.{flag_of}
 use Rattle.chip_ledger.specs.Seat.{seats_of}

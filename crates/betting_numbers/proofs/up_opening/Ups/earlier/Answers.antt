@@ -1,4 +1,4 @@
--- Of two able seats the one that is as early as the other leads.
+-- Of two seats that can act, the one that is as early as the other leads.
 use Rattle.std.proofs.Common.{◌≡◌, arith, sym, ◌∙◌}
 use Rattle.std.proofs.lemmas.Grind.{common_steps}
 use Rattle.betting_numbers.specs.UpSeen.{is_as_early_seen}

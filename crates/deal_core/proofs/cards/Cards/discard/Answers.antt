@@ -1,4 +1,4 @@
--- A discard is answered as the rules do, and where it is refused the state is as it was.
+-- A discard is answered as the rules do, and if it is refused the state is unchanged.
 use Rattle.std.proofs.Common.{◌≡◌, ℕ, Some, OnOk, rules, ap, subst, refl, ◌∙◌}
 use Rattle.card_places.specs.Discarded.{IsDiscarded}
 use Rattle.card_places.specs.Refusals.{discard_why}

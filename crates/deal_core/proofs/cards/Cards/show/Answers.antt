@@ -1,4 +1,4 @@
--- A show or a muck is answered as the rules do, and where it is refused the state is as it was.
+-- A show or a muck is answered as the rules do, and if it is refused the state is unchanged.
 use Rattle.std.proofs.Common.{sym, ap, refl, ◌∙◌}
 use Rattle.card_set.specs.Row.{cards_of}
 use Rattle.play_event.specs.Said.{kind_said}

@@ -1,4 +1,4 @@
--- The want of memory is the one that the door gave.
+-- `Memory` is made from the error of the library.
 use Rattle.std.proofs.Common.{refl}
 use Rattle.first_fault.proofs.stop.StopFromAllocError.from.Goals as goal
 
