@@ -27,7 +27,7 @@ const GAMES: [Code; 11] = [
     Code::FB,
 ];
 
-/// The setup of the hand at a place, where the draws have come to this number.
+/// The setup of the hand at a place, where the generator has come to this number.
 pub fn setup_at(place: u32, number: u64) -> Setup
     ensures { IsMadeSetup place number result }
 {
@@ -50,14 +50,14 @@ pub fn setup_at(place: u32, number: u64) -> Setup
     }
 }
 
-// The game of a hand by its place.
+// The game of a hand, by its place.
 fn game_at(place: u32) -> Code
     ensures { result ≡ setups.game_at place }
 {
     GAMES[place as usize % 11]
 }
 
-// The game is a game of stud.
+// Whether the game is a stud game.
 fn is_stud(code: Code) -> bool
     ensures { result ≡ streets.is_stud code }
 {
@@ -67,7 +67,7 @@ fn is_stud(code: Code) -> bool
     }
 }
 
-// The limit of the game is fixed.
+// Whether the game is fixed limit.
 fn is_fixed(code: Code) -> bool
     ensures { result ≡ valid.is_fixed (streets.limit_of code) }
 {
@@ -77,7 +77,7 @@ fn is_fixed(code: Code) -> bool
     }
 }
 
-// The stacks, drawn behind this number.
+// The stacks, drawn after this number.
 #[tactic(auto, using(crate::proofs::DrawLaws::one_draw_more))]
 fn stacks(number: u64, seats: u8) -> SeatRow
     requires least { 2 ≤ seats }
@@ -110,7 +110,7 @@ fn even_row(seats: u8, amount: u64) -> SeatRow
     row
 }
 
-// Chips where they are used, and else none.
+// Chips if they are used, and otherwise 0.
 fn chips_where(used: bool, chips: u64) -> u64
     ensures { result ≡ (if used then chips else 0) }
 {
@@ -148,14 +148,14 @@ fn blind(stud: bool, seats: u8, seat: u8) -> u64
     }
 }
 
-/// The number to which the draws come behind a setup.
+/// The generator's number after the setup was drawn.
 pub fn number_behind_setup(number: u64, setup: &Setup) -> u64
     ensures { result ≡ setups.number_behind_setup number setup.now }
 {
     number_behind(number, 1 + setup.stacks.seats)
 }
 
-// The number behind so many draws.
+// The number after `draws` draws.
 #[tactic(auto, using(crate::proofs::DrawLaws::one_draw_more))]
 fn number_behind(number: u64, count: u8) -> u64
     ensures { result ≡ number_after count number }
