@@ -1,4 +1,4 @@
-//! Straights by the mask of the ranks that occur: five bits in a row, or those of the straight that
+//! Straights found in the mask of the ranks that occur: five bits in a row, or the straight that
 //! the ace begins.
 ghost use Rattle.std.specs.Prelude.{◌≡◌, ◌≤◌, ◌<◌, ◌==◌, ◌&&◌, ◌⊎◌, ◌↔◌, ◌+◌, ◌^◌, ℕ};
 ghost use Rattle.std.specs.Int.{bit_at};
@@ -7,18 +7,18 @@ ghost use Rattle.hand_order.specs.Tops.{Shows};
 
 use crate::mask::top;
 
-/// Which straight the ace begins, beside the one that it ends.
+/// Which straight the ace begins, besides the one that it ends.
 #[derive(Clone, Copy, Debug, PartialEq, Eq)]
 pub enum LowStraight {
     /// A2345, topped by the five.
     FiveHigh,
     /// A6789 of a deck without two to five, topped by the nine.
     NineHigh,
-    /// None: the ace is always high.
+    /// No straight: the ace is always high.
     Nothing,
 }
 
-/// The top of the best straight among the ranks of a mask, 0 where there is none.
+/// The top of the best straight among the ranks of a mask, or 0 if there is none.
 pub fn top_straight(mask: u16, low: LowStraight) -> u8
     ensures most { (T : ℕ → ℕ) (top : ℕ) → Shows mask 1 T → HasStraight low T top → top ≤ result }
     ensures found { (T : ℕ → ℕ) → Shows mask 1 T → (result ≡ 0) ⊎ HasStraight low T result }
@@ -26,7 +26,7 @@ pub fn top_straight(mask: u16, low: LowStraight) -> u8
     top_run(mask).max(top_low(mask, low))
 }
 
-// The top of the highest five ranks in a row, 0 where there are none.
+// The top of the highest five ranks in a row, or 0 if there are none.
 fn top_run(mask: u16) -> u8
     ensures most { (T : ℕ → ℕ) (top : ℕ) → Shows mask 1 T → HasRun T top → top ≤ result }
     ensures found { (T : ℕ → ℕ) → Shows mask 1 T → (result ≡ 0) ⊎ HasRun T result }
@@ -47,7 +47,7 @@ fn runs_of(mask: u16) -> u16
     mask & mask >> 1 & mask >> 2 & mask >> 3 & mask >> 4
 }
 
-// The top of the straight that the ace begins, 0 where its ranks are not all there.
+// The top of the straight that the ace begins, or 0 if one of its ranks is missing.
 fn top_low(mask: u16, low: LowStraight) -> u8
     ensures most { (T : ℕ → ℕ) (top : ℕ) → Shows mask 1 T → HasLow low T top → top ≤ result }
     ensures found { (T : ℕ → ℕ) → Shows mask 1 T → (result ≡ 0) ⊎ HasLow low T result }
