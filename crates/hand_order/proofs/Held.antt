@@ -114,13 +114,13 @@ held_both n m first second chosen others different one other =
           (every_chosen (λ card. Lacks card others) n first chosen one (apart_chosen m first second others other parts.2)),
     )
 
--- choices of cards that are not among other cards are held
+-- choices after an empty start are held
 pub held_start : (held n : ℕ) (start cards more : List Card) → held ≡ n → start ≡ [] → AllDifferent cards → IsAmong more (choices n cards) → AreHeld held (start ++ more)
 held_start held n start cards more same none different among =
     let is = held_chosen n cards more different among in
     subst (AreHeld held) (ap (λ (l : List Card). l ++ more) (sym none)) (is.0 ∙ sym same, is.1)
 
--- hole cards that are not among the board cards can join the board
+-- hole cards after an empty start can join the board
 pub joins_start : (held : ℕ) (start hole board more : List Card) → held ≡ 5 → start ≡ [] → AllDifferent (hole ++ board) → IsAmong more (choices 2 hole) → CanJoin held (start ++ more) board
 joins_start held start hole board more same none different among =
     let parts = different_parts hole board different in

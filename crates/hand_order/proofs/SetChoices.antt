@@ -24,7 +24,7 @@ pub only_choice : (points : List Card → Option ℕ) (held : ℕ) (cards : List
 only_choice points held cards long =
     ap (λ (n : ℕ). greatest points (choices n cards)) (sym long) ∙ ap (greatest points) (all_chosen cards) ∙ greatest-one points cards
 
--- choices of cards that are not among other cards are accepted
+-- choices after an empty start are accepted
 pub accepted_listed : (accepts : List Card → Type 0) (held : ℕ) (start seen more : List Card) (set : CardSet) → start ≡ [] → seen ≡ listed set → ((hand : List Card) → AreHeld held hand → accepts hand) → IsAmong more (choices held seen) → accepts (start ++ more)
 accepted_listed accepts held start seen more set none is accepted among =
     let different = subst AllDifferent (sym is) (listed_listing set).different in

@@ -135,7 +135,7 @@ find_same p f g start (suc count) same =
     find_step f g start (filter p (range_with_len (start + 1) count)) (p start) (same start (omega arith) (omega arith))
     (find_same p f g (start + 1) count (λ number least most. same number (omega (arith, least)) (omega (arith, most))))
 
--- if no kept number passes, none that is kept does
+-- if no kept number passes a second test, no number that passes the first does
 pub none_kept_passes : (p q : ℕ → Bool) (start count number : ℕ) → list_any q (filter p (range_with_len start count)) ≡ false → start ≤ number → number < start + count → p number ≡ true → q number ≡ false
 none_kept_passes p q start zero number is least most passes = absurd (omega (arith, least, most))
 none_kept_passes p q start (suc count) number is least most passes = by_first (p start) refl (none_kept_passes p q (start + 1) count number) is

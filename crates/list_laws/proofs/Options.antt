@@ -11,7 +11,7 @@ pub is_none_none : {A : Type 0} (gone : Option A) → is_none gone ≡ true → 
 is_none_none None is = refl
 is_none_none (Some value) is = false_true is
 
--- what holds for a value holds for what a result has
+-- what follows for the value of a result
 pub along : {T E : Type 0} {P Q : T → Type 0} (result : Result T E) → ((value : T) → P value → Q value) → IfOk result P → IfOk result Q
 along (Ok value) goes is = goes value is
 along (Err error) goes is = tt
@@ -102,7 +102,7 @@ pub found_number : (o : Option ℕ) (number : ℕ) → option_map_or (λ next. n
 found_number None number is = absurd cc
 found_number (Some next) number is = ap Some (eqb-true next number is)
 
--- the number, if it is not refused for another reason
+-- an optional number that is not found to differ from a number is that number
 pub next_number : (number : ℕ) (next : Option ℕ) → not (option_map_or (λ n. n == number) next false) ≡ false → next ≡ Some number
 next_number number None is = false_true (sym is)
 next_number number (Some other) is = ap Some (eqb-true other number (not-false (other == number) is))

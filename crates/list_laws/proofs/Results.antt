@@ -3,17 +3,17 @@ use Rattle.std.proofs.Common.{Result, Ok, Err, OnOk, IfErr, Bool, IfOk, None, Op
 use Rattle.std.specs.Prelude.{OnErr}
 use Rattle.std.specs.Option.{option_map_or}
 
--- what holds for an error
+-- what follows for an error
 pub if_err : {A E : Type 0} {P Q : E → Type 0} (result : Result A E) → ((e : E) → P e → Q e) → IfErr result P → IfErr result Q
 if_err (Ok a) step is = tt
 if_err (Err e) step is = step e is
 
--- what holds for a value
+-- what follows for a value
 pub on_ok : {A E : Type 0} {P Q : Type 0} (result : Result A E) → (P → Q) → OnOk result P → OnOk result Q
 on_ok (Ok a) step is = step is
 on_ok (Err e) step is = tt
 
--- and what holds with it
+-- and what follows from both
 pub on_ok_both : {A E : Type 0} {P Q R : Type 0} (result : Result A E) → (P → OnOk result Q) → (P → Q → R) → OnOk result P → OnOk result R
 on_ok_both (Ok a) first step is = step is (first is)
 on_ok_both (Err e) first step is = tt

@@ -143,7 +143,7 @@ pub and_not : (b : Bool) → (b && not b) ≡ false
 and_not true = refl
 and_not false = refl
 
--- a choice by two tests that hold, by a test that is turned, and by two of which one does not hold
+-- a choice by two tests that hold, by a test that is turned, and by two tests one of which fails
 pub if_both : {X : Type 0} (a b : Bool) (x y : X) → a ≡ true → b ≡ true → (if a && b then x else y) ≡ x
 if_both a b x y first second = ap (λ c. if c && b then x else y) first ∙ ap (λ c. if c then x else y) second
 
@@ -168,7 +168,7 @@ pub if_most : (b : Bool) (n : ℕ) → (if b then n else 0) ≤ n
 if_most true n = omega arith
 if_most false n = omega arith
 
--- a number that is kept if a test fails
+-- a number if a test fails, and 0 if it passes
 pub if_not_none : (test : Bool) (number : ℕ) → (if not test then number else 0) ≡ (if test then 0 else number)
 if_not_none true number = refl
 if_not_none false number = refl

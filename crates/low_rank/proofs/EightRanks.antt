@@ -41,7 +41,7 @@ lowest_full has (suc heights) from (suc m) enough =
     by_test true rest enough fewer same = omega (arith, fewer (omega (arith, enough)), length-append (lowest has heights (from + 1) m) (from ∷ []))
     by_test false rest enough fewer same = same (omega (arith, enough))
 
--- a bit of the low ranks is kept, and no other one
+-- the bit of a low rank is kept, and any other is dropped
 kept : (all k : ℕ) → bit_at 4223 k ≡ 1 → bit_at (bit_and all 4223) k ≡ bit_at all k
 kept all k set = omega (arith, bit_at_and all 4223 k, bit_at-lt all k, set)
 
