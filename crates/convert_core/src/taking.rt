@@ -1,4 +1,4 @@
-//! One loop over the records of a file.
+//! The one loop over the records of a file.
 ghost use Rattle.std.specs.Prelude.{◌≡◌, ◌<◌, ◌≤◌, ◌+◌, ◌++◌, ◌⊎◌, [], ◌∷◌, true, false, All, List, length, IfErr, IfOk, OnOk};
 ghost use Rattle.convert_core.specs.Judged.{IsFaultAt, IsPlaysFaultOf, IsPlaysWant, IsRefusedFor};
 ghost use Rattle.convert_core.specs.declared.refusal.PlaysFault.TheVariants as plays_faults;

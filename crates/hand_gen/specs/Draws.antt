@@ -1,4 +1,4 @@
--- Numbers are drawn by a linear congruence over 64 bits.
+-- The pseudo-random numbers of made hands: a linear congruential generator of 64 bits.
 use Rattle.std.specs.Prelude.{ℕ, zero, suc, ◌+◌, ◌*◌, ◌/◌, ◌%◌, ◌^◌}
 
 -- the number after this one

@@ -28,7 +28,7 @@ after_draw stock = record { number = next_number stock.number; deck = stock.deck
 abbrev pub next_place : Stock → ℕ
 next_place stock = draw_of (length stock.deck) stock
 
--- the next card; of an empty deck, from which no hand takes, it is the two of clubs
+-- the next card; for an empty deck, from which no hand takes a card, the two of clubs
 abbrev pub next_card : Stock → Card
 next_card stock = unwrap_or (slice_get stock.deck (next_place stock)) (card_placed 0)
 

@@ -155,7 +155,7 @@ pub fn number_behind_setup(number: u64, setup: &Setup) -> u64
     number_behind(number, 1 + setup.stacks.seats)
 }
 
-// The number after `draws` draws.
+// The number after `count` draws.
 #[tactic(auto, using(crate::proofs::DrawLaws::one_draw_more))]
 fn number_behind(number: u64, count: u8) -> u64
     ensures { result ≡ number_after count number }

@@ -116,7 +116,7 @@ ranked_by table missing every low class cards held is =
       digits = decide_digits low cards;
     }
 
--- by how many fewer the ranks that decide are than the cards, in each class of the high order
+-- in each class of the high order, the number of cards minus the number of ranks that decide
 abbrev pub high_missing : List ℕ
 high_missing = 4 ∷ 3 ∷ 3 ∷ 0 ∷ 4 ∷ 2 ∷ 2 ∷ 1 ∷ 0 ∷ []
 

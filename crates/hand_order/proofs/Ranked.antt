@@ -9,8 +9,8 @@ use Rattle.card_set.proofs.Counted.{IsHeight, few_times, counted, length-ranks_o
 use Rattle.hand_order.specs.Digits.{class_above}
 use Rattle.hand_order.proofs.Digits.{AreDigits, class_first, number_below}
 
--- the class of a hand is one of the table's, and fixes by how many fewer the ranks that decide are
--- than the cards
+-- the class of a hand is one of the table's, and fixes the number of cards minus the number of
+-- ranks that decide
 pub record IsRanked (class : List Card → ℕ) (list : List Card → List ℕ) (missing : List ℕ) (last total : ℕ) (cards : List Card) : Type 0 where
   pub within : class cards ≤ last
   pub long : length (list cards) + get_or missing (class cards) 0 ≡ total

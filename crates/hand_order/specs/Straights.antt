@@ -28,7 +28,7 @@ abbrev pub is_straight : LowStraight → List Card → Bool
 is_straight low cards =
     is_run (ranks_of high_ace cards) || is_low_straight low (ranks_of high_ace cards)
 
--- the top of a straight: its first rank, and of the one that an ace begins the second
+-- the top of a straight: its first rank, or the second if an ace begins it
 abbrev pub straight_top : List ℕ → ℕ
 straight_top (a ∷ b ∷ rest) = if a == b + 1 then a else b
 straight_top _ = 0

@@ -38,8 +38,8 @@ fn top_run(mask: u16) -> u8
     top(runs) as u8 + 6
 }
 
-// The places from which five bits in a row are set: a mask that is moved down by one has a bit
-// where the next was set.
+// The places from which five bits in a row are set: a mask that is shifted down by one has a bit
+// where the next one was set.
 fn runs_of(mask: u16) -> u16
     ensures bits { (k : ℕ) → (bit_at result k ≡ 1) ↔ IsRunFrom mask k }
     ensures within { result < 2 ^ 16 }
@@ -59,7 +59,7 @@ fn top_low(mask: u16, low: LowStraight) -> u8
     }
 }
 
-// Whether the ace is set, and the four bits from one up.
+// Whether the ace is set, and four bits in a row from this one up.
 fn has_ace_and_four(mask: u16, least: u32) -> bool
     requires { least ≤ 8 }
     ensures { result ≡ has_ace_and_four mask least }

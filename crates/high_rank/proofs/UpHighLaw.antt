@@ -11,7 +11,7 @@ use Rattle.hand_order.proofs.Ranked.{IsRanked, PlainSays, ranked_plain, ranked_l
 use Rattle.hand_order.proofs.Shapes.{by_counts}
 use Rattle.high_rank.specs.UpHigh.{up_high_points, up_high_table}
 
--- by how many fewer the ranks that decide are than the cards, in each class
+-- in each class, the number of cards minus the number of ranks that decide
 abbrev pub up_missing : List ℕ
 up_missing = 3 ∷ 2 ∷ 2 ∷ 1 ∷ 0 ∷ []
 

@@ -14,7 +14,7 @@ use Rattle.high_rank.specs.High.{IsHand}
 use Rattle.high_rank.specs.ShortDeck.{short_class, short_table, IsWeaker, points}
 use Rattle.hand_order.proofs.Lawful.{lawful_by_numbers}
 
--- by how many fewer the ranks that decide are than the cards, in each class
+-- in each class, the number of cards minus the number of ranks that decide
 abbrev pub short_missing : List ℕ
 short_missing = 4 ∷ 3 ∷ 0 ∷ 3 ∷ 4 ∷ 2 ∷ 2 ∷ 1 ∷ 0 ∷ []
 

@@ -26,7 +26,7 @@ use Rattle.low_rank.specs.EightLow as eight
 use Rattle.low_rank.specs.DeuceSeven as deuce
 use Rattle.list_laws.proofs.Options.{some_where}
 
--- by how many fewer the ranks that decide are than the cards, in each class
+-- in each class, the number of cards minus the number of ranks that decide
 abbrev pub low_missing : List ℕ
 low_missing = 0 ∷ 1 ∷ 2 ∷ 2 ∷ 3 ∷ 3 ∷ []
 

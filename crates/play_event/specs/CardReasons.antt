@@ -72,8 +72,8 @@ is_card_taken code placed street (said.Show seat cards) =
     has_misplaced_card code placed (after_show code seat cards placed)
 is_card_taken code placed street _ = false
 
--- the named cards cannot be those of the seat: there are more named cards that are not among its
--- known ones, and unnamed ones, than it has unknown cards
+-- the names cannot be matched: the named cards that are not among the seat's known cards, and the
+-- blanks, are together more than its unknown cards
 abbrev pub has_no_place : List Place → List Card → ℕ → Bool
 has_no_place covered names blanks =
     nat_lt (count_by (λ place. is_unknown place.slot) covered)

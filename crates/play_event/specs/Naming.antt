@@ -43,8 +43,8 @@ abbrev pub unknown_count : List Place → ℕ
 unknown_count [] = 0
 unknown_count (place ∷ rest) = (if is_unknown place.slot then 1 else 0) + unknown_count rest
 
--- one card after matching, and the names and the unnamed cards ("blanks") that are left for the
--- next
+-- one card after matching, and the names and the blanks that are left for the next card; a blank is
+-- a discarded card that is not known
 pub record Found : Type 0 where
   pub place : Place
   pub others : List Card
@@ -80,7 +80,7 @@ after_names covers mark names others blanks (place ∷ rest) =
     ∷ after_names covers mark names found.others found.blanks rest)
     else (place ∷ after_names covers mark names others blanks rest)
 
--- how many of the named cards are blank, that is, unknown
+-- how many of the discarded cards are blanks, that is, unknown
 abbrev pub blanks_in : List Slot → ℕ
 blanks_in names = count_by is_unknown names
 

@@ -55,12 +55,12 @@ blinds_opener setup street =
     then (if setup.stacks.seats == 2 then 2 else seat_after setup (last_big_blind setup))
     else 1
 
--- the rank of a single up-card: the first card counts
+-- the place of a single up-card in the order of cards; of several, the first counts
 abbrev pub card_stands : (Card → ℕ) → List Card → ℕ
 card_stands stands [] = 0
 card_stands stands (card ∷ rest) = stands card
 
--- the rank of an up-card in razz: the ace is low, and suits break ties
+-- the place of an up-card in razz: the ace is low, and suits break ties
 abbrev pub razz_place : Card → ℕ
 razz_place card = 4 * low_ace card.rank + suits_before card.suit
 

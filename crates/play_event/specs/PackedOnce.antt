@@ -214,7 +214,7 @@ event_again event rest fits =
     )
     refl
 
--- ---- what is said of an event is the event
+-- ---- events that say the same are the same
 
 -- actors with the same name are the same
 actor_same : (a b : Option Seat) → seat_named a ≡ seat_named b → a ≡ b

@@ -31,6 +31,7 @@ full_raise setup (move ∷ before) street =
     else full_raise setup before street
 
 -- for each raise of this street, its target plus the amount by which it exceeded the current bet
+-- before it
 abbrev pub doubled_raises : Setup → List Move → ℕ → List ℕ
 doubled_raises setup [] street = []
 doubled_raises setup (move ∷ before) street =

@@ -29,7 +29,8 @@ is_within_cap None moves street = true
 is_within_cap (Some caps) moves street =
     nat_lt 4 street || nat_lt (raises_on moves street) (slice_index caps (street - 1))
 
--- what a seat has to call reopens the betting to it: a full raise, or in fixed limit half a bet
+-- what a seat has to call reopens the betting to it: at least a full raise, or in fixed limit at
+-- least half a bet
 abbrev pub is_full_raise_owed : Limit → Setup → List Move → ℕ → ℕ → Bool
 is_full_raise_owed limits.No setup moves street seat =
     nat_le (full_raise setup moves street) (owed setup moves street seat)
@@ -59,8 +60,8 @@ may_raise setup rules moves street seat =
     && is_within_cap rules.caps moves street
     && is_reopened rules.reopen setup moves street seat
 
--- a raise is legal only if betting always reopens: if only full raises reopened it, the seat could
--- not raise, or its target would not be legal. The rules of the notation do not matter here
+-- a raise is legal only if betting always reopens, whatever the rules of the notation: if only full
+-- raises reopened it, the seat could not raise, or its target would not be legal
 abbrev pub is_closed : Setup → List Move → ℕ → ℕ → ℕ → Bool
 is_closed setup moves street seat target =
     not (is_reopened reopen.Full setup moves street seat)

@@ -54,7 +54,7 @@ chips_of_size setup sizes.Least = setup.min_bet
 abbrev pub unit : Setup → ℕ → ℕ
 unit setup street = chips_of_size setup (size_on setup.code street)
 
--- games in which up-cards act first begin with a bring-in and have no blinds
+-- up-cards decide who acts first: in games that begin with a bring-in and have no blinds
 abbrev pub is_opened_by_up_cards : Opener → Bool
 is_opened_by_up_cards openers.Blinds = false
 is_opened_by_up_cards openers.LowUp = true

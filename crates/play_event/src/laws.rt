@@ -1,4 +1,4 @@
-//! Laws of play that a reader expects, proved over the definitions.
+//! Laws of play that a reader expects, proved from the definitions.
 ghost use Rattle.std.specs.Prelude.{◌≡◌, ℕ, ◌+◌, ◌≤◌, ◌<◌, ◌↔◌, true, false, List, Some, None, nat_le};
 ghost use Rattle.card_set.specs.declared.card.Card.{Card};
 ghost use Rattle.card_set.specs.UpCards.{IsWeakerUpHigh, IsWeakerLow};

@@ -1,4 +1,4 @@
-//! What bounds a raise, and who moves first.
+//! The limits on raises, and who acts first.
 
 /// The limit on bets and raises.
 #[derive(Clone, Copy, Debug, PartialEq, Eq, Hash)]
@@ -11,7 +11,7 @@ pub enum Limit {
     No,
 }
 
-/// Who moves first on the first street.
+/// Who acts first on the first street.
 #[derive(Clone, Copy, Debug, PartialEq, Eq, Hash)]
 pub enum Opener {
     /// The seat after the largest blind.

@@ -1,4 +1,4 @@
-//! What the stakes of a hand come to, proved over the definitions.
+//! What each seat ends with in a hand that is won by folds, proved from the definitions.
 ghost use Rattle.std.specs.Prelude.{◌≡◌, ℕ, ◌+◌, ◌≤◌, true, false, List};
 ghost use Rattle.chip_ledger.specs.RakeRow.{rake_of};
 ghost use Rattle.chip_ledger.specs.Rakes.{HaveRakes};
