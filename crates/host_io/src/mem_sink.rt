@@ -35,8 +35,9 @@ impl MemSink {
         &self.bytes
     }
 
-    /// An empty sink with room for `room` bytes that fails at the calls with these numbers, counted
-    /// from 0. It allocates all its memory here. A piece may have any number of bytes.
+    /// An empty sink with room for `room` bytes. It fails at the calls with these numbers (the
+    /// first call is number 0), and allocates all its memory here. A piece may have any number of
+    /// bytes.
     pub fn new(alloc: Global, room: usize, fail_at: Vec<u64>) -> Result<MemSink, Memory>
         ensures { IfOk result (λ sink. IsEmptySink sink room (2 ^ 64 - 1) fail_at.items) }
     {

@@ -24,8 +24,8 @@ pub struct MemSource {
 impl MemSource {
     ghost use Rattle.host_io.specs.MemSource.{IsFullSource};
 
-    /// A source that has these bytes left and fails at the calls with these numbers, counted from
-    /// 0. A piece may have any number of bytes.
+    /// A source that has these bytes left. It fails at the calls with these numbers (the first call
+    /// is number 0). A piece may have any number of bytes.
     pub fn new(bytes: Vec<u8>, fail_at: Vec<u64>) -> MemSource
         ensures { IsFullSource result bytes.items (2 ^ 64 - 1) fail_at.items }
     {
