@@ -1,5 +1,5 @@
--- Plays of records, as the loop over the records keeps them, what records and bytes come to, and what conversions have to do with
--- one another.
+-- Plays of records as the loop over the records keeps them, what records and bytes result in, and
+-- how conversions are related.
 pub mod JudgedPlays
 pub mod OneOutcome
 pub mod OneVerdict

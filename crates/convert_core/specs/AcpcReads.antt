@@ -18,7 +18,7 @@ use Rattle.convert_core.specs.ReadOrFail.{ReadOrFail}
 use Rattle.convert_core.specs.declared.format_fault.FormatFault.{FormatFault}
 use Rattle.convert_core.specs.declared.format_fault.FormatFault.TheVariants as formats
 
--- records that bytes say are as many as the hands that they read as
+-- bytes say as many records as hands that they read as
 pub say_as_many : (game : Game) (bytes : List ℕ) (records : List Record) → Say game bytes records
     → ReadAsHands game bytes (length records)
 say_as_many game bytes records say =
@@ -28,7 +28,7 @@ say_as_many game bytes records say =
       counted = length-map records record_said;
     }
 
--- as many are read again as there are plays
+-- as many hands are read again as there are plays
 again_counted : (no_limit : Bool) (place : ℕ) (plays : List Play)
     → length (hands_again no_limit place plays) ≡ length plays
 again_counted no_limit place [] = refl
@@ -44,7 +44,7 @@ read_again game bytes plays read =
       counted = again_counted game.no_limit 0 plays;
     }
 
--- what is another fault is no want of memory
+-- a fault that is another one is not that memory ran out
 no_want : (fault : AcpcFault) → is_want_in_acpc fault ≡ false → is_want_in_acpc fault ≡ false
 no_want fault told = told
 

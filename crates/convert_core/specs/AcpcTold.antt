@@ -1,4 +1,4 @@
--- The first fault of a log is never want of memory: it names a line.
+-- The first fault of a log is never that memory ran out: it names a line.
 -- This is a proof: no reader needs it.
 use Rattle.std.proofs.Common.{◌≡◌, ◌+◌, ℕ, Bool, true, false, cond, nat_le, List, [], ◌∷◌, length, Result, Ok, Err, IfErr, refl, subst}
 use Rattle.acpc_game.specs.declared.game.Game.{Game}
@@ -15,7 +15,7 @@ use Rattle.first_fault.specs.Reading.{◌>>=◌}
 use Rattle.first_fault.specs.declared.limits.Quantity.TheVariants as quantities
 use Rattle.first_fault.specs.declared.limits.TheConstants.{MOST_HANDS}
 
--- a fault, if there is one, is no want of memory
+-- the fault, if there is one, is not that memory ran out
 abbrev IsTold : {A : Type 0} → Result A AcpcFault → Type 0
 IsTold result = IfErr result (λ fault. is_want_in_acpc fault ≡ false)
 
@@ -67,7 +67,7 @@ all_lines game hands line (text ∷ texts) =
     (λ more. hands_after game more (line + 1) texts)
     (one_line game hands line text) (λ more. all_lines game more (line + 1) texts)
 
--- a log that has a fault has another one than want of memory
+-- a log that has a fault has one other than that memory ran out
 pub reading_told : (game : Game) (bytes : List ℕ) (fault : AcpcFault)
     → reading game bytes ≡ Err fault → is_want_in_acpc fault ≡ false
 unfolding reading

@@ -1,4 +1,4 @@
--- Which faults of a notation tell that memory was wanting, and so nothing of the bytes.
+-- Which faults of a notation say that memory ran out, and so nothing about the bytes.
 use Rattle.std.specs.Prelude.{Bool, true, false}
 use Rattle.acpc_text.specs.declared.fault.AcpcFault.{AcpcFault}
 use Rattle.acpc_text.specs.declared.fault.AcpcFault.TheVariants as in_acpc

@@ -1,5 +1,5 @@
--- What records come to, what a notation is, what a conversion comes to, and when two conversions
--- answer the same.
+-- What records are replayed to, what a notation is, what a conversion results in, and when two
+-- conversions have the same answer.
 pub mod Judged
 pub mod Faults
 pub mod Records

@@ -1,4 +1,4 @@
-//! Logs of the competition, under a game.
+//! Logs of the Annual Computer Poker Competition, read and written under a game.
 ghost use Rattle.std.specs.Prelude.{◌≡◌, ◌⊎◌, ◌≤◌, ◌++◌, [], ◌∷◌, true, List, length, None, Some, IfErr, IfOk, OnErr, OnOk};
 ghost use Rattle.std.specs.List.{AllByRecursion};
 ghost use Rattle.acpc_format.proofs.NoteFacts as note_facts;
@@ -31,7 +31,7 @@ pub struct Acpc {
     pub game: Game,
 }
 
-// The records that bytes say under a game.
+// Reads the records of a log under a game.
 fn read_acpc(alloc: Global, game: &Game, bytes: &[u8]) -> Result<Records, FormatFault>
     ensures say { IfOk result (in_acpc.Say game.now bytes.now) }
     ensures fault { IfErr result (λ fault.
@@ -43,7 +43,7 @@ fn read_acpc(alloc: Global, game: &Game, bytes: &[u8]) -> Result<Records, Format
     }
 }
 
-// The spelling of plays.
+// Writes plays as a log.
 fn write_acpc(
     alloc: Global,
     game: &Game,
@@ -60,7 +60,7 @@ fn write_acpc(
     acpc_format::write(alloc, game, plays, keep)
 }
 
-// The line of a play behind those of the plays before it.
+// Appends the line of a play to the lines of the plays before it.
 #[tactic(auto, using(crate::specs::AcpcLaws::one_line_more))]
 fn push_acpc_line(
     alloc: Global,

@@ -1,4 +1,4 @@
-//! The plays of records, and nothing else of them.
+//! Collects the plays of all records.
 ghost use Rattle.std.specs.Prelude.{◌≤◌, true, false, All, length, IfErr, IfOk, ⊤};
 ghost use Rattle.convert_core.specs.Judged.{ArePlaysOf, IsPlaysFaultOf};
 ghost use Rattle.first_fault.specs.declared.limits.TheConstants.{MOST_HANDS};
@@ -12,7 +12,7 @@ use crate::taking::take_each;
 use hand_records::{Play, Records};
 use std::alloc::Global;
 
-// Nothing is made of the hands: their plays are kept.
+// Visits hands and does nothing with them but retain their plays.
 #[derive(Drop)]
 struct Keeper;
 
@@ -40,13 +40,13 @@ impl Taker for Keeper {
     }
 }
 
-/// The plays of records, in their order: each record with the trace that its script comes to. A
-/// hand is refused where its script has no trace, or else where a stated fact differs from the
+/// The plays of records, in their order: each record with the trace that its script replays to. A
+/// hand is refused if its script cannot be replayed, or else if a stated fact differs from its
 /// trace.
 ///
 /// # Errors
 ///
-/// The first refused hand, with what is wrong with it first; or want of memory.
+/// The first refused hand, with its first fault; or out of memory.
 pub fn plays_of(alloc: Global, records: Records) -> Result<Vec<Play>, PlaysFault>
     requires sound { All IsSoundRecord records }
     requires few { length records ≤ MOST_HANDS }

@@ -1,6 +1,6 @@
-//! Hands are judged and converted: bytes of any notation come to their plays, or the first hand
-//! that is refused is named, and why; and plays come to bytes of any other notation, or the first
-//! fact that has no spelling is named.
+//! Judges and converts hands: reads bytes of any notation as plays, or names the first refused hand
+//! and the reason; and writes plays in any other notation, or names the first fact that it cannot
+//! express.
 #![tactic(auto)]
 
 mod acpc;

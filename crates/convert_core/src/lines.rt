@@ -1,4 +1,4 @@
-//! Records are written line by line in a notation that has a line for each hand.
+//! Writes records line by line, in a notation with one line per hand.
 ghost use Rattle.std.specs.Prelude.{◌≡◌, ◌≤◌, true, false, All, length};
 ghost use Rattle.convert_core.specs.Conversion.{IsConversion};
 ghost use Rattle.first_fault.specs.declared.limits.TheConstants.{MOST_HANDS};
@@ -21,8 +21,8 @@ struct Writer<'a, N> {
     to: &'a N,
     keep: Keep,
     out: Vec<u8>,
-    // The first hand with a fact that has no spelling, and the first such fact. Behind it nothing
-    // is written.
+    // The first hand with a fact that cannot be expressed, and its first such fact. After it
+    // nothing is written.
     refusal: Option<WriteRefusal>,
 }
 
@@ -62,13 +62,13 @@ impl<'a, N: Notation> Taker for Writer<'a, N> {
     }
 }
 
-/// What the records of a file come to in a notation that has lines: they are replayed in their
-/// order, and each play is written and dropped before the next is made.
+/// Writes records in a notation that has lines: replays them in their order, and writes and drops
+/// each play before the next is made.
 ///
 /// # Errors
 ///
-/// The first refused hand, with what is wrong with it first; or else the first hand with a fact to
-/// be kept that the target does not spell, and the first such fact; or want of memory.
+/// The first refused hand, with its first fault; or else the first hand with a fact to be kept that
+/// the target cannot express, and its first such fact; or out of memory.
 pub fn write_records<N: Notation>(
     alloc: Global,
     to: &N,

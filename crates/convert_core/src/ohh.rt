@@ -31,7 +31,7 @@ pub struct Ohh {
     pub dialect: Dialect,
 }
 
-// The records that bytes say in a dialect.
+// Reads the records of a file in a dialect.
 fn read_ohh(alloc: Global, dialect: Dialect, bytes: &[u8]) -> Result<Records, FormatFault>
     ensures say { IfOk result (in_ohh.Say dialect bytes.now) }
     ensures fault { IfErr result (λ fault.
@@ -43,7 +43,7 @@ fn read_ohh(alloc: Global, dialect: Dialect, bytes: &[u8]) -> Result<Records, Fo
     }
 }
 
-// The spelling of plays in a dialect.
+// Writes plays in a dialect.
 fn write_ohh(
     alloc: Global,
     dialect: Dialect,
@@ -60,7 +60,7 @@ fn write_ohh(
     ohh_format::write(alloc, dialect, plays, keep)
 }
 
-// The line of a play behind those of the plays before it.
+// Appends the line of a play to the lines of the plays before it.
 fn push_ohh_line(
     alloc: Global,
     dialect: Dialect,

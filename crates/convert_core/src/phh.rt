@@ -27,7 +27,7 @@ use std::alloc::Global;
 #[derive(Clone, Copy, Debug, PartialEq, Eq)]
 pub struct Phh;
 
-// The records that bytes say.
+// Reads the records of a file.
 fn read_phh(alloc: Global, bytes: &[u8]) -> Result<Records, FormatFault>
     ensures say { IfOk result (in_phh.Say bytes.now) }
     ensures fault { IfErr result (λ fault.
@@ -39,7 +39,7 @@ fn read_phh(alloc: Global, bytes: &[u8]) -> Result<Records, FormatFault>
     }
 }
 
-// The spelling of plays.
+// Writes plays.
 fn write_phh(alloc: Global, plays: &[Play], keep: Keep) -> Result<Vec<u8>, WriteRefusal>
     requires few { length plays.now ≤ MOST_HANDS }
     requires sound { AllByRecursion IsSound plays.now }
@@ -132,8 +132,8 @@ impl Notation for Phh {
     }
 
     fn push_line(&self, _: Global, _: &mut Vec<u8>, _: usize, _: &Play) -> Result<(), Memory> {
-        // A file of several hands numbers them, and that of one does not: no line stands for a
-        // hand.
+        // A file of several hands numbers them, and a file of one hand does not: PHH has no line
+        // per hand.
         Ok(())
     }
 }

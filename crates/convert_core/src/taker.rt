@@ -1,4 +1,4 @@
-//! What is done with the verdict on each hand.
+//! A visitor of the verdicts on hands.
 ghost use Rattle.std.specs.Prelude.{◌≡◌, ◌<◌, ◌++◌, [], ◌∷◌, Bool, true, List, length, OnOk};
 ghost use Rattle.convert_core.specs.Judged.{IsRefusedFor};
 ghost use Rattle.first_fault.specs.declared.limits.TheConstants.{MOST_HANDS};
@@ -13,31 +13,31 @@ use crate::refusal::Refusal;
 use hand_records::Play;
 use std::alloc::Global;
 
-/// Takes the verdicts on the hands of a file, one after the other.
+/// Visits the verdicts on the hands of a file, in their order.
 pub trait Taker {
-    /// Whether it takes the verdict on a refused hand and those behind it; else the first refused
-    /// hand is the end.
+    /// Whether it visits the verdicts on refused hands and continues after them; otherwise the
+    /// first refused hand is the last.
     ghost GOES_ON: { Bool };
 
-    /// Whether the plays are to be kept; else each is dropped before the next is made.
+    /// Whether the plays are to be retained; otherwise each is dropped before the next is made.
     ghost KEEPS: { Bool };
 
-    /// What is so of a taker, as it was and as it is, where these verdicts were taken in between.
+    /// What holds between a visitor before and after it has visited these verdicts.
     ghost Took: { Self → Self → List Verdict → Type 0 };
 
-    /// Whether it goes on behind a refused hand.
+    /// Whether it continues after a refused hand.
     fn goes_on(&self) -> bool
         ensures { result ≡ GOES_ON };
 
-    /// Whether the plays are to be kept.
+    /// Whether the plays are to be retained.
     fn keeps(&self) -> bool
         ensures { result ≡ KEEPS };
 
-    /// Takes a legal hand at its place in the file, from 0.
+    /// Visits a legal hand at its place in the file, from 0.
     ///
     /// # Errors
     ///
-    /// Want of memory.
+    /// Out of memory.
     fn take(&mut self, alloc: Global, place: usize, play: &Play) -> Result<(), Memory>
         requires taken { (start : Self) × HasTaken (Took start self.old) place }
         requires few { place < MOST_HANDS }
@@ -47,12 +47,12 @@ pub trait Taker {
             → AreLegalUnless GOES_ON before → Took start self.old before
             → OnOk result (Took start self.new (before ++ Legal play.now ∷ [])) };
 
-    /// Takes what is wrong with a refused hand at its place in the file, from 0, where it goes on
-    /// behind such.
+    /// Visits a refused hand at its place in the file, from 0, with its first fault. It is called
+    /// only if the visitor continues after refused hands.
     ///
     /// # Errors
     ///
-    /// Want of memory.
+    /// Out of memory.
     fn pass(&mut self, alloc: Global, place: usize, why: &Refusal) -> Result<(), Memory>
         requires taken { (start : Self) × HasTaken (Took start self.old) place }
         requires few { place < MOST_HANDS }

@@ -1,4 +1,4 @@
-//! One loop over the records of a file.
+//! The one loop over the records of a file.
 ghost use Rattle.std.specs.Prelude.{◌≡◌, ◌<◌, ◌≤◌, ◌+◌, ◌++◌, ◌⊎◌, [], ◌∷◌, true, false, All, List, length, IfErr, IfOk, OnOk};
 ghost use Rattle.convert_core.specs.Judged.{IsFaultAt, IsPlaysFaultOf, IsPlaysWant, IsRefusedFor};
 ghost use Rattle.convert_core.specs.declared.refusal.PlaysFault.TheVariants as plays_faults;
@@ -14,14 +14,14 @@ use crate::taker::Taker;
 use hand_records::{Play, Record, Records};
 use std::alloc::Global;
 
-/// Hands the verdict on each record to a taker, in their order. The plays that are to be kept are
-/// returned. A play is made where it is kept, and in a list that serves all of them where it is
-/// not.
+/// Passes the verdict on each record to a visitor, in their order, and returns the plays that are
+/// to be retained. A play that is retained is made in the list that is returned; otherwise one
+/// place serves all plays.
 ///
 /// # Errors
 ///
-/// The first refused hand, with what is wrong with it first, where the taker does not go on behind
-/// such; or want of memory.
+/// The first refused hand, with its first fault, if the visitor does not continue after one; or out
+/// of memory.
 #[tactic(auto, using(crate::proofs::Taken::none_taken))]
 pub fn take_each<T: Taker>(
     alloc: Global,
@@ -48,12 +48,12 @@ pub fn take_each<T: Taker>(
     Ok(kept)
 }
 
-// For how many plays there is to be room.
+// The number of plays to reserve room for.
 fn room<T: Taker>(taker: &T, hands: usize) -> usize {
     if taker.keeps() { hands } else { 1 }
 }
 
-// Drops the play before, if it is not to be kept.
+// Frees the previous play unless plays are retained: each is a few thousand bytes.
 fn drop_taken<T: Taker>(taker: &T, kept: &mut Vec<Play>)
     ensures stay { T.KEEPS ≡ true → kept.new.items ≡ kept.old.items }
     ensures gone { T.KEEPS ≡ false → kept.new.items ≡ [] }
@@ -63,7 +63,7 @@ fn drop_taken<T: Taker>(taker: &T, kept: &mut Vec<Play>)
     }
 }
 
-// One more hand.
+// Replays and visits one more hand.
 fn take_hand<T: Taker>(
     alloc: Global,
     taker: &mut T,
@@ -95,7 +95,7 @@ fn take_hand<T: Taker>(
     }
 }
 
-// One more hand that is refused.
+// Visits one more hand, which is refused.
 fn pass_hand<T: Taker>(
     alloc: Global,
     taker: &mut T,

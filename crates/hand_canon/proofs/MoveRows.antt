@@ -17,7 +17,7 @@ use Rattle.hand_canon.specs.RowTests.{is_fold_before, is_fold_of, said_on, unfol
 use Rattle.list_laws.proofs.FlatMaps.{flat_map-map, kept_flat}
 use Rattle.list_laws.proofs.Reversed.{filter-reverse, list_any-reverse}
 
--- the seats with the flag are those that are not live
+-- the seats whose flag is set are those that are not live
 pub record AreFolded (moves : List Move) (folded : LiveRow) : Type 0 where
   pub each : (seat : ℕ) → 1 ≤ seat → is_live moves seat ≡ not (flag_of folded seat)
 
@@ -41,7 +41,7 @@ folded_before street played folded flags = record {
       ∙ sym (flags seat from));
 }
 
--- as many seats are live
+-- the same number of seats is live
 pub live_are : (setup : Setup) (moves : List Move) (folded : LiveRow) → AreFolded moves folded → live_count setup moves ≡ unfolded_count folded setup.stacks.seats
 live_are setup moves folded marked = count_agree (is_live moves) (λ seat. not (flag_of folded seat)) 1 setup.stacks.seats (λ k from _. marked.each k from)
 

@@ -37,7 +37,7 @@ event_same a b same =
     ap₂ (λ at kind. record { at = at; kind = kind }) (ap (λ (n : Numbered). n.0) same)
     (kind_same a.kind b.kind (ap (λ (n : Numbered). n.1) same))
 
--- setups that say the same are one
+-- setups that say the same are equal
 pub setup_same : (s t : Setup) → plain_setup s ≡ plain_setup t → s.rakes.rakes ≡ t.rakes.rakes → s ≡ t
 setup_same s t same rakes =
     setups_same s t (record {

@@ -1,4 +1,4 @@
--- A canonical script of few moves is short, so that its events have their numbers.
+-- A canonical script of few moves is short, so its events have their numbers.
 use Rattle.std.proofs.Common.{◌≡◌, ℕ, zero, suc, ◌+◌, ◌*◌, ◌≤◌, Bool, ◌&&◌, ◌==◌, nat_le, List, ◌∷◌, ◌++◌, length, map, filter, reverse, Some, None, refl, ap, ◌∙◌, arith, length-append}
 use Rattle.std.specs.List.{flat_map, range_with_len}
 use Rattle.std.proofs.lemmas.List.{length-map, length-reverse}
@@ -17,7 +17,7 @@ use Rattle.list_laws.proofs.FlatMaps.{flat_few}
 use Rattle.first_fault.specs.Numbers.{kept_number}
 use Rattle.canon_script.proofs.Deals.{one_board, one_deal}
 
--- what the seats that pass a test say, an event each
+-- what the seats that pass a test say, one event each
 each_few : {X : Type 0} (setup : Setup) (p : ℕ → Bool) (f : ℕ → X) → length (map f (filter p (all_seats setup))) ≤ 10
 each_few setup p f = omega (arith, length-map (filter p (all_seats setup)) f, kept_few p (all_seats setup), length-range_with_len 1 setup.stacks.seats, setup.stacks.greatest)
 
@@ -64,7 +64,7 @@ canon_short setup trace streets few =
       length-append (flat_map (street_said setup trace.places moves) (streets_of setup)) (showdown_said setup trace.places moves trace.shown),
     )
 
--- numbers that do not end are the numbers themselves
+-- numbers below the limit are kept as they are
 pub numbers_are : (first count : ℕ) → first + count ≤ 4294967296 → map kept_number (range_with_len first count) ≡ range_with_len first count
 numbers_are first zero few = refl
 numbers_are first (suc count) few =

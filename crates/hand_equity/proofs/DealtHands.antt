@@ -1,4 +1,5 @@
--- What the seats and the board have in a game with a board, once the board of some street is dealt.
+-- What the seats and the board have, in a game with a board, once the board cards of some street
+-- are dealt.
 use Rattle.std.proofs.Common.{◌≡◌, ◌+◌, ◌≤◌, ◌<◌, ◌==◌, nat_lt, ℕ, zero, suc, Bool, true, false, List, [], ◌∷◌, ◌++◌, map, filter, flat_map, length, Some, None, inl, inr, refl, sym, ◌∙◌, ap, arith, length-append}
 use Rattle.std.specs.List.{range_with_len}
 use Rattle.std.proofs.lemmas.Bool.{and_from, and_left, and_parts, cases_lt, eq-eqb, eqb-true, lt-ltb}
@@ -71,7 +72,7 @@ own_places setup rules events seat are =
     own_test place true mine on none = and_from (is_same_owner place.owner (Some seat)) (place.discarded == 0) mine (eq-eqb place.discarded 0 (none mine)) ∙ sym (and_from (is_same_owner place.owner (Some seat)) (nat_lt place.street (4 + 1)) mine on)
     own_test place false other on none = and_left (is_same_owner place.owner (Some seat)) (place.discarded == 0) other ∙ sym (and_left (is_same_owner place.owner (Some seat)) (nat_lt place.street (4 + 1)) other)
 
--- the places in the order of the trace, of one seat
+-- the dealt cards of one seat, in the order of the trace
 pub held_places : (setup : Setup) (rules : Rules) (events : List Said) (seat : ℕ) → AreFlopEvents setup rules events → 1 ≤ seat → seat ≤ setup.stacks.seats → held_slots (traced_places setup (past_of setup events)) seat ≡ map slot_of (filter (is_out_of 0 seat) (places_of setup.code (past_of setup events)))
 held_places setup rules events seat are least most =
     let past = past_of setup events in

@@ -1,4 +1,4 @@
--- The rows that are gathered of a trace are what lies on the table when a street begins.
+-- The rows that are gathered from a trace are the cards on the table when a street begins.
 use Rattle.std.proofs.Common.{◌≡◌, ◌≤◌, ◌&&◌, not, ℕ, Bool, true, nat_le, nat_lt, List, length, map, find, None, sym, ◌∙◌, ap, subst, arith}
 use Rattle.std.specs.List.{list_any}
 use Rattle.std.proofs.lemmas.Bool.{and_from, le-leb}
@@ -57,7 +57,7 @@ same_unknown trace street hands live are =
     ap (λ (b : Bool). b && list_any is_unknown (slots_of_hand hands n)) (are.flags n least (omega (arith, most)))
     ∙ ap (λ (l : List Slot). is_live_on trace street n && list_any is_unknown l) (are.held n least))
 
--- and the same lies on the table
+-- and the cards on the table are the same
 pub same_table : (trace : Trace) (street : ℕ) (hands : HandRow) (live : LiveRow) (board : CardRow) (dead : CardSet) (all : List places.Place) → AreGathered trace street hands live → all ≡ trace.places → cards_of board ≡ known_cards (board_slots (map place_said all) street) → ((card : Card) → is_in dead card ≡ list_any (λ seat. not (flag_of live seat) && is_one_of card (holding hands seat)) (seats_of live.seats)) → AreSame (standing_of hands live board dead) (standing_on trace street)
 same_table trace street hands live board dead all are same_places board_is dead_is = record {
   seats = are.seats;

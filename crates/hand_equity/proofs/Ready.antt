@@ -99,7 +99,7 @@ whole_hand play street seat sound on inside =
     ∙ whole setup rules events seat are seats.first seats.last (omega (arith, come, on.least))
     ∙ ap (λ (s : Setup). (game_of s.code).hole) (sym sound.trace.same_setup)
 
--- what passes one of two tests is among the places
+-- what passes one of two tests is among the dealt cards
 among_either : (placed : List Place) (mine its : Place → Bool) (place : Place) → IsAmong (filter mine placed ++ filter its placed) place → IsAmong placed place
 among_either placed mine its place among =
     elim (among_append (filter mine placed) (filter its placed) place among) [ inl here ↦ (passed mine placed place here).among | inr there ↦ (passed its placed place there).among ]
@@ -121,7 +121,7 @@ different_cards play street seat sound on inside =
     (λ place is. (and_parts (is_same_owner place.owner (Some seat)) (place.discarded == 0) is).0)
     (λ place is. (and_parts (is_same_owner place.owner None) (nat_lt place.street (street + 1)) is).0))))
 
--- a live seat has no unknown card, where no seat is named
+-- a live seat has no unknown card, if no seat is named
 all_known : (play : Play) (street seat : ℕ) → first_unknown play.trace street ≡ None → IsSeatOf play.trace.setup.stacks.seats seat → is_live_on play.trace street seat ≡ true → list_any is_unknown (held_slots (traced play.trace) seat) ≡ false
 all_known play street seat none inside live =
     let seats = play.trace.setup.stacks.seats in

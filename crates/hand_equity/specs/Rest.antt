@@ -14,7 +14,7 @@ use Rattle.play_event.specs.Taken.{is_in_deck}
 use Rattle.hand_equity.specs.declared.rest.Rest.{Rest}
 use Rattle.hand_equity.specs.LiveHands.{LiveHands, live_hands}
 
--- what lies on the table: the live hands, the board so far, and the cards that are dead
+-- the cards on the table: the live hands, the board so far, and the dead cards
 pub record Standing : Type 0 where
   pub hands : LiveHands
   pub board : List Card
@@ -27,7 +27,7 @@ is_held hands card =
     (λ seat. hands.live seat && is_one_of card (hands.holding seat))
     (seats_of hands.seats)
 
--- the card is out: dead, on the board, or held by a live seat
+-- the card is out: it is dead, on the board, or held by a live seat
 abbrev pub is_out : Standing → Card → Bool
 is_out standing card =
     (standing.dead card || is_one_of card standing.board) || is_held standing.hands card
@@ -41,7 +41,8 @@ rest_of code standing =
 abbrev pub rest_cards : Rest → List Card
 rest_cards rest = take rest.len rest.cards
 
--- what lies on the table by rows of hands and of live seats, a board, and a set of dead cards
+-- the cards on the table, from a row of hands, a row of live seats, a board, and a set of dead
+-- cards
 abbrev pub standing_of : HandRow → LiveRow → CardRow → CardSet → Standing
 standing_of hands live board dead = record {
   hands = live_hands hands live;

@@ -1,5 +1,5 @@
-//! Equity is counted over all completions of a board, in the first order and, where half of a pot
-//! is paid by it, in the second.
+//! Counts equity over all completions of a board, in the high order and, if half of a pot goes to
+//! low hands, in the low order.
 ghost use Rattle.std.specs.Prelude.{◌≡◌, ◌≤◌, ◌+◌, ◌-◌, ◌++◌, ℕ, IsTrue, List, length, sum, true, false};
 ghost use Rattle.card_set.specs.declared.card.Card.{Card};
 ghost use Rattle.card_set.specs.Row.{cards_of};
@@ -21,14 +21,14 @@ use hand_order::HandOrder;
 use play_event::HandRow;
 use variant_table::Variant;
 
-/// How often each live seat wins or ties, over all completions of the board: each set of as many
-/// cards as the board lacks to five, of the game's deck without the live hands, the board and the
-/// dead cards, counts once.
+/// How often each live seat wins or ties, over all boards of five cards that complete this one. The
+/// missing cards come from the game's deck without the cards of live seats, the board and the dead
+/// cards, and each set of cards counts once.
 ///
 /// `hands` are the hole cards of the seats, of which the known ones count, and `live` says which
-/// seats are live. The game is hold'em, short-deck or Omaha. `board` has none to five cards. The
-/// time that it takes grows with the completions: for two seats of hold'em 990 on a flop, and
-/// 1,712,304 without a board.
+/// seats are live. The game is hold'em, short-deck hold'em or Omaha. `board` has at most five
+/// cards. The time grows with the number of completions: for two seats of hold'em 990 on a flop,
+/// and 1,712,304 without a board.
 pub fn equity<V: Variant>(
     hands: &HandRow,
     live: &LiveRow,
@@ -38,7 +38,7 @@ pub fn equity<V: Variant>(
     requires game { IsTrue (plays_board V.CODE) }
     requires complete { CanComplete V.CODE (standing_of hands.now live.now board.now dead.now) }
 
-    // The rule, exactly.
+    // The rule.
     ensures equity { IsEquity V.CODE (standing_of hands.now live.now board.now dead.now) result }
 
     // What follows from it.
@@ -58,7 +58,7 @@ pub fn equity<V: Variant>(
     row_of(&high, &low)
 }
 
-// The tally of the second order, in a game that pays by two; in another game an empty one.
+// The tally of the low order if the game pays low hands, and otherwise an empty one.
 fn low_tally<V: Variant>(contenders: &Contenders, rest: &Rest, board: &CardRow) -> BoardTally
     requires room { length (cards_of board.now) ≤ 5 }
     requires playable { (more : List Card)

@@ -1,4 +1,5 @@
--- Whatever comes next is legal; and something comes as long as a deal, a draw, a bring-in or a move is due.
+-- Whatever comes next is legal; and something comes as long as a deal, a draw, a bring-in or a move
+-- is due.
 use Rattle.std.proofs.Common.{◌≡◌, ℕ, ◌≤◌, ◌<◌, Bool, true, false, ◌&&◌, ◌==◌, not, nat_lt, nat_le, if◌then◌else◌, Option, Some, None, List, [], ◌∷◌, find, refl, sym, ap, subst, ◌∙◌, arith}
 use Rattle.std.specs.List.{list_any}
 use Rattle.std.specs.Option.{option_map}
@@ -53,7 +54,7 @@ use Rattle.hand_gen.proofs.MovesTake.{bring_in_takes, call_takes, fold_takes, ra
 use Rattle.hand_gen.proofs.RaisesAbove.{raises_above}
 use Rattle.chip_ledger.specs.Seat.{IsSeatOf}
 
--- where no up-card is unknown it is never unknown whose turn it is
+-- if no up-card is unknown, the player to act is always known
 found_turn : (found : Option ℕ) → in_turn found ≡ Undecided → ⊥
 found_turn None is = absurd (false_true (ap is_undecided is))
 found_turn (Some seat) is = absurd (false_true (ap is_undecided is))
@@ -85,7 +86,7 @@ none_unknown (slots.Unknown ∷ rest) known = absurd known
 positive : (n : ℕ) → nat_lt 0 n ≡ true → 0 < n
 positive n is = ltb-true 0 n is
 
--- a raise is allowed where the seat may go above the price
+-- a raise is allowed if the seat may go above the current bet
 raise_parts : (setup : Setup) (moves : List Move) (street seat : ℕ) → may_raise setup history_rules moves street seat ≡ true → price setup moves street < all_in setup moves street seat
 raise_parts setup moves street seat may =
     let able : Bool = has_able_opponent setup moves seat in
@@ -118,7 +119,7 @@ module _ (setup : Setup) (valid : IsValid setup) (four : setup.stacks.seats ≤ 
   abbrev turn_of : ℕ → InTurn
   turn_of street = mover setup (up_cards setup.code now) moves street
 
-  -- whose turn it is
+  -- the player to act
   ups_known : has_unknown_up_card setup (up_cards setup.code now) moves ≡ false
   ups_known =
       none_passes (λ seat. list_any is_unknown (up_cards setup.code now seat)) (able_seats setup moves) (λ seat.
@@ -141,7 +142,7 @@ module _ (setup : Setup) (valid : IsValid setup) (four : setup.stacks.seats ≤ 
   abbrev Good : Said → Type 0
   Good event = IsGoing setup (event ∷ events) stock.deck
 
-  -- the moves of the seat in turn
+  -- the moves of the player to act
   module _ (street : ℕ) (due : Due) (turned : turn setup now ≡ (street, due)) (seat : ℕ) (who : turn_of street ≡ TheSeat seat) where
     own : is_other_seat setup moves (Some seat) (turn_of street) ≡ false
     own = ap (is_other_seat setup moves (Some seat)) who ∙ ap not (eq-eqb seat seat refl)

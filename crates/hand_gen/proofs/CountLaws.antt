@@ -1,4 +1,4 @@
--- Whether a play is spelled, by what is written of it.
+-- Whether a play can be written, from what is written of it.
 use Rattle.std.proofs.Common.{◌≡◌, ◌⊎◌, ℕ, Option, Some, None, refl, sym, ap, subst, ◌∙◌, inl, inr}
 use Rattle.hand_records.specs.declared.writing.Unspelled.{Unspelled}
 use Rattle.hand_records.specs.declared.writing.WriteRefusal.{WriteRefusal}
@@ -7,12 +7,12 @@ use Rattle.hand_gen.specs.declared.summary.SpelledSize.{SpelledSize}
 use Rattle.hand_gen.specs.Load.{IsSpelled, bytes_spelled, hands_spelled}
 use Rattle.hand_records.specs.WriteRefusals.{IsWant, refused_at}
 
--- a hand that is not refused has no fact without a spelling
+-- a hand that is not refused has no fact that cannot be expressed
 none_refused : (fact : Option Unspelled) → refused_at 1 fact None ≡ None → fact ≡ None
 none_refused None is = refl
 none_refused (Some told) is = absurd cc
 
--- what is written is spelled
+-- what is written can be expressed
 pub written_is : (fact : Option Unspelled) (bytes : ℕ) (spelled : SpelledSize) → refused_at 1 fact None ≡ None → spelled.hands ≡ 1 → spelled.bytes ≡ bytes → IsSpelled fact bytes spelled
 written_is fact bytes spelled unrefused hands size =
     let none : fact ≡ None = none_refused fact unrefused in

@@ -1,4 +1,4 @@
--- Cards that lie nowhere, of which no two are one, may be dealt.
+-- Cards that are not on the table, no two of them the same, may be dealt.
 use Rattle.std.proofs.Common.{◌≡◌, ℕ, ◌+◌, ◌≤◌, Bool, true, false, ◌&&◌, ◌||◌, not, cond, is_some, List, [], ◌∷◌, count_by, refl, ap, ◌∙◌, arith}
 use Rattle.std.specs.List.{list_any}
 use Rattle.std.proofs.lemmas.Bool.{or_from}
@@ -13,7 +13,7 @@ use Rattle.play_event.specs.Places.{Place, is_past_deck}
 use Rattle.play_event.specs.Taken.{has_repeat, has_taken_card, is_borne_by, is_in_deck, is_taken}
 use Rattle.hand_gen.proofs.KnownCards.{borne}
 
--- a card stands nowhere among cards
+-- a card is not among cards
 none_borne : (card : Card) (cards : List Card) → count_by (is_same_card card) cards ≤ 0 → list_any (is_borne_by card) (known_slots cards) ≡ false
 none_borne card [] none = refl
 none_borne card (first ∷ rest) none =

@@ -121,7 +121,7 @@ module _ (setup : Setup) (four : setup.stacks.seats ≤ 4) (events : List Said) 
       let same : (turn setup now).0 ≡ street = ap (λ (t : ℕ × Due). t.0) turned in
       record { first = omega (arith, law.past.since, reach.on, same); last = omega (arith, reach.within, same) }
 
-  -- one event more
+  -- one more event
   more : (event : Said) (resolved : Resolved) (deck : List Card) → with_event setup event now ≡ resolved ∷ now → why setup history_rules now event ≡ None → count_by is_other (event ∷ events) ≤ cards_out (resolved ∷ now) + discards (resolved ∷ now) → IsDealtFrom setup (resolved ∷ now) deck → IsGoing setup (event ∷ events) deck
   more event resolved deck comes legal others dealt = record {
     legal = (legal, going.legal);
@@ -129,7 +129,7 @@ module _ (setup : Setup) (four : setup.stacks.seats ≤ 4) (events : List Said) 
     state = subst (λ (p : Past). IsDealtFrom setup p deck) (sym comes) dealt;
   }
 
-  -- the stock has cards enough, none of which lies on the table
+  -- the stock has enough cards, none of which is on the table
   pub deck_is : length state.dealt + length stock.deck ≡ deck_of setup.code
   deck_is =
       let p : Card → Bool = is_in_deck setup.code in

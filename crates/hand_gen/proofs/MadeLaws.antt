@@ -1,4 +1,4 @@
--- One event more, and one hand more.
+-- One more event, and one more hand.
 use Rattle.std.proofs.Common.{◌≡◌, ℕ, suc, ◌+◌, List, [], ◌∷◌, ◌++◌, length, map, reverse, Option, Some, None, sym, refl, subst, ap, ◌∙◌, arith, length-append}
 use Rattle.std.specs.List.{range_with_len}
 use Rattle.std.proofs.lemmas.List.{map-append, reverse-append}
@@ -26,14 +26,14 @@ use Rattle.hand_gen.specs.Made.{AreMadeFrom, HaveCome, IsMade, backward, next_ev
 use Rattle.hand_gen.specs.MadeTo.{IsMadeTo}
 use Rattle.hand_gen.specs.Stock.{Stock}
 
--- an event that is put behind a script is the newest
+-- an event that is appended to a script is the newest
 pub backward_more : (script : List Event) (event : Event) → backward (script ++ event ∷ []) ≡ said_of event ∷ backward script
 backward_more script event = ap reverse (map-append said_of script (event ∷ [])) ∙ reverse-append (map said_of script) (said_of event ∷ [])
 
 longer_by_one : (script : List Event) (event : Event) → suc (length script) ≡ length (script ++ event ∷ [])
 longer_by_one script event = omega (arith, length-append script (event ∷ []))
 
--- one event more is made
+-- one more event is made
 pub one_event_more : (setup : Setup) (start : Stock) (b next : RunningNumbers) (t after : CardState) (script : List Event) (event : Event) (stock left : Stock)
     → IsMadeTo setup start b t script stock
     → Some (said_of event) ≡ (coming b.setup b.rules (past_of setup (backward script)) stock).event
@@ -63,7 +63,7 @@ one_event_more setup start b next t after script event stock left made comes lea
       rules_is = same_rules ∙ made.rules_is;
     }
 
--- where nothing comes nothing is taken
+-- if nothing comes, nothing is taken
 deal_some : (found : Option ℕ) (owed : ℕ → ℕ) (board : ℕ) (stock : Stock) → (deal_of found owed board stock).event ≡ None → (deal_of found owed board stock).left ≡ stock
 deal_some None owed board stock is = absurd cc
 deal_some (Some seat) owed board stock is = absurd cc
@@ -94,7 +94,7 @@ none_taken : (setup : Setup) (rules : Rules) (past : Past) (stock : Stock) → (
 unfolding coming
 none_taken setup rules past stock is = some_at setup rules past stock (turn setup past).0 (turn setup past).1 is
 
--- nothing comes behind a whole script, and nothing is taken
+-- nothing comes after a complete script, and nothing is taken
 pub nothing_more : (setup : Setup) (start : Stock) (b : RunningNumbers) (t : CardState) (script : List Event) (stock left : Stock)
     → IsMadeTo setup start b t script stock
     → None ≡ (coming b.setup b.rules (past_of setup (backward script)) stock).event
@@ -106,14 +106,14 @@ nothing_more setup start b t script stock left made comes leaves =
     ap (λ (s : Setup). coming s b.rules past stock) made.setup_is ∙ ap (λ (r : Rules). coming setup r past stock) made.rules_is ∙ ap (coming setup history_rules past) made.left in
     (sym (comes ∙ ap (λ (x : Coming). x.event) same), leaves ∙ none_taken b.setup b.rules past stock (sym comes) ∙ made.left)
 
--- one hand more is made
+-- one more hand is made
 pub one_hand_more : (place number : ℕ) (hands : List Record) (hand : Record) → AreMadeFrom place number hands → IsMade (place + length hands) (number_behind_all number hands) hand → AreMadeFrom place number (hands ++ hand ∷ [])
 one_hand_more place number [] hand made more = let same : place + 0 ≡ place = omega arith in (subst (λ n. IsMade n number hand) same more, tt)
 one_hand_more place number (first ∷ rest) hand made more =
     let same : place + suc (length rest) ≡ (place + 1) + length rest = omega arith in
     (made.0, one_hand_more (place + 1) (number_behind number first) rest hand made.1 (subst (λ n. IsMade n (number_behind_all (number_behind number first) rest) hand) same more))
 
--- the number behind it
+-- the generator's number after it
 pub number_more : (number : ℕ) (hands : List Record) (hand : Record) → number_behind_all number (hands ++ hand ∷ []) ≡ number_behind (number_behind_all number hands) hand
 number_more number [] hand = refl
 number_more number (first ∷ rest) hand = number_more (number_behind number first) rest hand

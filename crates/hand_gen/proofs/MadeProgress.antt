@@ -1,4 +1,4 @@
--- A script whose events have come makes progress, and there is one behind which nothing comes.
+-- A script whose events have come makes progress, and there is one after which nothing comes.
 use Rattle.std.proofs.Common.{◌+◌, ◌≡◌, ℕ, ◌≤◌, true, ◌&&◌, not, nat_le, nat_lt, Option, Some, None, IfSome, List, [], ◌∷◌, length, reverse, count_by, refl, sym, ap, subst, ◌∙◌, arith, zero, suc}
 use Rattle.std.proofs.lemmas.Bool.{and_parts, le-ltb}
 use Rattle.std.proofs.lemmas.List.{length-map, reverse-reverse}
@@ -158,7 +158,7 @@ module _ (setup : Setup) (small : IsSmall setup) (start : Stock) (whole_deck : s
 pub hands_progress : (place number : ℕ) (setup : Setup) (script : List Said) → IsMadeSetup place number setup → HaveCome setup history_rules (stock_of number setup) (reverse script) → MakesProgress setup (stock_of number setup) script
 hands_progress place number setup script made come = progress setup (made_small place number setup made) (stock_of number setup) refl script come
 
--- a hand ends: from events that have come there are some behind which nothing comes
+-- a hand ends: from events that have come there are some after which nothing comes
 module _ (setup : Setup) (small : IsSmall setup) (start : Stock) (whole_deck : start.deck ≡ full_deck setup.code) where
   ends_from : (left : ℕ) (events : List Said) → HaveCome setup history_rules start events → 4352 ≤ left + length events → HasEnd setup start
   ends_from zero events come far =

@@ -1,4 +1,4 @@
--- Each move of the seat in turn takes something.
+-- Each move of the player to act takes something.
 use Rattle.std.proofs.Common.{◌≡◌, ℕ, ◌≤◌, ◌<◌, Bool, true, false, ◌||◌, nat_lt, nat_le, if◌then◌else◌, inl, inr, List, refl, arith}
 use Rattle.std.specs.List.{list_any}
 use Rattle.std.proofs.lemmas.Bool.{and_parts, cases_lt, false_from_ne_true, ltb-true}

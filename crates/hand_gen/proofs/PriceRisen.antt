@@ -1,4 +1,5 @@
--- A seat that has moved on a street, and not since the price rose there, owes chips; and whoever raises goes above the price.
+-- A seat that has acted on a street, and not since the current bet rose there, has chips to call;
+-- and a raise goes above the current bet.
 use Rattle.std.proofs.Common.{◌≡◌, ℕ, ◌+◌, ◌-◌, ◌≤◌, ◌<◌, Bool, true, false, ◌&&◌, ◌||◌, ◌==◌, nat_le, if◌then◌else◌, List, [], ◌∷◌, map, refl, sym, ap, ◌∙◌, arith}
 use Rattle.std.specs.List.{list_any}
 use Rattle.std.proofs.lemmas.Bool.{eq-eqb, eqb-true, leb-false}
@@ -14,7 +15,7 @@ use Rattle.play_event.specs.Seats.{all_seats}
 use Rattle.play_event.proofs.FloorLaws.{greatest_reaches}
 use Rattle.chip_ledger.specs.Seat.{IsSeatOf}
 
--- a move is one of a seat of the hand, from the chips of the street that the seat had
+-- a move is by a seat of the hand, from the chips that the seat had on the street
 pub record IsTaken (setup : Setup) (move : Move) (before : List Move) : Type 0 where
   pub from : move.from ≡ street_chips setup before move.street move.seat
   pub seat : IsSeatOf setup.stacks.seats move.seat
@@ -39,7 +40,7 @@ chips_more setup move moves street seat = by_street (move.street == street)
 price_more : (setup : Setup) (move : Move) (moves : List Move) (street : ℕ) → price setup moves street ≤ price setup (move ∷ moves) street
 price_more setup move moves street = greatest_less (street_chips setup moves street) (street_chips setup (move ∷ moves) street) (all_seats setup) (chips_more setup move moves street)
 
--- no seat of the hand has more chips on a street than the price
+-- no seat of the hand has more chips on a street than the current bet
 pub within_price : (setup : Setup) (moves : List Move) (street seat : ℕ) → IsSeatOf setup.stacks.seats seat → street_chips setup moves street seat ≤ price setup moves street
 within_price setup moves street seat in_hand = greatest_reaches (street_chips setup moves street) 1 setup.stacks.seats seat in_hand.first (omega (arith, in_hand.last))
 
@@ -49,14 +50,14 @@ chips_here setup move moves street seat mine here own =
     ap (λ b. brought setup street seat + chips_added seat (if b then (move ∷ moves_on street moves) else moves_on street moves)) here
     ∙ ap (λ b. brought setup street seat + ((if b then move.to - move.from else 0) + chips_added seat (moves_on street moves))) own
 
--- the price is no less than where a move went
+-- the current bet is at least where a move went
 reaches : (setup : Setup) (move : Move) (before : List Move) (street : ℕ) → IsTaken setup move before → (move.street == street) ≡ true → move.to ≤ price setup (move ∷ before) street
 reaches setup move before street taken here =
     let same : move.street ≡ street = eqb-true move.street street here in
     let from : move.from ≡ street_chips setup before street move.seat = taken.from ∙ ap (λ s. street_chips setup before s move.seat) same in
     omega (arith, from, chips_here setup move before street move.seat true here (eq-eqb move.seat move.seat refl), within_price setup (move ∷ before) street move.seat taken.seat)
 
--- a seat that has moved, and not since the price rose, owes chips
+-- a seat that has acted, and not since the current bet rose, has chips to call
 pub owes_since : (setup : Setup) (moves : List Move) (street seat : ℕ) → AreTaken setup moves → IsSeatOf setup.stacks.seats seat → has_moved moves street seat ≡ true → has_moved_since_rise setup moves street seat ≡ false → street_chips setup moves street seat < price setup moves street
 owes_since setup [] street seat taken in_hand moved since = false_true moved
 owes_since setup (move ∷ before) street seat taken in_hand moved since =

@@ -1,4 +1,5 @@
--- A made hand makes progress: what comes next is legal, and where nothing comes the hand is over but for its shows.
+-- A made hand makes progress: what comes next is legal, and when nothing comes the hand is over
+-- except for its shows.
 use Rattle.std.proofs.Common.{◌≡◌, ℕ, ◌-◌, ◌≤◌, ◌<◌, Bool, true, false, ◌||◌, nat_lt, if◌then◌else◌, Option, Some, None, List, ◌∷◌, take, is_some, refl, sym, ap, subst, ◌∙◌, arith}
 use Rattle.std.specs.List.{list_any}
 use Rattle.std.proofs.lemmas.Bool.{and_parts, lt-ltb, ltb-true}
@@ -55,7 +56,7 @@ module _ (setup : Setup) (valid : IsValid setup) (four : setup.stacks.seats ≤ 
   goes_nowhere : Goes (nothing_comes stock)
   goes_nowhere event is = absurd (some_is_none (sym is))
 
-  -- who is owed cards, and who is not
+  -- which owners are due cards
   owed_seat : (street seat : ℕ) → first_owed setup now street ≡ Some seat → (IsSeatOf setup.stacks.seats seat) × (0 < cards_owed setup now street seat)
   owed_seat street seat is =
       let it = found_in_range (λ s. nat_lt 0 (cards_owed setup now street s)) 1 setup.stacks.seats seat is in
@@ -137,12 +138,12 @@ module _ (setup : Setup) (valid : IsValid setup) (four : setup.stacks.seats ≤ 
   comes_goes street dues.Show turned = goes_nowhere
   comes_goes street dues.Over turned = goes_nowhere
 
-  -- one event more of a made hand
+  -- one more event of a made hand
   pub goes_on : Goes (coming setup history_rules now stock)
   unfolding coming
   goes_on = comes_goes (turn setup now).0 (turn setup now).1 refl
 
-  -- something comes while something is due but shows
+  -- something comes while anything but shows is due
   never_none : (street : ℕ) (due : Due) → turn setup now ≡ (street, due) → is_unfinished due ≡ true → (comes_at setup history_rules now stock street due).event ≡ None → ⊥
   never_none street (dues.Deal on) turned unfinished is = dealt (first_owed setup now on) is
     where

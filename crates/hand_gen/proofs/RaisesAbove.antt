@@ -1,4 +1,4 @@
--- A raise to a legal target goes above the price.
+-- A raise to a legal target goes above the current bet.
 use Rattle.std.proofs.Common.{◌≡◌, ℕ, zero, suc, ◌+◌, ◌-◌, ◌≤◌, ◌<◌, Bool, true, false, ◌&&◌, ◌||◌, ◌==◌, min, nat_le, nat_lt, if◌then◌else◌, inl, inr, List, [], ◌∷◌, length, slice_get, refl, arith}
 use Rattle.std.specs.List.{list_all, list_any}
 use Rattle.std.specs.Option.{option_map_or}
@@ -70,7 +70,7 @@ some_unit setup street valid fixed first last =
     (some_size (is_fixed (limit_of setup.code)) setup.small_bet fixed valid.small_bet)
     (some_size (is_fixed (limit_of setup.code)) setup.big_bet fixed valid.big_bet)
 
--- the full targets of fixed limit are above the price
+-- the full targets of fixed limit are above the current bet
 module _ (the_price the_unit last target : ℕ) (some : 1 ≤ the_unit) where
   abbrev fulls : Bool → Bool → List ℕ
   fulls less above = if less then (the_unit ∷ []) else ((the_price + the_unit) ∷ (if above then ((last + the_unit) ∷ []) else []))
@@ -119,7 +119,7 @@ goes_above limits.Fixed reopen setup moves street seat target above full some ch
       | inr all ↦ omega (arith, chips, eqb-true target (all_in setup moves street seat) (and_parts (target == all_in setup moves street seat) (nat_lt target (greatest (full_targets setup moves street))) all).0)
     ]
 
--- a legal target is above the price
+-- a legal target is above the current bet
 pub raises_above : (setup : Setup) (rules : Rules) (events : List Said) (street seat target : ℕ) → IsValid setup → AreLegal setup rules events → 1 ≤ street → street ≤ street_count setup.code
     → price setup (moves_of (past_of setup events)) street < all_in setup (moves_of (past_of setup events)) street seat
     → is_legal_target rules.reopen setup (moves_of (past_of setup events)) street seat target ≡ true

@@ -1,4 +1,5 @@
--- Where each live seat of a contested hand is shown, each pot that two seats or more may win has a shown hand.
+-- If each live seat of a contested hand is shown, each pot that two or more seats may win has a
+-- shown hand.
 use Rattle.std.proofs.Common.{◌≡◌, ℕ, suc, ◌≤◌, Bool, true, false, ◌&&◌, ◌==◌, not, nat_le, nat_lt, if◌then◌else◌, List, [], ◌∷◌, length, map, filter, count_by, Some, None, refl, sym, ap, subst, ◌∙◌, arith}
 use Rattle.std.specs.List.{list_any}
 use Rattle.std.proofs.lemmas.Bool.{and_from, and_parts, le-leb, leb-true}

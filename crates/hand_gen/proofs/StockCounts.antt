@@ -1,4 +1,5 @@
--- The cards that are taken and those that are left in the stock are the cards that were in it; and it begins with each card of the game once.
+-- The cards that are taken and those that are left in the stock are the cards that were in it; at
+-- first it has each card of the game once.
 use Rattle.std.proofs.Common.{◌≡◌, ℕ, zero, suc, ◌+◌, ◌/◌, ◌^◌, ◌≤◌, ◌<◌, Bool, true, false, ◌==◌, not, cond, if◌then◌else◌, List, [], ◌∷◌, length, map, filter, slice_get, unwrap_or, count_by, refl, sym, ap, arith}
 use Rattle.std.specs.List.{range_with_len, remove}
 use Rattle.std.proofs.lemmas.Bool.{eqb-true}
@@ -15,7 +16,7 @@ use Rattle.play_event.specs.Taken.{is_in_deck}
 use Rattle.hand_gen.specs.Draws.{drawn, next_number}
 use Rattle.hand_gen.specs.Stock.{Stock, after_card, after_cards, full_deck, next_card, next_cards, next_place}
 
--- a card that is taken out at a place counts no more among the others
+-- a card that is taken out at a place is no longer counted among the others
 taken_out : (p : Card → Bool) (cards : List Card) (place : ℕ) (other : Card) → place < length cards → cond (p (unwrap_or (slice_get cards place) other)) 1 0 + count_by p (remove cards place) ≡ count_by p cards
 taken_out p [] place other within = absurd (omega (arith, within))
 taken_out p (card ∷ rest) zero other within = sym (count_by-cons p card rest)
@@ -38,7 +39,7 @@ taken_counts p (suc count) stock enough =
       taken_counts p count (after_card stock) (omega (arith, enough, length-remove stock.deck (next_place stock) place)),
     )
 
--- so many cards are taken
+-- this number of cards is taken
 pub taken_length : (count : ℕ) (stock : Stock) → length (next_cards count stock) ≡ count
 taken_length zero stock = refl
 taken_length (suc count) stock = ap suc (taken_length count (after_card stock))
@@ -57,7 +58,7 @@ kept_fewer p q (card ∷ rest) = by_test (q card) (kept_fewer p q rest)
     by_test true fewer = omega (arith, count_by-cons p card rest, count_by-cons p card (filter q rest), fewer)
     by_test false fewer = omega (arith, count_by-cons p card rest, fewer)
 
--- each card stands once in the whole deck at most
+-- each card occurs at most once in the whole deck
 pub once_in_deck : (code : Code) (card : Card) → count_by (is_same_card card) (full_deck code) ≤ 1
 once_in_deck code card =
     let all : List ℕ = range_with_len 0 52 in

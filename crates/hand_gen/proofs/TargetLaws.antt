@@ -1,4 +1,5 @@
--- The ends of the targets that the betting tells are the least and the greatest target of the rules.
+-- The ends of the targets that the betting gives are the lowest and the highest target of the
+-- rules.
 use Rattle.std.proofs.Common.{◌≡◌, ℕ, Bool, true, false, ◌&&◌, if◌then◌else◌, List, Option, Some, None, IfSome, is_some, sym, refl, ap, ◌∙◌, arith}
 use Rattle.play_event.specs.declared.setup.Rules.{Rules}
 use Rattle.play_event.specs.declared.setup.Setup.{Setup}
@@ -30,7 +31,7 @@ one_greatest setup rules moves street seat least greatest all ends =
     let other = targets_end setup rules moves street seat in
     omega (arith, (other.within greatest ends.greatest_legal).1, (ends.within (greatest_target setup moves street seat) other.greatest_legal).1)
 
--- the seat in turn has targets where it may raise
+-- the player to act has targets if it may raise
 has_targets_is : (b : RunningNumbers) (past : Past) (seat : ℕ) → StandsFor b past → is_bet_due b.due ≡ true → IsTurn b past (TheSeat seat) → has_targets b.setup b.rules past ≡ may_raise b.setup b.rules (moves_of past) b.street seat
 has_targets_is b past seat stands bets turned =
     ap (has_targets_at b.setup b.rules past) stands.turn_is
@@ -46,7 +47,7 @@ told b past seat (Some targets) true is some ends =
     ap (λ n. Some (n, targets.greatest)) (one_least b.setup b.rules (moves_of past) b.street seat targets.least targets.greatest targets.all_in ends)
     ∙ ap (λ n. Some (least_target b.rules.reopen b.setup (moves_of past) b.street seat, n)) (one_greatest b.setup b.rules (moves_of past) b.street seat targets.least targets.greatest targets.all_in ends)
 
--- the ends that the betting tells are those of the rules
+-- the ends that the betting gives are those of the rules
 pub ends_are : (b : RunningNumbers) (past : Past) (seat : ℕ) (found : Option Targets) → StandsFor b past → is_bet_due b.due ≡ true → IsTurn b past (TheSeat seat) → is_some found ≡ has_targets b.setup b.rules past
     → IfSome found (λ targets. (seat : ℕ) → IsTurn b past (TheSeat seat) → AreEndsFor b (moves_of past) seat targets)
     → ends_said found ≡ ends_of b.setup b.rules (moves_of past) b.street seat

@@ -1,4 +1,5 @@
--- A hand that is underway is within the limits, no event that comes is refused, and where none comes the hand is legal.
+-- A hand that is being made is within the limits, no event that comes is refused, and when none
+-- comes the hand is legal.
 use Rattle.std.proofs.Common.{◌≡◌, ◌<◌, List, [], length, map, Some, None, IfSome, refl, sym, ap, subst, ◌∙◌, arith}
 use Rattle.std.proofs.lemmas.List.{length-map}
 use Rattle.betting_numbers.specs.LegalMoves.{reason_after}
@@ -24,12 +25,12 @@ use Rattle.hand_gen.specs.Progress.{IsSmall, MakesProgress}
 use Rattle.hand_gen.specs.Stock.{Stock, full_deck}
 use Rattle.hand_gen.proofs.MadeProgress.{progress}
 
--- before the first event a hand is made so far
+-- before the first event the hand is made up to here
 pub first_made : (setup : Setup) (start : Stock) (b : RunningNumbers) (t : CardState) (script : List Event) → script ≡ [] → StandTogether b t [] → b.setup ≡ setup → b.rules ≡ history_rules → IsMadeTo setup start b t script start
 first_made setup start b t script none stands setup_is rules_is =
     subst (λ (s : List Event). IsMadeTo setup start b t s start) (sym none) (record { come = tt; left = refl; stands = stands; numbered = refl; setup_is = setup_is; rules_is = rules_is })
 
--- a hand that is made so far from a whole deck is underway
+-- a hand that is made up to here from a whole deck is being made
 pub underway : (setup : Setup) (start : Stock) (b : RunningNumbers) (t : CardState) (script : List Event) (stock : Stock) → IsSmall setup → start.deck ≡ full_deck setup.code → IsMadeTo setup start b t script stock → IsUnderway b t script stock
 underway setup start b t script stock small deck made =
     let same : setup ≡ b.setup = sym made.setup_is in
@@ -60,7 +61,7 @@ not_refused b t script stock event reason going comes refused =
     let legal : why b.setup history_rules past event ≡ None = subst (λ n. IfSome n (λ e. why b.setup history_rules past e ≡ None)) next (progress_of b t script stock going).next_legal in
     some_is_none (sym refused ∙ ap (λ (r : Rules). why b.setup r past event) made.rules_is ∙ legal)
 
--- a script that is made is within the limits, and where nothing comes behind it, it is legal
+-- a script that is made is within the limits, and if nothing comes after it, it is legal
 pub made_within : (setup : Setup) (start : Stock) (script : List Event) → IsSmall setup → start.deck ≡ full_deck setup.code → HaveCome setup history_rules start (backward script) → IsWithinLimits (map said_of script)
 made_within setup start script small deck come = (progress setup small start deck (map said_of script) come).within
 

@@ -1,4 +1,4 @@
--- A hand that is being made: its script so far, and betting and cards behind it.
+-- A hand that is being made: its script so far, with the betting and the cards after it.
 use Rattle.std.specs.Prelude.{◌≡◌, ◌+◌, Bool, true, false, List, length, map, None}
 use Rattle.std.specs.List.{range_with_len}
 use Rattle.betting_numbers.specs.declared.running.RunningNumbers.{RunningNumbers}
@@ -12,8 +12,8 @@ use Rattle.hand_gen.specs.Made.{HaveCome, backward, next_event, stock_behind}
 use Rattle.hand_gen.specs.Progress.{IsSmall}
 use Rattle.hand_gen.specs.Stock.{Stock, full_deck}
 
--- so far a hand is made: each event of its script has come, and betting, cards and stock stand
--- behind the last one
+-- a hand is made up to here: each event of its script has come, and betting, cards and stock are
+-- those after the last one
 pub record IsMadeTo (setup : Setup) (start : Stock) (b : RunningNumbers) (t : CardState)
     (script : List Event) (stock : Stock) : Type 0 where
   pub come : HaveCome setup history_rules start (backward script)
@@ -23,13 +23,13 @@ pub record IsMadeTo (setup : Setup) (start : Stock) (b : RunningNumbers) (t : Ca
   pub setup_is : b.setup ≡ setup
   pub rules_is : b.rules ≡ history_rules
 
--- nothing comes behind a script
+-- nothing comes after a script
 pub record IsWhole (setup : Setup) (start : Stock) (script : List Event) (stock : Stock) : Type 0
   where
     pub ended : next_event setup history_rules start (backward script) ≡ None
     pub left : stock ≡ stock_behind setup history_rules start (backward script)
 
--- what one step makes of a script: one event more, or nothing where it is whole
+-- what one step does to a script: it adds one event, or nothing if the script is complete
 abbrev pub IsStep : Setup → Stock → List Event → RunningNumbers → CardState → List Event → Stock
     → Bool → Type 0
 IsStep setup start before b t script stock true =
@@ -37,7 +37,7 @@ IsStep setup start before b t script stock true =
 IsStep setup start before b t script stock false =
     (script ≡ before) × IsWhole setup start script stock
 
--- a hand of few seats and chips is made so far from a whole deck
+-- a hand with few seats and chips is made up to here from a whole deck
 pub record IsUnderway (b : RunningNumbers) (t : CardState) (script : List Event) (stock : Stock)
     : Type 0 where
   pub small : IsSmall b.setup

@@ -1,5 +1,4 @@
--- What a hand is made of: the number to which the draws have come, and the cards that are left in
--- the deck.
+-- What a hand is made from: the generator's number, and the cards that are left in the deck.
 use Rattle.std.specs.Prelude.{ℕ, zero, suc, List, [], ◌∷◌, length, map, filter, slice_get, unwrap_or}
 use Rattle.std.specs.List.{range_with_len, remove}
 use Rattle.card_set.specs.declared.card.Card.{Card}
@@ -8,7 +7,7 @@ use Rattle.play_event.specs.declared.code.Code.{Code}
 use Rattle.play_event.specs.Taken.{is_in_deck}
 use Rattle.hand_gen.specs.Draws.{drawn, next_number}
 
--- the cards that are left stand in the order of the deck
+-- the cards that are left, in the order of the deck
 pub record Stock : Type 0 where
   pub number : ℕ
   pub deck : List Card
@@ -17,33 +16,33 @@ pub record Stock : Type 0 where
 abbrev pub full_deck : Code → List Card
 full_deck code = filter (is_in_deck code) (map card_placed (range_with_len 0 52))
 
--- what is drawn next, of so many
+-- what is drawn next, among this number of choices
 abbrev pub draw_of : ℕ → Stock → ℕ
 draw_of count stock = drawn count (next_number stock.number)
 
--- one number is drawn
+-- the stock after one number is drawn
 abbrev pub after_draw : Stock → Stock
 after_draw stock = record { number = next_number stock.number; deck = stock.deck }
 
--- where the next card stands in the deck: a draw of as many as there are
+-- the place of the next card in the deck: a draw among the cards that are left
 abbrev pub next_place : Stock → ℕ
 next_place stock = draw_of (length stock.deck) stock
 
--- the next card; of an empty deck, from which no hand takes, it is the two of clubs
+-- the next card; for an empty deck, from which no hand takes a card, the two of clubs
 abbrev pub next_card : Stock → Card
 next_card stock = unwrap_or (slice_get stock.deck (next_place stock)) (card_placed 0)
 
--- it is taken out of the deck
+-- the stock without it
 abbrev pub after_card : Stock → Stock
 after_card stock =
     record { number = next_number stock.number; deck = remove stock.deck (next_place stock) }
 
--- so many cards are taken one after the other
+-- this number of cards, taken one after another
 abbrev pub next_cards : ℕ → Stock → List Card
 next_cards zero stock = []
 next_cards (suc count) stock = next_card stock ∷ next_cards count (after_card stock)
 
--- what is left behind them
+-- the stock after them
 abbrev pub after_cards : ℕ → Stock → Stock
 after_cards zero stock = stock
 after_cards (suc count) stock = after_cards count (after_card stock)

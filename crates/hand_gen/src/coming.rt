@@ -1,4 +1,4 @@
-//! Which event comes next.
+//! Which event of a made hand comes next.
 ghost use Rattle.std.specs.Prelude.{◌≡◌};
 ghost use Rattle.play_event.specs.declared.reason.Due.TheVariants as dues;
 ghost use Rattle.replay_core.specs.Told.{WhereTogether};
@@ -15,7 +15,7 @@ use play_event::{Due, Kind};
 use replay_core::HandInPlay;
 use variant_table::Variant;
 
-/// The event that comes next, if one does. What it takes of the stock is taken.
+/// The next event, if there is one. Its cards and numbers are taken from the stock.
 pub fn next<V: Variant>(hand: &HandInPlay<V>, stock: &mut Stock) -> Option<Kind>
     ensures event { WhereTogether hand.now.betting hand.now.cards
         (λ past. event_said result ≡ (coming hand.now.betting.setup
@@ -35,7 +35,7 @@ pub fn next<V: Variant>(hand: &HandInPlay<V>, stock: &mut Stock) -> Option<Kind>
     }
 }
 
-// The bring-in of the seat in turn.
+// The bring-in by the player to act.
 fn bring_in<V: Variant>(hand: &HandInPlay<V>) -> Option<Kind>
     requires due { hand.now.betting.due ≡ dues.BringIn }
     ensures event { WhereTogether hand.now.betting hand.now.cards
@@ -54,7 +54,7 @@ fn bring_in<V: Variant>(hand: &HandInPlay<V>) -> Option<Kind>
     }
 }
 
-// The move of the seat in turn.
+// The move of the player to act.
 fn acted<V: Variant>(hand: &HandInPlay<V>, stock: &mut Stock) -> Option<Kind>
     requires due { hand.now.betting.due ≡ dues.Move }
     ensures event { WhereTogether hand.now.betting hand.now.cards

@@ -1,4 +1,4 @@
-//! What the deals and draws of a street bring next.
+//! The next event of the deals and draws of a street.
 ghost use Rattle.std.specs.Prelude.{◌≡◌, ◌≤◌, take, Some};
 ghost use Rattle.card_set.specs.Row.{slots_of};
 ghost use Rattle.chip_ledger.specs.SeatsSaid.{seat_said};
@@ -20,7 +20,7 @@ use deal_core::Cards;
 use play_event::Kind;
 use variant_table::Variant;
 
-/// What comes next in the draw of the street: a discard, or a deal.
+/// The next event of a street's draw: a discard, or a deal.
 pub fn draw<V: Variant>(cards: &Cards<V>, live: &LiveRow, on: u8, stock: &mut Stock) -> Kind
     requires street { on ≤ V.STREETS }
     requires live { live.now.seats ≡ cards.now.seats }
@@ -35,7 +35,7 @@ pub fn draw<V: Variant>(cards: &Cards<V>, live: &LiveRow, on: u8, stock: &mut St
     }
 }
 
-/// What is dealt next on the street: to a seat what it is owed, or to the board.
+/// The next deal of the street: to a seat that is due cards, or to the board.
 pub fn deal<V: Variant>(cards: &Cards<V>, live: &LiveRow, on: u8, stock: &mut Stock) -> Kind
     requires street { on ≤ V.STREETS }
     requires live { live.now.seats ≡ cards.now.seats }
@@ -48,7 +48,7 @@ pub fn deal<V: Variant>(cards: &Cards<V>, live: &LiveRow, on: u8, stock: &mut St
     dealt(next, stock)
 }
 
-// So many cards are dealt to a seat or to the board.
+// Deals this number of cards to a seat or to the board.
 fn dealt(next: NextDeal, stock: &mut Stock) -> Kind
     requires { next.count ≤ 7 }
     ensures event { Some (kind_said result)
@@ -82,7 +82,7 @@ fn discard<V: Variant>(cards: &Cards<V>, seat: Seat, stock: &mut Stock) -> Kind
     }
 }
 
-// The first slots of a row, so many of them.
+// The first slots of a row, `count` of them.
 #[tactic(auto, using(std::proofs::lemmas::List::take_min))]
 fn first_slots(row: &SlotRow, count: u8) -> SlotRow
     ensures { slots_of result ≡ take count (slots_of row.now) }

@@ -1,4 +1,4 @@
-//! The script of a made hand, event by event.
+//! Makes the script of a hand, event by event.
 ghost use Rattle.std.specs.Prelude.{◌≡◌, ◌<◌, ◌^◌, length, map, IfOk};
 ghost use Rattle.canon_script.specs.PlayedScript.{IsWithinLimits};
 ghost use Rattle.hand_canon.specs.LegalHand.{IsLegalHand};
@@ -18,7 +18,7 @@ use replay_core::HandInPlay;
 use std::alloc::Global;
 use variant_table::Variant;
 
-/// The script of a made hand of the game `V`, from this stock.
+/// The script of a made hand of the game `V`, made from this stock.
 pub fn script_of<V: Variant>(
     alloc: Global,
     setup: &Setup,
@@ -45,7 +45,7 @@ pub fn script_of<V: Variant>(
     }
 }
 
-/// What hand histories rule beyond the game.
+/// The rules of hand histories beyond those of the game.
 pub fn history_rules() -> Rules
     ensures { result ≡ histories.history_rules }
 {
@@ -56,7 +56,7 @@ pub fn history_rules() -> Rules
     }
 }
 
-// Puts the event that comes next behind the others, if one comes.
+// Appends the next event, if there is one.
 fn play_next<V: Variant>(
     hand: &mut HandInPlay<V>,
     script: &mut Script,

@@ -7,8 +7,8 @@ ghost use Rattle.hand_gen.specs.Made.{HaveCome, stock_of};
 ghost use Rattle.hand_gen.specs.Progress.{HasEnd, MakesProgress};
 ghost use Rattle.hand_gen.specs.Setups.{IsMadeSetup};
 
-/// In a hand of a made setup, from its stock, whatever comes next is legal and within the limits of
-/// a hand; the hand comes to its end; and where nothing comes next, it is legal and whole. The
+/// In a hand of a made setup, made from its stock, every next event is legal and within the limits
+/// of a hand; the hand ends; and when there is no next event, it is legal and complete. The
 /// function does nothing: its contract is a law.
 pub fn law_of_progress()
     ensures progress { (place number : ℕ) (setup : Setup) (script : List Said)

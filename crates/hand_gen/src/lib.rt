@@ -1,4 +1,4 @@
-//! Hands are made from a number: the same hands from the same number, each of them legal.
+//! Makes hands from a number: the same hands from the same number, each of them legal.
 #![tactic(auto)]
 
 mod coming;

@@ -1,4 +1,4 @@
-//! Made hands, one after the other.
+//! Makes hands, one after the other.
 ghost use Rattle.std.specs.Prelude.{◌≡◌, ◌≤◌, All, IfOk, map};
 ghost use Rattle.canon_script.specs.PlayedScript.{IsWithinLimits};
 ghost use Rattle.first_fault.specs.declared.limits.TheConstants.{MOST_HANDS};
@@ -22,18 +22,18 @@ use replay_core::{ReplayFault, replay};
 use std::alloc::Global;
 use variant_table::by_code;
 
-/// A made hand with its trace, and the number to which the draws come behind it.
+/// A made hand with its trace, and the generator's number after it.
 #[derive(Debug, Drop)]
 pub struct Made {
     pub play: Play,
     pub number: u64,
 }
 
-/// So many made hands, from a seed.
+/// Makes `count` hands from a seed.
 ///
 /// # Errors
 ///
-/// Want of memory.
+/// Out of memory.
 pub fn make(alloc: Global, seed: u64, count: u32) -> Result<Records, Memory>
     requires few { count ≤ MOST_HANDS }
     ensures made { IfOk result (AreMade seed count) }
@@ -56,12 +56,12 @@ pub fn make(alloc: Global, seed: u64, count: u32) -> Result<Records, Memory>
     Ok(hands)
 }
 
-/// The hand at a place among the made hands, from 0, where the draws have come to this number, with
-/// its trace.
+/// The hand at a place among the made hands, from 0, with its trace; `number` is the generator's
+/// number before it.
 ///
 /// # Errors
 ///
-/// Want of memory.
+/// Out of memory.
 pub fn make_play(alloc: Global, place: u32, number: u64) -> Result<Made, Memory>
     ensures made { IfOk result (λ made. IsMade place number made.play.hand) }
     ensures behind { IfOk result (λ made. made.number ≡ number_behind number made.play.hand) }

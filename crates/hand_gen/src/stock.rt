@@ -1,4 +1,4 @@
-//! What a hand is made of: numbers that are drawn, and a deck from which cards are taken.
+//! What a hand is made from: drawn numbers, and a deck from which cards are taken.
 ghost use Rattle.std.specs.Prelude.{◌≡◌, ◌<◌, ◌≤◌, ◌++◌, ◌∷◌, [], cond, OnOk, IfOk};
 ghost use Rattle.card_set.specs.Row.{cards_of};
 ghost use Rattle.hand_gen.specs.Stock as stocks;
@@ -10,7 +10,7 @@ use play_event::Code;
 use std::alloc::Global;
 use std::marker::Model;
 
-/// The number to which the draws have come, and the cards that are left in the deck.
+/// The generator's number, and the cards that are left in the deck.
 #[derive(Debug, Drop)]
 pub struct Stock {
     number: u64,
@@ -26,7 +26,7 @@ impl Model for Stock {
 }
 
 impl Stock {
-    /// The whole deck of a game, where the draws have come to this number.
+    /// The whole deck of a game, with the generator at this number.
     pub fn full(alloc: Global, number: u64, code: Code) -> Result<Self, Memory>
         ensures number { IfOk result (λ stock. stock.number ≡ number) }
         ensures deck { IfOk result (λ stock. stock.deck ≡ stocks.full_deck code) }
@@ -37,14 +37,14 @@ impl Stock {
         }
     }
 
-    /// The number to which the draws have come.
+    /// The generator's number.
     pub fn number(&self) -> u64
         ensures { result ≡ self.now.number }
     {
         self.number
     }
 
-    /// Draws one of so many, from 0 upward.
+    /// Draws a choice among `count`, from 0 upward.
     pub fn draw(&mut self, count: u64) -> u64
         requires { 0 < count }
         ensures drawn { result ≡ stocks.draw_of count self.old }
@@ -55,7 +55,7 @@ impl Stock {
         drawn(count, self.number)
     }
 
-    /// Takes so many cards.
+    /// Takes `count` cards.
     pub fn take_cards(&mut self, count: u8) -> CardRow
         requires { count ≤ 7 }
         ensures cards { cards_of result ≡ stocks.next_cards count self.old }
@@ -98,7 +98,7 @@ fn full_deck(alloc: Global, code: Code) -> Result<Vec<Card>, Memory>
     Ok(deck)
 }
 
-// Puts a card behind the others, where the game has it.
+// Appends a card, if the game's deck has it.
 fn push_if(deck: &mut Vec<Card>, has: bool, card: Card) -> Result<(), Memory>
     ensures { OnOk result (deck.new.items ≡ deck.old.items ++ cond has (card ∷ []) []) }
 {

@@ -1,4 +1,4 @@
--- The moves of the seat in turn, where it is known.
+-- The moves of the player to act, if known.
 use Rattle.std.proofs.Common.{◌≡◌, ℕ, ◌-◌, ◌≤◌, min, Bool, true, false, not, ◌==◌, if◌then◌else◌, Option, Some, None, IfSome, is_none, is_some, refl, sym, ap, subst, ◌∙◌}
 use Rattle.std.specs.Prelude.{option_and_then}
 use Rattle.std.specs.Option.{option_map_or}
@@ -41,7 +41,7 @@ use Rattle.hand_options.proofs.LegalRaises.{no_raise, raise_by_target}
 use Rattle.hand_options.proofs.TargetSets.{form_is, set_is}
 use Rattle.chip_ledger.specs.Seat.{IsSeatOf}
 
--- a seat is not another one than itself
+-- a seat is the same as itself
 own : (seat : ℕ) (reason : Illegal) → is_none (if not (seat == seat) then Some reason else None) ≡ true
 own seat reason = ap (λ (same : Bool). is_none (if not same then Some reason else None)) (eq-eqb seat seat refl)
 
@@ -74,7 +74,7 @@ module _ (b : RunningNumbers) (past : Past) (stands : StandsFor b past) (seat : 
   forms limit is None ends = tt
   forms limit is (Some targets) ends = form_is b.setup b.rules (moves_of past) b.street seat.number targets.least targets.greatest targets.all_in limit is (ends seat.number turned)
 
-  -- a fold and a call where a move is due
+  -- a fold and a call when a move is due
   fold_is : b.due ≡ dues.Move → is_none (fold_why b (Some seat.number) seat.number) ≡ is_legal b.setup b.rules past (Fold (Some seat.number))
   fold_is due = sym (ap is_none (fold_moves b past stands (Some seat.number) seat.number (ap (now_why true false) due) in_hand turned))
 
@@ -100,7 +100,7 @@ module _ (b : RunningNumbers) (past : Past) (stands : StandsFor b past) (seat : 
       ap (λ (found : Option Illegal). if is_none found then Some (bring_in_target b.setup (moves_of past) (turn b.setup past).0 seat.number) else None)
       (bring_in_refused b past stands (Some seat.number) reasons.WrongKind (sym (ap (now_why false true) due)))
 
-  -- and where a bring-in is due
+  -- and when a bring-in is due
   no_fold : b.due ≡ dues.BringIn → is_legal b.setup b.rules past (Fold (Some seat.number)) ≡ false
   no_fold due = ap is_none (fold_now b past stands (Some seat.number) reasons.WrongKind (sym (ap (now_why true false) due)))
 
@@ -168,7 +168,7 @@ a_bring_in (dues.Draw on) bets not_move = false_true bets
 a_bring_in dues.Show bets not_move = false_true bets
 a_bring_in dues.Over bets not_move = false_true bets
 
--- no seat is in turn: no move is legal
+-- no player is to act: no move is legal
 pub no_moves : (b : RunningNumbers) (past : Past) → StandsFor b past → seat_in_turn b.setup past ≡ None → AreOptions b.setup b.rules past (no_options b.due)
 no_moves b past stands none = record {
   due = sym (ap (λ (t : ℕ × Due). t.1) stands.turn_is);
@@ -180,13 +180,13 @@ no_moves b past stands none = record {
   form = tt;
 }
 
--- another thing than a move or a bring-in is due
+-- something other than a move or a bring-in is due
 pub no_seat_due : (b : RunningNumbers) (past : Past) → StandsFor b past → is_bet_due b.due ≡ false → seat_in_turn b.setup past ≡ None
 no_seat_due b past stands none =
     ap (seat_at b.setup past) stands.turn_is
     ∙ ap (λ (t : Bool). if t then seat_known (in_turn_on b.setup past b.street) else None) none
 
--- it is not known whose turn it is
+-- the player to act is not known
 pub no_seat_known : (b : RunningNumbers) (past : Past) → StandsFor b past → is_bet_due b.due ≡ true → IsTurn b past Undecided → seat_in_turn b.setup past ≡ None
 no_seat_known b past stands bets turned =
     ap (seat_at b.setup past) stands.turn_is

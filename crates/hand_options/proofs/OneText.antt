@@ -16,7 +16,7 @@ use Rattle.play_event.specs.declared.limit.Limit.{Limit}
 use Rattle.play_event.specs.declared.setup.Rules.{Rules}
 use Rattle.play_event.specs.declared.setup.Setup.{Setup}
 
--- a number is one of a list
+-- a number is in a list
 abbrev is_one : ℕ → List ℕ → Bool
 is_one target listed = list_any (λ one. target == one) listed
 
@@ -40,14 +40,14 @@ both : (b c : Bool) → (b && c) ≡ true → (b ≡ true) × (c ≡ true)
 both true c is = (refl, is)
 both false c is = absurd (false≢true is)
 
--- the first of a list is one of it, and so is a second
+-- the first of a list is in it, and so is the second, if there is one
 first_is : (x : ℕ) (xs : List ℕ) → is_one x (x ∷ xs) ≡ true
 first_is x xs = ap (λ (b : Bool). b || is_one x xs) (eq-eqb x x refl)
 
 second_is : (x y : ℕ) → is_one y (x ∷ y ∷ []) ≡ true
 second_is x y = ap (λ (b : Bool). (y == x) || b) (first_is y []) ∙ or_true (y == x)
 
--- of one number there is no other, and of two the one or the other
+-- in a list of one number there is no other, and in a list of two there are only these
 of_one : (target x : ℕ) → is_one target (x ∷ []) ≡ true → target ≡ x
 of_one target x is = eqb-true target x (or_false (target == x) is)
 
@@ -56,7 +56,7 @@ of_two target x y is =
     elim (either (target == x) (is_one target (y ∷ [])) is)
     [ inl here ↦ inl (eqb-true target x here) | inr there ↦ inr (of_one target y there) ]
 
--- what is listed is nothing, one number, or two that rise
+-- what is listed is nothing, one number, or two in rising order
 data IsShort (xs : List ℕ) : Type 0 where
   None : xs ≡ [] → IsShort xs
   One : (x : ℕ) → xs ≡ x ∷ [] → IsShort xs

@@ -1,4 +1,4 @@
-//! After the first events of a hand it is told what is due, and which moves are legal.
+//! After the first events of a hand: what is due, and which moves are legal.
 #![tactic(auto)]
 
 mod asking;

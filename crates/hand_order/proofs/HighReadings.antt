@@ -149,13 +149,13 @@ pattern_least flush low cards held =
     by_tests false true straight suited below = let class = suited refl in omega (arith, flush_some flush)
     by_tests false false straight suited below = omega arith
 
--- some choice of the cards has at least so many points
+-- some choice of the cards has at least this many points
 pub record IsChosen (flush : FlushPlace) (low : LowStraight) (cards : List Card) (least : ℕ) : Type 0 where
   pub choice : List Card
   pub among : IsAmong choice (choices 5 cards)
   pub reached : least ≤ ladder_points flush low choice
 
--- what is reached and not passed is the greatest of all choices
+-- what is reached and not exceeded is the greatest of all choices
 pub best_greatest : (flush : FlushPlace) (low : LowStraight) (cards : List Card) (most : ℕ) → IsChosen flush low cards most → ((other : List Card) → IsAmong other (choices 5 cards) → ladder_points flush low other ≤ most) → greatest (λ choice. Some (ladder_points flush low choice)) (choices 5 cards) ≡ Some most
 best_greatest flush low cards most best over = by_says (greatest (λ choice. Some (ladder_points flush low choice)) (choices 5 cards)) (says_greatest (λ choice. Some (ladder_points flush low choice)) (choices 5 cards))
   where
@@ -183,7 +183,7 @@ run_reached flush low cards hs bound different fits falling run =
     let least = straight_least flush low found.choice held straight in
     record { choice = found.choice; among = found.among; reached = omega arith }
 
--- and where they fit one suit, a straight flush
+-- and if they fit one suit, a straight flush
 pub suited_run_reached : (flush : FlushPlace) (low : LowStraight) (s : ℕ) (cards : List Card) (hs : List ℕ) (bound : ℕ) → AllDifferent cards → Fits (times high_ace (filter (of_suit s) cards)) (pattern 0) hs → AreDigits hs → FallingFrom bound hs → runs low hs ≡ true → IsChosen flush low cards (class_above 8 (straight_top hs ∷ []))
 suited_run_reached flush low s cards hs bound different fits digits falling run =
     let found = suited_reached s cards hs different fits digits in

@@ -1,4 +1,5 @@
--- The class of a hand without a straight and a flush is a pattern of how often ranks occur, and the best of several cards is the best pattern that they fit.
+-- The class of a hand without a straight and a flush is a pattern of how often ranks occur, and the
+-- best of several cards is the best pattern that they fit.
 use Rattle.std.proofs.Common.{◌≡◌, ◌≢◌, ◌==◌, ◌⊎◌, ℕ, zero, suc, ◌<◌, ◌≤◌, Bool, true, false, cond, List, [], ◌∷◌, ◌++◌, inl, inr, refl, sym, ◌∙◌, ap, subst, arith, eqb-true}
 use Rattle.std.proofs.lemmas.Bool.{cases_lt}
 use Rattle.card_set.specs.declared.card.Card.{Card}
@@ -62,7 +63,7 @@ own_pattern cards held =
 pub hand_picked : (cards : List Card) → AreHeld 5 cards → IsPicked (times high_ace cards) (pattern (class_of cards)) (ranks_of high_ace cards)
 hand_picked cards held = subst (λ (p : List ℕ). IsPicked (times high_ace cards) p (ranks_of high_ace cards)) (own_pattern cards held).0 (own_picked high_ace IsHeight-high_ace InRange-high_ace cards held.1)
 
--- heights that fit its counts tell the class of a hand
+-- heights that fit its counts decide the class of a hand
 pub fits_class : (cards : List Card) (k : ℕ) (hs : List ℕ) → AreHeld 5 cards → IsPattern k → Fits (times high_ace cards) (pattern k) hs → class_of cards ≡ k
 fits_class cards k hs held kind fits =
     let all = all_times high_ace IsHeight-high_ace cards ∙ held.0 ∙ sym kind.five in
@@ -115,7 +116,7 @@ plain_apart j kind = elim (pattern_cases j kind) [
   ]
 ]
 
--- classes stay in order where a flush is above a full house
+-- classes stay in order if a flush ranks above a full house
 pub leveled_rises : (flush : FlushPlace) (j k : ℕ) → IsPattern j → j < k → leveled flush j < leveled flush k
 leveled_rises flushes.BelowFullHouse j k kind less = less
 leveled_rises flushes.AboveFullHouse j k kind less = by_tests (j == 6) refl (k == 6) refl
@@ -141,7 +142,7 @@ choice_within height (suc n) (card ∷ rest) choice among h =
       | inr without ↦ omega (arith, times-cons height card rest h, choice_within height (suc n) rest choice without h)
     ]
 
--- no choice is more
+-- no choice is greater
 pub plain_most : (flush : FlushPlace) (cards choice : List Card) (k : ℕ) (hs : List ℕ) → IsBestPattern (times high_ace cards) k hs → IsAmong choice (choices 5 cards) → AreHeld 5 choice → plain_points flush choice ≤ class_above (leveled flush k) hs
 plain_most flush cards choice k hs best among held =
     let within = choice_within high_ace 5 cards choice among in
@@ -160,7 +161,7 @@ plain_most flush cards choice k hs best among held =
       ]
     ]
 
--- and some choice is as much
+-- and some choice reaches it
 pub record IsReached (flush : FlushPlace) (cards : List Card) (most : ℕ) : Type 0 where
   pub choice : List Card
   pub among : IsAmong choice (choices 5 cards)

@@ -1,4 +1,4 @@
--- Records as a reader gives them: a valid setup, a script within the limits, stated rows that fit
+-- Records as a reader returns them: a valid setup, a script within the limits, stated rows that fit
 -- it, and allowed notes.
 use Rattle.std.specs.Prelude.{◌≡◌, ℕ, ◌≤◌, List, map}
 use Rattle.std.specs.Option.{ForSome}
@@ -14,8 +14,8 @@ use Rattle.hand_records.specs.AllowedNotes.{AreAllowed}
 abbrev pub script_said : Record → List Said
 script_said hand = map said_of hand.script
 
--- what is stated fits a trace: its rows are of so many seats, and its total is no more than a row
--- may hold
+-- what is stated fits a trace: its rows are of this number of seats, and its total is at most what
+-- a row may hold
 pub record IsStatedFor (seats : ℕ) (stated : Stated) : Type 0 where
   pub finish : ForSome stated.finish (λ row. row.seats ≡ seats)
   pub wins : ForSome stated.wins (λ row. row.seats ≡ seats)

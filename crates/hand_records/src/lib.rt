@@ -1,4 +1,4 @@
-//! What a hand is once it was read and played: its record with stated facts and notes, and its
+//! What a hand is after reading and replaying: its record with stated facts and notes, and its
 //! trace.
 #![tactic(auto)]
 

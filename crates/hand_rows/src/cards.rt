@@ -1,4 +1,4 @@
-//! Cards and unknown cards, as `2c??`; `-` stands for none.
+//! Cards and unknown cards as text, such as `2c??`; `-` means none.
 use card_set::{Card, Slot, slot_text};
 use std::alloc::{AllocError, Global};
 

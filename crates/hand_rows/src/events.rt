@@ -1,6 +1,6 @@
-//! Events by their words: `hole 1 2c??`, `board 2c3d4h`, `fold 1`, `call 1 6`, `raise 1 to 40`,
-//! `bring_in 1`, `discard 1 2c`, `show 1 2c3d` and `muck 1`. A move of the seat in turn has `-` for
-//! its seat, and a call that states no chips, or a discard of no card, ends with `-`.
+//! Events as words: `hole 1 2c??`, `board 2c3d4h`, `fold 1`, `call 1 6`, `raise 1 to 40`, `bring_in
+//! 1`, `discard 1 2c`, `show 1 2c3d` and `muck 1`. A move by the player to act has `-` as its seat,
+//! and a call that states no chips, or a discard of no card, ends with `-`.
 ghost use Rattle.std.specs.Prelude.{◌≡◌, false, IfSome};
 ghost use Rattle.play_event.specs.Said.{kind_said};
 ghost use Rattle.street_laws.specs.CardEvents.{is_card_said};
@@ -65,7 +65,7 @@ fn known(slots: &SlotRow) -> Option<CardRow> {
     Some(cards)
 }
 
-/// The move that a first word and those behind it say: no card is in it.
+/// The move that a first word and the words after it say: an event without cards.
 pub fn move_of(word: &str, rest: &str) -> Option<Kind>
     ensures { IfSome result (λ kind. is_card_said (kind_said kind) ≡ false) }
 {
@@ -86,7 +86,7 @@ pub fn move_of(word: &str, rest: &str) -> Option<Kind>
     }
 }
 
-// The seat that is named, or `-` for none.
+// The seat that is named; `-` names none.
 fn actor_of(word: &str) -> Option<Option<Seat>> {
     match word.as_bytes() {
         b"-" => Some(None),
@@ -94,7 +94,7 @@ fn actor_of(word: &str) -> Option<Option<Seat>> {
     }
 }
 
-// The chips that are stated, or `-` for none.
+// The chips that are stated; `-` states none.
 fn stated_of(word: &str) -> Option<Option<u64>> {
     match word.as_bytes() {
         b"-" => Some(None),

@@ -1,5 +1,4 @@
-//! The words of rows of tests are read as setups, rules and events, and events are told in these
-//! words.
+//! Reads the words of test rows as setups, rules and events, and prints events in these words.
 #![tactic(auto)]
 
 mod cards;

@@ -1,11 +1,12 @@
-//! The setup and the rules of a row: `NT 14,100,100 blinds=1,2,0 min=2 rakes=1 always_open`.
+//! The setup and the rules of a test row: `NT 14,100,100 blinds=1,2,0 min=2 rakes=1 always_open`.
 ghost use Rattle.std.specs.Prelude.{◌<◌};
 
 use crate::words;
 use chip_ledger::{RakeRow, SeatRow};
 use play_event::{Code, Reopen, Rules, Setup};
 
-/// What a row begins with: the code of the game, the stacks, and what else is not 0 or as usual.
+/// What a row begins with: the code of the game, the stacks, and whatever else is not 0 or the
+/// default.
 pub fn setup_of(text: &str) -> Option<(Setup, Rules)> {
     let (code, rest) = words::first_and_rest(text);
     let (stacks, rest) = words::first_and_rest(rest);

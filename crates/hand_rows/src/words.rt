@@ -1,10 +1,10 @@
-//! The words of a row, which spaces part, and the numbers of a word, which commas part.
+//! The words of a row, separated by spaces, and the numbers of a word, separated by commas.
 ghost use Rattle.std.specs.Prelude.{◌≤◌, IfSome};
 
 use chip_ledger::{MOST_AMOUNT, Seat, SeatRow};
 use std::alloc::{AllocError, Global};
 
-/// The first word, and what stands behind the space after it.
+/// The first word, and what follows the space after it.
 pub fn first_and_rest(text: &str) -> (&str, &str) {
     match text.split_once(' ') {
         Some(parts) => parts,
@@ -31,7 +31,7 @@ pub fn row_of(word: &str) -> Option<SeatRow> {
     Some(row)
 }
 
-// How many amounts there are, where they are those of a row.
+// How many amounts there are, if they can be those of a row.
 fn seats_in(word: &str) -> Option<u8>
     ensures { IfSome result (λ seats. (2 ≤ seats) × (seats ≤ 10)) }
 {

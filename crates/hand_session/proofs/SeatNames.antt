@@ -9,7 +9,7 @@ use Rattle.name_index.proofs.Distinct.{AreDistinct, any_fold, distinct_fold, fol
 use Rattle.hand_session.specs.Hands.{Hand, Seated}
 use Rattle.hand_session.specs.Sessions.{all_seated, is_named, names_among, names_of}
 
--- a name is among the names of seats where a seat has it
+-- a name is among the names of seats if a seat has it
 pub any_names : (asked : List ℕ) (seats : List Seated) → list_any (bytes_eq asked) (names_among seats) ≡ list_any (is_named asked) seats
 any_names asked seats = any_fold asked [] (map (λ seat. seat.name) seats) ∙ list_any-map (bytes_eq asked) (λ (seat : Seated). seat.name) seats
 

@@ -12,7 +12,7 @@ pub list_any-map : {X Y : Type 0} (p : Y → Bool) (f : X → Y) (xs : List X)
 list_any-map p f [] = refl
 list_any-map p f (x ∷ xs) = ap (λ b. p (f x) || b) (list_any-map p f xs)
 
--- with one element more in front, if it is kept
+-- with one more element in front, if it is kept
 pub any_kept : {X : Type 0} (p : X → Bool) (x : X) (ys : List X) (kept rest : Bool)
     → list_any p ys ≡ rest
     → list_any p (cond kept (x ∷ ys) ys) ≡ ((kept && p x) || rest)
@@ -67,7 +67,7 @@ nothing_kept p (n ∷ ns) e =
     let parts = or_parts (p n) (list_any p ns) e in
     ap (λ t. cond t (n ∷ filter p ns) (filter p ns)) parts.0 ∙ nothing_kept p ns parts.1
 
--- what passes nowhere passes at none of these
+-- what passes nowhere passes for none of these
 pub none_passes : {X : Type 0} (p : X → Bool) (xs : List X) → ((x : X) → p x ≡ false) → list_any p xs ≡ false
 none_passes p [] never = refl
 none_passes p (x ∷ xs) never = ap (λ (b : Bool). b || list_any p xs) (never x) ∙ none_passes p xs never
@@ -88,7 +88,7 @@ any_found f n (m ∷ ms) e =
     (any_found f n ms)
     (or_cases (f m && (m == n)) (list_any (λ k. f k && (k == n)) ms) e)
 
--- the number is in the list exactly where the test for it passes at one of its elements
+-- the number is in the list if and only if the test for it passes at one of its elements
 pub any_from_contains : (xs : List ℕ) (x : ℕ) → Contains xs x → list_any (λ y. y == x) xs ≡ true
 any_from_contains xs x (k, inside, at) =
     list_any_at (λ y. y == x) xs k x inside (eq-eqb (get_or xs k x) x at)
@@ -105,7 +105,7 @@ none_still p q [] less is = refl
 none_still p q (number ∷ rest) less is =
     let parts = or_parts (p number) (list_any p rest) is in or_from (q number) (list_any q rest) (less number parts.0) (none_still p q rest less parts.1)
 
--- where some elements are kept, some pass
+-- if some elements are kept, some pass
 pub any_from_length : (p : ℕ → Bool) (numbers : List ℕ) → 1 ≤ length (filter p numbers) → list_any p numbers ≡ true
 any_from_length p [] some = absurd (omega (arith, some))
 any_from_length p (first ∷ rest) some = by_first (p first) some (any_from_length p rest)
@@ -114,7 +114,7 @@ any_from_length p (first ∷ rest) some = by_first (p first) some (any_from_leng
     by_first true it later = refl
     by_first false it later = later it
 
--- numbers of which none is above 0
+-- numbers none of which is above 0
 pub zero_from_none : (amounts : List ℕ) (k : ℕ) → list_any (nat_lt 0) amounts ≡ false → slice_index amounts k ≡ 0
 zero_from_none [] k none = refl
 zero_from_none (amount ∷ amounts) zero none = omega (arith, ltb-false 0 amount (neither (nat_lt 0 amount) (list_any (nat_lt 0) amounts) none).0)

@@ -21,7 +21,7 @@ first_sum-agree f g (suc j) same = omega (arith, same 0, first_sum-agree (λ k. 
 pub no_ones : (n : ℕ) → n ≡ 0 → count_ones n ≡ 0
 no_ones n is = omega (arith, ones-le 0 n (omega arith))
 
--- a number of one bit has as many as it says
+-- a number of one bit has as many set bits as its value
 pub one_bit : (b : ℕ) → b < 2 → count_ones b ≡ b
 unfolding ones
 one_bit zero small = refl
@@ -47,7 +47,7 @@ bit_counts n k = by_test (bit_at n k == 1) refl
     by_test true is = sym (eqb-true (bit_at n k) 1 is)
     by_test false is = let apart = eqb-false (bit_at n k) 1 is in elim (cases_lt 0 (bit_at n k)) [ inl some ↦ absurd (apart (omega (arith, bit_at-lt n k))) | inr none ↦ omega arith ]
 
--- of four bits one is set, two, three, or all
+-- one, two, three, or all of four bits are set
 pub all_level : (c d h s k : ℕ) → (bit_at (bit_or (bit_or (bit_or c d) h) s) k ≡ 1) ↔ (1 ≤ bit_at c k + bit_at d k + bit_at h k + bit_at s k)
 all_level c d h s k =
     (λ set. omega (arith, bit_at_or (bit_or (bit_or c d) h) s k, bit_at_or (bit_or c d) h k, bit_at_or c d k, bit_at-lt c k, bit_at-lt d k, bit_at-lt h k, bit_at-lt s k), λ often. omega (arith, bit_at_or (bit_or (bit_or c d) h) s k, bit_at_or (bit_or c d) h k, bit_at_or c d k, bit_at-lt c k, bit_at-lt d k, bit_at-lt h k, bit_at-lt s k))
@@ -103,7 +103,7 @@ cleared mask place k small within = by_test (place == k) refl
           bit_at_and mask (bit_not w16 (1 * 2 ^ place % 2 ^ 16)) k ∙ omega arith
     ]
 
--- a mask that is moved down
+-- a mask that is shifted down
 pub moved : (mask j k : ℕ) → bit_at (mask / 2 ^ j) k ≡ bit_at mask (k + j)
 moved mask j k = ap (λ (n : ℕ). n % 2) (shr-shr mask j k) ∙ ap (bit_at mask) (omega arith)
 

@@ -5,11 +5,11 @@ use Rattle.std.specs.List.{range_with_len, list_any}
 use Rattle.std.proofs.lemmas.List.Sums.{sum_by-cons}
 use Rattle.std.proofs.lemmas.Bool.Decides.{nat_tests}
 
--- one element more in front
+-- one more element in front
 pub count_by-cons : {X : Type 0} (p : X → Bool) (x : X) (xs : List X) → count_by p (x ∷ xs) ≡ cond (p x) 1 0 + count_by p xs
 count_by-cons p x xs = sum_by-cons (λ x. cond (p x) 1 0) x xs
 
--- one element more at the end
+-- one more element at the end
 pub count_by-push : {X : Type 0} (p : X → Bool) (xs : List X) (x : X) → count_by p (xs ++ x ∷ []) ≡ count_by p xs + cond (p x) 1 0
 count_by-push p [] x = count_by-cons p x [] ∙ omega arith
 count_by-push p (y ∷ xs) x = omega (arith, count_by-cons p y (xs ++ x ∷ []), count_by-push p xs x, count_by-cons p y xs)
@@ -29,7 +29,7 @@ counted_here : {X : Type 0} (p : X → Bool) (x : X) (rest : List X) (b : Bool) 
 counted_here p x rest true later some = refl
 counted_here p x rest false later some = later (omega (arith, some))
 
--- what counts one passes at one
+-- if a count is above 0, some element passes
 pub counted_some : {X : Type 0} (p : X → Bool) (xs : List X) → 1 ≤ count_by p xs → list_any p xs ≡ true
 counted_some p [] some = absurd (omega (arith, some))
 counted_some p (x ∷ xs) some = counted_here p x xs (p x) (counted_some p xs) (omega (arith, some, count_by-cons p x xs))
@@ -52,7 +52,7 @@ count_all p first (suc n) all =
     let one : ◌≡◌ {A = ℕ} (cond (p first) 1 0) 1 = ap (λ b. cond b 1 0) (all first) in
     omega (arith, count_by-cons p first (range_with_len (first + 1) n), one, count_all p (first + 1) n all)
 
--- what passes one of two tests counts no more than both
+-- what passes one of two tests is counted at most as often as both together
 either_by : (a b c : Bool) (p q r : ℕ) → (a ≡ true → (b ≡ true) ⊎ (c ≡ true)) → p ≤ q + r → cond a 1 0 + p ≤ (cond b 1 0 + q) + (cond c 1 0 + r)
 either_by true true true p q r h later = omega (arith, later)
 either_by true true false p q r h later = omega (arith, later)
@@ -68,7 +68,7 @@ counts_either p q r h [] = omega arith
 counts_either p q r h (x ∷ xs) =
     omega (arith, either_by (p x) (q x) (r x) (count_by p xs) (count_by q xs) (count_by r xs) (h x) (counts_either p q r h xs), count_by-cons p x xs, count_by-cons q x xs, count_by-cons r x xs)
 
--- a number stands once at most among numbers in a row
+-- a number occurs at most once among numbers in a row
 pub count_later : (k first n : ℕ) → k < first → count_by (λ x. k == x) (range_with_len first n) ≡ 0
 count_later k first zero less = refl
 count_later k first (suc n) less =
@@ -126,7 +126,7 @@ pub count_by-map : {X Y : Type 0} (p : Y → Bool) (f : X → Y) (xs : List X) �
 count_by-map p f [] = refl
 count_by-map p f (x ∷ xs) = omega (arith, count_by-cons p (f x) (map f xs), count_by-cons (λ x. p (f x)) x xs, count_by-map p f xs)
 
--- a number stands once among numbers in a row that reach over it
+-- a number occurs once among numbers in a row that include it
 pub range_once : (k a n : ℕ) → a ≤ k → k < a + n → count_by (λ j. k == j) (range_with_len a n) ≡ 1
 range_once k a zero from before = absurd (omega arith)
 range_once k a (suc n) from before =
@@ -139,7 +139,7 @@ range_once k a (suc n) from before =
           omega (arith, count_by-cons (λ j. k == j) a (range_with_len (a + 1) n), here, count_later k (a + 1) n (omega arith))
     ]
 
--- a test that never passes counts none
+-- a test that never passes counts nothing
 pub counted_never : {X : Type 0} (xs : List X) → count_by (λ x. false) xs ≡ 0
 counted_never [] = refl
 counted_never (x ∷ xs) = omega (arith, count_by-cons (λ x. false) x xs, counted_never xs)
@@ -153,7 +153,7 @@ count-le-sum T n (k ∷ ks) some = omega (arith, sum_by-cons T k ks, count_by-co
     here true is = let same = eqb-true (T k) n is in omega arith
     here false is = omega arith
 
--- what passes and what does not are all
+-- what passes and what does not pass are all
 pub count_both : {X : Type 0} (p : X → Bool) (xs : List X) → count_by p xs + count_by (λ x. not (p x)) xs ≡ length xs
 count_both p [] = refl
 count_both p (x ∷ rest) = omega (arith, count_by-cons p x rest, count_by-cons (λ y. not (p y)) x rest, count_both p rest, here (p x))
@@ -166,7 +166,7 @@ pub count_by-joined : {X : Type 0} (p : X → Bool) (xs ys : List X) → count_b
 count_by-joined p [] ys = omega arith
 count_by-joined p (x ∷ xs) ys = omega (arith, count_by-cons p x (xs ++ ys), count_by-cons p x xs, count_by-joined p xs ys)
 
--- where fewer numbers of a range pass a second test, one passes only the first
+-- if fewer numbers of a range pass a second test, one passes only the first
 pub some_gone : (p q : ℕ → Bool) (start count : ℕ) → length (filter q (range_with_len start count)) < length (filter p (range_with_len start count)) → (number : ℕ) × ((p number ≡ true) × (q number ≡ false))
 some_gone p q start zero less = absurd (omega (arith, less))
 some_gone p q start (suc count) less = by_both (p start) (q start) refl refl less (some_gone p q (start + 1) count)

@@ -17,7 +17,7 @@ pub value_more : (before : ℕ) (digits : List ℕ) (digit : ℕ) → digits_val
 value_more before [] digit = omega arith
 value_more before (first ∷ digits) digit = value_more (before * 10 + digit_value first) digits digit
 
--- one's own words for digits
+-- characters that all pass the test for digits are digits
 pub all_digits : (digits : List ℕ) → list_all (λ sign. is_digit sign 10) digits ≡ true → AllDigits 10 digits
 all_digits [] all = tt
 all_digits (digit ∷ digits) all =

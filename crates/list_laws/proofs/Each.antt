@@ -1,9 +1,10 @@
--- What holds of each element of lists holds of each element of the lists that are made from them.
+-- What holds for each element of lists holds for each element of the lists made from them.
 use Rattle.std.proofs.Common.{Bool, List, false, filter, flat_map, if◌then◌else◌, map, reverse, subst, sym, true, ◌++◌, ◌∷◌, []}
 use Rattle.std.proofs.lemmas.List.{reverse-append}
 use Rattle.std.specs.List.{AllByRecursion}
 
--- what holds of each element of lists holds of both together, of those that are kept, and in the reverse order
+-- what holds for each element of lists holds for both together, for those that are kept, and in
+-- reverse order
 pub each_joined : {X : Type 0} (P : X → Type 0) (xs ys : List X) → AllByRecursion P xs → AllByRecursion P ys → AllByRecursion P (xs ++ ys)
 each_joined P [] ys one other = other
 each_joined P (x ∷ xs) ys one other = (one.0, each_joined P xs ys one.1 other)

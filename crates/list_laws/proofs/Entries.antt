@@ -1,4 +1,5 @@
--- Lemmas on the entries of a list: the one at an index, each of them, and the list where one is set.
+-- Lemmas on the entries of a list: the one at an index, each of them, and the list in which one is
+-- set.
 use Rattle.std.proofs.Common.{List, None, Some, [], ap, arith, drop, get_or, length, refl, replicate, set, slice_get, suc, take, zero, ℕ, ◌++◌, ◌+◌, ◌-◌, ◌<◌, ◌∙◌, ◌∷◌, ◌≡◌, ◌≤◌, Bool, eqb, false, map, slice_index, slice_index_or, subst, sym, true, ◌≢◌, ⊎_elim, true≢false}
 use Rattle.std.specs.List.{AllByRecursion, AllZip, list_all}
 use Rattle.std.specs.Prelude.{All}
@@ -6,7 +7,7 @@ use Rattle.std.proofs.lemmas.Bool.{and_parts, cases_lt, eqb-true}
 use Rattle.std.proofs.lemmas.Grind.{common_steps}
 use Rattle.std.proofs.lemmas.List.{map_push, take_all, take_more, take_more_set}
 
--- what holds of each entry holds when one of them is set to an entry of which it holds
+-- what holds for each entry still holds if one of them is set to an entry for which it holds
 pub set_each : {A : Type 0} (d : A) (P : ℕ → A → Type 0) (xs : List A) (i : ℕ) (x : A) → i < length xs → ((k : ℕ) → (k ≡ i → ⊥) → P k (get_or xs k d)) → P i x → (k : ℕ) → P k (get_or (set xs i x) k d)
 set_each d P [] i x within each one k = absurd (omega (arith, within))
 set_each d P (y ∷ xs) zero x within each one zero = one
@@ -41,7 +42,7 @@ all_zeros : (xs : List ℕ) → ((k : ℕ) → get_or xs k 0 ≡ 0) → xs ≡ r
 all_zeros [] none = refl
 all_zeros (x ∷ xs) none = ap (λ y. y ∷ xs) (none zero) ∙ ap (λ rest. 0 ∷ rest) (all_zeros xs (λ k. none (suc k)))
 
--- a list with zeros from an index on is its numbers before that index, and zeros behind them
+-- a list with zeros from an index on is its numbers before that index, followed by zeros
 pub cut_zeros : (xs : List ℕ) (n : ℕ) → n ≤ length xs → ((k : ℕ) → n ≤ k → get_or xs k 0 ≡ 0) → xs ≡ take n xs ++ replicate (length xs - n) 0
 cut_zeros xs zero few none =
     let left : length xs - 0 ≡ length xs = omega arith in
@@ -60,18 +61,18 @@ four_entries (a ∷ b ∷ c ∷ []) four = absurd (omega (arith, four))
 four_entries (a ∷ b ∷ c ∷ d ∷ []) four = refl
 four_entries (a ∷ b ∷ c ∷ d ∷ e ∷ more) four = absurd (omega (arith, four))
 
--- what holds of each of some elements and of one more holds of all of them
+-- what holds for each of some elements and for one more holds for all of them
 pub all_push : {X : Type 0} (P : X → Type 0) (xs : List X) (x : X) → AllByRecursion P xs → P x → AllByRecursion P (xs ++ x ∷ [])
 all_push P [] x all one = (one, tt)
 all_push P (y ∷ ys) x all one = (all.0, all_push P ys x all.1 one)
 
--- what holds of the first entries
+-- what holds for the first entries
 pub each_taken : (P : ℕ → Type 0) (n : ℕ) (all : List ℕ) → n ≤ length all → ((k : ℕ) → k < n → P (get_or all k 0)) → AllByRecursion P (take n all)
 each_taken P zero all within each = tt
 each_taken P (suc n) [] within each = absurd (omega (arith, within))
 each_taken P (suc n) (x ∷ rest) within each = (each 0 (omega arith), each_taken P n rest (omega (arith, within)) (λ k h. each (suc k) (omega (arith, h))))
 
--- past the end there is none
+-- after the end there is none
 pub past_end : {A : Type 0} (xs : List A) (k : ℕ) → length xs ≤ k → slice_get xs k ≡ None
 past_end [] k past = refl
 past_end (x ∷ xs) zero past = absurd (omega (arith, past))
@@ -89,7 +90,7 @@ drop_first (y ∷ ys) rest (suc index) x is =
     suc_later : (n : ℕ) → suc n + 1 ≡ suc (n + 1)
     suc_later n = omega arith
 
--- what holds of the only entry
+-- what holds for the only entry
 pub only : {X : Type 0} (P : X → Type 0) (x : X) → P x → All P (x ∷ [])
 only P x is zero d inside = is
 only P x is (suc k) d inside = absurd (omega (arith, inside))
@@ -101,7 +102,7 @@ zip_push R [] (z ∷ ys) x y all more = absurd all
 zip_push R (z ∷ xs) [] x y all more = absurd all
 zip_push R (first ∷ xs) (second ∷ ys) x y all more = (all.0, zip_push R xs ys x y all.1 more)
 
--- lists that agree at their first entries, and have the default behind these, agree at each index
+-- lists that agree at their first entries, and have the default after these, agree at each index
 pub same_entries : {X : Type 0} (d : X) (xs ys : List X) (count : ℕ)
     → ((n : ℕ) → 1 ≤ n → n ≤ count → get_or xs (n - 1) d ≡ get_or ys (n - 1) d)
     → ((k : ℕ) → count ≤ k → get_or xs k d ≡ d)
@@ -121,7 +122,7 @@ only_false zero k = refl
 only_false (suc n) zero = refl
 only_false (suc n) (suc k) = only_false n k
 
--- the first of the zeros behind a list is set
+-- the first of the zeros after a list is set
 pub set_behind : (front : List ℕ) (n x z : ℕ) → set (front ++ replicate (suc n) z) (length front) x ≡ front ++ x ∷ replicate n z
 set_behind [] n x z = refl
 set_behind (y ∷ front) n x z = ap (λ rest. y ∷ rest) (set_behind front n x z)
@@ -129,7 +130,7 @@ set_behind (y ∷ front) n x z = ap (λ rest. y ∷ rest) (set_behind front n x 
 pub set_at : (front : List ℕ) (i n x z : ℕ) → length front ≡ i → set (front ++ replicate (suc n) z) i x ≡ front ++ x ∷ replicate n z
 set_at front i n x z is = rw (sym is) (set_behind front n x z)
 
--- what holds of each number holds at each index, where it holds of 0
+-- what holds for each number holds at each index, if it holds for 0
 pub each_at : (most : ℕ) (xs : List ℕ) → AllByRecursion (λ x. x ≤ most) xs → (k : ℕ) → get_or xs k 0 ≤ most
 each_at most [] all k = omega arith
 each_at most (x ∷ xs) all zero = all.0
@@ -197,7 +198,7 @@ one_more_taken see f xs ps i p within inside at so_far =
     rw (take_more ps i p inside, at, map_push see (take i ps) p) (map_push f (map see (take i ps)) (see p)) in
     take_more_set xs i (f (see p)) within ∙ ap (λ front. front ++ f (see p) ∷ []) so_far ∙ sym whole
 
--- the first numbers of a list say as much as the list, where only zeros stand behind them
+-- the first numbers of a list say as much as the list, if only zeros come after them
 pub at_taken : (numbers : List ℕ) (count k : ℕ) → ((j : ℕ) → count ≤ j → slice_index numbers j ≡ 0) → slice_index (take count numbers) k ≡ slice_index numbers k
 at_taken numbers count k zeros = grind (arith, common_steps, zeros k)
 
@@ -232,7 +233,7 @@ never_at p sign [] fails all k d within = absurd (omega (arith, within))
 never_at p sign (b ∷ rest) fails all zero d within = differs p b sign (eqb b sign) refl fails (and_parts (p b) (list_all p rest) all).0
 never_at p sign (b ∷ rest) fails all (suc k) d within = never_at p sign rest fails (and_parts (p b) (list_all p rest) all).1 k d (omega (arith, within))
 
--- one of the first so many numbers
+-- one of the first numbers of a list
 pub index_taken_at : (amounts : List ℕ) (count k : ℕ) → k < count → slice_index (take count amounts) k ≡ slice_index amounts k
 index_taken_at amounts zero k within = absurd (omega (arith, within))
 index_taken_at [] (suc count) k within = refl

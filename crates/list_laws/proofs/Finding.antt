@@ -12,16 +12,16 @@ found_by : {X : Type 0} (p : X → Bool) (x : X) (rest : List X) (b : Bool) → 
 found_by p x rest true later = refl
 found_by p x rest false later = later
 
--- something is found where something passes
+-- something is found if something passes
 pub some_found : {X : Type 0} (p : X → Bool) (xs : List X) → is_some (find p xs) ≡ list_any p xs
 some_found p [] = refl
 some_found p (x ∷ xs) = found_by p x xs (p x) (some_found p xs)
 
--- a stronger test passes nowhere where a weaker one does not
+-- a stronger test passes nowhere if a weaker one does not
 pub none_stronger : {X : Type 0} (p q : X → Bool) → ((x : X) → p x ≡ true → q x ≡ true) → (xs : List X) → list_any q xs ≡ false → list_any p xs ≡ false
 none_stronger p q h xs none = false_from_ne_true (list_any p xs) (λ some. true≢false (sym (list_any-weaker p q h xs some) ∙ none))
 
--- one element more at the end
+-- one more element at the end
 pub list_any-push : {X : Type 0} (p : X → Bool) (xs : List X) (x : X) → list_any p (xs ++ x ∷ []) ≡ (list_any p xs || p x)
 list_any-push p xs x = list_any-append p xs (x ∷ []) ∙ ap (λ b. list_any p xs || b) (or_false (p x))
 
@@ -80,12 +80,12 @@ found_less p q first rest true b less later is = false_true (sym is)
 found_less p q first rest false true less later is = false_true (less refl)
 found_less p q first rest false false less later is = later is
 
--- a stronger test finds nothing where a weaker one does not
+-- a stronger test finds nothing if a weaker one does not
 pub none_found_still : (p q : ℕ → Bool) (numbers : List ℕ) → ((number : ℕ) → q number ≡ true → p number ≡ true) → is_some (find p numbers) ≡ false → is_some (find q numbers) ≡ false
 none_found_still p q [] less is = refl
 none_found_still p q (number ∷ rest) less is = found_less p q number rest (p number) (q number) (less number) (none_found_still p q rest less) is
 
--- where some element passes, one is found
+-- if some element passes, one is found
 pub found_among : (p : ℕ → Bool) (xs : List ℕ) → list_any p xs ≡ true → find p xs ≡ None → ⊥
 found_among p [] any none = false_true any
 found_among p (x ∷ xs) any none = by_first (p x) any none (found_among p xs)

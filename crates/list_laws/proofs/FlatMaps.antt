@@ -22,7 +22,7 @@ flat_map-map f g (x ∷ xs) = ap (λ l. f (g x) ++ l) (flat_map-map f g xs)
 suc_times : (n m : ℕ) → suc n * m ≡ m + n * m
 suc_times n m = suc-mul n m ∙ add_comm (n * m) m
 
--- lists that are no longer than so many each
+-- lists that are each at most this long
 pub flat_few : {X Y : Type 0} (f : X → List Y) (most : ℕ) (xs : List X) → ((x : X) → length (f x) ≤ most) → length (flat_map f xs) ≤ length xs * most
 flat_few f most [] few = omega arith
 flat_few f most (x ∷ xs) few = omega (arith, few x, flat_few f most xs few, length-append (f x) (flat_map f xs), suc_times (length xs) most)
@@ -34,7 +34,7 @@ part f [] (suc index) = refl
 part f (x ∷ xs) zero = ap (λ first. first ++ flat_map f xs) (append-nil (f x))
 part f (x ∷ xs) (suc index) = part f xs index
 
--- an item and those behind it are what is left
+-- an item and those after it are what is left
 pub next_part : {X Y : Type 0} (f : X → List Y) (xs : List X) (index : ℕ)
     → flat_map f (option_to_list (slice_get xs index)) ++ flat_map f (drop (index + 1) xs) ≡ flat_map f (drop index xs)
 next_part f xs index =

@@ -1,4 +1,4 @@
--- Lemmas on numbers with a sign: how they compare, and what a difference of two numbers is.
+-- Lemmas on numbers with a sign: how they compare, and what the difference of two numbers is.
 use Rattle.std.proofs.Common.{ap, arith, false, neg_ℤ, negsuc, not, pos, refl, suc, true, zero, ℕ, ℤ, ◌-◌, ◌<◌, ◌≡◌, ◌≤◌, ◌≤ℤ◌, ◌-ℤ◌}
 use Rattle.std.proofs.lemmas.Bool.{le-ltb, lt-ltb}
 use Rattle.std.proofs.lemmas.Bool.Decides.{Decides-int_eq}

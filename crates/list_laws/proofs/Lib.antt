@@ -1,4 +1,4 @@
--- What holds of lists, tests and numbers, whatever they stand for.
+-- Facts about lists, tests and numbers, of whatever kind.
 pub mod Tests
 pub mod Any
 pub mod Sums

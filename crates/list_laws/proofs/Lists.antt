@@ -8,7 +8,7 @@ pub map_nothing : {X Y : Type 0} (f : X → Y) (xs : List X) → map f xs ≡ []
 map_nothing f [] e = refl
 map_nothing f (x ∷ xs) e = cc
 
--- without a first element there is none
+-- if there is no first element, there is none
 pub no_first : {X : Type 0} (xs : List X) → slice_get xs 0 ≡ None → xs ≡ []
 no_first [] e = refl
 no_first (x ∷ xs) e = cc
@@ -22,7 +22,7 @@ pub empty_from : {X : Type 0} (xs : List X) → ¬ (xs ≢ []) → xs ≡ []
 empty_from [] not = refl
 empty_from (x ∷ xs) not = absurd (not (λ none. cc (none)))
 
--- a front of what stands from a place on, and what stands behind it
+-- a front of what comes from a place on, and what comes after it
 pub front_and_rest : (bytes front rest : List ℕ) (start n : ℕ) → front ≡ take n (take (length bytes - start) (drop start bytes)) → length front ≡ n
     → drop start bytes ≡ take n (front ++ rest) ++ drop (start + n) bytes
 front_and_rest bytes front rest start n is len =
@@ -40,11 +40,11 @@ filter-agree p q (x ∷ xs) same = ap (λ (b : Bool). cond b (x ∷ filter p xs)
 pub none_before : (start more : List ℕ) → start ≡ [] → start ++ more ≡ more
 none_before start more none = ap (λ (l : List ℕ). l ++ more) none
 
--- a list with more behind it
+-- a list with more after it
 pub length_grown : (row more next : List ℕ) → next ≡ row ++ more → length next ≡ length row + length more
 length_grown row more next is = ap (length {A = ℕ}) is ∙ length-append row more
 
--- a list with nothing behind it, with the same, with two parts, and with a part of what is wanted
+-- a list with nothing after it, with the same, with two parts, and with a part of what is wanted
 pub nothing_behind : {X : Type 0} (old more : List X) → more ≡ [] → old ≡ old ++ more
 nothing_behind old more none = sym (append-nil old) ∙ ap (λ l. old ++ l) (sym none)
 
@@ -54,7 +54,7 @@ same_behind new old more other same is = is ∙ ap (λ l. old ++ l) same
 pub two_behind : {X : Type 0} (old mid new first second : List X) → mid ≡ old ++ first → new ≡ mid ++ second → new ≡ old ++ (first ++ second)
 two_behind old mid new first second one other = other ∙ ap (λ l. l ++ second) one ∙ append_assoc old first second
 
--- no more are kept than there are
+-- at most as many are kept as there are
 pub kept_few : {X : Type 0} (p : X → Bool) (xs : List X) → length (filter p xs) ≤ length xs
 kept_few p xs = omega (arith, length-filter p xs, count_by-le-length p xs)
 
@@ -62,7 +62,7 @@ pub maybe_few : {X : Type 0} (b : Bool) (xs : List X) (most : ℕ) → length xs
 maybe_few true xs most few = few
 maybe_few false xs most few = omega arith
 
--- a map that tells all values apart tells all lists apart
+-- a map that distinguishes all values distinguishes all lists
 pub lists_same : {A B : Type 0} (f : A → B) → ((a b : A) → f a ≡ f b → a ≡ b) → (xs ys : List A) → map f xs ≡ map f ys → xs ≡ ys
 lists_same f apart [] [] same = refl
 lists_same f apart [] (y ∷ ys) same = absurd (cc)
@@ -72,12 +72,12 @@ lists_same f apart (x ∷ xs) (y ∷ ys) same =
     let tail : xs ≡ ys = lists_same f apart xs ys (cc) in
     ap (λ z. z ∷ xs) head ∙ ap (λ zs. y ∷ zs) tail
 
--- a list of no length is empty
+-- a list of length 0 is empty
 pub none_from_length : {A : Type 0} (list : List A) → length list ≤ 0 → list ≡ []
 none_from_length [] none = refl
 none_from_length (first ∷ rest) none = absurd (omega (arith, none))
 
--- one pair more of the letters
+-- one more pair of letters
 pub pair_more : (bytes : List ℕ) (index : ℕ) → 2 * index + 1 < length bytes → take (2 * (index + 1)) bytes ≡ take (2 * index) bytes ++ get_or bytes (2 * index) 0 ∷ get_or bytes (2 * index + 1) 0 ∷ []
 pair_more bytes index within =
     let two : 2 * (index + 1) ≡ 2 * index + 1 + 1 = omega arith in

@@ -21,12 +21,12 @@ pub eq_true_both : (a b : ℕ) (x : Bool) → (a == b) ≡ x → (b == a) ≡ x
 eq_true_both a b true is = eq-eqb b a (sym (eqb-true a b is))
 eq_true_both a b false is = eq_false_both a b (b == a) refl is
 
--- none is below 0
+-- no number is below 0
 pub and_zero : (b : Bool) (n : ℕ) → b ≡ (b && nat_le 0 n)
 and_zero true n = sym (le-leb 0 n (omega arith))
 and_zero false n = refl
 
--- digits behind a number say no less
+-- digits after a number do not make it smaller
 pub more_digits : (before : ℕ) (digits : List ℕ) → before ≤ digits_value_after 10 before digits
 more_digits before [] = omega arith
 more_digits before (digit ∷ digits) = omega (arith, more_digits (before * 10 + digit_value digit) digits)
@@ -101,7 +101,7 @@ two_still less more on is = le-leb 2 more (omega (arith, on, leb-true 2 less is)
 pub none_below : (a b : ℕ) → b ≤ a → nat_lt 0 a ≡ false → nat_lt 0 b ≡ false
 none_below a b less is = le-ltb 0 b (omega (arith, less, ltb-false 0 a is))
 
--- a number is no other one
+-- a number is not another one
 pub not_other : (number : ℕ) → not (number == number) ≡ false
 not_other number = not_from_true (number == number) (eq-eqb number number refl)
 

@@ -1,4 +1,4 @@
--- What holds for each number of a range holds of the lists that are made over it.
+-- What holds for each number of a range holds for the lists that are made over it.
 use Rattle.std.proofs.lemmas.Bool.{cases_eq, cases_lt, eq-eqb, ne_eqb, or_cases, or_from, or_left, or_parts, or_right, and_parts, eqb-true}
 use Rattle.std.proofs.Common.{Bool, List, Some, [], ap, arith, false, filter, find, if◌then◌else◌, inl, inr, is_some, map, refl, suc, sum, sum_by, sym, true, zero, ℕ, ⊎_elim, ◌++◌, ◌+◌, ◌<◌, ◌==◌, ◌||◌, ◌∙◌, ◌∷◌, ◌≡◌, ◌≤◌, None, ap₂, cond, get_or, length, slice_index, take, ◌&&◌, ◌-◌, true≢false}
 use Rattle.std.specs.List.{flat_map, list_any, range_with_len, list_all}
@@ -105,7 +105,7 @@ find_first p start (suc count) number least most is none = elim (cases_lt start 
       ap (λ b. if b then Some start else find p (range_with_len (start + 1) count)) (ap p same ∙ is) ∙ ap Some same
 ]
 
--- where some number of a range passes, this one does
+-- if some number of a range passes, this one does
 pub some_in_range : (p : ℕ → Bool) (start count : ℕ) → list_any p (range_with_len start count) ≡ true → (number : ℕ) × ((start ≤ number) × ((number < start + count) × (p number ≡ true)))
 some_in_range p start zero is = false_true is
 some_in_range p start (suc count) is = elim (or_cases (p start) (list_any p (range_with_len (start + 1) count)) is) [
@@ -117,7 +117,7 @@ any_step : (f g : ℕ → Bool) (first : ℕ) (rest : List ℕ) (b : Bool) → (
 any_step f g first rest true same later = ap (λ b. b || list_any f rest) (same refl) ∙ ap (λ r. g first || r) later
 any_step f g first rest false same later = later
 
--- tests that agree where another passes pass alike at what it keeps
+-- tests that agree wherever another passes pass alike on what it keeps
 pub any_same : (p f g : ℕ → Bool) (start count : ℕ) → ((number : ℕ) → start ≤ number → number < start + count → p number ≡ true → f number ≡ g number) → list_any f (filter p (range_with_len start count)) ≡ list_any g (filter p (range_with_len start count))
 any_same p f g start zero same = refl
 any_same p f g start (suc count) same =
@@ -135,7 +135,7 @@ find_same p f g start (suc count) same =
     find_step f g start (filter p (range_with_len (start + 1) count)) (p start) (same start (omega arith) (omega arith))
     (find_same p f g (start + 1) count (λ number least most. same number (omega (arith, least)) (omega (arith, most))))
 
--- where no kept number passes, none that is kept does
+-- if no kept number passes a second test, no number that passes the first does
 pub none_kept_passes : (p q : ℕ → Bool) (start count number : ℕ) → list_any q (filter p (range_with_len start count)) ≡ false → start ≤ number → number < start + count → p number ≡ true → q number ≡ false
 none_kept_passes p q start zero number is least most passes = absurd (omega (arith, least, most))
 none_kept_passes p q start (suc count) number is least most passes = by_first (p start) refl (none_kept_passes p q (start + 1) count number) is
@@ -170,7 +170,7 @@ not_above p first (suc count) number above = by_first (p first) (not_above p (fi
     by_first true later = or_from (first == number) (list_any (λ other. other == number) (filter p (range_with_len (first + 1) count))) (ne_eqb first number (λ same. omega (arith, same, above))) later
     by_first false later = later
 
--- and a number of the range is where it passes
+-- and a number of the range is kept if it passes
 pub is_in : (p : ℕ → Bool) (first count number : ℕ) → first ≤ number → number < first + count → list_any (λ other. other == number) (filter p (range_with_len first count)) ≡ p number
 is_in p first zero number from to = absurd (omega (arith, from, to))
 is_in p first (suc count) number from to = elim (cases_lt first number) [
@@ -196,7 +196,7 @@ map_agree f g first (suc count) same =
 pub sum_agree : (f g : ℕ → ℕ) (first count : ℕ) → ((n : ℕ) → first ≤ n → n < first + count → f n ≡ g n) → sum_by f (range_with_len first count) ≡ sum_by g (range_with_len first count)
 sum_agree f g first count same = sym (sum-map f (range_with_len first count)) ∙ ap sum (map_agree f g first count same) ∙ sum-map g (range_with_len first count)
 
--- a summand is no more than its sum
+-- a summand is at most the sum
 pub one_of_sum : (f : ℕ → ℕ) (first count n : ℕ) → first ≤ n → n < first + count → f n ≤ sum_by f (range_with_len first count)
 one_of_sum f first zero n low high = absurd (omega (arith, low, high))
 one_of_sum f first (suc count) n low high = elim (cases_lt first n) [
@@ -215,7 +215,7 @@ along_range f g first (suc count) same k from to =
     ap f is ∙ (let head : f first ≡ g first = cc in head ∙ ap g (sym is)))
     (cases_lt first k)
 
--- one number more
+-- one more number
 pub flat_more : {B : Type 0} (f : ℕ → List B) (start count : ℕ) → flat_map f (range_with_len start (suc count)) ≡ flat_map f (range_with_len start count) ++ f (start + count)
 flat_more f start zero = append-nil (f start) ∙ ap f (here start)
   where
@@ -237,7 +237,7 @@ taken_along f (x ∷ xs) start (suc n) few same =
     taken_along f xs (start + 1) n (omega (arith, few)) (λ k within. same (suc k) (omega (arith, within)) ∙ ap f (omega arith)) in
     ap (λ y. y ∷ take n xs) here ∙ ap (λ more. f start ∷ more) rest
 
--- a list whose numbers are told by the place that each has, counted from one
+-- a list whose numbers are given by their places, counted from one
 pub taken_from_one : (f : ℕ → ℕ) (xs : List ℕ) (n : ℕ) → n ≤ length xs → ((place : ℕ) → 1 ≤ place → get_or xs (place - 1) 0 ≡ f place) → take n xs ≡ map f (range_with_len 1 n)
 taken_from_one f xs n few same =
     taken_along f xs 1 n few (λ k within. ap (λ j. get_or xs j 0) (omega arith) ∙ same (1 + k) (omega arith))
@@ -256,7 +256,7 @@ pub all_of : (p : ℕ → Bool) (first count : ℕ) → ((number : ℕ) → firs
 all_of p first zero each = refl
 all_of p first (suc count) each = rw (each first (omega arith) (omega arith)) (all_of p (first + 1) count (λ number from within. each number (omega (arith, from)) (omega (arith, within))))
 
--- where not all pass a test, some pass another one that all others pass
+-- if not all pass a test, some pass another one that all others pass
 pub some_other : (p q : ℕ → Bool) (first count : ℕ) → ((number : ℕ) → first ≤ number → number < first + count → p number ≡ false → q number ≡ true) → list_all p (range_with_len first count) ≡ false → list_any q (range_with_len first count) ≡ true
 some_other p q first zero each fails = absurd (true≢false fails)
 some_other p q first (suc count) each fails = by_first (p first) refl fails (some_other p q (first + 1) count (λ number low high. each number (omega (arith, low)) (omega (arith, high))))
@@ -275,7 +275,7 @@ any_taken_from p row (x ∷ xs) start (suc n) few same =
     any_taken_from p row xs (start + 1) n (omega (arith, few)) (λ k. ap (λ j. get_or row j 0) (omega arith) ∙ same (suc k)) in
     ap (λ y. p y || list_any p (take n xs)) here ∙ ap (λ more. p (get_or row (start + 1 - 1) 0) || more) rest
 
--- some of the first numbers passes a test where the number at some place does, counted from one
+-- some of the first numbers passes a test if the number at some place does, counted from one
 pub any_taken : (p : ℕ → Bool) (row : List ℕ) (n : ℕ) → n ≤ length row → list_any p (take n row) ≡ list_any (λ place. p (get_or row (place - 1) 0)) (range_with_len 1 n)
 any_taken p row n few = any_taken_from p row row 0 n few (λ k. ap (λ j. get_or row j 0) (omega arith))
 

@@ -11,7 +11,7 @@ pub is_none_none : {A : Type 0} (gone : Option A) → is_none gone ≡ true → 
 is_none_none None is = refl
 is_none_none (Some value) is = false_true is
 
--- what holds of a value holds of what a result has
+-- what follows for the value of a result
 pub along : {T E : Type 0} {P Q : T → Type 0} (result : Result T E) → ((value : T) → P value → Q value) → IfOk result P → IfOk result Q
 along (Ok value) goes is = goes value is
 along (Err error) goes is = tt
@@ -30,7 +30,7 @@ pub some_or_none : (gone : Option ℕ) → is_none gone ≡ not (is_some gone)
 some_or_none None = refl
 some_or_none (Some count) = refl
 
--- what is so of a value where there is one
+-- what holds for a value if there is one
 pub some_more : {A : Type 0} (found : Option A) (P Q : A → Type 0) → ((x : A) → P x → Q x) → IfSome found P → IfSome found Q
 some_more None P Q h is = is
 some_more (Some x) P Q h is = h x is
@@ -39,14 +39,14 @@ pub on_none : {A : Type 0} (found : Option A) (P : Type 0) → P → IfNone foun
 on_none None P p = p
 on_none (Some x) P p = tt
 
--- a map that tells all values apart tells all optional values apart
+-- a map that distinguishes all values distinguishes all optional values
 pub options_same : {A B : Type 0} (f : A → B) → ((a b : A) → f a ≡ f b → a ≡ b) → (x y : Option A) → option_map f x ≡ option_map f y → x ≡ y
 options_same f apart None None same = refl
 options_same f apart None (Some b) same = absurd (cc)
 options_same f apart (Some a) None same = absurd (cc)
 options_same f apart (Some a) (Some b) same = ap Some (apart a b (same_Some (f a) (f b) same))
 
--- there is a value where a test passes
+-- there is a value if a test passes
 pub some_where : (test : Bool) (value : ℕ) → IsSome (cond test (Some value) None) ↔ (test ≡ true)
 some_where true value = (λ some. refl, λ is. refl)
 some_where false value = (λ some. some, λ is. is)
@@ -61,7 +61,7 @@ from_some_none e = absurd (true≢false (ap is_some e))
 pub from_none_some : {A : Type 0} {P : Type 0} {x : A} → None ≡ Some x → P
 from_none_some e = absurd (true≢false (ap is_some (sym e)))
 
--- where an option was taken, the others follow
+-- if an option was taken, the others follow
 pub followed : {A : Type 0} (x : Option A) {B : Type 0} (f : A → Option B) (more : B) → option_and_then f x ≡ Some more
     → (some : A) × ((x ≡ Some some) × (f some ≡ Some more))
 followed None f more e = cc
@@ -71,7 +71,7 @@ pub none_from_not : {A : Type 0} (x : Option A) → not (is_some x) ≡ true →
 none_from_not None e = refl
 none_from_not (Some x) e = cc
 
--- an optional number is none where a test says that it is not there
+-- an optional number is none if a test says that it is not there
 pub none_by_test : (gone : Option ℕ) (b : Bool) → is_some gone ≡ b → is_none gone ≡ not b
 none_by_test None true is = false_true is
 none_by_test None false is = refl
@@ -91,7 +91,7 @@ pub is_some-map : {X Y : Type 0} (f : X → Y) (x : Option X) → is_some (optio
 is_some-map f (Some x) = refl
 is_some-map f None = refl
 
--- of nothing something holds
+-- for no value everything holds
 pub for_none : {A : Type 0} (P : A → Type 0) (found : Option A) → found ≡ None → ForSome found P
 for_none P found is = λ value some. absurd (cc (is, some))
 
@@ -102,7 +102,7 @@ pub found_number : (o : Option ℕ) (number : ℕ) → option_map_or (λ next. n
 found_number None number is = absurd cc
 found_number (Some next) number is = ap Some (eqb-true next number is)
 
--- the number that is not refused as another one
+-- an optional number that is not found to differ from a number is that number
 pub next_number : (number : ℕ) (next : Option ℕ) → not (option_map_or (λ n. n == number) next false) ≡ false → next ≡ Some number
 next_number number None is = false_true (sym is)
 next_number number (Some other) is = ap Some (eqb-true other number (not-false (other == number) is))

@@ -3,14 +3,14 @@ use Rattle.std.proofs.Common.{Bool, Some, [], ap, arith, cond, false, find, suc,
 use Rattle.std.proofs.lemmas.Bool.{and_parts, eqb-true, or_cases}
 use Rattle.std.specs.List.{list_any, range_with_len, list_all}
 
--- one number more at the end
+-- one more number at the end
 pub range_more : (a n : ℕ) → range_with_len a (suc n) ≡ range_with_len a n ++ (a + n) ∷ []
 range_more a zero = let e : a ≡ a + 0 = omega arith in ap (λ x. x ∷ []) e
 range_more a (suc n) =
     let e : a + 1 + n ≡ a + suc n = omega arith in
     ap (λ xs. a ∷ xs) (range_more (a + 1) n ∙ ap (λ x. range_with_len (a + 1) n ++ x ∷ []) e)
 
--- a number that is found among those from one on lies among them
+-- a number that is found among those from one on is one of them
 pub any_within : (q : ℕ → Bool) (n a len : ℕ) → list_any (λ m. q m && (m == n)) (range_with_len a len) ≡ true → (a ≤ n) × (n < a + len)
 any_within q n a zero h = cc (h)
 any_within q n a (suc len) h =
@@ -24,7 +24,7 @@ pub find_next : (test : ℕ → Bool) (first count : ℕ) → 0 < count → test
 find_next test first zero some other = absurd (omega (arith, some))
 find_next test first (suc count) some other = rw other (ap (λ n. find test (range_with_len (first + 1) n)) (omega arith))
 
--- the first of the numbers, where it passes
+-- the first of the numbers, if it passes
 pub find_here : (test : ℕ → Bool) (first count : ℕ) → 0 < count → test first ≡ true → find test (range_with_len first count) ≡ Some first
 find_here test first zero some passes = absurd (omega (arith, some))
 find_here test first (suc count) some passes = ap (λ b. cond b (Some first) (find test (range_with_len (first + 1) count))) passes
@@ -43,14 +43,14 @@ range_left index count within =
     let less : (count - index) - 1 ≡ count - (index + 1) = omega (arith, within) in
     range_step (index + 1) (count - index) (omega (arith, within)) ∙ ap (λ n. (index + 1) ∷ range_with_len (index + 1 + 1) n) less
 
--- where the first number passes, the others decide whether all do
+-- if the first number passes, the others decide whether all do
 pub all_goes_on : (test : ℕ → Bool) (index count : ℕ) (all : Bool) → index < count → test (index + 1) ≡ true
     → list_all test (range_with_len (index + 1) (count - index)) ≡ all → list_all test (range_with_len (index + 1 + 1) (count - (index + 1))) ≡ all
 all_goes_on test index count all within passes is =
     let first : list_all test ((index + 1) ∷ range_with_len (index + 1 + 1) (count - (index + 1))) ≡ list_all test (range_with_len (index + 1 + 1) (count - (index + 1))) = rw passes refl in
     sym first ∙ ap (list_all test) (sym (range_left index count within)) ∙ is
 
--- where the first number fails, the others decide whether any passes
+-- if the first number fails, the others decide whether any passes
 pub any_goes_on : (test : ℕ → Bool) (index count : ℕ) (all : Bool) → index < count → test (index + 1) ≡ false
     → list_any test (range_with_len (index + 1) (count - index)) ≡ all → list_any test (range_with_len (index + 1 + 1) (count - (index + 1))) ≡ all
 any_goes_on test index count all within fails is =

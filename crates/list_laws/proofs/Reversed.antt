@@ -1,4 +1,5 @@
--- What holds of a list holds from its end: how many elements pass a test, which pass, and whether some does.
+-- What holds for a list holds from its end: how many elements pass a test, which pass, and whether
+-- some does.
 use Rattle.std.proofs.Common.{Bool, List, [], ap, arith, cond, count_by, false, filter, refl, reverse, sym, true, ◌++◌, ◌||◌, ◌∙◌, ◌∷◌, ◌≡◌}
 use Rattle.std.proofs.lemmas.List.{append-nil, reverse-append}
 use Rattle.list_laws.proofs.Counting.{count_by-cons, count_by-push}

@@ -11,7 +11,7 @@ abbrev pub Rising : ℕ → List ℕ → Type 0
 Rising low [] = ⊤
 Rising low (x ∷ xs) = (low ≤ x) × Rising (x + 1) xs
 
--- a number that no other is below passes the test of a lower one
+-- a first number that is above the bound is kept
 pub filter-above : (b z : ℕ) (zs : List ℕ) → b < z → filter (nat_lt b) (z ∷ zs) ≡ z ∷ filter (nat_lt b) zs
 filter-above b z zs h =
     ap (λ t. cond t (z ∷ filter (nat_lt b) zs) (filter (nat_lt b) zs)) (lt-ltb b z h)
@@ -26,7 +26,8 @@ filter-Rising b low [] h r = refl
 filter-Rising b low (z ∷ zs) h r =
     filter-above b z zs (omega arith) ∙ ap (λ xs. z ∷ xs) (filter-Rising b (z + 1) zs (omega arith) r.1)
 
--- of rising numbers, those above the first that is above b are the others above b
+-- in a list of rising numbers, if x is the first above b, the numbers above x are the others above
+-- b
 pub above_first : (b low x : ℕ) (zs rest : List ℕ)
     → Rising low zs
     → filter (nat_lt b) zs ≡ x ∷ rest

@@ -21,7 +21,7 @@ sum_by-plus f g [] = refl
 sum_by-plus f g (x ∷ xs) =
     omega (arith, sum_by-cons (λ y. f y + g y) x xs, sum_by-cons f x xs, sum_by-cons g x xs, sum_by-plus f g xs)
 
--- sums are equal where the terms are, at each element at which a test fails that passes nowhere
+-- sums are equal if the terms are equal at each element at which a test fails that passes nowhere
 pub sum_by-agree : {X : Type 0} (q : X → Bool) (f g : X → ℕ)
     → ((x : X) → q x ≡ false → f x ≡ g x)
     → (xs : List X)
@@ -32,7 +32,7 @@ sum_by-agree q f g h (x ∷ xs) e =
     let parts = or_parts (q x) (list_any q xs) e in
     omega (arith, sum_by-cons f x xs, sum_by-cons g x xs, h x parts.0, sum_by-agree q f g h xs parts.1)
 
--- and where they are at each element
+-- and if they are equal at each element
 pub sum_by-same : {X : Type 0} (f g : X → ℕ)
     → ((x : X) → f x ≡ g x)
     → (xs : List X)
@@ -41,7 +41,7 @@ sum_by-same f g h [] = refl
 sum_by-same f g h (x ∷ xs) =
     omega (arith, sum_by-cons f x xs, sum_by-cons g x xs, h x, sum_by-same f g h xs)
 
--- one element more in front, if it is kept
+-- one more element in front, if it is kept
 pub sum_of_kept : {X : Type 0} (f : X → ℕ) (x : X) (ys : List X) (kept : Bool)
     → (kept ≡ false → f x ≡ 0)
     → sum_by f (cond kept (x ∷ ys) ys) ≡ f x + sum_by f ys
@@ -67,7 +67,7 @@ pub sum_by-none : (ks : List ℕ) → sum_by (λ k. 0) ks ≡ 0
 sum_by-none [] = refl
 sum_by-none (k ∷ ks) = omega (arith, sum_by-cons (λ k. 0) k ks, sum_by-none ks)
 
--- a number that is counted where a test for it passes
+-- a number that is counted if a test for it passes
 pub sum_by-at : (n h : ℕ) (ks : List ℕ) → sum_by (λ k. cond (h == k) n 0) ks ≡ n * sum_by (λ k. cond (h == k) 1 0) ks
 sum_by-at n h [] = omega arith
 sum_by-at n h (k ∷ ks) = omega (arith, sum_by-cons (λ k. cond (h == k) n 0) k ks, ap (λ (m : ℕ). n * m) (sum_by-cons (λ k. cond (h == k) 1 0) k ks), sum_by-at n h ks, here (h == k))
@@ -76,12 +76,12 @@ sum_by-at n h (k ∷ ks) = omega (arith, sum_by-cons (λ k. cond (h == k) n 0) k
     here true = grind arith
     here false = grind arith
 
--- values that are one at most sum to no more than how many of them there are
+-- values of at most one have a sum of at most their number
 pub once_sum : (T : ℕ → ℕ) (hs : List ℕ) → ((h : ℕ) → T h ≤ 1) → sum_by T hs ≤ sum_by (λ h. min 1 (T h)) hs
 once_sum T [] once = omega arith
 once_sum T (h ∷ hs) once = omega (arith, sum_by-cons T h hs, sum_by-cons (λ k. min 1 (T k)) h hs, once h, once_sum T hs once)
 
--- values that are four at most sum to no more than four for each that is there
+-- values of at most four have a sum of at most four for each that is there
 pub some_sum : (T : ℕ → ℕ) (hs : List ℕ) → ((h : ℕ) → T h ≤ 4) → sum_by T hs ≤ 4 * sum_by (λ h. min 1 (T h)) hs
 some_sum T [] few = omega arith
 some_sum T (h ∷ hs) few = omega (arith, sum_by-cons T h hs, sum_by-cons (λ k. min 1 (T k)) h hs, few h, some_sum T hs few)

@@ -38,7 +38,7 @@ and_one true true = refl
 and_one true false = refl
 and_one false b = refl
 
--- one of two still holds where each is kept
+-- one of two still holds if each is kept
 pub either_still : (a b a' b' : Bool) → (a ≡ true → a' ≡ true) → (b ≡ true → b' ≡ true) → (a || b) ≡ true → (a' || b') ≡ true
 either_still true b a' b' first second is = ap (λ x. x || b') (first refl)
 either_still false true true b' first second is = refl
@@ -60,7 +60,7 @@ pub chosen : (b : Bool) (x : ℕ) → 0 < (if b then x else 0) → b ≡ true
 chosen true x some = refl
 chosen false x some = absurd (omega (arith, some))
 
--- what holds exactly where another holds, the other way round
+-- what holds if and only if another holds, the other way round
 pub flip : (A B : Type 0) → A ↔ B → B ↔ A
 flip A B same = (same.1, same.0)
 
@@ -120,7 +120,7 @@ pub implied : (a b : Bool) → (not a || b) ≡ true → a ≡ true → b ≡ tr
 implied true b passes is = passes
 implied false b passes is = false_true is
 
--- where the second of two tests does not follow from the first, the first holds
+-- if the second of two tests does not follow from the first, the first holds
 pub first_holds : (b owes : Bool) → (not b || owes) ≡ false → b ≡ true
 first_holds true owes is = refl
 first_holds false owes is = absurd cc
@@ -143,7 +143,7 @@ pub and_not : (b : Bool) → (b && not b) ≡ false
 and_not true = refl
 and_not false = refl
 
--- a choice by two tests that hold, by a test that is turned, and by two of which one does not hold
+-- a choice by two tests that hold, by a test that is turned, and by two tests one of which fails
 pub if_both : {X : Type 0} (a b : Bool) (x y : X) → a ≡ true → b ≡ true → (if a && b then x else y) ≡ x
 if_both a b x y first second = ap (λ c. if c && b then x else y) first ∙ ap (λ c. if c then x else y) second
 
@@ -168,7 +168,7 @@ pub if_most : (b : Bool) (n : ℕ) → (if b then n else 0) ≤ n
 if_most true n = omega arith
 if_most false n = omega arith
 
--- a number that stands where a test fails
+-- a number if a test fails, and 0 if it passes
 pub if_not_none : (test : Bool) (number : ℕ) → (if not test then number else 0) ≡ (if test then 0 else number)
 if_not_none true number = refl
 if_not_none false number = refl
@@ -241,12 +241,12 @@ pub not_and_is : (b : Bool) → not b ≡ true → b ≡ true → ⊥
 not_and_is true off on = absurd (cc)
 not_and_is false off on = absurd (cc)
 
--- not both, where not both of two that follow
+-- not both, if not both of two that follow
 pub not_both_still : (a b c d : Bool) → (a ≡ true → c ≡ true) → (b ≡ true → d ≡ true) → (c && d) ≡ false → (a && b) ≡ false
 not_both_still false b c d one two none = refl
 not_both_still true false c d one two none = refl
 not_both_still true true c d one two none = absurd (true≢false (sym (ap (λ x. x && d) (one refl) ∙ two refl) ∙ none))
 
--- a test as a number: 1 where it passes, 0 where it does not
+-- a test as a number: 1 if it passes, 0 if it does not
 abbrev pub one_if : Bool → ℕ
 one_if b = cond b 1 0

@@ -1,4 +1,5 @@
--- Laws of the words of a text, whatever signs divide it: the first word, and what stands behind it.
+-- Laws of the words of a text, whatever characters separate them: the first word, and what comes
+-- after it.
 use Rattle.std.proofs.Common.{◌≡◌, ℕ, ◌+◌, ◌<◌, ◌≤◌, ◌⊎◌, true, false, not, cond, nat_lt, Bool, List, [], ◌∷◌, length, get_or, take, drop, refl, ap, sym, ◌∙◌, arith, All, filter, take_all, inl, inr}
 use Rattle.std.specs.List.{slice_split, position_or_len}
 use Rattle.std.proofs.lemmas.Bool.{cases_lt, lt-ltb}
@@ -10,7 +11,7 @@ use Rattle.std.proofs.lemmas.List.Splits.{slice_split_first, slice_split_none, s
 abbrev pub kept : List (List ℕ) → List (List ℕ)
 kept parts = filter (λ part. nat_lt 0 (length part)) parts
 
--- the words of a text that some signs divide
+-- the words of a text that some characters separate
 abbrev pub words : (ℕ → Bool) → List ℕ → List (List ℕ)
 words divides text = kept (slice_split divides text)
 
@@ -42,7 +43,7 @@ last_word divides text whole some =
     let no_space : All (λ sign. divides sign ≡ false) text = λ k d within. fails_before_first divides text k d (omega (arith, whole, within)) in
     ap kept (slice_split_none divides text no_space) ∙ kept-cons text [] some
 
--- the words of a text that begins with a word: that word, and those behind it
+-- the words of a text that begins with a word: that word, and those after it
 pub first_word : (divides : ℕ → Bool) (text : List ℕ) (len : ℕ) → len ≡ position_or_len divides text → 0 < len → words divides text ≡ take len text ∷ words divides (drop len text)
 first_word divides text len is some =
     let most : position_or_len divides text ≤ length text = prefix_len-le-length (λ sign. not (divides sign)) text in

@@ -1,2 +1,2 @@
-//! What holds of lists, tests and numbers, whatever they stand for: every crate may cite it.
+//! Facts about lists, tests and numbers, of whatever kind: every crate may use them.
 #![tactic(auto)]

@@ -10,14 +10,14 @@ use std::alloc::Global;
 use std::collections::BTreeMap;
 
 /// The places of different names in the order in which they came, from 0. The index has a copy of
-/// each name; who asks it has the list of them, and knows how many they are.
+/// each name; its user keeps the list of names, and knows how many there are.
 #[derive(Drop)]
 pub struct NameIndex {
     places: BTreeMap<String, usize>,
 }
 
 impl NameIndex {
-    /// No names.
+    /// An index without names.
     pub fn new(alloc: Global) -> Self
         ensures { AreIndexed result [] }
     {
@@ -26,13 +26,13 @@ impl NameIndex {
         }
     }
 
-    /// The place of a name. A new name is put behind the others, of which there are so many. Names
-    /// are compared byte for byte, and a name is found with as many comparisons as the number of
-    /// names has binary digits, or few more.
+    /// The place of a name. A new name gets the next place, `others`, the number of names before
+    /// it. Names are compared byte for byte, and finding a name takes about as many comparisons as
+    /// the number of names has binary digits.
     ///
     /// # Errors
     ///
-    /// There is no memory for a new name.
+    /// Out of memory for a new name.
     pub fn place_of(&mut self, alloc: Global, name: &str, others: usize) -> Result<usize, Memory>
         ensures names { (names : List (List ℕ)) → AreIndexed self.old names
             → length names ≡ others

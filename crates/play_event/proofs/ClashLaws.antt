@@ -1,4 +1,4 @@
--- No legal event makes two places clash.
+-- No legal event makes two dealt cards clash.
 use Rattle.std.proofs.Common.{◌≡◌, ◌≢◌, ℕ, ◌+◌, ◌≤◌, ◌==◌, Bool, true, false, ◌&&◌, ◌||◌, not, inl, inr, ◌⊎◌, Option, Some, None, is_some, List, [], ◌∷◌, ◌++◌, length, count_by, refl, sym, ◌∙◌, ap, subst, arith}
 use Rattle.std.specs.List.{list_any}
 use Rattle.std.proofs.lemmas.Bool.{or_parts, le-leb}
@@ -25,7 +25,7 @@ clash_both a b =
     ap (λ m. not m && is_one_card a.slot b.slot) (or_comm (may_repeat a b) (may_repeat b a))
     ∙ ap (λ s. not (may_repeat b a || may_repeat a b) && s) (one_card_both a.slot b.slot)
 
--- where a test passes nowhere, it does not pass at a place of the list
+-- if a test passes nowhere, it does not pass at a place of the list
 pub not_at : (p : Place → Bool) (placed : List Place) (place : Place) → list_any p placed ≡ false → IsAmong placed place → p place ≡ false
 not_at p [] place none among = absurd among
 not_at p (first ∷ rest) place none (inl is) = ap p (sym is) ∙ (or_parts (p first) (list_any p rest) none).0
@@ -52,7 +52,8 @@ pub kept_none_clash : (code : Code) (count : ℕ) (before after : List Place) �
 kept_none_clash code count before after kept fits none a b in_a in_b differ =
     kept_pair code count before after a b none fits in_a in_b differ (comes_from count before after kept a in_a) (comes_from count before after kept b in_b)
 
--- a card that was dealt: it bears one of the cards, its number is not below that of the first, and it is not gone
+-- a card that was just dealt: it is one of these cards, its number is not below that of the first,
+-- and it is not gone
 abbrev pub IsOneOf : List Slot → Slot → Type 0
 IsOneOf [] slot = ⊥
 IsOneOf (first ∷ rest) slot = (first ≡ slot) ⊎ IsOneOf rest slot
@@ -82,7 +83,7 @@ not_one_of p [] slot none among = absurd among
 not_one_of p (first ∷ rest) slot none (inl is) = ap p (sym is) ∙ (or_parts (p first) (list_any p rest) none).0
 not_one_of p (first ∷ rest) slot none (inr later) = not_one_of p rest slot (or_parts (p first) (list_any p rest) none).1 later
 
--- cards that bear different cards do not clash
+-- dealt cards that are different known cards do not clash
 different_clash : (a b : Place) → is_one_card a.slot b.slot ≡ false → is_clash a b ≡ false
 different_clash a b differ = ap (λ s. not (may_repeat a b || may_repeat b a) && s) differ ∙ and_false (not (may_repeat a b || may_repeat b a))
 

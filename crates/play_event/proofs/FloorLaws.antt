@@ -1,4 +1,5 @@
--- In no limit and pot limit the least raise that is not all-in goes above the price, and no further above it than a full raise.
+-- In no limit and pot limit the lowest raise that is not all-in goes above the current bet, by at
+-- most a full raise.
 use Rattle.std.proofs.Common.{◌≡◌, ℕ, zero, suc, ◌+◌, ◌-◌, ◌*◌, ◌<◌, ◌≤◌, ◌==◌, Bool, true, false, ◌&&◌, ◌||◌, not, inl, inr, ◌⊎◌, min, max, nat_le, nat_lt, Option, Some, None, List, [], ◌∷◌, ◌++◌, map, find, refl, sym, ◌∙◌, ap, subst, arith, cond, if◌then◌else◌}
 use Rattle.std.specs.List.{list_any, range_with_len}
 use Rattle.std.proofs.lemmas.Bool.{and_parts, cases_lt, eq-eqb, eqb-true, le-leb, leb-true, ltb-false, ltb-true, not-false, or_cases, or_left, or_right}
@@ -48,7 +49,7 @@ use Rattle.play_event.proofs.TargetLaws.{greatest_is_legal}
 use Rattle.list_laws.proofs.NumbersOfRange.{any_in_range}
 use Rattle.list_laws.proofs.Finding.{found_among}
 
--- the greatest of some numbers, each of which is bounded by another or by one bound
+-- the greatest of some numbers, if each is bounded by another or by one bound
 greatest_within : (f g : ℕ → ℕ) (bound : ℕ) → ((x : ℕ) → g x ≤ max (f x) bound) → (xs : List ℕ) → greatest (map g xs) ≤ max (greatest (map f xs)) bound
 greatest_within f g bound each [] = omega arith
 greatest_within f g bound each (x ∷ xs) = omega (arith, each x, greatest_within f g bound each xs)
@@ -66,8 +67,8 @@ greatest_reaches f first (suc count) x low high = elim (cases_lt first x) [
       omega (arith, ap f same)
 ]
 
--- a move takes its seat from the chips that it had; a raise takes a seat of the hand above the price, and no other
--- move goes above the price
+-- a move takes its seat up from the chips that it had; a raise takes a seat of the hand above the
+-- current bet, and no other move goes above it
 record IsFitting (setup : Setup) (older : List Move) (move : Move) : Type 0 where
   from_is : move.from ≡ street_chips setup older move.street move.seat
   raises : is_raise move.act ≡ true → (price setup older move.street < move.to) × ((1 ≤ move.seat) × (move.seat ≤ setup.stacks.seats))
@@ -77,7 +78,7 @@ abbrev AreFitting : Setup → List Move → Type 0
 AreFitting setup [] = Unit {0}
 AreFitting setup (move ∷ older) = IsFitting setup older move × AreFitting setup older
 
--- what a move adds to a seat's chips of a street
+-- what a move adds to the chips of a seat on a street
 module _ (setup : Setup) (older : List Move) (move : Move) (street : ℕ) where
   abbrev chips_before : ℕ → ℕ
   chips_before x = street_chips setup older street x
@@ -118,7 +119,7 @@ module _ (setup : Setup) (older : List Move) (move : Move) (street : ℕ) where
       let within = greatest_within chips_before chips_after 0 (λ x. omega (arith, chips_elsewhere x elsewhere)) (all_seats setup) in
       omega (arith, within)
 
-  -- a raise takes the price to its target
+  -- a raise takes the current bet to its target
   within_target : (x : ℕ) (mine : Bool) → IsFitting setup older move → (move.street == street) ≡ true → (move.seat == x) ≡ mine → chips_after x ≤ max (chips_before x) move.to
   within_target x true fits there is = omega (arith, added_by x true there is, from_here x fits there is)
   within_target x false fits there is = omega (arith, added_by x false there is)
@@ -132,7 +133,7 @@ module _ (setup : Setup) (older : List Move) (move : Move) (street : ℕ) where
       let reaches = greatest_reaches chips_after 1 setup.stacks.seats move.seat least (omega (arith, most)) in
       omega (arith, added_by move.seat true there own, from_here move.seat fits there own, reaches)
 
-  -- another move leaves the price
+  -- another move leaves the current bet as it was
   within_price : (x : ℕ) (mine : Bool) → IsFitting setup older move → is_raise move.act ≡ false → (move.street == street) ≡ true → (move.seat == x) ≡ mine → chips_after x ≤ max (chips_before x) (price setup older street)
   within_price x true fits calm there is =
       let same : price setup older move.street ≡ price setup older street = ap (price setup older) (eqb-true move.street street there) in
@@ -144,7 +145,7 @@ module _ (setup : Setup) (older : List Move) (move : Move) (street : ℕ) where
       let within = greatest_within chips_before chips_after (price setup older street) (λ x. within_price x (move.seat == x) fits calm there refl) (all_seats setup) in
       omega (arith, within)
 
-  -- the least full raise grows, and no raise goes further above the price
+  -- the smallest full raise grows, and no raise exceeds the current bet by more
   abbrev full_by : (full : Bool) → ℕ
   full_by full = if full then max (rise setup move older) (full_raise setup older street) else full_raise setup older street
 
@@ -167,7 +168,7 @@ module _ (setup : Setup) (older : List Move) (move : Move) (street : ℕ) where
     | inr enough ↦ omega (arith, full_at there raised true (le-leb (full_raise setup older street) (rise setup move older) enough))
   ]
 
-  -- the doubled raises of the street
+  -- the sums of the targets of the street's raises and their increases
   abbrev doubled_by : Bool → List ℕ
   doubled_by raised = if raised then ((2 * move.to - price setup older street) ∷ doubled_raises setup older street) else doubled_raises setup older street
 
@@ -181,7 +182,8 @@ module _ (setup : Setup) (older : List Move) (move : Move) (street : ℕ) where
   doubled_elsewhere : (move.street == street) ≡ false → doubled_raises setup (move ∷ older) street ≡ doubled_raises setup older street
   doubled_elsewhere elsewhere = ap (λ b. doubled_by (b && is_raise move.act)) elsewhere
 
--- the price is not below the starting price, nor the least full raise below the least bet
+-- the current bet is not below the starting bet, and the smallest full raise is not below the
+-- minimum bet
 start_below : (setup : Setup) (moves : List Move) (street : ℕ) → starting_price setup street ≤ price setup moves street
 start_below setup [] street = omega arith
 start_below setup (move ∷ older) street = omega (arith, start_below setup older street, price_grows setup older move street)
@@ -190,7 +192,7 @@ bet_below : (setup : Setup) (moves : List Move) (street : ℕ) → setup.min_bet
 bet_below setup [] street = omega arith
 bet_below setup (move ∷ older) street = omega (arith, bet_below setup older street, full_grows setup older move street)
 
--- the doubled raises are within the price and a full raise
+-- these sums are within the current bet plus a full raise
 doubled_within : (setup : Setup) (moves : List Move) (street : ℕ) → AreFitting setup moves → greatest (doubled_raises setup moves street) ≤ price setup moves street + full_raise setup moves street
 doubled_within setup [] street fits = omega arith
 doubled_within setup (move ∷ older) street fits = by_move (move.street == street) (is_raise move.act) refl refl (doubled_within setup older street fits.1)
@@ -211,7 +213,7 @@ floor_within : (reopens : Reopen) (setup : Setup) (moves : List Move) (street : 
 floor_within reopen.Full setup moves street fits = omega arith
 floor_within reopen.Always setup moves street fits = omega (arith, doubled_within setup moves street fits, start_below setup moves street, bet_below setup moves street)
 
--- and the price is below the floor
+-- and the current bet is below the lowest raise
 above_start : (setup : Setup) (moves : List Move) (street : ℕ) → 1 ≤ setup.min_bet → AreFitting setup moves → price setup moves street < max (starting_price setup street + setup.min_bet) (greatest (doubled_raises setup moves street))
 above_start setup [] street some fits = omega (arith, some)
 above_start setup (move ∷ older) street some fits = by_move (move.street == street) (is_raise move.act) refl refl (above_start setup older street some fits.1)
@@ -264,7 +266,7 @@ some_passes p first (suc count) any = elim (or_cases (p first) (list_any p (rang
   | inr later ↦ let found = some_passes p (first + 1) count later in record { seat = found.seat; low = omega (arith, found.low); high = omega (arith, found.high); passes = found.passes }
 ]
 
--- going round from any seat, some seat passes where some seat of the hand does
+-- going round from any seat, some seat passes if some seat of the hand does
 round_passes : (p : ℕ → Bool) (setup : Setup) (start : ℕ) → list_any p (all_seats setup) ≡ true → list_any p (seats_from setup start) ≡ true
 round_passes p setup start any =
     let found = some_passes p 1 setup.stacks.seats any in
@@ -275,7 +277,7 @@ round_passes p setup start any =
       | inr from ↦ or_left (list_any p first) (list_any p second) (any_in_range p start (setup.stacks.seats + 1 - start) found.seat from (omega (arith, from, found.high)) found.passes)
     ]
 
--- in a game with blinds somebody is in turn where a move is due, and it is a seat of the hand
+-- in a game with blinds, if a move is due, the player to act is a seat of the hand
 blinds_by : (opener : Opener) → is_opened_by_up_cards opener ≡ false → opener ≡ openers.Blinds
 blinds_by openers.Blinds is = refl
 blinds_by openers.LowUp is = false_true (sym is)
@@ -349,7 +351,7 @@ module _ (setup : Setup) (moves : List Move) (street : ℕ) (blinds : is_stud se
         | inr within ↦ within
       ]
 
--- a bet is due on a street of a game with blinds only where a move is
+-- on a street of a game with blinds a bet is due only if a move is
 due_by : (deal draw bring move : Bool) (street : ℕ) → Option Due
 due_by deal draw bring move street =
     if deal then Some (dues.Deal street) else if draw then Some (dues.Draw street) else if bring then Some dues.BringIn else if move then Some dues.Move else None
@@ -397,7 +399,7 @@ pub may_come_by : (kind other : Bool) → not (kind || (false && other)) ≡ fal
 may_come_by true other is = refl
 may_come_by false other is = sym is
 
--- a legal raise is of a seat of the hand
+-- a legal raise is by a seat of the hand
 mover_of : (setup : Setup) (moves : List Move) (named : Option ℕ) (turn : InTurn) → is_other_seat setup moves named turn ≡ false → is_undecided turn ≡ false → (turn ≡ TheSeat (actor_of named turn)) ⊎ (turn ≡ NoSeat)
 mover_of setup moves named Undecided own known = false_true (sym known)
 mover_of setup moves (Some seat) NoSeat own known = false_true (sym own)
@@ -424,7 +426,7 @@ fits_target reopens setup moves street seat target small big =
     ap (λ (t : ℕ). is_legal_target reopens setup moves street seat t) same ∙ greatest_is_legal reopens setup moves street seat
 
 module _ (setup : Setup) (rules : Rules) (blinds : is_stud setup.code ≡ false) (bounded : is_fixed (limit_of setup.code) ≡ false) (some : 1 ≤ setup.min_bet) (none_brought : setup.bring_in ≡ 0) where
-  -- what a legal raise tells
+  -- what follows from a legal raise
   raise_fits : (before : Past) (named : Option ℕ) (amount : Spelled) → AreFitting setup (moves_of before) → why setup rules before (said.Raise named amount) ≡ None
       → let street = (turn setup before).0 in let seat = actor_of named (mover setup (up_cards setup.code before) (moves_of before) street) in (price setup (moves_of before) street < raise_target setup (moves_of before) street seat amount) × ((1 ≤ seat) × (seat ≤ setup.stacks.seats))
   raise_fits before named amount fits legal =
@@ -467,7 +469,7 @@ module _ (setup : Setup) (rules : Rules) (blinds : is_stud setup.code ≡ false)
   fits_all [] legal = tt
   fits_all (event ∷ before) legal = fits_next (past_of setup before) event (fits_all before legal.1) legal.0
 
--- no game of stud is played in no limit or pot limit
+-- no stud game is played in no limit or pot limit
 blinds_unfixed : (code : Code) → is_fixed (limit_of code) ≡ false → is_stud code ≡ false
 blinds_unfixed games.FT is = refl
 blinds_unfixed games.NT is = refl

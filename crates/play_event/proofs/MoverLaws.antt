@@ -1,4 +1,4 @@
--- The seat whose turn it is has a move to make, and so is able.
+-- The player to act has a move to make, and so is live with chips left.
 use Rattle.std.proofs.Common.{◌≡◌, ℕ, Bool, true, false, Option, Some, None, List, find, sym, ap, nat_lt, nat_le, ◌||◌, if◌then◌else◌}
 use Rattle.std.proofs.lemmas.Bool.{and_parts}
 use Rattle.list_laws.proofs.Options.{some_is_none}

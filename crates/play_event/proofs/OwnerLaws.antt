@@ -1,4 +1,4 @@
--- The test of one owner is true only of one owner.
+-- The test for one owner holds only for one owner.
 use Rattle.std.proofs.Common.{◌≡◌, ℕ, true, Option, Some, None, refl, ap}
 use Rattle.std.proofs.lemmas.Bool.{eqb-true, eq-eqb}
 use Rattle.list_laws.proofs.Tests.{false_true}

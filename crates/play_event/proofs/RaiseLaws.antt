@@ -1,4 +1,5 @@
--- The seat in turn has targets exactly where it may raise to some amount, and it may raise to each legal target.
+-- The player to act has targets if and only if it may raise to some amount, and it may raise to
+-- each legal target.
 use Rattle.std.proofs.Common.{◌≡◌, ℕ, ◌==◌, Bool, true, false, ◌&&◌, not, nat_lt, Option, Some, None, List, refl, sym, ◌∙◌, ap, if◌then◌else◌}
 use Rattle.std.proofs.lemmas.Bool.{and_from, and_parts, eq-eqb, eqb-true, le-ltb, not-false}
 use Rattle.list_laws.proofs.Tests.{false_true}
@@ -26,7 +27,7 @@ use Rattle.play_event.proofs.FloorLaws.{raise_bet, may_come_by}
 use Rattle.play_event.proofs.ReasonLaws.{no_reason_holds}
 use Rattle.play_event.proofs.TargetLaws.{none_beyond}
 
--- who is named by a legal raise is in turn
+-- a seat that is named by a legal raise is the player to act
 named_in_turn : (setup : Setup) (moves : List Move) (seat : ℕ) (now : InTurn) → is_other_seat setup moves (Some seat) now ≡ false → is_undecided now ≡ false → now ≡ TheSeat seat
 named_in_turn setup moves seat NoSeat own known = false_true (sym own)
 named_in_turn setup moves seat Undecided own known = false_true (sym known)
@@ -43,7 +44,7 @@ has_target setup rules past seat amount legal =
     let may = not-false (may_raise setup rules moves now.0 seat) none.1.1.1.1.1.1.1.1.0 in
     and_from (is_bet_due now.1) (may_raise_now setup rules moves now.0 in_turn_now) bet (ap (may_raise_now setup rules moves now.0) mine ∙ may)
 
--- the reasons of a raise where a move or a bring-in is due, as far as they are open
+-- the remaining reasons against a raise when a move or a bring-in is due
 abbrev open_reasons : Setup → Rules → List Move → ℕ → ℕ → ℕ → (other may legal above : Bool) → Option Illegal
 open_reasons setup rules moves street seat target other may legal above =
     if other then Some reasons.WrongSeat

@@ -1,4 +1,4 @@
--- Legal events keep the places of a hand free of clashes.
+-- Legal events keep the dealt cards of a hand free of clashes.
 use Rattle.std.proofs.Common.{◌≡◌, ℕ, ◌≤◌, Bool, true, false, ◌&&◌, ◌||◌, not, inl, inr, Option, Some, None, List, [], ◌∷◌, map, filter, length, count_by, refl, sym, ◌∙◌, ap, arith, if◌then◌else◌}
 use Rattle.std.specs.List.{list_any}
 use Rattle.std.proofs.lemmas.Bool.{and_parts}
@@ -31,11 +31,11 @@ use Rattle.play_event.proofs.ReasonLaws.{no_reason_holds}
 use Rattle.play_event.proofs.Kept.{AreKept, ComesFrom, comes_from, fold_keeps, names_keep, IsMark, held_is_there}
 use Rattle.play_event.proofs.ClashLaws.{GoneWithin, kept_none_clash, deal_none_clash, among_append, are_dealt}
 
--- the places do not clash, and none was gone later than now
+-- the dealt cards do not clash, and none was gone later than now
 abbrev Safe : List Place → Type 0
 Safe placed = NoneClash placed × GoneWithin placed
 
--- kept places are as many
+-- there are as many kept cards
 kept_length : (count : ℕ) (before after : List Place) → AreKept count before after → length after ≡ length before
 kept_length count [] [] kept = refl
 kept_length count [] (new ∷ news) kept = absurd kept

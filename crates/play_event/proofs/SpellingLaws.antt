@@ -1,4 +1,5 @@
--- A raise without actor, however it is spelled, is that of the seat in turn to its target.
+-- A raise without an actor, however its amount is written, is that of the player to act to its
+-- target.
 use Rattle.std.proofs.Common.{◌≡◌, ℕ, Bool, true, false, ◌&&◌, ◌||◌, not, Option, Some, None, ◌∷◌, refl, sym, ◌∙◌, ap, if◌then◌else◌}
 use Rattle.std.proofs.lemmas.Bool.{eq-eqb}
 use Rattle.play_event.specs.declared.code.Code.{Code}
@@ -31,7 +32,7 @@ same_kind code dues.Move seat target amount = refl
 same_kind code dues.Show seat target amount = refl
 same_kind code dues.Over seat target amount = refl
 
--- the reasons of a raise, by whether a raise may come and whether its seat is another
+-- the reasons against a raise, by whether a raise may come and whether its seat is another
 abbrev raise_refused : Setup → Rules → Past → ℕ × Due → ℕ → ℕ → Bool → Bool → Option Illegal
 raise_refused setup rules past now seat target comes other =
     let event = said.Raise (Some seat) (spelled.To target) in
@@ -43,7 +44,7 @@ raise_refused setup rules past now seat target comes other =
     else if is_raise_too_big setup (moves_of past) now.0 (TheSeat seat) event then Some reasons.RaiseTooBig
     else None
 
--- the reasons of an event where the seat in turn is this
+-- the reasons against an event with this player to act
 abbrev why_by : Setup → Rules → Past → ℕ × Due → Said → InTurn → Option Illegal
 why_by setup rules past now event in_turn =
     if is_over now.1 && true then Some reasons.HandOver

@@ -1,4 +1,5 @@
--- The least and the greatest legal target are legal, in each limit, and no legal target is outside them.
+-- The lowest and the highest legal target are legal, in each limit, and no legal target is outside
+-- them.
 use Rattle.std.proofs.Common.{◌≡◌, ℕ, ◌+◌, ◌<◌, ◌≤◌, Bool, true, false, ◌&&◌, ◌||◌, ◌==◌, nat_lt, nat_le, min, max, if◌then◌else◌, inl, inr, List, [], ◌∷◌, Option, Some, None, refl, sym, ap, ◌∙◌, arith}
 use Rattle.std.specs.List.{list_any}
 use Rattle.std.proofs.lemmas.Bool.{cases_lt, lt-ltb, ltb-true, le-leb, leb-true, eq-eqb, eqb-true, and_parts, and_from, or_left, or_right, or_cases, true≢false}
@@ -142,7 +143,7 @@ module _ (all_in floor least ceiling : ℕ) where
         (omega (arith, same), omega (arith, same, under))
   ]
 
-  -- the ends of the legal targets, whatever the limit, where the full targets are these
+  -- the ends of the legal targets, whatever the limit, if these are the full targets
   pub record Ends (limit : Limit) (fulls : List ℕ) : Type 0 where
     pub at_least : is_legal_by limit floor least all_in ceiling fulls (least_by limit floor least all_in fulls) ≡ true
     pub at_most : is_legal_by limit floor least all_in ceiling fulls (greatest_by limit all_in ceiling fulls) ≡ true

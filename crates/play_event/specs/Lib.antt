@@ -1,4 +1,4 @@
--- What is said of a hand, how it is packed, and the rules of play.
+-- What a notation says of a hand, how it is packed, and the rules of play.
 pub mod Code
 pub mod Games
 pub mod Streets

@@ -1,4 +1,4 @@
--- What it costs to stay in, and by how much a raise has to go above it.
+-- The current bet, what is to call, and by how much a raise must exceed the current bet.
 use Rattle.std.specs.Prelude.{ℕ, ◌+◌, ◌-◌, ◌*◌, ◌&&◌, ◌||◌, ◌==◌, nat_le, max, if◌then◌else◌, List, [], ◌∷◌, map, sum}
 use Rattle.chip_ledger.specs.Greatest.{greatest}
 use Rattle.play_event.specs.declared.setup.Setup.{Setup}
@@ -7,20 +7,21 @@ use Rattle.play_event.specs.Streets.{unit}
 use Rattle.play_event.specs.Chips.{chips_put, street_chips}
 use Rattle.play_event.specs.Seats.{all_seats}
 
--- the price: the most chips of this street that any seat has put
+-- the current bet: the most chips that any seat has put in on this street
 abbrev pub price : Setup → List Move → ℕ → ℕ
 price setup moves street = greatest (map (street_chips setup moves street) (all_seats setup))
 
--- what a seat owes
+-- the chips that a seat has to call
 abbrev pub owed : Setup → List Move → ℕ → ℕ → ℕ
 owed setup moves street seat = price setup moves street - street_chips setup moves street seat
 
--- by how much the newest of the moves went above the price before it
+-- by how much the newest of the moves exceeded the current bet before it
 abbrev pub rise : Setup → Move → List Move → ℕ
 rise setup move before = move.to - price setup before move.street
 
--- The least full raise, in no limit and pot limit: the least bet, or the largest full raise on this
--- street. A raise is full where it goes above the price by at least the least full raise before it.
+-- The smallest full raise, in no limit and pot limit: the minimum bet, or the largest full raise on
+-- this street. A raise is full if it exceeds the current bet by at least the smallest full raise
+-- before it.
 abbrev pub full_raise : Setup → List Move → ℕ → ℕ
 full_raise setup [] street = setup.min_bet
 full_raise setup (move ∷ before) street =
@@ -29,7 +30,8 @@ full_raise setup (move ∷ before) street =
     then max (rise setup move before) (full_raise setup before street)
     else full_raise setup before street
 
--- for each raise of this street, its target and once more what it went above the price before it
+-- for each raise of this street, its target plus the amount by which it exceeded the current bet
+-- before it
 abbrev pub doubled_raises : Setup → List Move → ℕ → List ℕ
 doubled_raises setup [] street = []
 doubled_raises setup (move ∷ before) street =
@@ -37,14 +39,14 @@ doubled_raises setup (move ∷ before) street =
     then (2 * move.to - price setup before street) ∷ doubled_raises setup before street
     else doubled_raises setup before street
 
--- the price before the street's first move: that of the blinds on the first street, and nothing on
+-- the current bet before the street's first move: that of the blinds on the first street, and 0 on
 -- another
 abbrev pub starting_price : Setup → ℕ → ℕ
 starting_price setup street = price setup [] street
 
 -- The last full bet, in fixed limit: the target of the newest raise or bring-in of this street that
--- went at least one unit above the full bet before it. Before any it is the starting price, where
--- that is a unit at least, and else 0.
+-- exceeded the full bet before it by at least one bet size. Before any it is the starting bet if
+-- that is at least one bet size, and otherwise 0.
 abbrev pub full_bet : Setup → List Move → ℕ → ℕ
 full_bet setup [] street =
     if nat_le (unit setup street) (starting_price setup street)
@@ -56,6 +58,6 @@ full_bet setup (move ∷ before) street =
     then move.to
     else full_bet setup before street
 
--- all chips that were put
+-- all chips that were put in
 abbrev pub all_chips_put : Setup → List Move → ℕ
 all_chips_put setup moves = sum (map (chips_put setup moves) (all_seats setup))

@@ -26,6 +26,6 @@ all_seats setup = seats_of setup.stacks.seats
 abbrev pub live_count : Setup → List Move → ℕ
 live_count setup moves = count_by (is_live moves) (all_seats setup)
 
--- how many seats are able
+-- how many seats are able to act
 abbrev pub able_count : Setup → List Move → ℕ
 able_count setup moves = count_by (is_able setup moves) (all_seats setup)

@@ -1,5 +1,5 @@
-//! What is said of a hand: its setup, its rules, and the script of its events; and the rules of
-//! play.
+//! What a notation says of a hand: its setup, its rules, and the script of its events; and the
+//! rules of play.
 #![tactic(auto)]
 
 mod code;

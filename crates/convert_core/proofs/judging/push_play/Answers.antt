@@ -1,4 +1,5 @@
--- The play is the one of the record, and what its trace differs in is told of the legal hand that has the trace.
+-- The play is that of the record, and a difference is reported only for the legal hand that has the
+-- trace.
 use Rattle.std.proofs.Common.{refl, sym}
 use Rattle.convert_core.proofs.judging.push_play.Goals as goal
 

@@ -1,4 +1,4 @@
--- At the end all hands are written, or the first fact without a spelling is told.
+-- At the end all hands are written, or the first fact that cannot be expressed is reported.
 use Rattle.std.proofs.Common.{false, rules, refl, subst, ◌∙◌}
 use Rattle.convert_core.specs.Judged.{IsPlaysFaultOf}
 use Rattle.convert_core.specs.declared.refusal.PlaysFault.{PlaysFault}

@@ -1,4 +1,4 @@
--- What is wrong with the hand is taken, where one goes on behind it.
+-- The refused hand is visited, if the visitor continues after one.
 use Rattle.std.proofs.Common.{rules, ◌≡◌, true, sym}
 use Rattle.convert_core.proofs.Taken.{now_passed}
 use Rattle.convert_core.proofs.taking.pass_hand.Goals as goal

@@ -1,4 +1,4 @@
--- One hand after the other is taken; at the end all of them are, or the first refused one is told.
+-- One hand after another is visited; at the end all are, or the first refused one is reported.
 use Rattle.std.proofs.Common.{◌≡◌, List, ◌∷◌, length, ap, subst, sym, ◌∙◌, arith}
 use Rattle.std.proofs.lemmas.List.{nil_from_length}
 use Rattle.std.proofs.lemmas.List.Elements.{All-rest}

@@ -1,4 +1,4 @@
--- The verdicts on the records so far were taken, and those that are left are behind them.
+-- The verdicts on the records so far were visited; the others are left.
 use Rattle.std.proofs.Common.{◌≡◌, ◌+◌, All, length}
 use Rattle.std.specs.Vec.Iter.{into_iter_items}
 use Rattle.hand_records.specs.SoundRecord.{IsSoundRecord}

@@ -1,4 +1,4 @@
--- The play that was made is handed on.
+-- The play that was made is passed to the visitor.
 use Rattle.std.proofs.Common.{◌≡◌, List, ◌∷◌, [], ◌++◌, length, ap, subst, sym, ◌∙◌, arith}
 use Rattle.convert_core.proofs.JudgedPlays.{judged_sound}
 use Rattle.convert_core.specs.Judged.{IsOneMorePlay}

@@ -1,4 +1,4 @@
--- The streets one after another, the showdown behind them, and few enough events that each has its number.
+-- The streets one after another, then the showdown, and few enough events that each has its number.
 use Rattle.std.proofs.Common.{◌≡◌, ◌≤◌, ◌∙◌, ◌++◌, ℕ, ap, arith, length, sym, List, ◌+◌}
 use Rattle.std.specs.List.{flat_map}
 use Rattle.std.proofs.lemmas.List.{length-map}

@@ -1,4 +1,5 @@
--- Nothing is written where the street does not draw or is not reached, and else the discards of the seats.
+-- Nothing is written if the street does not draw or is not reached, and otherwise the discards of
+-- the seats.
 use Rattle.std.proofs.Common.{◌≡◌, ◌∙◌, ◌++◌, ℕ, ap, arith, map, subst, sym}
 use Rattle.std.specs.List.{flat_map, list_any}
 use Rattle.chip_ledger.specs.Seat.{seats_of}

@@ -1,4 +1,4 @@
--- Nothing is written where fewer than two seats are live, and else the show or muck of each.
+-- Nothing is written if fewer than two seats are live, and otherwise the show or muck of each.
 use Rattle.std.proofs.Common.{◌≡◌, ◌∙◌, ◌++◌, ℕ, ap, arith, map, subst, sym}
 use Rattle.std.specs.List.{flat_map, list_any}
 use Rattle.chip_ledger.specs.Seat.{seats_of}

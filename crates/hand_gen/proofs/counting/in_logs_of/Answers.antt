@@ -1,4 +1,4 @@
--- The logs of the game spell the play, or they do not.
+-- The logs of the game can express the play, or they cannot.
 use Rattle.std.proofs.Common.{◌≡◌, ◌⊎◌, List, [], ◌∷◌, length, Some, sym, ap, subst, ◌∙◌}
 use Rattle.acpc_writing.specs.Line.{log_text}
 use Rattle.acpc_writing.specs.Spelled.{unspelled}

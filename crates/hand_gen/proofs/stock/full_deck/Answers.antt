@@ -1,4 +1,4 @@
--- One place of the deck more, and in the end all places.
+-- One more place of the deck, and in the end all places.
 use Rattle.std.proofs.Common.{◌≡◌, ◌++◌, ◌∷◌, [], List, cond, map, filter, sym, ap, ◌∙◌, arith}
 use Rattle.std.specs.List.{range_with_len}
 use Rattle.card_set.specs.Deck.{card_placed}

@@ -1,4 +1,4 @@
--- One hand more is written, or nothing is, where one is refused.
+-- One more hand is written, or nothing is if one was refused before.
 use Rattle.std.proofs.Common.{refl, sym, ◌∙◌}
 use Rattle.convert_core.proofs.Taken.{all_counted}
 use Rattle.convert_core.proofs.WrittenLines.{behind_refused, none_is, now_refused, now_spelled}

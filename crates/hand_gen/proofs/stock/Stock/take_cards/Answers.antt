@@ -1,4 +1,4 @@
--- One card more.
+-- One more card.
 use Rattle.std.proofs.Common.{◌+◌, ◌-◌, ◌++◌, ◌∷◌, [], List, ℕ, ap, ◌∙◌}
 use Rattle.card_set.specs.declared.card.Card.{Card}
 use Rattle.card_set.specs.Row.{cards_of}

@@ -1,4 +1,4 @@
--- The cards so far are the first of all, and those that are left are the rest.
+-- The cards so far are the first of all, and those that are left are the others.
 use Rattle.std.proofs.Common.{◌≡◌, ◌++◌, ◌-◌}
 use Rattle.card_set.specs.Row.{cards_of}
 use Rattle.hand_gen.specs.Stock.{after_cards, next_cards}

@@ -1,4 +1,4 @@
--- One hand more.
+-- One more hand.
 use Rattle.std.proofs.Common.{◌≡◌, ℕ, ◌+◌, ◌-◌, cond, List, [], ◌∷◌, ◌++◌, map, fold, sum_by, length, length-append, sym, ap, subst, ◌∙◌, arith}
 use Rattle.std.proofs.lemmas.List.{length-map, map-append}
 use Rattle.name_index.specs.Names.{with_name}
