@@ -54,7 +54,7 @@ fn first_round(alloc: Global, dialect: Dialect, tidy: &TidyTrace) -> Result<Roun
     })
 }
 
-// Puts the round of a street of the board behind others, where its cards were dealt.
+// Appends the round of a board street, if its cards were dealt.
 fn push_board_round(
     alloc: Global,
     rounds: &mut Vec<Round>,
@@ -101,7 +101,7 @@ fn moves_on(
     Ok(actions)
 }
 
-// Puts the showdown behind other rounds, where there is one.
+// Appends the showdown, if there is one.
 fn push_showdown(alloc: Global, rounds: &mut Vec<Round>, tidy: &TidyTrace) -> Result<(), Memory>
     ensures { OnOk result (map round_said rounds.new.items
         ≡ map round_said rounds.old.items ++ showdown_round (showings tidy.now.trace.now)) }

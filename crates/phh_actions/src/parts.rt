@@ -39,7 +39,7 @@ fn names_seat(name: &[u8], seat: u8) -> bool
     }
 }
 
-/// The amount that a word says; leading zeros may stand.
+/// The amount that a word means; leading zeros are allowed.
 #[tactic(auto, unfolding(crate::specs::Action::amount_said))]
 pub fn read_amount(word: &[u8]) -> Result<u64, ActionFault>
     ensures { seen_by (λ amount. amount) result ≡ amount_said word.now }
@@ -79,7 +79,7 @@ pub fn known_cards(slots: SlotRow) -> Result<CardRow, ActionFault>
     Ok(known_row(slots.as_slice()))
 }
 
-/// One to so many slots, two letters each.
+/// One to `most` cards, known or unknown, two letters each.
 #[tactic(auto, unfolding(crate::specs::Action::slots_said))]
 pub fn read_slots(most: u8, word: &[u8]) -> Result<SlotRow, ActionFault>
     requires { most ≤ 7 }
@@ -91,7 +91,7 @@ pub fn read_slots(most: u8, word: &[u8]) -> Result<SlotRow, ActionFault>
     keep_within(most, slots)
 }
 
-// The slots, if they are one to so many.
+// The cards, if there are one to `most`.
 fn keep_within(most: u8, slots: SlotRow) -> Result<SlotRow, ActionFault>
     ensures { seen_by slots_of result ≡ one_to most (slots_of slots) }
 {

@@ -1,4 +1,4 @@
-//! Which sizes of bets a game uses.
+//! Which bet sizes a game uses.
 ghost use Rattle.std.specs.Prelude.{◌≡◌};
 ghost use Rattle.play_event.specs.Streets.{is_stud as is_stud_said, limit_of};
 ghost use Rattle.play_event.specs.ValidSetup.{is_fixed as is_fixed_said};

@@ -1,4 +1,4 @@
-//! The line that is told where a limit is passed, in whatever notation.
+//! The line that is printed when a limit is exceeded, the same for every notation.
 ghost use Rattle.std.specs.Prelude.{◌≡◌, IfOk, string_bytes};
 ghost use Rattle.poker_cli.specs.Limits.{limit_line as limit_line_said, limit_text as limit_said};
 
@@ -6,7 +6,7 @@ use card_set::Memory;
 use first_fault::Quantity;
 use std::alloc::Global;
 
-/// The line of a limit that is passed.
+/// The line of a limit that is exceeded.
 pub fn limit_line(alloc: Global, quantity: Quantity) -> Result<String, Memory>
     ensures { IfOk result (λ line. string_bytes line ≡ limit_line_said quantity) }
 {
@@ -14,7 +14,7 @@ pub fn limit_line(alloc: Global, quantity: Quantity) -> Result<String, Memory>
     Ok(format!(in alloc; "limit: {limit}\n")?)
 }
 
-// What a limit is called, and its number.
+// The name of a limit, and its number.
 fn limit_text(quantity: Quantity) -> &'static str
     ensures { result.now ≡ limit_said quantity }
 {

@@ -1,5 +1,5 @@
-//! Deals, draws, and cards that are taken or not held. Each function does nothing: its contract is
-//! computed from the rules.
+//! Deals, draws, and cards that are already taken or not held. Each function does nothing: its
+//! contract is computed from the rules.
 ghost use Rattle.std.specs.Prelude.{codes};
 ghost use Rattle.play_event.specs.declared.reason.Illegal.TheVariants.{WrongKind, WrongSeat, WrongCount, CardTaken, NotHeld};
 ghost use Rattle.worked_hands.specs.Outcomes.{AllLegal, IllegalAt};
@@ -20,7 +20,7 @@ pub fn deals()
     ensures a_board_of_four_cards { IllegalAt 5 WrongCount heads_up (flop_of (codes "AhQh2s3s")) }
 {}
 
-/// Discards, replacements, and deals past the deck.
+/// Discards, replacements, and deals past the end of the deck.
 pub fn draws()
     ensures a_deal_past_the_deck { AllLegal triple_draw (second_draw (codes "??????????")) }
     ensures within_the_deck { IllegalAt 33 CardTaken triple_draw (second_draw (codes "????????")) }
