@@ -1,4 +1,4 @@
--- What a hand says beside its play.
+-- What a hand in Open Hand History says beside its play.
 pub mod Won
 pub mod PotSums
 pub mod Pots
