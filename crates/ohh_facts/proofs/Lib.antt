@@ -1,4 +1,4 @@
--- Laws of what a hand says beside its play.
+-- Laws of what a hand says besides its play.
 pub mod Nine
 pub mod NamesFrom
 pub mod Dated

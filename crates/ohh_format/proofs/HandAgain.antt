@@ -187,7 +187,7 @@ module _ (dialect : Dialect) (place : ℕ) (play : Play) (is : IsReadable play) 
           script_read setting trace can is.showdown (length (amounts_in setup.stacks)) table.count,
         ) refl
 
-    -- the hand
+    -- the hand reads back
     pub hand_read : place < MOST_HANDS → hand_said dialect file_moves place ohh ≡ Ok (hand_again dialect place play, file_moves + moves_in hand_steps)
     unfolding hand_said stakes
     hand_read within =

@@ -56,7 +56,7 @@ number_is text number is = go (are_digits text && (not (slice_index text 0 == 48
         let small : digits_value 10 text < 2 ^ 64 = omega (arith, value.0, value.1) in
         ap decimal (sym value.0) ∙ decimal-digits_value own_digits text (all_digits text digits.1) (ltb-true 0 (length text) digits.0) no_zero small
 
--- a label says its text again
+-- a label reads back as its text
 pub label_again : (default text : List ℕ) (place : FieldPlace) → IsNoteText text → bytes_eq text default ≡ false → label_said default place (label text) ≡ Ok (Some text)
 unfolding label_said
 label_again default text place is other = go (number_written text) refl

@@ -1,8 +1,8 @@
--- For every input within the limits that reads as hands, `convert` ends with status 0 if and only
--- if the replay of every hand is legal, every stated fact agrees and every fact to be kept can be
--- written in the target notation. The bytes that it writes read back in the target notation as the
--- same hands, with all their notes or with those that the notation can write. Otherwise nothing is
--- written, and the first refused hand is named, with its first illegal action.
+-- For every input within the limits that reads as hands, `convert` answers 0 exactly when the
+-- replay of every hand is legal, every stated fact agrees and every fact to be kept has a spelling
+-- in the target notation. The bytes that it writes read back there as the same hands, with all
+-- their notes or with those that the notation spells. Otherwise nothing is written, and the first
+-- refused hand is named, with its first illegal action.
 use Rattle.std.specs.Prelude.{◌≡◌, ◌⊎◌, ℕ, ◌<◌, ◌≤◌, List, length, codes, None, Some}
 use Rattle.std.specs.Io.KnownBytes.{Appends}
 use Rattle.command_words.specs.Words.{Request}
