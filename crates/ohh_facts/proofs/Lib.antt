@@ -1,4 +1,4 @@
--- Laws of what a hand says besides its play.
+-- Laws of the parts of a hand other than its play.
 pub mod Nine
 pub mod NamesFrom
 pub mod Dated

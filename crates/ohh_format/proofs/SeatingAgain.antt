@@ -43,7 +43,7 @@ module _ (count : ℕ) (stacks : SeatRow) (notes : Notes) (numbers : Option (Lis
   module _ (is : IsCircle count (number_among numbers)) where
     -- ---- the lowest of the players above a number
 
-    -- if a player was found, another has a higher number
+    -- a player that was found has a higher number at the table than this
     abbrev IsAbove : ℕ → Option PlainPlayer → Type 0
     IsAbove least None = Unit {0}
     IsAbove least (Some player) = least < player.seat

@@ -27,7 +27,7 @@ pub enum MemberFaultKind {
     UnsupportedAction,
     /// A round or its cards are out of order.
     BadStreet,
-    /// A blind, a straddle or an ante is not as it must be.
+    /// A blind, a straddle or an ante breaks a condition of posts.
     BadPost,
     /// A rake is taken from a pot past the last that a hand can have.
     RakePlace,
@@ -49,7 +49,7 @@ pub enum PlayerMember {
 #[derive(Clone, Copy, Debug, PartialEq, Eq)]
 pub enum ActionMember {
     Itself,
-    /// The word that says what was done.
+    /// The word for what was done.
     Word,
     PlayerId,
     Amount,
@@ -90,7 +90,7 @@ pub enum PotMember {
     Win { index: u64, member: WinMember },
 }
 
-/// The way from the object of a block to a member. Items of lists are counted from 0.
+/// The path from the object of a block to a member. Items of lists are counted from 0.
 #[derive(Clone, Copy, Debug, PartialEq, Eq)]
 pub enum Path {
     /// The hand itself.
@@ -235,7 +235,7 @@ impl PotMember {
 }
 
 impl Path {
-    /// The path of one of the cards, from 0, where this is the path of a list of cards.
+    /// The path of one of the cards, from 0, if this is the path of a list of cards.
     pub fn card(self, index: u64) -> Path
         ensures { result ≡ card_path self index }
     {

@@ -1,4 +1,4 @@
-//! The words that say what a player did.
+//! The words for what a player did.
 ghost use Rattle.std.specs.Prelude.{◌≡◌};
 ghost use Rattle.ohh_members.specs.Words.{is_deal as is_deal_said, word_named as word_said, word_text};
 

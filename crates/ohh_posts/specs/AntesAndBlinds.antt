@@ -17,7 +17,7 @@ pub record PlainAntesAndBlinds : Type 0 where
   pub dead_antes : Bool
   pub blinds : List ℕ
 
--- the same with plain lists
+-- antes and blinds, as the definitions see them
 abbrev pub plain_antes_and_blinds : AntesAndBlinds → PlainAntesAndBlinds
 plain_antes_and_blinds stakes =
     record {

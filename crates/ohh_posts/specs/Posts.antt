@@ -18,7 +18,7 @@ pub record PlainPost : Type 0 where
   pub early : Bool
   pub place : ActionPlace
 
--- a post with plain numbers
+-- a post, as the definitions see it
 abbrev pub plain_post : Post → PlainPost
 plain_post post =
     record {

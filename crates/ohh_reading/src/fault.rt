@@ -52,7 +52,7 @@ pub enum OhhFault {
         hand: u32,
         path: Text,
     },
-    /// A blind, a straddle or an ante is not as it must be.
+    /// A blind, a straddle or an ante breaks a condition of posts.
     BadPost {
         hand: u32,
         path: Text,

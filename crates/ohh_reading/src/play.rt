@@ -23,7 +23,7 @@ use ohh_rounds::{RoundsPlay, Setting, read_rounds};
 use serde_json::Value;
 use std::alloc::Global;
 
-/// What the rounds of a hand say, read with the stacks and the ids of its players.
+/// The rounds of a hand, read with the stacks and the ids of its players.
 pub fn read_play(
     alloc: Global,
     dialect: Dialect,

@@ -39,7 +39,7 @@ post_in (Dealt seat cards) = []
 post_in (Happened event) = []
 post_in Passed = []
 
--- the same of a play that was read
+-- a play, as the definitions see it
 abbrev pub plain_play : RoundsPlay → PlainPlay
 plain_play play =
     record {

@@ -13,7 +13,7 @@ pub record PlainSetting : Type 0 where
   pub dialect : Dialect
   pub file_moves : ℕ
 
--- the same with plain numbers and lists
+-- what is known before the rounds, as the definitions see it
 abbrev pub plain_setting : Setting → PlainSetting
 plain_setting setting =
     record {

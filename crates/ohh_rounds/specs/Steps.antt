@@ -26,14 +26,14 @@ pub record PlainStep : Type 0 where
   pub number : ℕ
   pub deed : PlainDeed
 
--- what was done, with plain numbers and lists
+-- what was done, as the definitions see it
 abbrev pub plain_deed : Deed → PlainDeed
 plain_deed (deeds.Posted post) = Posted (plain_post post)
 plain_deed (deeds.Dealt seat cards) = Dealt seat.number (slots_of cards)
 plain_deed (deeds.Happened kind) = Happened (kind_said kind)
 plain_deed deeds.Passed = Passed
 
--- a step with plain numbers and lists
+-- a step, as the definitions see it
 abbrev pub plain_step : RoundStep → PlainStep
 plain_step step = record { number = step.number; deed = plain_deed step.deed }
 

@@ -30,7 +30,7 @@ use play_event::{Event, Kind, Script};
 use serde_json::Value;
 use std::alloc::Global;
 
-/// What the rounds of a hand say.
+/// The rounds of a hand, as they are read.
 #[derive(Debug, Drop)]
 pub struct RoundsPlay {
     /// The antes and blinds.

@@ -12,7 +12,7 @@ use play_event::Kind;
 /// What was done.
 #[derive(Clone, Copy, Debug, PartialEq, Eq)]
 pub enum Deed {
-    /// Chips were put in before the play.
+    /// Chips were put in before play began.
     Posted(Post),
     /// Hole cards were dealt to a seat.
     Dealt { seat: Seat, cards: SlotRow },

@@ -7,7 +7,7 @@ use ohh_members::words::Word;
 #[derive(Clone, Copy)]
 pub enum Detail {
     Nothing,
-    /// Chips, and whether the player has none left.
+    /// Chips, and whether the player is all-in.
     Chips { amount: u64, all_in: bool },
     Cards(SlotRow),
 }

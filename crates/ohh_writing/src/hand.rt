@@ -1,4 +1,4 @@
-//! The tree of a hand: what is written of its setup, its notes and its play.
+//! The tree of a hand: its setup, its notes and its play as they are written.
 ghost use Rattle.std.specs.Prelude.{◌≡◌, [], codes, unwrap_or, IfOk, OnOk};
 ghost use Rattle.std.specs.Fmt.{decimal};
 ghost use Rattle.serde_json.specs.Data.{object, string, put as put_said};

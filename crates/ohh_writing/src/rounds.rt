@@ -1,4 +1,4 @@
-//! A hand is a list of rounds: those of its streets, and the showdown.
+//! A hand is written as a list of rounds: those of its streets, and the showdown.
 ghost use Rattle.std.specs.Prelude.{◌≡◌, None, [], ◌++◌, map, IfOk, OnOk};
 ghost use Rattle.ohh_writing.specs.Actions.{action_said, showings};
 ghost use Rattle.ohh_writing.specs.Rounds.{board_round_on, first_actions, hand_rounds as hand_rounds_said, moves_on as moves_on_said, round, round_said, showdown_round};

@@ -86,7 +86,7 @@ fn put_detail(alloc: Global, members: &mut Map<String, Value>, detail: Detail) -
     }
 }
 
-// Puts chips, and whether the player has none left, under their names.
+// Puts chips, and whether the player is all-in, under their names.
 fn put_chips(
     alloc: Global,
     members: &mut Map<String, Value>,

@@ -69,7 +69,7 @@ fn is_fraction(word: &[u8]) -> bool
     are_digits(&word[..len]) && are_digits(&word[len + 1..])
 }
 
-/// The cards of the slots, if each of them is known.
+/// The cards, if each of them is known.
 pub fn known_cards(slots: SlotRow) -> Result<CardRow, ActionFault>
     ensures { seen_by cards_of result ≡ all_known (slots_of slots) }
 {
@@ -103,7 +103,7 @@ fn keep_within(most: u8, slots: SlotRow) -> Result<SlotRow, ActionFault>
     }
 }
 
-// Whether one of the slots is unknown.
+// Whether one of the cards is unknown.
 fn has_unknown(slots: &[Slot]) -> bool
     ensures { result ≡ list_any is_unknown slots.now }
 {
@@ -115,7 +115,7 @@ fn has_unknown(slots: &[Slot]) -> bool
     false
 }
 
-// The known cards of up to seven slots.
+// The known ones of up to seven cards.
 fn known_row(slots: &[Slot]) -> CardRow
     requires { length slots.now ≤ 7 }
     ensures { cards_of result ≡ known_cards_said slots.now }

@@ -77,7 +77,7 @@ fn discard_text(alloc: Global, seat: Seat, slots: &[Slot]) -> Result<String, Mem
     Ok(text)
 }
 
-// The letters of slots.
+// The letters of cards, known or unknown.
 fn push_slots(text: &mut String, slots: &[Slot]) -> Result<(), Memory>
     ensures { OnOk result (string_bytes text.new ≡ string_bytes text.old ++ spelling slots.now) }
 {
@@ -115,7 +115,7 @@ fn push_cards(text: &mut String, cards: &[Card]) -> Result<(), Memory>
     Ok(())
 }
 
-// The two letters of a slot.
+// The two letters of a card, known or unknown.
 fn push_slot(text: &mut String, slot: Slot) -> Result<(), Memory>
     ensures { OnOk result (string_bytes text.new ≡ string_bytes text.old ++ slot_spelling slot) }
 {
@@ -125,7 +125,7 @@ fn push_slot(text: &mut String, slot: Slot) -> Result<(), Memory>
     Ok(())
 }
 
-// The two letters of a slot; each of them is one byte of a text.
+// The two letters of a card, known or unknown; each of them is one byte of a text.
 #[tactic(auto, using(card_set::proofs::Letters::one_byte_each))]
 fn letters_of(slot: Slot) -> [u8; 2]
     ensures letters { result ≡ slot_spelling slot }

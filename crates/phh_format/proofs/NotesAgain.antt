@@ -30,7 +30,7 @@ unfolding text_note_said text_said
 text_note_again place None is = refl
 text_note_again place (Some text) is = note_again [] text place is (not_empty text is)
 
--- a number within the greatest is what its digits say
+-- a number within the limit is what its digits mean
 of_number : (most : ℕ) (digits : List ℕ) (number : ℕ) → number_of most digits ≡ Some number → (digits_value 10 digits ≡ number) × (number ≤ most)
 unfolding number_of
 of_number most digits number is = go (nat_le (digits_value 10 digits) most) refl is

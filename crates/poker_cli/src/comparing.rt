@@ -32,8 +32,8 @@ pub enum NoFile {
 }
 
 /// The answer if the hands that are left in the source are compared with those in the file of this
-/// name. If a log is among the two, the game file is asked of the shelf first, and the other file
-/// only if the game file gives a game.
+/// name. If one of the two is a log, the shelf is asked for the game file first, and for the other
+/// file only if the game file gives a game.
 pub fn reply_to_comparison<S: Source, H: Shelf>(
     alloc: Global,
     sides: Sides<'_>,

@@ -38,9 +38,10 @@ ghost use Rattle.poker_cli.specs.declared.task.Task.TheVariants as tasks;
 ghost use Rattle.convert_core.specs.Conversion.{ReadAsPlays};
 ghost use Rattle.convert_core.specs.SameAnswers.{AreSameAnswers};
 
-/// An input has one answer to a task, however it is read: where hands are written in the Poker Hand
-/// History format, all readings by TOML get the same answer. It also has one answer if it is
-/// compared with another file. The function does nothing: its contract is a law.
+/// The bytes of an input have one answer to a task. Only if hands are converted to the Poker Hand
+/// History format may two answers differ in their text; TOML then reads both outputs as the same
+/// document. An input that is compared with another file has one answer, too. The function does
+/// nothing: its contract is a law.
 pub fn law_of_one_answer()
     ensures task { (task : Task) (reader : Format) (bytes : List ℕ) (answer other : Answer)
         → IsAnswer task reader bytes answer → IsAnswer task reader bytes other

@@ -28,7 +28,7 @@ pub fn refusal_text(alloc: Global, why: &Refusal) -> Result<String, Memory>
     }
 }
 
-// What is wrong with a script.
+// What is wrong with a script, as text.
 fn fault_text(alloc: Global, fault: &ReplayFault) -> Result<String, Memory>
     ensures { IfOk result (λ text. string_bytes text ≡ definition.fault_text fault.now) }
 {

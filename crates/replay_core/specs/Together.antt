@@ -12,7 +12,7 @@ use Rattle.street_laws.specs.Done.{is_done}
 pub record StandTogether (b : RunningNumbers) (t : CardState) (past : Past) : Type 0 where
   -- the cards are of the game of the betting
   pub code_is : b.setup.code ≡ t.table.code
-  -- and of its seats
+  -- and have its seats
   pub seats : b.setup.stacks.seats ≡ t.seats
   -- the betting describes the past
   pub betting : betting.StandsFor b past
@@ -23,7 +23,7 @@ pub record StandTogether (b : RunningNumbers) (t : CardState) (past : Past) : Ty
 pub record StandUpToDue (b : RunningNumbers) (t : CardState) (past : Past) : Type 0 where
   -- the cards are of the game of the betting
   pub code_is : b.setup.code ≡ t.table.code
-  -- and of its seats
+  -- and have its seats
   pub seats : b.setup.stacks.seats ≡ t.seats
   -- the cards describe the past
   pub cards : cards.StandsFor t past

@@ -99,7 +99,7 @@ impl<V: Variant> HandInPlay<V> {
         }
     }
 
-    // A move, and for a fold what it does to the cards.
+    // Plays a move, and for a fold updates the cards.
     fn bet(&mut self, event: &Event) -> Result<Option<Move>, Illegal>
         requires { is_card_said (said_of event.now) ≡ false }
         ensures advanced { Advances
@@ -249,7 +249,7 @@ fn lay<V: Variant>(
         Kind::Show { seat: _, cards: _ } | Kind::Muck { seat: _ } => {
             cards.show(due, live, settled, event)
         }
-        // The condition leaves no other kind.
+        // The precondition allows no other kind.
         _ => Err(Illegal::WrongKind),
     }
 }

@@ -62,7 +62,8 @@ pub use trace_laws::law_of_one_trace;
 /// The pots of a whole trace and what is returned are all chips that were put in.
 pub use trace_laws::law_of_pots_and_returns;
 
-/// After legal events the finishing stacks and the pots are the starting stacks and the shares.
+/// After legal events the finishing stacks and the pots are together the starting stacks and the
+/// shares.
 pub use trace_laws::law_of_finishing_stacks;
 
 /// In a pot that two or more seats may win, only shown seats get chips that no other shown seat in

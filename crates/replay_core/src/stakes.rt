@@ -30,7 +30,7 @@ pub fn pots_of(setup: &Setup, puts: &SeatRow, live: &LiveRow) -> PotRow
     ensures pots { (past : Past) → AreRowsOf setup.now (moves_of past) puts.now live.now
         → ArePotsOf setup.now past result }
 
-    // What follows from it.
+    // What follows from the rule.
     ensures conserved { sum_by (λ pot. pot.chips) (pots_in result) + total_of result.returned
         ≡ total_of puts.now }
     ensures eligible { All (λ pot. pot.eligible.seats ≡ setup.now.stacks.seats) (pots_in result) }

@@ -27,7 +27,7 @@ best_to test points (suc seat) =
 abbrev pub is_flagged : LiveRow → ℕ → Bool
 is_flagged row seat = list_any (λ n. n == seat) (flagged row)
 
--- how seats compare by their points
+-- how seats compare, given their points
 abbrev pub ranking_by : (ℕ → Option ℕ) → (ℕ → Option ℕ) → Ranking
 ranking_by points low = record {
   beats = λ seat other. IsLess (points other) (points seat);

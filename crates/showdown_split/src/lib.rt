@@ -63,7 +63,7 @@ pub fn split<V: Variant>(
     ensures first_unshown { IfErr result (λ fault. first_unshown
         (showdown_of hands.now board.now shown.now) (plain_pots pots.now) ≡ Some fault.pot) }
 
-    // What follows from it.
+    // What follows from the rule.
     ensures conserved { IfOk result (λ shares. (number : ℕ) → shared_in shares number
         + rake_of rakes.now number ≡ chips_in (plain_pots pots.now) number) }
     ensures seats { IfOk result (λ shares.

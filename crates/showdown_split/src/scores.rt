@@ -15,7 +15,7 @@ pub struct Scores {
 impl Scores {
     ghost use Rattle.showdown_split.specs.Scores.{points_of};
 
-    /// No seat has a score.
+    /// A row without scores.
     pub fn new() -> Self
         ensures { (n : ℕ) → points_of result n ≡ None }
     {

@@ -35,7 +35,7 @@ pub fn pots(puts: &SeatRow, dead: u64, live: &LiveRow) -> PotRow
     ensures returned { (n : ℕ) → 1 ≤ n → n ≤ puts.now.seats → amount_of result.returned n
         ≡ returned (stakes_of puts.now live.now) (stake_of puts.now live.now n) }
 
-    // What follows from it.
+    // What follows from the rule.
     ensures conserved { sum_by (λ pot. pot.chips) (pots_in result) + total_of result.returned
         ≡ total_of puts.now + dead }
     ensures each_has_chips { All (λ pot. 0 < pot.chips) (pots_in result) }

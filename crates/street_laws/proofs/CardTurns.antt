@@ -74,7 +74,7 @@ none_at on rest street None is later nothing between low high = elim (cases_lt s
   | inr below ↦ let same : between ≡ street = omega (arith, below, low) in ap on same ∙ is
 ]
 
--- what is due is not the end of the hand
+-- unless the hand is over, two or more seats are live
 pub several_live : (setup : Setup) (past : Past) (street : ℕ) (due : Due) → turn setup past ≡ (street, due) → (due ≡ dues.Over → ⊥) → nat_le (live_count setup (moves_of past)) 1 ≡ false
 several_live setup past street due is other = several_by (nat_le (live_count setup (moves_of past)) 1) refl
   where

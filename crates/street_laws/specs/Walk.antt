@@ -28,7 +28,8 @@ turn_behind code street =
     then (street + 1, street_cards code (street + 1))
     else (street, dues.Show)
 
--- what is due on a street whose cards are dealt: a bring-in, a move, or what comes after it
+-- what is due on a street whose cards are dealt: a bring-in, a move, or what comes after the
+-- betting
 abbrev pub betting_turn : Code → ℕ → (bring_in move : Bool) → ℕ × Due
 betting_turn code street bring_in move =
     if bring_in

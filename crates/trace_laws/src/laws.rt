@@ -27,8 +27,8 @@ pub fn law_of_one_trace()
         → (trace ≡ other) ↔ (core_of setup past ≡ core_of setup later) }
 {}
 
-/// The canonical script of the trace of a legal hand is a legal hand under the same rules, and has
-/// the same shares and finishing stacks.
+/// The canonical script of the trace of a legal hand is a legal hand under the same rules, with the
+/// same shares and finishing stacks.
 pub fn law_of_canonical_hands()
     ensures legal { (setup : Setup) (rules : Rules) (script : List Said)
         → IsLegalHand setup rules script → IsLegalHand setup rules (canon_of setup script) }
@@ -38,8 +38,8 @@ pub fn law_of_canonical_hands()
         ↔ HasShares setup (core_after setup (canon_of setup script)) shares finish }
 {}
 
-/// A row of places agrees with the places that are gathered card by card if and only if it is the
-/// row that a trace has.
+/// A row describes a place (`IsPlace`, as places are gathered card by card) if and only if this
+/// place is what a trace with that row keeps.
 pub fn law_of_places()
     ensures { (row : Place) (place : TracedPlace) → IsPlace row place ↔ (place_said row ≡ place) }
 {}

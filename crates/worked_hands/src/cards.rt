@@ -6,7 +6,7 @@ ghost use Rattle.worked_hands.specs.Outcomes.{AllLegal, IllegalAt};
 ghost use Rattle.worked_hands.specs.Setups.{draw_short, heads_up, no_limit, single_draw, triple_draw};
 ghost use Rattle.worked_hands.specs.CardScripts.{ace_dealt_twice, all_in_draws, dealt, dealt_after_pat, dealt_again, discarded, early_flop, flop_of, fold_before_deals, kept_cards_shown, second_draw, third_card};
 
-/// How many cards may come, when, and for whom.
+/// How many cards are dealt, when, and to whom.
 pub fn deals()
     ensures a_third_hole_card { IllegalAt 1 WrongCount no_limit (dealt 1 (codes "??????")) }
     ensures a_misspelled_card { IllegalAt 1 WrongCount no_limit (dealt 1 (codes "AhXh")) }

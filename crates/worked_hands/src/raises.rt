@@ -26,7 +26,7 @@ pub fn reopened_betting()
     ensures half_a_bet_reopens_in_fixed_limit { AllLegal limit_three half_bet_more }
 {}
 
-/// The pot bounds a raise.
+/// The pot limits a raise.
 pub fn raises_in_pot_limit()
     ensures the_pot { AllLegal pot_limit (pot_raised_to 7) }
     ensures above_the_pot { IllegalAt 4 RaiseTooBig pot_limit (pot_raised_to 8) }

@@ -27,10 +27,10 @@ value_states = record all_states { values = Some (nets_of (pos 1 ∷ pos 2 ∷ p
 abbrev pub pot_states : Stated
 pot_states = record value_states { pot_total = Some 9 }
 
--- this pot, won by p3
+-- the same, and p3 wins this pot
 abbrev pub win_states : Stated
 win_states = record pot_states { wins = Some (row_of (0 ∷ 0 ∷ 9 ∷ []) refl) }
 
--- this win, and a chip of p2 with p3
+-- the same, and p3 finishes with one chip of p2
 abbrev pub finish_states : Stated
 finish_states = record win_states { finish = Some (row_of (99 ∷ 97 ∷ 104 ∷ []) refl) }

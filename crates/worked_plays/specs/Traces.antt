@@ -72,7 +72,7 @@ moved_fixed street seat act from to price unit_to =
       unit_to = unit_to;
     }
 
--- the same in another limit, where no raise unit is kept
+-- the same in another limit, which has no raise unit
 abbrev pub moved : ℕ → Seat → Act → (from to price : ℕ) → Move
 moved street seat act from to price = moved_fixed street seat act from to price 0
 

@@ -21,7 +21,7 @@ pub fn sound_plays()
         → IsSound (play_of hand steal_trace) }
 {}
 
-/// Each breaks one condition.
+/// Plays that each break one condition.
 pub fn unsound_plays()
     ensures another_trace { (hand : Record) → SaysHand no_limit history_rules steal no_notes hand
         → ¬ (IsSound (play_of hand chip_from_p2)) }
