@@ -23,7 +23,7 @@ pub enum Condition {
     /// A blind has its named amount, or is all that the stack has left.
     BlindAmounts,
     /// A straddle is posted by a seat after the blinds, is of at least one chip and within the
-    /// stack, and is the seat's first.
+    /// stack without the ante, and is the seat's first.
     Straddles,
     /// An ante is of at least one chip and within the stack, and is the seat's first.
     Antes,

@@ -1,4 +1,4 @@
--- How one step more counts.
+-- How one more step counts.
 use Rattle.std.proofs.Common.{◌≡◌, ℕ, ◌+◌, ◌≤◌, Bool, true, false, not, cond, List, arith}
 use Rattle.canon_script.specs.declared.limits.TheConstants.{MOST_MOVES, MOST_OTHER_EVENTS}
 use Rattle.canon_script.specs.PlayedScript.{is_move}

@@ -22,9 +22,9 @@ HasNoAnswer request left told whys.FileMissing =
 HasNoAnswer request left told (whys.Memory memory) = Unit {0}
 
 -- What holds after a reply, whether it is an answer or a reason why there is none: the status of an
--- answer is not one of a device, a device fault is reported only if its count of faults rose, and
--- if the reply comes before the input is read, the source stays as it was. `reads` and `asks` are
--- the fault counts of the source and of the shelf.
+-- answer is one that an answer can have, a device fault is reported only if its count of faults
+-- rose, and if the reply comes before the input is read, the source stays as it was. `reads` and
+-- `asks` are the fault counts of the source and of the shelf.
 abbrev pub Keeps : {S : Type 0} → (input read : S) → (reads asks : ℕ × ℕ)
     → Result made.Answer NoAnswer → Type 0
 Keeps input read reads asks (Ok answer) =

@@ -1,4 +1,5 @@
-//! `compare`: reads the other file and, if either file is a log, the game file, and answers.
+//! Answers a request to compare: reads the game file if one of the two files is a log, then the
+//! other file, then the input.
 ghost use Rattle.std.specs.Prelude.{◌≡◌, ◌≤◌, length, IfErr, IfOk, IfSome, IsErrOf};
 ghost use Rattle.command_words.specs.Requests.{sides_in};
 ghost use Rattle.command_words.specs.Words.{Compare};

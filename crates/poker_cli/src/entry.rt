@@ -1,4 +1,5 @@
-//! The entry point: from the words and the input to the status, the output and the diagnostic line.
+//! The entry point: from the words of the command line and the input to the status, the output and
+//! the diagnostic line.
 ghost use Rattle.std.specs.Prelude.{◌≡◌, ◌↔◌, [], map, None, Some, IfErr, IfOk, IfSome, IsErrOf, string_bytes};
 ghost use Rattle.card_set.specs.Refusal.{WasRefused};
 ghost use Rattle.command_words.specs.Requests.{request_in};
@@ -29,10 +30,11 @@ use std::alloc::Global;
 const USAGE: &[u8] =
     b"usage: handref check|replay|report|convert|game|load|views|options|session|equity|judge|compare [options]\n";
 
-/// Runs the program on its words, without its own name. If the words name a game file, it is read
-/// from the shelf first, then the file to compare with, if there is one, then the input to its end.
-/// The output is written if all is done; otherwise one line is printed on `diag`. For the form of
-/// the output see `law_of_equal_runs`, `law_of_runs_again` and `law_of_runs_by_way`.
+/// Runs the program on the words of its command line, without its own name. If the words name a
+/// game file, it is read from the shelf first, then the file to compare with, if there is one, then
+/// the input to its end. The output is written if all is done; otherwise one line is printed on
+/// `diag`. For the form of the output see `law_of_equal_runs`, `law_of_runs_again` and
+/// `law_of_runs_by_way`.
 pub fn run<S: Source, H: Shelf, K: Sink, D: Sink>(
     alloc: Global,
     words: &[String],
@@ -48,9 +50,9 @@ pub fn run<S: Source, H: Shelf, K: Sink, D: Sink>(
     ensures usage { (result ≡ Status.Usage) ↔ (request_said (map string_bytes words.now) ≡ None) }
 
     // If the words are a request, the run ends with the answer to the file on the shelf and to the
-    // input, or with a fault whose count rose in this call. The condition on the file is quantified
-    // over every source, so a source that does not give its bytes is as good as one that gives
-    // some. If there is nothing to write, the output stays as it was.
+    // input, or with a fault whose count rose in this call. What depends on the file holds for
+    // every source: one that does not show its bytes counts as one that has some bytes. If there is
+    // nothing to write, the output stays as it was.
     ensures ends { IfSome (request_said (map string_bytes words.now)) (λ request.
         WhereTold request (S.left input.old) (H.files shelf.old) (λ files bytes.
         EndsLeaving request files bytes

@@ -1,4 +1,5 @@
-//! `judge`: one line with the verdict on each hand, and then a line with the number of legal hands.
+//! Answers `judge`: one line per hand with its verdict, and then a line with the number of legal
+//! hands.
 ghost use Rattle.std.specs.Prelude.{◌≡◌, ◌≤◌, ◌++◌, true, false, All, codes, length, IfOk, OnOk, string_bytes};
 ghost use Rattle.std.specs.Fmt.{decimal};
 ghost use Rattle.first_fault.specs.declared.limits.TheConstants.{MOST_HANDS};

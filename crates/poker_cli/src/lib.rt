@@ -1,5 +1,5 @@
-//! One call, `run`: from the words and the bytes of the input to the status, the output and the
-//! diagnostic line of the program.
+//! One call, `run`: from the words of the command line and the bytes of the input to the status,
+//! the output and the diagnostic line of the program.
 #![tactic(auto)]
 
 mod acpc_faults;

@@ -1,4 +1,4 @@
-//! `report`: takes each hand, and keeps a tally per name and the sums per game.
+//! Answers `report`: takes each hand, and keeps a tally per name and the sums per game.
 ghost use Rattle.std.specs.Prelude.{◌≤◌, All, length, IfErr, IfOk, string_bytes};
 ghost use Rattle.command_words.specs.declared.command.Command.TheVariants as commands;
 ghost use Rattle.convert_core.specs.Judged.{IsPlaysFaultOf};

@@ -1,4 +1,4 @@
-//! `session`: takes each hand, and keeps a row per name and the steps.
+//! Answers `session`: takes each hand, and keeps a row per name and the steps.
 ghost use Rattle.std.specs.Prelude.{◌≤◌, All, length, IfErr, IfOk, string_bytes};
 ghost use Rattle.command_words.specs.declared.command.Command.TheVariants as commands;
 ghost use Rattle.convert_core.specs.Judged.{IsPlaysFaultOf};

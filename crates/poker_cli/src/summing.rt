@@ -1,4 +1,4 @@
-//! `load`: generates hands and answers with their summary.
+//! Answers `load`: generates hands and sums them up.
 ghost use Rattle.std.specs.Prelude.{IfOk};
 ghost use Rattle.poker_cli.specs.Answer.{IsSummed};
 ghost use Rattle.poker_cli.specs.Told.{answer_told};

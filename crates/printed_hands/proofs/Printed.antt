@@ -1,4 +1,4 @@
--- The lines of the events so far, and of one event more.
+-- The lines of the events so far, and of one more event.
 use Rattle.std.proofs.Common.{◌≡◌, ℕ, ◌+◌, ◌-◌, ◌≤◌, ◌<◌, true, false, List, [], ◌∷◌, ◌++◌, length, map, take, drop, reverse, slice_get, Option, Some, refl, sym, subst, ap, ◌∙◌, append_assoc, decimal, arith}
 use Rattle.std.specs.Option.{option_map}
 use Rattle.std.proofs.lemmas.List.{append-nil, length-map, length-reverse, length-take-le, take_all}

@@ -1,4 +1,5 @@
-//! `check`: one line per hand with what each player finishes with, and then the number of hands.
+//! Prints `check`: one line per hand with what each player finishes with, and then the number of
+//! hands.
 ghost use Rattle.std.specs.Prelude.{◌≡◌, ◌++◌, OnOk, string_bytes};
 ghost use Rattle.printed_hands.specs.Check.{check_end, check_line};
 
