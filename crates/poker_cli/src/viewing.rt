@@ -1,4 +1,4 @@
-//! Answers `seen`: prints what a seat saw of the hands of a log, if the game has the seat and the
+//! Answers `views`: prints what a seat saw of the hands of a log, if the game has the seat and the
 //! lines are within the limit of bytes.
 ghost use Rattle.std.specs.Prelude.{◌≡◌, ◌<◌, ◌≤◌, ◌+◌, ◌++◌, true, false, All, List, length, IfErr, IfOk, OnOk};
 ghost use Rattle.acpc_view.specs.View.{views_text};
