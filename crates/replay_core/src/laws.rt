@@ -67,5 +67,5 @@ pub use trace_laws::law_of_pots_and_returns;
 pub use trace_laws::law_of_finishing_stacks;
 
 /// In a pot that two or more seats may win, only shown seats get chips that no other shown seat in
-/// the pot beats: by the high hand, or by the low hand if one is shown.
+/// the pot beats: in the first order of hands or, if a low hand is shown, in the low order.
 pub use trace_laws::law_of_winners;

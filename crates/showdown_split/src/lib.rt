@@ -1,5 +1,5 @@
 //! Each pot of a hand, less its rake, goes to the shown seats that no other one beats, or in halves
-//! to high and low if a low hand is shown.
+//! if a low hand is shown.
 #![tactic(auto)]
 
 ghost use Rattle.std.specs.Prelude.{◌≡◌, ◌+◌, ℕ, None, Some, All, IfOk, IfErr, OnOk};

@@ -7,7 +7,7 @@ abbrev pub levels_above : List Stake → ℕ → List ℕ
 levels_above stakes below = filter (nat_lt below) (levels stakes)
 
 -- these are the levels of some stakes: each is below all later ones, and they are exactly the
--- amounts above 0 that live seats put in
+-- amounts above 0 of live seats
 pub record AreLevels (stakes : List Stake) (xs : List ℕ) : Type 0 where
   pub rising : AllPairs (λ x y. x < y) xs
   pub exact : (x : ℕ)

@@ -40,7 +40,8 @@ pub fn law_of_finishing_stacks()
 {}
 
 /// A seat that gets chips of a pot that two or more seats may win is one of those seats and shown,
-/// and no other shown one of them beats it: by the high hand, or by the low hand if one is shown.
+/// and no other shown one of them beats it: in the first order of hands or, if a low hand is shown,
+/// in the low order.
 pub fn law_of_winners()
     ensures { (setup : Setup) (past : Past) (trace : Trace) → IsTraceOf setup past trace
         → AllGoToBest setup.code (showdown_in setup (core_of setup past))

@@ -1,4 +1,5 @@
-//! Stud: seven hole cards, four of them dealt face up, no board, and the best five of the seven.
+//! Stud: seven hole cards, four of them dealt face up, no board, and any five of the seven make the
+//! hand.
 ghost use Rattle.std.specs.Prelude.{◌≡◌, ◌≤◌, ◌-◌, Some, slice_get, true, false};
 ghost use Rattle.play_event.specs.declared.code.Code.TheVariants as codes;
 ghost use Rattle.play_event.specs.Games.{stud_streets};
