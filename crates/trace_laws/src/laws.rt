@@ -1,4 +1,5 @@
-//! A past has at most one whole trace, and the canonical script of a legal hand is legal.
+//! Laws of whole traces: a past has at most one, the canonical script of a legal hand is legal, and
+//! what a row of a trace says about a place.
 ghost use Rattle.std.specs.Prelude.{◌≡◌, ◌↔◌, ℕ, List};
 ghost use Rattle.play_event.specs.Past.{Past};
 ghost use Rattle.play_event.specs.Played.{IsPlace};
