@@ -17,10 +17,10 @@ use crate::setups::{number_behind_setup, setup_at};
 use crate::stock::Stock;
 use card_set::Memory;
 use hand_records::{Notes, Play, Record, Records, Stated};
-use play_event::{Code, Script, Setup};
+use play_event::{Script, Setup};
 use replay_core::{ReplayFault, replay};
 use std::alloc::Global;
-use variant_table::{F2L3D, F7S, F7S8, FB, FO8, FR, FT, N2L1D, NS, NT, PO};
+use variant_table::by_code;
 
 /// A made hand with its trace, and the number to which the draws come behind it.
 #[derive(Debug, Drop)]
@@ -109,17 +109,5 @@ fn script_by_code(alloc: Global, setup: &Setup, stock: &mut Stock) -> Result<Scr
     ensures legal { IfOk result (λ script.
         IsLegalHand setup.now rules_of_histories (map said_of script)) }
 {
-    match setup.code {
-        Code::FT => script_of::<FT>(alloc, setup, stock),
-        Code::NT => script_of::<NT>(alloc, setup, stock),
-        Code::NS => script_of::<NS>(alloc, setup, stock),
-        Code::PO => script_of::<PO>(alloc, setup, stock),
-        Code::FO8 => script_of::<FO8>(alloc, setup, stock),
-        Code::F7S => script_of::<F7S>(alloc, setup, stock),
-        Code::F7S8 => script_of::<F7S8>(alloc, setup, stock),
-        Code::FR => script_of::<FR>(alloc, setup, stock),
-        Code::N2L1D => script_of::<N2L1D>(alloc, setup, stock),
-        Code::F2L3D => script_of::<F2L3D>(alloc, setup, stock),
-        Code::FB => script_of::<FB>(alloc, setup, stock),
-    }
+    by_code!(setup.code, script_of(alloc, setup, stock))
 }

@@ -1,16 +1,13 @@
 //! The setup of a made hand.
 ghost use Rattle.std.specs.Prelude.{◌≡◌, ◌≤◌, ◌+◌, ℕ, if◌then◌else◌};
 ghost use Rattle.chip_ledger.specs.SeatRow.{amount_of};
-ghost use Rattle.play_event.specs.Streets as streets;
-ghost use Rattle.play_event.specs.ValidSetup as valid;
 ghost use Rattle.hand_gen.specs.Draws.{drawn, number_after};
 ghost use Rattle.hand_gen.specs.Setups as setups;
 ghost use Rattle.hand_gen.specs.Setups.{IsMadeSetup, number_behind_setup};
 
 use crate::draws;
 use chip_ledger::{RakeRow, Seat, SeatRow};
-use play_event::{Code, Limit, Opener, Setup};
-use variant_table::table_of;
+use play_event::{Code, Setup};
 
 // The games, in the order in which they take turns.
 const GAMES: [Code; 11] = [
@@ -32,8 +29,8 @@ pub fn setup_at(place: u32, number: u64) -> Setup
     ensures { IsMadeSetup place number result }
 {
     let code = game_at(place);
-    let stud = is_stud(code);
-    let fixed = is_fixed(code);
+    let stud = code.is_stud();
+    let fixed = code.is_fixed();
     let first = draws::next_number(number);
     let seats = 2 + draws::drawn(3, first) as u8;
     Setup {
@@ -55,26 +52,6 @@ fn game_at(place: u32) -> Code
     ensures { result ≡ setups.game_at place }
 {
     GAMES[place as usize % 11]
-}
-
-// The game is a game of stud.
-fn is_stud(code: Code) -> bool
-    ensures { result ≡ streets.is_stud code }
-{
-    match table_of(code).opener {
-        Opener::Blinds => false,
-        Opener::LowUp | Opener::HighUp => true,
-    }
-}
-
-// The limit of the game is fixed.
-fn is_fixed(code: Code) -> bool
-    ensures { result ≡ valid.is_fixed (streets.limit_of code) }
-{
-    match table_of(code).limit {
-        Limit::Fixed => true,
-        Limit::Pot | Limit::No => false,
-    }
 }
 
 // The stacks, drawn behind this number.

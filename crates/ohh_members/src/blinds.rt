@@ -37,7 +37,7 @@ pub fn read_blinds(ohh: &Value, code: Code) -> Result<Blinds, Stop<MemberFault>>
     if small > big {
         return Err(wrong(MemberFaultKind::BadPost, Path::SmallBlindAmount));
     }
-    if is_fixed_game(code) && 2 * big > MOST_CHIPS {
+    if code.is_fixed() && 2 * big > MOST_CHIPS {
         return Err(wrong(MemberFaultKind::AmountLimit, Path::BigBlindAmount));
     }
     Ok(Blinds { small, big })
@@ -61,15 +61,4 @@ fn read_blind(ohh: &Value, path: Path) -> Result<u64, Stop<MemberFault>>
     ensures within { IfOk result (λ blind. (1 ≤ blind) × (blind ≤ MOST_CHIPS)) }
 {
     read_number(needed(ohh, path)?, 1, MOST_CHIPS, path)
-}
-
-/// Whether the game is played in fixed limit. The game must be one of those that Open Hand History
-/// is read for.
-pub fn is_fixed_game(code: Code) -> bool
-    ensures { result ≡ is_fixed_game_said code }
-{
-    match code {
-        Code::NT | Code::NS | Code::PO | Code::N2L1D => false,
-        _ => true,
-    }
 }

@@ -12,7 +12,6 @@ ghost use Rattle.ohh_posts.specs.AntesAndBlinds.{AreAntesAndBlindsFor};
 ghost use Rattle.ohh_rounds.specs.Play.{plain_play, rounds_said};
 ghost use Rattle.ohh_reading.specs.Hand.{setting_of};
 
-use crate::sizes::hole_cards;
 use chip_ledger::SeatRow;
 use first_fault::Stop;
 use ohh_members::Dialect;
@@ -53,7 +52,7 @@ pub fn read_play(
             small_blind: front.blinds.small,
             big_blind: front.blinds.big,
         },
-        hole_cards: hole_cards(front.code),
+        hole_cards: front.code.hole_cards(),
         dialect,
         file_moves,
     };

@@ -4,7 +4,6 @@ ghost use Rattle.std.specs.List.{list_all, list_any};
 ghost use Rattle.play_event.specs.Seats.{all_seats};
 ghost use Rattle.ohh_writing.specs.Spelled.{big_blind as big_blind_said, greatest_ante as greatest_ante_said, has_no_ante as has_no_ante_said, has_spelled_antes as has_antes_said, has_spelled_blinds as has_blinds_said, has_spelled_sizes as has_sizes_said, has_spelled_straddles as has_straddles_said, has_two_blinds as has_two_said, is_covered_straddle as is_covered_said, is_whole_ante as is_whole_said};
 
-use crate::games::is_fixed;
 use crate::posts::{amount_at, big_blind_seat};
 use chip_ledger::Seat;
 use play_event::Setup;
@@ -14,7 +13,7 @@ pub fn has_spelled_sizes(setup: &Setup) -> bool
     ensures { result ≡ has_sizes_said setup.now }
 {
     let blind = big_blind(setup);
-    if is_fixed(setup.code) {
+    if setup.code.is_fixed() {
         setup.small_bet == blind && setup.big_bet == 2 * blind
     } else {
         setup.min_bet == blind

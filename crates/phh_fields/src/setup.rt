@@ -13,7 +13,7 @@ ghost use Rattle.phh_fields.specs.SetupFields.{are_dead as are_dead_said, blinds
 
 use crate::fault::{FieldFault, FieldFaultKind, FieldKey, FieldPlace};
 use crate::rows::{posted, read_antes, read_row, read_stacks};
-use crate::sizes::{is_stud, most_seats, read_sizes};
+use crate::sizes::read_sizes;
 use crate::values::{field, needed, read_flag, read_text, wrong};
 use chip_ledger::{MOST_CHIPS, RakeRow, SeatRow};
 use first_fault::Stop;
@@ -28,7 +28,7 @@ pub fn read_setup(table: &Table) -> Result<Setup, Stop<FieldFault>>
     ensures valid { IfOk result IsValid }
 {
     let code = read_variant(needed(table, FieldKey::Variant)?)?;
-    let stacks = read_stacks(needed(table, FieldKey::StartingStacks)?, most_seats(code))?;
+    let stacks = read_stacks(needed(table, FieldKey::StartingStacks)?, code.most_seats())?;
     let antes = read_antes(needed(table, FieldKey::Antes)?, &stacks)?;
     let trimmed = read_trimming(table)?;
     let blinds = read_blinds(table, code, stacks.seats)?;
@@ -96,7 +96,7 @@ fn read_blinds(table: &Table, code: Code, seats: u8) -> Result<SeatRow, Stop<Fie
     ensures stud { IfOk result (λ row. is_stud_said code ≡ true
         → (k : ℕ) → slice_index row.amounts k ≡ 0) }
 {
-    if is_stud(code) {
+    if code.is_stud() {
         return Ok(SeatRow {
             seats,
             amounts: [0; 10],

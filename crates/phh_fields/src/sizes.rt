@@ -1,7 +1,6 @@
 //! The bet sizes of a hand are those that its game uses.
 ghost use Rattle.std.specs.Prelude.{◌≡◌, not, IfOk};
 ghost use Rattle.toml.specs.View.{table_view};
-ghost use Rattle.play_event.specs.Games.{game_of};
 ghost use Rattle.play_event.specs.Streets.{is_stud as is_stud_said, limit_of};
 ghost use Rattle.play_event.specs.ValidSetup.{IsSizeWhere, is_fixed as is_fixed_said};
 ghost use Rattle.first_fault.specs.Reading.{Gives};
@@ -15,17 +14,6 @@ use hand_records::Sizes;
 use play_event::Code;
 use toml::Table;
 
-/// The most seats of the game.
-pub fn most_seats(code: Code) -> u8
-    ensures { result ≡ (game_of code).seats }
-{
-    match code {
-        Code::FT | Code::NT | Code::NS | Code::PO | Code::FO8 => 10,
-        Code::F7S | Code::F7S8 | Code::FR => 7,
-        Code::N2L1D | Code::F2L3D | Code::FB => 6,
-    }
-}
-
 /// The bet sizes of the game.
 #[tactic(auto, unfolding(crate::specs::SetupFields::sizes_said))]
 pub fn read_sizes(table: &Table, code: Code) -> Result<Sizes, Stop<FieldFault>>
@@ -38,8 +26,8 @@ pub fn read_sizes(table: &Table, code: Code) -> Result<Sizes, Stop<FieldFault>>
     ensures min_bet { IfOk result (λ sizes.
         IsSizeWhere (not (is_fixed_said (limit_of code))) sizes.min_bet) }
 {
-    let fixed = is_fixed(code);
-    let bring_in = read_size(table, is_stud(code), FieldKey::BringIn)?;
+    let fixed = code.is_fixed();
+    let bring_in = read_size(table, code.is_stud(), FieldKey::BringIn)?;
     let small_bet = read_size(table, fixed, FieldKey::SmallBet)?;
     let big_bet = read_size(table, fixed, FieldKey::BigBet)?;
     let min_bet = read_size(table, !fixed, FieldKey::MinBet)?;
@@ -49,16 +37,6 @@ pub fn read_sizes(table: &Table, code: Code) -> Result<Sizes, Stop<FieldFault>>
         big_bet,
         min_bet,
     })
-}
-
-// Whether the game is played in fixed limit.
-fn is_fixed(code: Code) -> bool
-    ensures { result ≡ is_fixed_said (limit_of code) }
-{
-    match code {
-        Code::NT | Code::NS | Code::PO | Code::N2L1D => false,
-        _ => true,
-    }
 }
 
 // A bet size, if the game uses it, else 0.
@@ -71,14 +49,4 @@ fn read_size(table: &Table, used: bool, key: FieldKey) -> Result<u64, Stop<Field
         return Ok(0);
     }
     read_amount(needed(table, key)?, 1, MOST_CHIPS, FieldPlace::at_key(key))
-}
-
-/// Whether the game is a stud game.
-pub fn is_stud(code: Code) -> bool
-    ensures { result ≡ is_stud_said code }
-{
-    match code {
-        Code::F7S | Code::F7S8 | Code::FR => true,
-        _ => false,
-    }
 }

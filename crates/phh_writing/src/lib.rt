@@ -3,7 +3,6 @@
 #![tactic(auto)]
 
 mod document;
-mod games;
 mod members;
 mod notes;
 mod played;

@@ -5,7 +5,6 @@ ghost use Rattle.play_event.specs.ValidSetup.{IsValid, IsSizeWhere};
 ghost use Rattle.phh_writing.specs.Members.{put_if, with_fields};
 ghost use Rattle.phh_writing.specs.HandFields.{blinds_field, setup_fields, size_field};
 
-use crate::games::{is_fixed, is_stud};
 use crate::members::{number, put, put_amounts, put_row, put_text};
 use card_set::Memory;
 use play_event::Setup;
@@ -18,7 +17,7 @@ pub fn put_setup(alloc: Global, table: &mut Table, setup: &Setup) -> Result<(), 
     ensures { OnOk result (table_view table.new
         ≡ with_fields (setup_fields setup.now) (table_view table.old)) }
 {
-    let fixed = is_fixed(setup.code);
+    let fixed = setup.code.is_fixed();
     put_row(alloc, table, "starting_stacks", &setup.stacks)?;
     put_size(alloc, table, "min_bet", !fixed, setup.min_bet)?;
     put_size(alloc, table, "big_bet", fixed, setup.big_bet)?;
@@ -27,7 +26,7 @@ pub fn put_setup(alloc: Global, table: &mut Table, setup: &Setup) -> Result<(), 
         alloc,
         table,
         "bring_in",
-        is_stud(setup.code),
+        setup.code.is_stud(),
         setup.bring_in,
     )?;
     put_blinds(alloc, table, setup)?;
@@ -62,7 +61,7 @@ fn put_blinds(alloc: Global, table: &mut Table, setup: &Setup) -> Result<(), Mem
     ensures { OnOk result (table_view table.new
         ≡ put_if (codes "blinds_or_straddles") (blinds_field setup.now) (table_view table.old)) }
 {
-    if is_stud(setup.code) {
+    if setup.code.is_stud() {
         return Ok(());
     }
     let key = "blinds_or_straddles";

@@ -18,10 +18,10 @@ use crate::finish::finish_row;
 use crate::playing::play_out;
 use crate::stakes::pots_of;
 use hand_records::Trace;
-use play_event::{Code, Rules, Script, Setup};
+use play_event::{Rules, Script, Setup};
 use showdown_split::{first_rake_above, split};
 use std::alloc::Global;
-use variant_table::{F2L3D, F7S, F7S8, FB, FO8, FR, FT, N2L1D, NS, NT, PO, Variant};
+use variant_table::{Variant, by_code};
 
 /// The trace of a script under its setup and rules, or what is wrong with the script.
 ///
@@ -64,19 +64,7 @@ fn replay_by_code(
         (IsReplayOf setup.now rules.now (said_by script.now)) }
     ensures fault { IfErr result (IsFaultOf setup.now rules.now script.now) }
 {
-    match setup.code {
-        Code::FT => replay_of::<FT>(alloc, setup, rules, script),
-        Code::NT => replay_of::<NT>(alloc, setup, rules, script),
-        Code::NS => replay_of::<NS>(alloc, setup, rules, script),
-        Code::PO => replay_of::<PO>(alloc, setup, rules, script),
-        Code::FO8 => replay_of::<FO8>(alloc, setup, rules, script),
-        Code::F7S => replay_of::<F7S>(alloc, setup, rules, script),
-        Code::F7S8 => replay_of::<F7S8>(alloc, setup, rules, script),
-        Code::FR => replay_of::<FR>(alloc, setup, rules, script),
-        Code::N2L1D => replay_of::<N2L1D>(alloc, setup, rules, script),
-        Code::F2L3D => replay_of::<F2L3D>(alloc, setup, rules, script),
-        Code::FB => replay_of::<FB>(alloc, setup, rules, script),
-    }
+    by_code!(setup.code, replay_of(alloc, setup, rules, script))
 }
 
 // Replays a script of the game `V`.

@@ -2,6 +2,7 @@
 //! `Variant` plays them all.
 #![tactic(auto)]
 
+mod by_code;
 mod deck;
 mod draw;
 mod holdem;
@@ -15,7 +16,7 @@ mod variant;
 pub use draw::{F2L3D, FB, N2L1D};
 pub use holdem::{FT, NS, NT};
 pub use omaha::{FO8, PO};
-pub use play_event::{Limit, Opener, Size, Street};
+pub use play_event::{Code, Limit, Opener, Size, Street};
 pub use stud::{F7S, F7S8, FR};
 pub use table::{GameTable, table_of};
 pub use valid::is_valid;

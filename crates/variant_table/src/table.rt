@@ -3,11 +3,7 @@ ghost use Rattle.std.specs.Prelude.{◌≡◌, ◌≤◌};
 ghost use Rattle.play_event.specs.Games.{game_of};
 ghost use Rattle.variant_table.specs.Tables.{IsTableOf, street_at};
 
-use crate::draw::{F2L3D, FB, N2L1D};
-use crate::holdem::{FT, NS, NT};
-use crate::omaha::{FO8, PO};
 use crate::street::NO_STREET;
-use crate::stud::{F7S, F7S8, FR};
 use crate::variant::Variant;
 use hand_order::Pick;
 use play_event::{Code, Limit, Opener, Street};
@@ -35,19 +31,7 @@ pub struct GameTable {
 pub fn table_of(code: Code) -> GameTable
     ensures { IsTableOf (game_of code) result }
 {
-    match code {
-        Code::FT => table::<FT>(),
-        Code::NT => table::<NT>(),
-        Code::NS => table::<NS>(),
-        Code::PO => table::<PO>(),
-        Code::FO8 => table::<FO8>(),
-        Code::F7S => table::<F7S>(),
-        Code::F7S8 => table::<F7S8>(),
-        Code::FR => table::<FR>(),
-        Code::N2L1D => table::<N2L1D>(),
-        Code::F2L3D => table::<F2L3D>(),
-        Code::FB => table::<FB>(),
-    }
+    crate::by_code!(code, table())
 }
 
 // The table of a variant.
