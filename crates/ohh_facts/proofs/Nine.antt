@@ -1,4 +1,4 @@
--- Nine digits, of which the last are zeros, and one more of the first.
+-- Nine digits, the last of them zeros, with one more of the first.
 use Rattle.std.proofs.Common.{◌≡◌, ℕ, suc, ◌+◌, ◌-◌, ◌<◌, ◌≤◌, List, [], ◌∷◌, ◌++◌, length, take, set, get_or, replicate, sym, ap, ◌∙◌, append_assoc, arith}
 use Rattle.std.proofs.lemmas.List.{take_more, length-take-le}
 use Rattle.list_laws.proofs.Entries.{set_at}

@@ -1,5 +1,4 @@
-//! When a hand was played is read from a text: a day of the calendar and a time of the day, in
-//! universal time.
+//! Reads when a hand was played from a text: a date and a time of day, in universal time.
 ghost use Rattle.std.specs.Prelude.{◌≡◌, ◌≤◌, length, IfOk};
 ghost use Rattle.serde_json.specs.View.{view};
 ghost use Rattle.hand_records.specs.AllowedNotes.{IsTime, IsWithin};
@@ -30,7 +29,7 @@ pub fn read_moment(value: &Value) -> Result<Moment, Stop<MemberFault>>
     Ok(Moment { day, time })
 }
 
-// Whether the signs between the numbers are those of a moment.
+// Whether the characters between the numbers are those of a moment.
 fn has_signs(text: &[u8]) -> bool
     ensures { result ≡ has_signs_said text.now }
 {
@@ -39,7 +38,7 @@ fn has_signs(text: &[u8]) -> bool
             && ((text[10] == b'T' || text[10] == b' ') && (text[13] == b':' && text[16] == b':')))
 }
 
-// The day of a text with its signs.
+// The date in a text with these separators.
 #[tactic(auto, unfolding(crate::specs::Moments::day_said))]
 fn read_day(text: &[u8]) -> Result<CivilDate, Stop<MemberFault>>
     ensures said { Gives (λ day. day) result (day_said text.now) }
@@ -55,8 +54,8 @@ fn read_day(text: &[u8]) -> Result<CivilDate, Stop<MemberFault>>
     }
 }
 
-// What stands behind the seconds: a point and one to nine digits of a fraction, or not, and the
-// zone. The fraction is given in nanoseconds.
+// What comes after the seconds: optionally a point and one to nine digits of a fraction, and then
+// the zone. The fraction is returned in nanoseconds.
 #[tactic(auto, unfolding(crate::specs::Moments::fraction_said, crate::specs::Moments::fraction_of))]
 fn read_fraction(text: &[u8]) -> Result<u32, Stop<MemberFault>>
     ensures said { Gives (λ nano. nano) result (fraction_said text.now) }
@@ -76,14 +75,14 @@ fn read_fraction(text: &[u8]) -> Result<u32, Stop<MemberFault>>
     read_zone(nano, zone)
 }
 
-// Whether a point stands in front.
+// Whether the text begins with a point.
 fn has_point(text: &[u8]) -> bool
     ensures { result ≡ has_point_said text.now }
 {
     !text.is_empty() && text[0] == b'.'
 }
 
-// Up to nine digits, and zeros behind them.
+// Up to nine digits, padded with zeros on the right.
 fn nine(digits: &[u8]) -> [u8; 9]
     requires { length digits.now ≤ 9 }
     ensures { result ≡ nine_of digits.now }
@@ -95,7 +94,7 @@ fn nine(digits: &[u8]) -> [u8; 9]
     nine
 }
 
-// These nanoseconds, where the zone behind them is that of universal time.
+// These nanoseconds, if the zone after them is universal time.
 #[tactic(auto, unfolding(crate::specs::Moments::zoned))]
 fn read_zone(nano: u32, zone: &[u8]) -> Result<u32, Stop<MemberFault>>
     ensures said { Gives (λ nano. nano) result (zoned nano zone.now) }
@@ -108,14 +107,14 @@ fn read_zone(nano: u32, zone: &[u8]) -> Result<u32, Stop<MemberFault>>
     }
 }
 
-// Whether the zone is that of universal time.
+// Whether the zone is universal time.
 fn is_universal(zone: &[u8]) -> bool
     ensures { result ≡ is_universal_said zone.now }
 {
     zone.is_empty() || (zone == b"Z".as_slice() || zone == b"+00:00".as_slice())
 }
 
-// How many digits stand in front.
+// How many digits the text begins with.
 fn digits_in_front(text: &[u8]) -> usize
     ensures { result ≡ digits_in_front_said text.now }
 {
@@ -127,7 +126,7 @@ fn digits_in_front(text: &[u8]) -> usize
     text.len()
 }
 
-// The time of a text with its signs, with these nanoseconds.
+// The time of day in a text with these separators, with these nanoseconds.
 #[tactic(auto, unfolding(crate::specs::Moments::clock_said))]
 fn read_clock(text: &[u8], nano: u32) -> Result<Clock, Stop<MemberFault>>
     requires { nano ≤ 999999999 }
@@ -167,7 +166,7 @@ fn number_in(digits: &[u8], least: u64, most: u64) -> Result<u64, Stop<MemberFau
     }
 }
 
-// The text says no moment.
+// The text is not a moment.
 fn no_moment() -> Stop<MemberFault>
     ensures { result
         ≡ Stop.At (record { what = MemberFaultKind.WrongType; path = Path.StartDate }) }
@@ -175,7 +174,7 @@ fn no_moment() -> Stop<MemberFault>
     wrong(MemberFaultKind::WrongType, Path::StartDate)
 }
 
-// So many signs of a text, from this place on, or as many as there are.
+// `count` bytes of a text from this place on, or fewer if the text ends.
 fn part(text: &[u8], from: usize, count: usize) -> &[u8]
     ensures { result.now ≡ part_said from count text.now }
 {

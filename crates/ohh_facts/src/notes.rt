@@ -1,4 +1,4 @@
-//! The notes of a hand are read from its players and its labels, and are allowed.
+//! Reads the notes of a hand from its players and its labels, and checks that they are allowed.
 ghost use Rattle.std.specs.Prelude.{◌≡◌, ◌≤◌, ◌<◌, ◌-◌, ◌+◌, ℕ, None, length, map, take, slice_index, slice_index_or, codes, option_and_then, option_map, IfOk, IfSome};
 ghost use Rattle.serde_json.specs.View.{view};
 ghost use Rattle.hand_records.specs.AllowedNotes.{AreAllowed, AreSeatNumbers, IsName, IsNoteText, IsWithin, unless_usual as unless_usual_said, noted};
@@ -18,7 +18,8 @@ use ohh_members::player::Player;
 use serde_json::Value;
 use std::alloc::Global;
 
-/// The notes of a hand with these players by their seats in it, at this place of its file, from 0.
+/// The notes of a hand with these players, in the order of their seats in the hand, at this place
+/// of its file, from 0.
 #[tactic(auto, unfolding(crate::specs::Notes::notes_said))]
 pub fn read_notes(
     alloc: Global,
@@ -59,7 +60,7 @@ pub fn read_notes(
     })
 }
 
-// The names of players by their seats in the hand.
+// The names of players, in the order of their seats in the hand.
 fn names_of(alloc: Global, seated: &Seated) -> Result<[Option<Text>; 10], Memory>
     ensures said { IfOk result (λ names. take (length seated.now.players.now) names
         ≡ names_from 1 (map plain_player seated.now.players.now)) }
@@ -92,7 +93,7 @@ fn name_of(alloc: Global, player: &Player, seat: u8) -> Result<Option<Text>, Mem
     }
 }
 
-// The zone of a moment.
+// The zone of a moment: UTC, if there is a moment.
 fn zone_of(alloc: Global, moment: Option<Moment>) -> Result<Option<Text>, Memory>
     ensures said { IfOk result (λ zone. zone ≡ option_map (λ moment. codes "UTC") moment) }
     ensures allowed { IfOk result (λ zone. IfSome zone IsNoteText) }
@@ -113,7 +114,7 @@ fn unusual_seats(seated: &Seated) -> Option<[u8; 10]>
     unless_usual(seats_of(seated), seated.players.len())
 }
 
-// The seats of players at the table, by their seats in the hand.
+// The seats of players at the table, in the order of their seats in the hand.
 fn seats_of(seated: &Seated) -> [u8; 10]
     ensures said { take (length seated.now.players.now) result
         ≡ map (λ player. player.seat) (map plain_player seated.now.players.now) }

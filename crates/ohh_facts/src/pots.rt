@@ -1,5 +1,4 @@
-//! What is stated of the pots of a hand is read: their amounts, what is taken of them, and what
-//! each seat wins.
+//! Reads what a hand states of its pots: their amounts, their rakes, and what each seat wins.
 ghost use Rattle.std.specs.Prelude.{◌≡◌, ◌≤◌, ◌+◌, length, map, unwrap_or, IfOk};
 ghost use Rattle.std.specs.Option.{ForSome};
 ghost use Rattle.serde_json.specs.View.{view};
@@ -22,7 +21,7 @@ use ohh_members::values::{field, needed, read_list, read_number, read_object, re
 use serde_json::Value;
 use std::alloc::Global;
 
-/// What is stated of the pots of a hand, where the ids are those of its players by their seats.
+/// What a hand states of its pots; `ids` are those of its players, in the order of their seats.
 #[tactic(auto, unfolding(crate::specs::Pots::pots_said, crate::specs::Pots::listed_paid))]
 pub fn read_pots(alloc: Global, ids: &[i128], ohh: &Value) -> Result<Paid, Stop<MemberFault>>
     requires some { 2 ≤ length ids.now }
@@ -40,7 +39,7 @@ pub fn read_pots(alloc: Global, ids: &[i128], ohh: &Value) -> Result<Paid, Stop<
     }
 }
 
-// The pots of a list, and what is won of them.
+// Adds the pots of a list, and what is won of them.
 fn add_pots(
     alloc: Global,
     players: &PlayerIds,
@@ -57,7 +56,7 @@ fn add_pots(
     Ok(found)
 }
 
-// The pots with one more, and what is won of it.
+// Adds one pot, and what is won of it.
 #[tactic(auto, unfolding(crate::specs::Pots::pot_added))]
 fn add_pot(
     ids: &[i128],
@@ -83,7 +82,7 @@ fn add_pot(
     Ok(ListedPots { pots, total, won })
 }
 
-// The amount of a pot, after pots that are so much together.
+// The amount of a pot, after pots with this total.
 #[tactic(auto, unfolding(crate::specs::Pots::amount_said))]
 fn read_amount(found: &ListedPots, index: u64, pot: &Value) -> Result<u64, Stop<MemberFault>>
     ensures said { Gives (λ amount. amount) result
@@ -98,7 +97,7 @@ fn read_amount(found: &ListedPots, index: u64, pot: &Value) -> Result<u64, Stop<
     within_sum(found.total, path, amount)
 }
 
-// The rake of a pot; nothing is taken after the eleventh.
+// The rake of a pot; no rake is allowed after the eleventh pot.
 #[tactic(auto, unfolding(crate::specs::Pots::rake_said))]
 fn read_rake(index: u64, pot: &Value) -> Result<u64, Stop<MemberFault>>
     ensures said { Gives (λ rake. rake) result (rake_said index (view pot.now)) }
@@ -115,7 +114,7 @@ fn read_rake(index: u64, pot: &Value) -> Result<u64, Stop<MemberFault>>
     Ok(rake)
 }
 
-// The number, or 0 where there is none.
+// The number, or 0 if there is none.
 fn or_zero(number: Option<u64>) -> u64
     ensures said { result ≡ unwrap_or number 0 }
     ensures most { ForSome number (λ number. number ≤ MOST_AMOUNT) → result ≤ MOST_AMOUNT }
@@ -126,7 +125,7 @@ fn or_zero(number: Option<u64>) -> u64
     }
 }
 
-// The number at a path, or 0.
+// The number at a path, if it is there.
 fn number_or_none(pot: &Value, path: Path) -> Result<Option<u64>, Stop<MemberFault>>
     ensures said { Gives (λ number. number) result
         (read_if (number_said 0 MOST_AMOUNT path) (field_said path (view pot.now))) }
@@ -141,7 +140,7 @@ fn number_or_none(pot: &Value, path: Path) -> Result<Option<u64>, Stop<MemberFau
     }
 }
 
-// What is won of a pot, after what was won before.
+// Adds what is won of a pot to what was won before.
 #[tactic(auto, unfolding(crate::specs::Pots::wins_said))]
 fn read_wins(ids: &[i128], index: u64, won: Won, pot: &Value) -> Result<Won, Stop<MemberFault>>
     requires ids { length ids.now ≡ won.sums.seats }
@@ -161,7 +160,7 @@ fn read_wins(ids: &[i128], index: u64, won: Won, pot: &Value) -> Result<Won, Sto
     Ok(after)
 }
 
-// What was won, with one more.
+// Adds one win.
 #[tactic(auto, unfolding(crate::specs::Pots::win_added))]
 fn add_win(
     ids: &[i128],
@@ -180,7 +179,7 @@ fn add_win(
     Ok(after)
 }
 
-// What a player wins of the pot with this index, after what was won before.
+// What a player wins of the pot with this index, after these wins.
 #[tactic(auto, unfolding(crate::specs::Pots::win_said))]
 fn read_win(
     ids: &[i128],
@@ -224,7 +223,7 @@ fn read_win(
     Ok(Win { seat, chips })
 }
 
-// A number which, with what it is added to, is no more than may be stated.
+// A number that, together with what it is added to, is within the limit of stated amounts.
 #[tactic(auto, unfolding(crate::specs::Pots::summed))]
 fn within_sum(before: u64, path: Path, number: u64) -> Result<u64, Stop<MemberFault>>
     requires before { before ≤ MOST_AMOUNT }

@@ -1,4 +1,4 @@
-//! The text of a note is kept where it is not empty and not the default of the note.
+//! Keeps the text of a note if it is neither empty nor the default of the note.
 ghost use Rattle.std.specs.Prelude.{◌≡◌, [], IfOk, IfSome};
 ghost use Rattle.serde_json.specs.View.{view};
 ghost use Rattle.hand_records.specs.AllowedNotes.{IsNoteText};
@@ -29,8 +29,8 @@ pub fn text_at(alloc: Global, ohh: &Value, path: Path) -> Result<Option<Text>, S
     }
 }
 
-/// The label of a member, with this default, if there is one. A whole number may stand for its
-/// decimal text.
+/// The label of a member with this default, if there is one. A whole number counts as its decimal
+/// text.
 #[tactic(auto, using(crate::proofs::UnusualNotes::unusual_text), unfolding(crate::specs::Notes::label_said, crate::specs::Notes::note_said))]
 pub fn label_at(
     alloc: Global,

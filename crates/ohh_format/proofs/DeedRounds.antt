@@ -1,4 +1,5 @@
--- The rounds of a hand that was written, each with its board and what is done in it, and the steps that are read of them.
+-- The rounds of a hand that was written, each with its board and what is done in it, and the steps
+-- that are read from them.
 use Rattle.std.proofs.Common.{◌≡◌, ℕ, ◌+◌, List, [], ◌∷◌, ◌++◌, length, map, Option, Some, None, Result, Ok, refl, sym, ap, ap₂, ◌∙◌}
 use Rattle.std.proofs.lemmas.List.{map-append}
 use Rattle.card_set.specs.declared.card.Slot.{Slot}
@@ -34,9 +35,9 @@ round_of one = round one.street one.cards (map action_of one.deeds)
 abbrev pub deed_round : StreetName → List Slot → List Deed → DeedRound
 deed_round street cards deeds = record { street = street; cards = cards; deeds = deeds }
 
--- ---- what is read of rounds
+-- ---- what is read from rounds
 
--- the steps after rounds, of which the first has this index and the first action this number
+-- the steps after rounds; the first has this index, and its first action this number
 abbrev pub steps_after : Dialect → List PlainStep → ℕ → ℕ → List DeedRound → List PlainStep
 steps_after dialect earlier n index [] = earlier
 steps_after dialect earlier n index (one ∷ rest) =

@@ -39,7 +39,7 @@ post_word kinds.SmallBlind = words.PostSmallBlind
 post_word kinds.BigBlind = words.PostBigBlind
 post_word kinds.Straddle = words.Straddle
 
--- the action that says what is done
+-- the action for what is done
 abbrev pub action_of : Deed → PlainAction
 action_of (Posts kind seat amount left) = with_chips (post_word kind) seat amount left
 action_of (Deals seat cards) = with_cards words.DealtCards seat cards
@@ -51,7 +51,7 @@ action_of (Raises seat amount left) = with_chips words.Raise seat amount left
 action_of (Shows seat cards) = with_cards words.ShowsCards seat cards
 action_of (Mucks seat) = alone words.MucksCards seat
 
--- where each of some numbers gives the actions of its deeds, they all do
+-- if each of some numbers gives the actions of its deeds, all together do
 pub flat_deeds : (actions : ℕ → List PlainAction) (deeds : ℕ → List Deed) → ((n : ℕ) → actions n ≡ map action_of (deeds n)) → (ns : List ℕ)
     → flat_map actions ns ≡ map action_of (flat_map deeds ns)
 flat_deeds actions deeds each [] = refl

@@ -1,4 +1,5 @@
--- What is read of the rounds of a hand: its events with the numbers of their actions, and its posts.
+-- What is read from the rounds of a hand: its events with the numbers of their actions, and its
+-- posts.
 use Rattle.std.proofs.Common.{◌≡◌, ℕ, zero, suc, ◌+◌, ◌-◌, ◌<◌, ◌≤◌, ◌==◌, Bool, true, false, cond, if◌then◌else◌, List, [], ◌∷◌, ◌++◌, length, map, find, replicate, Option, Some, None, option_map, refl, sym, ap, ap₂, subst, ◌∙◌, arith, append_assoc, true≢false}
 use Rattle.std.specs.List.{AllByRecursion, flat_map, range_with_len}
 use Rattle.std.specs.Option.{option_map_or, option_or}
@@ -27,7 +28,7 @@ use Rattle.ohh_format.proofs.RoundsAgain.{board_step, with_board}
 use Rattle.ohh_format.proofs.StepsAgain.{step_of, steps_of}
 use Rattle.first_fault.specs.Numbers.{kept_number}
 
--- ---- steps, one behind the others
+-- ---- steps, one after the other
 
 -- the step of a board that was dealt, if it was
 abbrev pub board_steps : List Slot → List PlainStep
@@ -56,7 +57,7 @@ steps_behind dialect earlier n index (one ∷ rest) =
 
 -- ---- events
 
--- the event that says what is done, if one does
+-- the event of what is done, if it is one
 abbrev pub event_of : Dialect → Deed → List Said
 event_of dialect (Posts kind seat amount left) = []
 event_of dialect (Deals seat cards) = []
@@ -72,7 +73,7 @@ event_of dialect (Mucks seat) = said.Muck seat ∷ []
 abbrev pub at_number : ℕ → List Said → List Numbered
 at_number n events = map (λ event. (kept_number n, event)) events
 
--- the events of what is done, of which the first has this number
+-- the events of what is done; the first has this number
 abbrev pub numbered_deeds : Dialect → ℕ → List Deed → List Numbered
 numbered_deeds dialect n [] = []
 numbered_deeds dialect n (deed ∷ rest) = at_number n (event_of dialect deed) ++ numbered_deeds dialect (n + 1) rest
@@ -125,7 +126,7 @@ events_of_rounds dialect n index (one ∷ rest) =
     ∙ ap₂ (λ (a b : List Numbered). a ++ b) (board_event one.cards)
     (events_both deeds more ∙ ap₂ (λ (a b : List Numbered). a ++ b) (events_of_steps dialect n index 0 one.deeds) (events_of_rounds dialect (n + length one.deeds) (index + 1) rest))
 
--- how much is done in rounds
+-- the number of deeds in rounds
 abbrev pub deeds_in : List DeedRound → ℕ
 deeds_in [] = 0
 deeds_in (one ∷ rest) = length one.deeds + deeds_in rest
@@ -155,7 +156,7 @@ puts_among (Raises seat amount left ∷ rest) = puts_among rest
 puts_among (Shows seat cards ∷ rest) = puts_among rest
 puts_among (Mucks seat ∷ rest) = puts_among rest
 
--- what is done is a post, or is none; or is no deal, or no fold of a seat
+-- what is done is a post, or is not; or is not a deal, or not a fold of a seat
 abbrev pub IsPost : Deed → Type 0
 IsPost (Posts kind seat amount left) = Unit {0}
 IsPost (Deals seat cards) = ⊥

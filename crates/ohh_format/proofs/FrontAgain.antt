@@ -33,7 +33,7 @@ use Rattle.list_laws.proofs.Entries.{at_taken}
 use Rattle.list_laws.proofs.NumbersOfRange.{all_at}
 use Rattle.chip_ledger.proofs.RowLists.{row_listed}
 
--- what holds of a setup that has a spelling
+-- what holds of a setup that can be written
 pub record IsSpelledSetup (setup : Setup) : Type 0 where
   pub game : is_spelled_game setup.code ≡ true
   pub sizes : has_spelled_sizes setup ≡ true
@@ -157,7 +157,7 @@ module _ (setup : Setup) (valid : IsValid setup) (is : IsSpelledSetup setup) whe
           let big : setup.big_bet ≡ 0 = subst (λ (b : Bool). IsSizeWhere b setup.big_bet) e valid.big_bet in
           rw (e, no_bring_in, small, big, eqb-true setup.min_bet (big_blind setup) (sizes_fixed false e)) refl
 
-  -- the table with which the posts are compared
+  -- the table that the posts are checked against
   abbrev pub table_of : PlainNamedBlinds
   table_of = record { stacks = amounts_in setup.stacks; small_blind = (blinds_of setup).small; big_blind = (blinds_of setup).big }
 

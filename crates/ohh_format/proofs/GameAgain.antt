@@ -24,7 +24,7 @@ game_words_again games.N2L1D is = absurd (true≢false (sym is))
 game_words_again games.F2L3D is = absurd (true≢false (sym is))
 game_words_again games.FB is = absurd (true≢false (sym is))
 
--- the game is read again
+-- the game reads back
 pub game_again : (dialect : Dialect) (place : ℕ) (trace : Trace) (notes : Notes) → is_spelled_game trace.setup.code ≡ true → game_said (object (hand_members dialect place trace notes)) ≡ Ok trace.setup.code
 unfolding game_said needed text_said object_said
 game_again dialect place trace notes is = rw (game_words_again trace.setup.code is) refl

@@ -70,7 +70,7 @@ pub record IsReadable (play : Play) : Type 0 where
   pub can_be_played : (dialect : Dialect) (file_moves : ℕ) → file_moves + moves_written play ≤ MOST_FILE_MOVES → CanBePlayed (hand_setting dialect file_moves play.trace.setup) play.trace
   pub showdown : showdown_said play.trace.setup (core_said play.trace).places (plain_moves (core_said play.trace).moves) (core_said play.trace).shown ≡ flat_map (showing_events play.trace) (all_seats play.trace.setup)
 
--- numbers that are written go round, and are as many as the seats
+-- numbers that are written go round, and there are as many as seats
 pub circle_written : (count : ℕ) (notes : Notes) → 2 ≤ count → count ≤ 10 → AreAllowed count notes → IsCircle count (number_among (numbers_spelled count notes.seats))
 circle_written count notes some few are = by_said notes.seats are.seats
   where
@@ -187,7 +187,7 @@ module _ (dialect : Dialect) (place : ℕ) (play : Play) (is : IsReadable play) 
           script_read setting trace can is.showdown (length (amounts_in setup.stacks)) table.count,
         ) refl
 
-    -- the hand
+    -- the hand reads back
     pub hand_read : place < MOST_HANDS → hand_said dialect file_moves place ohh ≡ Ok (hand_again dialect place play, file_moves + moves_in hand_steps)
     unfolding hand_said stakes
     hand_read within =

@@ -1,4 +1,4 @@
--- What is written of plays reads back.
+-- What is written for plays reads back.
 pub mod SameNumbers
 pub mod CardLists
 pub mod Circle

@@ -25,13 +25,14 @@ use Rattle.ohh_format.proofs.EventsAgain.{IsNoDeal, IsNoFold, IsNoPost, at_numbe
 use Rattle.ohh_format.proofs.ToldDeeds.{IsGoodMove}
 use Rattle.first_fault.specs.Numbers.{kept_number}
 
--- a move whose seat is known, to chips that may be stated; a call goes no further than the price
+-- a move whose seat is known, to chips within the limit of stated amounts; a call goes no further
+-- than the current bet
 pub record CanBeWritten (setting : PlainSetting) (move : TracedMove) : Type 0 where
   pub player : seat_of setting.ids (pos move.seat) ≡ Some move.seat
   pub to : move.to ≤ MOST_CHIPS
   pub called : move.act ≡ Called → move.to ≤ move.price
 
--- how many events are told
+-- how many events have an action
 abbrev pub told_in : List Said → ℕ
 told_in [] = 0
 told_in (event ∷ rest) = cond (is_told event) 1 0 + told_in rest
@@ -57,7 +58,7 @@ raise_event : (dialect : Dialect) (move : TracedMove) → raise_by dialect (rais
 raise_event dialects.Added move = refl
 raise_event dialects.To move = refl
 
--- what one move is, as it is done and as it is said
+-- one move, as it is done and as its event
 record IsSame (dialect : Dialect) (deeds : List Deed) (events : List Said) : Type 0 where
   events_are : (n : ℕ) → numbered_deeds dialect n deeds ≡ numbered_from n events
   count : length deeds ≡ told_in events
@@ -132,7 +133,7 @@ module _ (setting : PlainSetting) (setup : Setup) where
         moves_count street (plain_move move ∷ before) rest all.1,
       )
 
-  -- a move stands on one street
+  -- a move is on one street
   one_street : (street : ℕ) (before : List Move) (move : TracedMove) → CanBeWritten setting move → length (if move.street == street then move_deed dialect setup before move else []) ≤ cond (move.street == street) 1 0
   one_street street before move can = by_street (move.street == street)
     where
@@ -239,7 +240,7 @@ module _ (setting : PlainSetting) (setup : Setup) where
   pub moves_no_deals : (street : ℕ) (before : List Move) (moves : List TracedMove) → AllByRecursion (CanBeWritten setting) moves → AllByRecursion IsNoDeal (move_deeds dialect setup street before moves)
   moves_no_deals street before moves all = each_move IsNoDeal (λ move left can. by_act IsNoDeal move.act move left (record { folds = tt; checks = tt; calls = tt; bets = tt; raises = tt })) street before moves all
 
-  -- a seat that is live folded in no move
+  -- a seat that is live folds in no move
   abbrev pub HasNotFolded : ℕ → TracedMove → Type 0
   HasNotFolded seat move = (is_fold move.act && (move.seat == seat)) ≡ false
 
@@ -267,7 +268,7 @@ module _ (setting : PlainSetting) (setup : Setup) where
       by_street true = live_act seat move.act move (chips_left setup (plain_move move ∷ before) move.seat) all.0
       by_street false = tt
 
-  -- no move stands on a street
+  -- no move is on a street
   abbrev pub IsElsewhere : ℕ → TracedMove → Type 0
   IsElsewhere street move = (move.street == street) ≡ false
 

@@ -41,7 +41,7 @@ note_again : (default text : List ℕ) (path : Path) → IsNoteText text → byt
 unfolding note_said
 note_again default text path is other = rw (le-leb (length text) MOST_TEXT_BYTES is.1) (ap (λ (found : Option (List ℕ)). Ok found) (noted_again default text is other))
 
--- a text that equals its default is none
+-- a text that equals its default counts as none
 same_none : (default text : List ℕ) → bytes_eq text default ≡ true → noted default text ≡ None
 same_none default text same = ap (λ (b : Bool). cond ((length text == 0) || b) None (Some text)) same ∙ none_anyway (length text == 0) text
 
@@ -72,7 +72,7 @@ count_again count (Some number) some few is = rw (le-leb 1 number is.range.0, le
 
 -- ---- the moment
 
--- a moment that is said of allowed notes is one of the calendar
+-- a moment in allowed notes is one of the calendar
 moment_good : (year month day : Option ℕ) (time : Option Clock) (area : Option (List ℕ)) (moment : Moment) → moment_said year month day time area ≡ Some moment
     → IfSome year (IsWithin 1 9999) → IfSome month (IsWithin 1 12) → IfSome day (IsWithin 1 31) → IfSome year (λ year. IfSome month (λ month. IfSome day (IsDayOf year month))) → IfSome time IsTime → IsMoment moment
 moment_good None month day time area moment is a b c d e = from_none_some is
@@ -103,7 +103,7 @@ good_moment count notes are (Some moment) is = moment_good notes.year notes.mont
 
 -- ---- the hand
 
--- the members that say the notes, as they are written
+-- the members of the notes, as they are written
 pub record HasNotes (place : ℕ) (count : ℕ) (notes : Notes) (ohh : Data) : Type 0 where
   pub hand : field paths.GameNumber ohh ≡ Some (string (unwrap_or notes.hand (decimal place)))
   pub table : field paths.TableName ohh ≡ Some (string (unwrap_or notes.table []))

@@ -87,7 +87,7 @@ module _ (setting : PlainSetting) where
   is_post round (Shows seat cards) is = absurd is
   is_post round (Mucks seat) is = absurd is
 
--- the steps of rounds behind others
+-- the steps of rounds after others
 steps_after_both : (dialect : Dialect) (earlier : List PlainStep) (n index : ℕ) (xs ys : List DeedRound)
     → steps_after dialect earlier n index (xs ++ ys) ≡ steps_after dialect (steps_after dialect earlier n index xs) (n + deeds_in xs) (index + length xs) ys
 steps_after_both dialect earlier n index [] ys = ap₂ (λ (k i : ℕ). steps_after dialect earlier k i ys) (omega arith) (omega arith)
@@ -96,7 +96,7 @@ steps_after_both dialect earlier n index (x ∷ xs) ys =
     steps_after_both dialect next (n + length x.deeds) (index + 1) xs ys
     ∙ ap₂ (λ (k i : ℕ). steps_after dialect (steps_after dialect next (n + length x.deeds) (index + 1) xs) k i ys) (omega arith) (omega arith)
 
--- posts are no deals, no moves and no folds
+-- a post is not a deal, a move or a fold
 pub post_no_deal : (deed : Deed) → IsPost deed → IsNoDeal deed
 post_no_deal (Posts kind seat amount left) is = tt
 post_no_deal (Deals seat cards) is = absurd is
@@ -131,7 +131,7 @@ posts_no_moves (Raises seat amount left ∷ rest) all = absurd all.0
 posts_no_moves (Shows seat cards ∷ rest) all = absurd all.0
 posts_no_moves (Mucks seat ∷ rest) all = absurd all.0
 
--- deals are no moves, no other events and no folds
+-- a deal is not a move, another event or a fold
 deals_counts : (placed : List TracedPlace) (seats : List ℕ) (seat : ℕ)
     → (moves_among (deal_deeds placed seats) ≡ 0) × (others_among (deal_deeds placed seats) ≡ 0) × AllByRecursion (IsNoFold seat) (deal_deeds placed seats)
 deals_counts placed [] seat = (refl, refl, tt)
@@ -157,7 +157,7 @@ moves_counts setting round (Deals seat cards ∷ rest) all = absurd all.0
 moves_counts setting round (Shows seat cards ∷ rest) all = absurd all.0
 moves_counts setting round (Mucks seat ∷ rest) all = absurd all.0
 
--- the streets that may stand before the showdown
+-- the streets that may come before the showdown
 abbrev IsOpen : Option StreetName → Type 0
 IsOpen None = ⊥
 IsOpen (Some streets.Preflop) = Unit {0}
@@ -204,7 +204,8 @@ module _ (setting : PlainSetting) (trace : Trace) (is : CanBePlayed setting trac
   abbrev moves : List TracedMove
   moves = (core_said trace).moves
 
-  -- what holds after some rounds: the number of the next action, no more moves and boards than these, and no folds of live seats
+  -- what holds after some rounds: the number of the next action, no more moves and boards than
+  -- these, and no folds of live seats
   record State (earlier : List PlainStep) (n done boards : ℕ) : Type 0 where
     numbered : count_by is_action earlier + 1 ≡ n
     moves_done : moves_in earlier ≤ done

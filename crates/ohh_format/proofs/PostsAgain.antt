@@ -1,4 +1,5 @@
--- The posts that are written of a setup meet their conditions, and give its antes and blinds again.
+-- The posts that are written for a setup meet their conditions, and give its antes and blinds
+-- again.
 use Rattle.std.proofs.Common.{◌≡◌, ℕ, zero, suc, ◌+◌, ◌-◌, ◌<◌, ◌≤◌, ◌==◌, Bool, true, false, not, ◌&&◌, ◌||◌, nat_lt, cond, min, if◌then◌else◌, List, [], ◌∷◌, ◌++◌, length, map, Option, Some, None, is_some, Ok, refl, sym, ap, ◌∙◌, arith, true≢false}
 use Rattle.std.specs.List.{list_all, list_any, range_with_len}
 use Rattle.std.specs.Option.{option_map_or, option_or}
@@ -53,7 +54,7 @@ puts setup =
     ∷ blind_put setup kinds.BigBlind (big_blind_seat setup)
     ∷ straddles_put setup (all_seats setup))
 
--- a table is that of a setup whose antes and blinds have a spelling
+-- a table is that of a setup whose antes and blinds can be written
 pub record IsTableOf (setup : Setup) (table : PlainNamedBlinds) : Type 0 where
   pub count : seat_count table ≡ setup.stacks.seats
   pub stacks : (seat : ℕ) → stack_of table seat ≡ amount_of setup.stacks seat
@@ -68,7 +69,7 @@ pub record IsTableOf (setup : Setup) (table : PlainNamedBlinds) : Type 0 where
   pub some_ante : setup.dead_antes ≡ true → list_any (posts_ante setup) (all_seats setup) ≡ true
   pub some_none : setup.dead_antes ≡ true → list_any (λ seat. amount_of setup.antes seat == 0) (all_seats setup) ≡ true
 
--- a list has a number of which a test fails
+-- a list has a number for which a test fails
 not_all : (p : ℕ → Bool) (first count number : ℕ) → first ≤ number → number < first + count → p number ≡ false → list_all p (range_with_len first count) ≡ false
 not_all p first zero number from within fails = absurd (omega (arith, from, within))
 not_all p first (suc count) number from within fails = by_first (p first) refl (first == number) refl (λ later. not_all p (first + 1) count number later (omega (arith, within)) fails)

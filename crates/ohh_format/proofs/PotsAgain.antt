@@ -96,12 +96,12 @@ abbrev pub pots_plain : Trace → ℕ → List Pot → List PlainListedPot
 pots_plain trace place [] = []
 pots_plain trace place (pot ∷ rest) = pot_plain trace place pot ∷ pots_plain trace (place + 1) rest
 
--- what is read of the wins of pots, of which the first is at this place
+-- what is read of the wins of pots; the first is at this place
 abbrev pub won_plain : Trace → ℕ → List Pot → List PlainWin
 won_plain trace place [] = []
 won_plain trace place (pot ∷ rest) = wins_plain (share_at trace place) (seats_of trace.setup.stacks.seats) ++ won_plain trace (place + 1) rest
 
--- what a seat wins of pots, of which the first is at this place
+-- what a seat wins of pots; the first is at this place
 abbrev pub shares_from : Trace → ℕ → List Pot → ℕ → ℕ
 shares_from trace place [] seat = 0
 shares_from trace place (pot ∷ rest) seat = amount_of (share_at trace place) seat + shares_from trace (place + 1) rest seat

@@ -28,7 +28,7 @@ use Rattle.ohh_members.specs.declared.street.StreetName.{StreetName}
 abbrev pub board_step : List Slot → PlainStep
 board_step cards = record { number = 0; deed = Happened (said.Board (known_cards cards)) }
 
--- the steps with those of the board, where it was dealt
+-- the steps with those of the board, if it was dealt
 abbrev pub with_board : List PlainStep → List Slot → List PlainStep
 with_board earlier [] = earlier
 with_board earlier (slot ∷ rest) = earlier ++ board_step (slot ∷ rest) ∷ []
@@ -52,7 +52,7 @@ module _ (setting : PlainSetting) where
   board_counts earlier [] = refl
   board_counts earlier (slot ∷ rest) = omega (arith, count_by-push is_action earlier (board_step (slot ∷ rest)))
 
-  -- what a round has to have after these steps
+  -- what a round needs after these steps
   pub record FitsRound (last : Option StreetName) (earlier : List PlainStep) (n index : ℕ) (street : StreetName) (cards : List Slot) (deeds : List Deed) : Type 0 where
     pub follows : street_after last (street_name street) ≡ Some street
     pub few : length cards ≤ 7

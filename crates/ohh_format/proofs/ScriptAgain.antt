@@ -1,5 +1,5 @@
--- The script that is read of the rounds of a hand is its canonical script in the words of the format, and its posts are those of
--- the setup.
+-- The script that is read from the rounds of a hand is its canonical script in the words of the
+-- format, and its posts are those of the setup.
 use Rattle.std.proofs.Common.{◌≡◌, ℕ, zero, suc, ◌+◌, ◌-◌, ◌≤◌, Bool, true, false, cond, if◌then◌else◌, List, [], ◌∷◌, ◌++◌, length, map, Some, None, refl, sym, ap, ap₂, subst, ◌∙◌, arith, append_assoc}
 use Rattle.std.specs.List.{AllByRecursion, flat_map, range_with_len}
 use Rattle.std.proofs.lemmas.List.{append-nil, length-append, length-map}
@@ -178,7 +178,7 @@ showdown_same dialect n (deed ∷ rest) = append-nil (numbered_deeds dialect n (
 
 -- ---- events of rounds
 
--- rounds say some events, whatever the number of the first is
+-- the events of rounds, whatever the number of the first is
 record AreSaid (dialect : Dialect) (events : List Said) (rounds : List DeedRound) : Type 0 where
   same : (n : ℕ) → numbered_from n events ≡ round_events dialect n rounds
   count : told_in events ≡ deeds_in rounds

@@ -1,4 +1,5 @@
--- The players of a hand that was written sit in the order of their seats in the hand, whatever their numbers at the table are.
+-- The players of a hand that was written sit in the order of their seats in the hand, whatever
+-- their numbers at the table are.
 use Rattle.std.proofs.Common.{◌≡◌, ◌≢◌, ℕ, zero, suc, ◌+◌, ◌-◌, ◌<◌, ◌≤◌, ◌==◌, Bool, true, false, ◌||◌, nat_lt, cond, if◌then◌else◌, decimal, List, [], ◌∷◌, ◌++◌, length, map, fold, get_or, Option, Some, None, IfSome, unwrap_or, pos, Ok, inl, inr, refl, sym, ap, subst, ◌∙◌, arith, true≢false}
 use Rattle.std.specs.List.{range_with_len}
 use Rattle.std.proofs.lemmas.Bool.{cases_lt, eq-eqb, eqb-true, le-leb, le-ltb, lt-ltb, ltb-true, ne_eqb}
@@ -42,7 +43,7 @@ module _ (count : ℕ) (stacks : SeatRow) (notes : Notes) (numbers : Option (Lis
   module _ (is : IsCircle count (number_among numbers)) where
     -- ---- the lowest of the players above a number
 
-    -- a player that was found has a higher number than another
+    -- a player that was found has a higher number at the table than this
     abbrev IsAbove : ℕ → Option PlainPlayer → Type 0
     IsAbove least None = Unit {0}
     IsAbove least (Some player) = least < player.seat
@@ -122,7 +123,7 @@ module _ (count : ℕ) (stacks : SeatRow) (notes : Notes) (numbers : Option (Lis
     after_in seat low high true e = (omega arith, omega (arith, low, high))
     after_in seat low high false e = (omega arith, grind (arith, nat_tests, high))
 
-    -- the player after another sits in the seat after its
+    -- the player after another sits in the seat after that one's
     next_is : (seat : ℕ) → 1 ≤ seat → seat ≤ count → (last : Bool) → (seat == count) ≡ last → (top : Bool) → (seat == is.top) ≡ top → next_player all_players (player_of seat) ≡ player_of (if last then 1 else seat + 1)
     next_is seat low high last e false f =
         let next : ℕ = if last then 1 else seat + 1 in
@@ -140,7 +141,7 @@ module _ (count : ℕ) (stacks : SeatRow) (notes : Notes) (numbers : Option (Lis
         ∙ ap (λ (found : Option PlainPlayer). unwrap_or found (player_of seat))
         (lowest_is 0 next within.0 within.1 (let one = is.each next within.0 within.1 in omega (arith, one.0)) (λ other from to some. least other from to))
 
-    -- so many players, going round
+    -- this many players, going round
     go_on : (seat many : ℕ) → 1 ≤ seat → seat + many ≤ count → round_from all_players (player_of seat) many ≡ players_from (seat + 1) many
     go_on seat zero low high = refl
     go_on seat (suc many) low high =

@@ -23,7 +23,7 @@ use Rattle.ohh_rounds.specs.Setting.{PlainSetting}
 use Rattle.ohh_format.proofs.MovesAgain.{CanBeWritten, HasNotFolded, IsElsewhere}
 use Rattle.play_laws.proofs.ResolvedMoves.{act_of, target_of}
 
--- a call goes no further than the price
+-- a call goes no further than the current bet
 called_fits : (setup : Setup) (older : List Move) (street seat : ℕ) (event : Said) (move : Move) → IsMoveSaid event → resolved_by setup older street (TheSeat seat) event ≡ Moved move → move.act ≡ Called → move.to ≤ price setup older street
 unfolding target_of act_of
 called_fits setup older street seat _ move (fold_said named) is called = absurd (true≢false (ap is_fold (ap act_of is ∙ called)))

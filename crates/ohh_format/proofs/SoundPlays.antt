@@ -1,4 +1,4 @@
--- Sound plays that the format spells read back when they were written.
+-- Sound plays that the format can write read back when they were written.
 use Rattle.std.proofs.Common.{◌≡◌, ℕ, zero, suc, ◌+◌, ◌-◌, ◌≤◌, Bool, true, false, ◌&&◌, ◌==◌, nat_lt, if◌then◌else◌, sum_by, List, [], ◌∷◌, ◌++◌, length, reverse, pos, Option, Some, None, Ok, refl, sym, ap, subst, ◌∙◌, arith, true≢false}
 use Rattle.std.specs.List.{AllByRecursion, flat_map, list_any, range_with_len}
 use Rattle.std.proofs.lemmas.List.Sums.{sum_by-cons}
@@ -72,7 +72,7 @@ use Rattle.play_event.proofs.ScriptLaws.{at_end}
 use Rattle.hand_records.specs.Plays.{moves_written}
 use Rattle.play_event.proofs.TracedMoves.{as_many}
 
--- ---- the facts that are spelled
+-- ---- the facts that can be written
 
 pub fact_holds : (holds : Bool) (fact : Unspelled) (rest : Option Unspelled) → (if holds then rest else Some fact) ≡ None → (holds ≡ true) × (rest ≡ None)
 fact_holds true fact rest none = (refl, none)
@@ -159,13 +159,13 @@ board_some setup is (suc (suc (suc zero))) low high = omega (arith, is.turn)
 board_some setup is (suc (suc (suc (suc zero)))) low high = omega (arith, is.river)
 board_some setup is (suc (suc (suc (suc (suc more))))) low high = absurd (omega (arith, high))
 
--- a street without a board was not come to
+-- a street without a board was not reached
 passed_there : (setup : Setup) (events : List Said) (street : ℕ) → IsFlopGame setup.code → 2 ≤ street → street ≤ 4 → HasStreet setup events street → (passed : Bool) → is_passed setup (moves_of (past_of setup events)) street ≡ passed
     → dealt_slots (traced_places setup (past_of setup events)) None street ≡ [] → is_passed setup (moves_of (past_of setup events)) street ≡ true
 passed_there setup events street is low high has true e none = e
 passed_there setup events street is low high has false e none = absurd (omega (arith, has.board e, board_some setup is street low high, ap length none))
 
--- and then a later one was not come to either
+-- and then a later one was not reached either
 none_later : (setup : Setup) (events : List Said) (early late : ℕ) → early ≤ late → HasStreet setup events late → is_passed setup (moves_of (past_of setup events)) early ≡ true → (passed : Bool) → is_passed setup (moves_of (past_of setup events)) late ≡ passed
     → dealt_slots (traced_places setup (past_of setup events)) None late ≡ []
 none_later setup events early late order has over true e = none_from_length (dealt_slots (traced_places setup (past_of setup events)) None late) (omega (arith, has.no_board e))
@@ -232,7 +232,7 @@ module _ (keep : Keep) (play : Play) (sound : IsSound play) (spelled : unspelled
   stack_few : (seat : ℕ) → amount_of trace.setup.stacks seat ≤ MOST_CHIPS
   stack_few seat = front.stack_few trace.setup valid it seat
 
-  -- as many moves are written as were played
+  -- the same number of moves is written as was played
   pub same_count : moves_written play ≡ moves_played play
   same_count =
       ap (λ (core : TraceCore). length core.moves) sound.trace.core

@@ -44,7 +44,7 @@ sum_few f first (suc many) few =
     let split = sum_by-cons f first (range_with_len (first + 1) many) in
     omega (arith, split, few first, sum_few f (first + 1) many few)
 
--- ---- as many shares as pots
+-- ---- the same number of shares as pots
 
 as_many : (code : Code) (showdown : Showdown) (pots : List PlainPot) (shares : List (ℕ → ℕ)) → AllShared code showdown pots shares → length pots ≡ length shares
 as_many code showdown [] [] all = refl

@@ -36,7 +36,7 @@ use Rattle.ohh_format.proofs.CardLists.{card_texts, cards_again, few_again, slot
 use Rattle.ohh_format.proofs.Deeds.{Deed, Bets, Calls, Checks, Deals, Folds, Mucks, Posts, Raises, Shows, action_of}
 use Rattle.first_fault.specs.Numbers.{kept_number}
 
--- what a step tells of what was done, at its place
+-- what a step says of what was done, at its place
 abbrev pub told : Dialect → ActionPlace → Deed → PlainDeed
 told dialect place (Posts kind seat amount left) = Posted (record { kind = kind; seat = seat; amount = amount; early = true; place = place })
 told dialect place (Deals seat cards) = Dealt seat cards
@@ -52,7 +52,7 @@ told dialect place (Mucks seat) = Happened (said.Muck seat)
 abbrev pub step_of : Dialect → ℕ → ℕ → ℕ → Deed → PlainStep
 step_of dialect n round index deed = record { number = kept_number n; deed = told dialect (record { round = round; action = index }) deed }
 
--- the steps of what was done in a round, of which the first has this number and this index
+-- the steps of what was done in a round; the first has this number and this index
 abbrev pub steps_of : Dialect → ℕ → ℕ → ℕ → List Deed → List PlainStep
 steps_of dialect n round index [] = []
 steps_of dialect n round index (deed ∷ rest) = step_of dialect n round index deed ∷ steps_of dialect (n + 1) round (index + 1) rest
@@ -96,7 +96,7 @@ module _ (setting : PlainSetting) (round : ℕ) where
     pub other : HasOther earlier seat
     pub live : has_folded seat earlier ≡ false
 
-  -- what was done reads after these steps
+  -- what was done can be read after these steps
   abbrev pub CanBeTold : List PlainStep → Deed → Type 0
   CanBeTold earlier (Posts kind seat amount left) = HasPost earlier seat amount
   CanBeTold earlier (Deals seat cards) = HasDeal earlier seat cards
@@ -226,14 +226,14 @@ module _ (setting : PlainSetting) (round : ℕ) where
   behind earlier index [] ys = ap (λ n. added_from (action_added setting round) earlier n ys) (omega arith)
   behind earlier index (x ∷ xs) ys = first_behind index x xs ys (action_added setting round earlier index x) (λ after. behind after (index + 1) xs ys)
 
-  -- items behind others
+  -- items after others
   pub added_both : (earlier middle after : List PlainStep) (index : ℕ) (xs ys : List Data) → added_from (action_added setting round) earlier index xs ≡ Ok middle
       → added_from (action_added setting round) middle (index + length xs) ys ≡ Ok after
       → added_from (action_added setting round) earlier index (xs ++ ys) ≡ Ok after
   added_both earlier middle after index xs ys one two =
       behind earlier index xs ys ∙ ap (λ (found : Result (List PlainStep) MemberFault). found >>= λ mid. added_from (action_added setting round) mid (index + length xs) ys) one ∙ two
 
--- the trees of actions behind others
+-- the trees of actions after others
 pub trees_both : (m : ℕ) (some more : List PlainAction) → action_trees m (some ++ more) ≡ action_trees m some ++ action_trees (m + length some) more
 trees_both m [] more = ap (λ n. action_trees n more) (omega arith)
 trees_both m (action ∷ some) more =
@@ -243,7 +243,7 @@ pub trees_count : (m : ℕ) (actions : List PlainAction) → length (action_tree
 trees_count m [] = refl
 trees_count m (action ∷ rest) = ap suc (trees_count (m + 1) rest)
 
--- steps behind others
+-- steps after others
 pub steps_both : (dialect : Dialect) (n round index : ℕ) (some more : List Deed) → steps_of dialect n round index (some ++ more) ≡ steps_of dialect n round index some ++ steps_of dialect (n + length some) round (index + length some) more
 steps_both dialect n round index [] more = ap₂ (λ (n index : ℕ). steps_of dialect n round index more) (omega arith) (omega arith)
 steps_both dialect n round index (deed ∷ some) more =

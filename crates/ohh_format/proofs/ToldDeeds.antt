@@ -1,4 +1,5 @@
--- What was done, chunk by chunk, can be told: posts first, then deals, then moves, and shows after them.
+-- What was done, chunk by chunk, can be read: posts first, then deals, then moves, and shows after
+-- them.
 use Rattle.std.proofs.Common.{◌≡◌, ℕ, zero, suc, ◌+◌, ◌<◌, ◌≤◌, Bool, true, false, nat_lt, cond, List, [], ◌∷◌, ◌++◌, length, count_by, pos, Some, refl, sym, ap, ap₂, subst, ◌∙◌, arith, append_assoc}
 use Rattle.std.specs.List.{AllByRecursion, flat_map, list_any, range_with_len}
 use Rattle.std.proofs.lemmas.Bool.{lt-ltb, ne_eqb}
@@ -77,7 +78,7 @@ one_other dialect place (Raises seat amount left) = refl
 one_other dialect place (Shows seat cards) = refl
 one_other dialect place (Mucks seat) = refl
 
--- the counts of steps, one behind the others
+-- the counts of steps, one after the other
 pub counts_both : (p : PlainStep → Bool) (xs ys : List PlainStep) → count_by p (xs ++ ys) ≡ count_by p xs + count_by p ys
 counts_both p [] ys = omega arith
 counts_both p (x ∷ xs) ys = omega (arith, count_by-cons p x (xs ++ ys), count_by-cons p x xs, counts_both p xs ys)
@@ -110,7 +111,7 @@ module _ (dialect : Dialect) (round : ℕ) where
       let one : ◌≡◌ {A = ℕ} (cond (nat_lt 0 (kept_number n)) 1 0) 1 = rw (lt-ltb 0 (kept_number n) (omega (arith, some))) refl in
       omega (arith, count_by-cons is_action (step_of dialect n round index deed) (steps_of dialect (n + 1) round (index + 1) rest), one, actions_of_steps (n + 1) (index + 1) rest (omega arith))
 
--- ---- that they can be told
+-- ---- that they can be read
 
 module _ (setting : PlainSetting) (round : ℕ) where
   abbrev steps : ℕ → ℕ → List Deed → List PlainStep
@@ -134,7 +135,7 @@ module _ (setting : PlainSetting) (round : ℕ) where
             (subst (λ (i : ℕ). AllTold setting round (n + length (deed ∷ some)) i (earlier ++ steps n index (deed ∷ some)) more) (longer index) other))),
       )
 
-  -- a post, in chips that may be stated
+  -- a post, in chips within the limit of stated amounts
   abbrev pub IsGoodPost : Deed → Type 0
   IsGoodPost (Posts kind seat amount left) = (seat_of setting.ids (pos seat) ≡ Some seat) × (amount ≤ MOST_CHIPS)
   IsGoodPost (Deals seat cards) = ⊥
@@ -146,7 +147,7 @@ module _ (setting : PlainSetting) (round : ℕ) where
   IsGoodPost (Shows seat cards) = ⊥
   IsGoodPost (Mucks seat) = ⊥
 
-  -- a move, in chips that may be stated
+  -- a move, in chips within the limit of stated amounts
   abbrev pub IsGoodMove : Deed → Type 0
   IsGoodMove (Posts kind seat amount left) = ⊥
   IsGoodMove (Deals seat cards) = ⊥
@@ -181,7 +182,7 @@ module _ (setting : PlainSetting) (round : ℕ) where
   posts_told n index earlier (Shows seat cards ∷ rest) first none all = absurd all.0
   posts_told n index earlier (Mucks seat ∷ rest) first none all = absurd all.0
 
-  -- there is room for so many moves more
+  -- there is room for this many more moves
   pub record HasRoom (earlier : List PlainStep) (more : ℕ) : Type 0 where
     pub moves : moves_in earlier + more ≤ MOST_MOVES
     pub file : setting.file_moves + moves_in earlier + more ≤ MOST_FILE_MOVES
@@ -219,7 +220,7 @@ module _ (setting : PlainSetting) (round : ℕ) where
 
   -- ---- deals
 
-  -- what is dealt to seats, one deal a seat at most
+  -- what is dealt to seats, at most one deal per seat
   module _ (cards : ℕ → List Slot) (some : ℕ → Bool) where
     abbrev pub deal_of : ℕ → List Deed
     deal_of seat = cond (some seat) (Deals seat (cards seat) ∷ []) []

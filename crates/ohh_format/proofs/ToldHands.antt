@@ -1,5 +1,5 @@
--- What each hand has that bytes say: rules of hand histories, a game that is spelled, sizes of bets by the big blind, and antes and
--- blinds of posts that meet their conditions.
+-- What holds of each hand that is read from bytes: rules of hand histories, a game that can be
+-- written, bet sizes by the big blind, and antes and blinds of posts that meet their conditions.
 use Rattle.std.proofs.Common.{◌≡◌, ℕ, ◌+◌, ◌-◌, ◌*◌, ◌≤◌, Bool, true, false, ◌&&◌, nat_le, nat_lt, if◌then◌else◌, List, [], ◌∷◌, ◌++◌, Option, Some, None, Result, Ok, Err, IfOk, bytes_eq, codes, refl}
 use Rattle.std.specs.Bool.{⊤}
 use Rattle.std.specs.List.{AllByRecursion}
@@ -46,12 +46,12 @@ use Rattle.ohh_reading.specs.declared.fault.HandFaultKind.TheVariants as wrongne
 use Rattle.first_fault.proofs.Thread.{bound}
 use Rattle.hand_records.specs.PlainHands.{PlainHand, PlainSetup}
 
--- the same, by what holds of what comes first
+-- the same, by what holds of the first part
 bound_by : {A B F : Type 0} (P : A → Type 0) (Q : B → Type 0) (first : Result A F) (next : A → Result B F) → IfOk first P → ((a : A) → P a → IfOk (next a) Q) → IfOk (first >>= next) Q
 bound_by P Q (Ok a) next is each = each a is
 bound_by P Q (Err fault) next is each = tt
 
--- ---- the front
+-- ---- what comes before the rounds
 
 named_told : (what : MemberFaultKind) (path : Path) (first second third fourth : Bool)
     → IfOk (or_wrong what path (if first then Some games.FT else if second then Some games.NT else if third then Some games.PO else if fourth then Some games.FO8 else None)) (λ code. is_spelled_game code ≡ true)
@@ -61,7 +61,7 @@ named_told what path false false true fourth = refl
 named_told what path false false false true = refl
 named_told what path false false false false = tt
 
--- the game is one that is spelled
+-- the game is one that can be written
 abbrev IsOfSpelled : Code → Type 0
 IsOfSpelled code = is_spelled_game code ≡ true
 
@@ -89,7 +89,7 @@ number_told least most path (trees.string text) = tt
 number_told least most path (trees.array items) = tt
 number_told least most path (trees.object _) = tt
 
--- the small blind is a chip at least, and the big blind no less
+-- the small blind is at least one chip, and the big blind no less
 record AreInOrder (blinds : Blinds) : Type 0 where
   small : 1 ≤ blinds.small
   order : blinds.small ≤ blinds.big
@@ -150,7 +150,7 @@ play_told setting ohh = bound (λ (play : PlainPlay). HasPosts setting.table pla
 abbrev pub stakes_in : PlainSetup → PlainAntesAndBlinds
 stakes_in setup = record { antes = setup.antes; dead_antes = setup.dead_antes; blinds = setup.blinds }
 
--- a setup is told by blinds as they are named, and by posts
+-- a setup is determined by named blinds and by posts
 pub record IsToldSetup (setup : PlainSetup) : Type 0 where
   pub table : PlainNamedBlinds
   pub game : is_spelled_game setup.code ≡ true
@@ -164,7 +164,7 @@ pub record IsToldHand (hand : PlainHand) : Type 0 where
   pub rules : hand.rules ≡ history_rules
   pub setup : IsToldSetup hand.setup
 
--- what is found of a hand
+-- what holds of a hand that is read
 abbrev IsFoundTold : PlainHand × ℕ → Type 0
 IsFoundTold found = IsToldHand found.0
 
@@ -234,7 +234,7 @@ all_told : (found : Result (List PlainHand × ℕ) OhhHandFault) → IfOk found 
 all_told (Ok found) is = is
 all_told (Err fault) is = tt
 
--- each hand that bytes say
+-- each hand that is read from bytes
 pub reading_told : (dialect : Dialect) (bytes : List ℕ) → IfOk (reading dialect bytes) (AllByRecursion IsToldHand)
 unfolding reading
 reading_told dialect bytes = all_told (hands_said dialect (blocks_of bytes)) (threaded dialect 0 1 (blocks_of bytes))

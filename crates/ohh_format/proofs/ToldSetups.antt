@@ -1,4 +1,4 @@
--- A setup that is told by posts has a spelling: its game, sizes of bets, antes and blinds.
+-- A setup that is determined by posts can be written: its game, bet sizes, antes and blinds.
 use Rattle.std.proofs.Common.{◌≡◌, ℕ, zero, suc, ◌+◌, ◌-◌, ◌*◌, ◌<◌, ◌≤◌, Bool, true, false, not, ◌&&◌, ◌||◌, ◌==◌, nat_le, nat_lt, min, if◌then◌else◌, List, length, map, slice_index, Option, Some, None, is_some, refl, sym, ap, ◌∙◌, arith, true≢false}
 use Rattle.std.specs.List.{list_all, list_any, range_with_len}
 use Rattle.std.specs.Option.{option_map_or}
@@ -42,7 +42,7 @@ greatest_none f first zero each = refl
 greatest_none f first (suc count) each =
     omega (arith, each first (omega arith) (omega arith), greatest_none f (first + 1) count (λ number low high. each number (omega (arith, low)) (omega (arith, high))))
 
--- the sizes of bets by whether the limit is fixed
+-- the bet sizes by whether the limit is fixed
 abbrev sizes_by : ℕ → Bool → Sizes
 sizes_by big fixed =
     if fixed then record { bring_in = 0; small_bet = big; big_bet = 2 * big; min_bet = 0 }
@@ -202,7 +202,7 @@ module _ (setup : Setup) (is : IsToldSetup (plain_setup setup)) where
       eq-eqb (amount_of setup.antes seat) (min (amount_of setup.stacks seat) (greatest_ante setup))
       (omega (arith, ante_is seat low (omega (arith, high)), even_ante all seat low high, greatest_is, stack_is seat))
 
-  -- or none posts an ante
+  -- or no seat posts an ante
   none_ante : list_any (λ seat. nat_lt 0 (held_ante table posts seat)) (seats_of (seat_count table)) ≡ false → (seat : ℕ) → 1 ≤ seat → seat < 1 + count → amount_of setup.antes seat ≡ 0
   none_ante none seat low high =
       let here = at_range (λ n. nat_lt 0 (held_ante table posts n)) 1 count seat (sym (ap (λ n. list_any (λ seat. nat_lt 0 (held_ante table posts seat)) (seats_of n)) count_is) ∙ none) low high in

@@ -33,7 +33,7 @@ seat_again_from seat first (suc count) false is from below =
 pub seat_again : (seat count : ℕ) → 1 ≤ seat → seat ≤ count → seat_of (ids_written count) (pos seat) ≡ Some seat
 seat_again seat count first last = seat_again_from seat 1 count (seat == 1) refl first (omega (arith, last))
 
--- what a seat wins of a pot, where it wins something
+-- what a seat wins of a pot, if it wins something
 abbrev pub win_plain : SeatRow → ℕ → List PlainWin
 win_plain share seat = cond (nat_lt 0 (amount_of share seat)) (record { seat = seat; chips = amount_of share seat } ∷ []) []
 
@@ -59,7 +59,7 @@ module _ (count : ℕ) (pot : ℕ) (share : SeatRow) where
   abbrev Few : ℕ → List PlainWin → Type 0
   Few first earlier = (seat : ℕ) → first ≤ seat → won_by seat earlier + amount_of share seat ≤ MOST_AMOUNT
 
-  -- of these seats, one more is told
+  -- one more of these seats is read
   wins_step : (earlier : List PlainWin) (index seat : ℕ) (rest : List Data) (found : List PlainWin) (wins : Bool)
       → nat_lt 0 (amount_of share seat) ≡ wins → 1 ≤ seat → seat ≤ count → Few seat earlier
       → ((next : ℕ) (so_far : List PlainWin) → Few (seat + 1) so_far → added_from (win_added (ids_written count) pot) so_far next rest ≡ Ok (so_far ++ found))

@@ -35,7 +35,7 @@ showdown_no setup placed list shown = by_contest (nat_le 2 (live_count setup lis
     by_contest true = showing_no placed shown (filter (is_live list) (all_seats setup))
     by_contest false = tt
 
--- the words of the moves of a street, where the moves are the newest first
+-- the words of the moves of a street; the moves are the newest first
 words_on : Dialect → ℕ → List TracedMove → List Said
 words_on dialect street [] = []
 words_on dialect street (first ∷ older) = words_on dialect street older ++ move_on dialect street first
@@ -48,7 +48,7 @@ words_are dialect street (first ∷ older) =
     ∙ sym (flat_map_more (move_on dialect street) [] (reverse older) first)
     ∙ ap (λ (l : List Said). l ++ move_on dialect street first) (words_are dialect street older)
 
--- no move of a street has a word where all moves are of earlier ones
+-- no move of a street has a word if all moves are of earlier ones
 none_again : (dialect : Dialect) (newest street : ℕ) (list : List TracedMove) → AreReached newest (map plain_move list) → newest < street → words_on dialect street list ≡ []
 unfolding words_on
 none_again dialect newest street [] all less = refl
@@ -57,7 +57,7 @@ none_again dialect newest street (first ∷ rest) all less =
     ∙ append-nil (words_on dialect street rest)
     ∙ none_again dialect newest street rest all.1 less
 
--- a word is one event, or none
+-- a word is one event, or no event
 again_once : (dialect : Dialect) (act : Act) (move : TracedMove) → reverse (move_again dialect act move) ≡ move_again dialect act move
 again_once dialect Folded move = refl
 again_once dialect Called move = refl

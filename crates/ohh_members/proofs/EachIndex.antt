@@ -1,4 +1,4 @@
--- Items that are read one after the other, each told its index from 0, as a loop does.
+-- Items that are read one after the other, each with its index from 0, as a loop does.
 use Rattle.std.proofs.Common.{◌≡◌, ℕ, ◌+◌, ◌-◌, ◌<◌, ◌≤◌, List, [], ◌∷◌, ◌++◌, length, map, drop, get_or, Result, Ok}
 use Rattle.first_fault.specs.declared.stop.Stop.{Stop}
 use Rattle.first_fault.specs.Reading.{Fails, each_from}

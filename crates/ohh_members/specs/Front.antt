@@ -1,5 +1,4 @@
--- What stands in front of the rounds of a hand: its game, its players and its blinds, examined in
--- this order.
+-- What comes before the rounds of a hand: its game, its players and its blinds, read in this order.
 use Rattle.std.specs.Prelude.{◌≡◌, ◌≤◌, ◌*◌, true, List, ℕ, ℤ, length, map, Result, Ok}
 use Rattle.serde_json.specs.Data.{Data}
 use Rattle.chip_ledger.specs.declared.numbers.TheConstants.{MOST_CHIPS}
@@ -12,19 +11,19 @@ use Rattle.ohh_members.specs.Game.{IsReadGame, game_said}
 use Rattle.ohh_members.specs.Players.{PlainPlayer, plain_player, seated_said}
 use Rattle.ohh_members.specs.Blinds.{blinds_said, is_fixed_game}
 
--- the game, the players by their seats in the hand, and the blinds
+-- the game, the players in the order of their seats in the hand, and the blinds
 pub record PlainFront : Type 0 where
   pub code : Code
   pub players : List PlainPlayer
   pub blinds : Blinds
 
--- what a front says
+-- what comes before the rounds, as the definitions see it
 abbrev pub plain_front : Front → PlainFront
 plain_front front =
     record
     { code = front.code; players = map plain_player front.players.items; blinds = front.blinds }
 
--- what a front keeps to
+-- what holds of everything that is read before the rounds
 pub record IsFront (front : Front) : Type 0 where
   pub game : IsReadGame front.code
   pub some : 2 ≤ length front.players.items
@@ -34,7 +33,7 @@ pub record IsFront (front : Front) : Type 0 where
   pub most : front.blinds.big ≤ MOST_CHIPS
   pub fixed : is_fixed_game front.code ≡ true → 2 * front.blinds.big ≤ MOST_CHIPS
 
--- the front
+-- what comes before the rounds of a hand
 unfoldable pub front_said : Data → Result PlainFront MemberFault
 front_said ohh = do
   code ← game_said ohh
@@ -42,10 +41,10 @@ front_said ohh = do
   blinds ← blinds_said code ohh
   Ok (record { code = code; players = players; blinds = blinds })
 
--- the ids of players, by their seats
+-- the ids of players, in the order of their seats
 abbrev pub ids_of : List PlainPlayer → List ℤ
 ids_of players = map (λ player. player.id) players
 
--- the stacks of players, by their seats
+-- the stacks of players, in the order of their seats
 abbrev pub stacks_of : List PlainPlayer → List ℕ
 stacks_of players = map (λ player. player.stack) players

@@ -1,4 +1,4 @@
--- What the members of a hand say.
+-- The members of a hand in Open Hand History.
 pub mod Paths
 pub mod Values
 pub mod Game

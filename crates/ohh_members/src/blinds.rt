@@ -1,4 +1,4 @@
-//! The blinds of a hand are read.
+//! Reads the blinds of a hand.
 ghost use Rattle.std.specs.Prelude.{◌≡◌, ◌≤◌, ◌*◌, true, IfOk};
 ghost use Rattle.serde_json.specs.View.{view};
 ghost use Rattle.chip_ledger.specs.declared.numbers.TheConstants.{MOST_CHIPS};
@@ -21,7 +21,7 @@ pub struct Blinds {
     pub big: u64,
 }
 
-/// The blinds of a hand. The ante is examined for its form alone: what is posted counts.
+/// The blinds of a hand. The ante is only checked for its form: the posts are what counts.
 #[tactic(auto, unfolding(crate::specs::Blinds::blinds_said, crate::specs::Blinds::fitting))]
 pub fn read_blinds(ohh: &Value, code: Code) -> Result<Blinds, Stop<MemberFault>>
     ensures said { Gives (λ blinds. blinds) result (blinds_said code (view ohh.now)) }
@@ -43,7 +43,7 @@ pub fn read_blinds(ohh: &Value, code: Code) -> Result<Blinds, Stop<MemberFault>>
     Ok(Blinds { small, big })
 }
 
-// The ante, if it is said.
+// The ante, if it is there.
 fn read_ante(ohh: &Value) -> Result<Option<u64>, Stop<MemberFault>>
     ensures { Gives (λ ante. ante) result
         (read_if (number_said 0 MOST_CHIPS paths.AnteAmount)

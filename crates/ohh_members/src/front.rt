@@ -1,4 +1,4 @@
-//! What stands in front of the rounds of a hand is read: its game, its players and its blinds.
+//! Reads what comes before the rounds of a hand: its game, its players and its blinds.
 ghost use Rattle.std.specs.Prelude.{IfOk};
 ghost use Rattle.serde_json.specs.View.{view};
 ghost use Rattle.first_fault.specs.Reading.{Gives};
@@ -14,17 +14,17 @@ use play_event::Code;
 use serde_json::Value;
 use std::alloc::Global;
 
-/// What stands in front of the rounds of a hand.
+/// What comes before the rounds of a hand.
 #[derive(Drop)]
 pub struct Front<'a> {
-    /// One of the games that are read.
+    /// One of the supported games.
     pub code: Code,
-    /// Two to ten players by their seats in the hand: the first sits after the button.
+    /// Two to ten players in the order of their seats in the hand: the first sits after the button.
     pub players: Vec<Player<'a>>,
     pub blinds: Blinds,
 }
 
-/// What stands in front of the rounds of a hand.
+/// Reads what comes before the rounds of a hand.
 #[tactic(auto, unfolding(crate::specs::Front::front_said))]
 pub fn read_front<'a>(alloc: Global, ohh: &'a Value) -> Result<Front<'a>, Stop<MemberFault>>
     ensures said { Gives plain_front result (front_said (view ohh.now)) }

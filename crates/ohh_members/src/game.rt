@@ -1,4 +1,4 @@
-//! The game of a hand is read from its type and its limit.
+//! Reads the game of a hand from its type and its limit.
 ghost use Rattle.std.specs.Prelude.{◌≡◌, ◌&&◌, bytes_eq, IfOk, IfSome};
 ghost use Rattle.serde_json.specs.View.{view};
 ghost use Rattle.first_fault.specs.Reading.{Gives};
@@ -26,14 +26,14 @@ pub fn read_game(ohh: &Value) -> Result<Code, Stop<MemberFault>>
     }
 }
 
-// The object that says the limit.
+// The object with the limit.
 fn read_limits(ohh: &Value) -> Result<&Value, Stop<MemberFault>>
     ensures { Gives (λ found. view found.now) result (limits_said (view ohh.now)) }
 {
     read_object(needed(ohh, Path::BetLimit)?, Path::BetLimit)
 }
 
-// The text of a member that is needed.
+// The text of a required member.
 fn read_word(value: &Value, path: Path) -> Result<&str, Stop<MemberFault>>
     ensures { Gives (λ text. text.now) result (word_said path (view value.now)) }
 {
@@ -58,7 +58,7 @@ fn game_named(game: &str, limit: &str) -> Option<Code>
     }
 }
 
-// Whether the game and the limit are spelled so.
+// Whether the game and the limit are written so.
 fn are_words(game: &str, game_word: &str, limit: &str, limit_word: &str) -> bool
     ensures { result ≡ (bytes_eq game.now game_word.now && bytes_eq limit.now limit_word.now) }
 {

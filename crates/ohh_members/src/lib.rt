@@ -1,5 +1,5 @@
-//! The faults of a hand in Open Hand History, the forms of its members, and what stands in front of
-//! its rounds.
+//! The faults of a hand in Open Hand History, the forms of its members, and what comes before its
+//! rounds.
 #![tactic(auto)]
 
 pub mod blinds;

@@ -1,4 +1,4 @@
-//! The players of a hand are read in the order in which they are listed.
+//! Reads the players of a hand in the order in which they are listed.
 ghost use Rattle.std.specs.Prelude.{◌≡◌, ◌≤◌, ◌+◌, [], length, map, IfOk, option_map};
 ghost use Rattle.std.specs.Option.{ForSome};
 ghost use Rattle.serde_json.specs.View.{view};
@@ -61,7 +61,7 @@ fn add_player<'a>(
     Ok(())
 }
 
-// A player, after those before it.
+// A player, checked against those before it.
 #[tactic(auto, unfolding(crate::specs::Players::player_said))]
 fn read_player<'a>(
     earlier: &[Player],
@@ -88,7 +88,7 @@ fn read_player<'a>(
     })
 }
 
-// The id of a player, which no player before it has.
+// The id of a player, different from those before it.
 #[tactic(auto, unfolding(crate::specs::Players::id_said))]
 fn read_id(earlier: &[Player], index: u64, player: &Value) -> Result<i128, Stop<MemberFault>>
     ensures { Gives (λ id. id) result
@@ -117,7 +117,7 @@ fn has_id(id: i128, players: &[Player]) -> bool
     false
 }
 
-// The seat of a player, which no player before it has.
+// The seat of a player at the table, different from those before it.
 #[tactic(auto, unfolding(crate::specs::Players::seat_said))]
 fn read_seat(earlier: &[Player], index: u64, player: &Value) -> Result<u8, Stop<MemberFault>>
     ensures said { Gives (λ seat. seat) result

@@ -1,4 +1,4 @@
-//! The values of members are read, each in its form.
+//! Reads the values of members, each in its form.
 ghost use Rattle.std.specs.Prelude.{◌≡◌, ◌≤◌, map, length, IfOk, IfSome, option_map};
 ghost use Rattle.serde_json.specs.Find.{get};
 ghost use Rattle.serde_json.specs.View.{items_view, view};
@@ -12,7 +12,7 @@ use chip_ledger::Seat;
 use first_fault::{Stop, keep_within};
 use serde_json::Value;
 
-/// The value of a member that is needed.
+/// The value of a required member.
 #[tactic(auto, unfolding(crate::specs::Values::needed))]
 pub fn needed<'a>(value: &'a Value, path: Path) -> Result<&'a Value, Stop<MemberFault>>
     ensures { Gives (λ found. view found.now) result (needed_said path (view value.now)) }
@@ -75,7 +75,7 @@ pub fn read_number(
     }
 }
 
-/// The seat of a player who is named by the id.
+/// The seat of the player with this id.
 #[tactic(auto, unfolding(crate::specs::Values::player_said))]
 pub fn read_player(value: &Value, ids: &[i128], path: Path) -> Result<Seat, Stop<MemberFault>>
     requires { length ids.now ≤ 10 }
@@ -92,8 +92,8 @@ pub fn read_player(value: &Value, ids: &[i128], path: Path) -> Result<Seat, Stop
     Err(wrong(MemberFaultKind::BadPlayer, path))
 }
 
-// The number of the seat of the player with this id, where the ids are those of the players in the
-// order of their seats.
+// The index of the seat of the player with this id; `ids` are those of the players in the order of
+// their seats.
 fn seat_of(ids: &[i128], id: i128) -> Option<usize>
     ensures said { result ≡ seat_of_said ids.now id }
     ensures seated { IfSome result (λ seat. (1 ≤ seat) × (seat ≤ length ids.now)) }
@@ -106,7 +106,7 @@ fn seat_of(ids: &[i128], id: i128) -> Option<usize>
     None
 }
 
-/// Any whole number that a tree holds.
+/// Any whole number that fits a JSON tree.
 #[tactic(auto, unfolding(crate::specs::Values::integer_said))]
 pub fn read_integer(value: &Value, path: Path) -> Result<i128, Stop<MemberFault>>
     ensures { Gives (λ number. number) result (integer_said path (view value.now)) }
@@ -150,7 +150,7 @@ pub fn read_card(value: &Value, path: Path) -> Result<Card, Stop<MemberFault>>
     }
 }
 
-// A slot that is known.
+// The card, if it is known.
 fn known_in(slot: Slot) -> Option<Card>
     ensures { result ≡ known_in_said slot }
 {
@@ -185,7 +185,7 @@ pub fn read_slot(value: &Value, path: Path) -> Result<Slot, Stop<MemberFault>>
     }
 }
 
-// The slot that a text of two letters spells.
+// The card, known or unknown, that a text of two letters means.
 fn slot_in(text: &str) -> Option<Slot>
     ensures { result ≡ slot_in_said text.now }
 {
@@ -195,7 +195,7 @@ fn slot_in(text: &str) -> Option<Slot>
     }
 }
 
-// The slot of a list of one slot.
+// The card of a list of one card.
 fn only(slots: &[Slot]) -> Option<Slot>
     ensures { result ≡ one_slot slots.now }
 {

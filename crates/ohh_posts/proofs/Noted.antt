@@ -1,4 +1,4 @@
--- The first posts of each seat, with one post more.
+-- The first posts of each seat, with one more post.
 use Rattle.std.proofs.Common.{◌≡◌, ℕ, ◌-◌, ◌≤◌, ◌==◌, Bool, true, false, ◌&&◌, ◌||◌, cond, List, [], ◌∷◌, ◌++◌, length, set, get_or, find, Option, Some, None, option_map, refl, sym, ap, ◌∙◌, arith}
 use Rattle.std.specs.List.{list_any}
 use Rattle.std.specs.Option.{option_or}
@@ -54,7 +54,7 @@ noted is_kind row posts post chips is same ten first last kept seat from to = by
         ∙ kept seat from to
         ∙ sym (one_more is_kind seat posts post ∙ rw (is, e) (or_nothing (first_post is_kind seat posts)))
 
--- a post that is no blind of this kind
+-- a post that is not a blind of this kind
 pub other_blind : (is_kind : PostKind → Bool) (posts : List PlainPost) (post : PlainPost) → is_kind post.kind ≡ false → list_any (λ x. is_kind x.kind) posts ≡ list_any (λ x. is_kind x.kind) (posts ++ post ∷ [])
 other_blind is_kind posts post other =
     sym (list_any-push (λ x. is_kind x.kind) posts post ∙ ap (λ b. list_any (λ x. is_kind x.kind) posts || b) other ∙ or_false (list_any (λ x. is_kind x.kind) posts))

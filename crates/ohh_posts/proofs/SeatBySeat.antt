@@ -4,7 +4,7 @@ use Rattle.std.proofs.lemmas.Bool.{cases_lt}
 use Rattle.chip_ledger.specs.declared.seat_row.SeatRow.{SeatRow}
 use Rattle.chip_ledger.specs.SeatRow.{amount_of}
 
--- what holds of each seat's amount still holds when one seat has another amount, of which it holds
+-- what holds of each seat's amount still holds if one seat has another amount that it holds of
 pub each_seat : (P : ℕ → ℕ → Type 0) (new old : SeatRow) (seat amount : ℕ) → amount_of new seat ≡ amount
     → ((n : ℕ) → 1 ≤ n → n ≢ seat → amount_of new n ≡ amount_of old n)
     → P seat amount → ((n : ℕ) → 1 ≤ n → n ≢ seat → P n (amount_of old n)) → (n : ℕ) → 1 ≤ n → P n (amount_of new n)

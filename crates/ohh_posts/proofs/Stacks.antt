@@ -2,6 +2,6 @@
 use Rattle.std.proofs.Common.{◌≡◌, ℕ, ◌≤◌, List, length, take, arith}
 use Rattle.std.proofs.lemmas.List.{length-take}
 
--- as many seats
+-- the same number of seats
 pub seats_in : (amounts : List ℕ) (seats : ℕ) → length amounts ≡ 10 → seats ≤ 10 → length (take seats amounts) ≡ seats
 seats_in amounts seats ten few = omega (arith, length-take seats amounts)

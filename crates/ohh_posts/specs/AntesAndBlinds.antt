@@ -1,4 +1,4 @@
--- The antes and blinds that posts give.
+-- The antes and blinds of a hand, from its posts.
 use Rattle.std.specs.Prelude.{◌≡◌, ℕ, ◌==◌, ◌≤◌, nat_lt, min, Bool, true, not, ◌&&◌, if◌then◌else◌, List, map}
 use Rattle.std.specs.List.{list_any}
 use Rattle.std.specs.Option.{option_map_or}
@@ -11,13 +11,13 @@ use Rattle.ohh_posts.specs.NamedBlinds.{PlainNamedBlinds, big_blind_seat, seat_c
 use Rattle.ohh_posts.specs.Posts.{PlainPost, ante_of, first_straddle}
 use Rattle.ohh_posts.specs.Conditions.{has_all_antes}
 
--- antes, whether they are dead, and blinds with straddles, p1's first
+-- the antes, whether they are dead, and the blinds with straddles, p1's first
 pub record PlainAntesAndBlinds : Type 0 where
   pub antes : List ℕ
   pub dead_antes : Bool
   pub blinds : List ℕ
 
--- the same with plain lists
+-- antes and blinds, as the definitions see them
 abbrev pub plain_antes_and_blinds : AntesAndBlinds → PlainAntesAndBlinds
 plain_antes_and_blinds stakes =
     record {
@@ -26,7 +26,7 @@ plain_antes_and_blinds stakes =
       blinds = amounts_in stakes.blinds;
     }
 
--- the ante of a seat, held as the lesser of what it posts and its stack
+-- the ante of a seat: the smaller of what it posts and its stack
 abbrev pub held_ante : PlainNamedBlinds → List PlainPost → ℕ → ℕ
 held_ante table posts seat = min (ante_of posts seat) (stack_of table seat)
 
@@ -34,7 +34,7 @@ held_ante table posts seat = min (ante_of posts seat) (stack_of table seat)
 abbrev pub has_amount : SeatRow → Bool
 has_amount row = list_any (λ seat. nat_lt 0 (amount_of row seat)) (seats_of row.seats)
 
--- some seats post an ante, and not all
+-- some seats post an ante, but not all
 abbrev pub are_dead : PlainNamedBlinds → List PlainPost → Bool
 are_dead table posts =
     list_any (λ seat. nat_lt 0 (held_ante table posts seat)) (seats_of (seat_count table))
@@ -56,7 +56,7 @@ antes_and_blinds_said table posts =
       blinds = map (named_blind table posts) (seats_of (seat_count table));
     }
 
--- antes and blinds fit the stacks of a hand
+-- the antes and blinds fit the stacks of a hand
 pub record AreAntesAndBlindsFor (stacks : SeatRow) (stakes : AntesAndBlinds) : Type 0 where
   pub same_antes : stakes.antes.seats ≡ stacks.seats
   pub same_blinds : stakes.blinds.seats ≡ stacks.seats

@@ -1,4 +1,4 @@
--- The seven conditions of posts, in the order in which they are tried.
+-- The seven conditions of posts, in the order in which they are checked.
 use Rattle.std.specs.Prelude.{⊤, ◌≡◌, ℕ, ◌-◌, ◌==◌, nat_le, nat_lt, min, Bool, not, ◌&&◌, ◌||◌, if◌then◌else◌, List, [], ◌∷◌, ◌++◌, map, Option, Some, None, is_some, Result, Ok, Err}
 use Rattle.std.specs.List.{list_all}
 use Rattle.chip_ledger.specs.Greatest.{greatest}
@@ -13,7 +13,7 @@ use Rattle.ohh_posts.specs.declared.checking.Condition.TheVariants as conditions
 use Rattle.ohh_posts.specs.NamedBlinds.{PlainNamedBlinds, big_blind_seat, plain_named_blinds, seat_count, small_blind_seat, stack_of}
 use Rattle.ohh_posts.specs.Posts.{AreFirst, PlainPost, ante_of, first_ante, first_straddle, has_big_blind, has_small_blind, is_ante, is_big_blind, is_small_blind, is_straddle}
 
--- the stack of a seat less its ante, and 0 where the ante is above the stack
+-- the stack of a seat without its ante, 0 if the ante is more than the stack
 abbrev pub left_of : PlainNamedBlinds → List PlainPost → ℕ → ℕ
 left_of table posts seat = stack_of table seat - ante_of posts seat
 
@@ -32,14 +32,13 @@ is_second_blind before post =
     (is_small_blind post.kind && has_small_blind before)
     || (is_big_blind post.kind && has_big_blind before)
 
--- the post is a blind of another seat than its own
+-- the post is a blind that belongs to another seat
 abbrev pub is_misplaced_blind : PlainNamedBlinds → PlainPost → Bool
 is_misplaced_blind table post =
     (is_small_blind post.kind && not (post.seat == small_blind_seat table))
     || (is_big_blind post.kind && not (post.seat == big_blind_seat table))
 
--- the post is a blind that is not the lesser of the blind as it is named and the stack less the
--- ante
+-- the post is a blind that is not the smaller of its named amount and the stack without the ante
 abbrev pub is_wrong_blind : PlainNamedBlinds → List PlainPost → PlainPost → Bool
 is_wrong_blind table posts post =
     (is_small_blind post.kind
@@ -47,8 +46,8 @@ is_wrong_blind table posts post =
     || (is_big_blind post.kind
     && not (post.amount == min table.big_blind (left_of table posts post.seat)))
 
--- the post is a straddle of p1 or p2, of no chips, a second one of its player, or above the stack
--- less the ante
+-- the post is a straddle of p1 or p2, of no chips, a second one of its player, or more than the
+-- stack without the ante
 abbrev pub is_wrong_straddle : PlainNamedBlinds → List PlainPost → List PlainPost → PlainPost → Bool
 is_wrong_straddle table posts before post =
     is_straddle post.kind
@@ -64,15 +63,14 @@ is_wrong_ante table before post =
     && (nat_lt (stack_of table post.seat) post.amount
     || ((post.amount == 0) || is_some (first_ante post.seat before)))
 
--- every player posts an ante, and the post is one that is not the lesser of the greatest ante and
--- the stack
+-- every player posts an ante, and this one is not the smaller of the greatest ante and the stack
 abbrev pub is_uneven_ante : PlainNamedBlinds → List PlainPost → PlainPost → Bool
 is_uneven_ante table posts post =
     is_ante post.kind
     && (has_all_antes table posts
     && not (post.amount == min (greatest_ante table posts) (stack_of table post.seat)))
 
--- a post breaks a condition, among all posts and after those before it
+-- a post breaks a condition, given all posts and those before it
 unfoldable pub is_breaking : Condition → PlainNamedBlinds → List PlainPost → List PlainPost
     → PlainPost → Bool
 is_breaking conditions.Early table posts before post = not post.early
@@ -83,8 +81,8 @@ is_breaking conditions.Straddles table posts before post = is_wrong_straddle tab
 is_breaking conditions.Antes table posts before post = is_wrong_ante table before post
 is_breaking conditions.EvenAntes table posts before post = is_uneven_ante table posts post
 
--- where the first post of these stands that breaks a condition, among all posts and after those
--- before it
+-- the place of the first of these posts that breaks a condition, given all posts and those before
+-- it
 abbrev pub first_breaking : Condition → PlainNamedBlinds → List PlainPost → List PlainPost
     → List PlainPost → Option ActionPlace
 first_breaking condition table posts before [] = None
@@ -119,7 +117,7 @@ posts_checked table posts = do
   antes ← holds conditions.Antes table posts
   holds conditions.EvenAntes table posts
 
--- what is known of all posts is that of these
+-- these are the facts about all posts that the conditions need
 pub record AreFacts (posts : List PlainPost) (facts : Facts) : Type 0 where
   pub firsts : AreFirst posts facts.firsts
   pub all_post : facts.all_post ≡ has_all_antes (plain_named_blinds facts.table) posts

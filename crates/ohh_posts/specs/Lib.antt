@@ -1,4 +1,5 @@
--- The posts of a hand: which are told, what they have to be, and what they give.
+-- The posts of a hand: how they are read, which conditions they meet, and the antes and blinds that
+-- they give.
 pub mod Posts
 pub mod NamedBlinds
 pub mod Conditions

@@ -1,4 +1,4 @@
--- What the posts of a hand are compared with, and whose the blinds are.
+-- What the posts of a hand are checked against, and who posts the blinds.
 use Rattle.std.specs.Prelude.{ℕ, ◌-◌, List, length, slice_index}
 use Rattle.ohh_posts.specs.declared.named_blinds.NamedBlinds.{NamedBlinds}
 use Rattle.chip_ledger.specs.SeatRow.{amounts_in}
@@ -10,7 +10,7 @@ pub record PlainNamedBlinds : Type 0 where
   pub small_blind : ℕ
   pub big_blind : ℕ
 
--- a table with plain numbers
+-- stacks and blinds as plain numbers
 abbrev pub plain_named_blinds : NamedBlinds → PlainNamedBlinds
 plain_named_blinds table =
     record {
@@ -19,15 +19,15 @@ plain_named_blinds table =
       big_blind = table.big_blind;
     }
 
--- how many seats there are
+-- the number of seats
 abbrev pub seat_count : PlainNamedBlinds → ℕ
 seat_count table = length table.stacks
 
--- the seat of the small blind: p1, or p2 of two
+-- the seat of the small blind: p1, or p2 if there are two seats
 abbrev pub small_blind_seat : PlainNamedBlinds → ℕ
 small_blind_seat table = small_blind_of (seat_count table)
 
--- the seat of the big blind: p2, or p1 of two
+-- the seat of the big blind: p2, or p1 if there are two seats
 abbrev pub big_blind_seat : PlainNamedBlinds → ℕ
 big_blind_seat table = big_blind_of (seat_count table)
 

@@ -1,4 +1,4 @@
--- Posts in the order in which they are told, and the first of a player.
+-- Posts in the order of the actions, and the first post of each kind of a player.
 use Rattle.std.specs.Prelude.{◌≡◌, ℕ, ◌-◌, ◌≤◌, ◌==◌, Bool, true, false, ◌&&◌, List, find, Option, None, option_map, slice_index_or}
 use Rattle.std.specs.List.{list_any}
 use Rattle.std.specs.Option.{option_map_or}
@@ -9,8 +9,8 @@ use Rattle.ohh_posts.specs.declared.post.ActionPlace.{ActionPlace}
 use Rattle.ohh_posts.specs.declared.post.Post.{Post}
 use Rattle.ohh_posts.specs.declared.firsts.FirstPosts.{FirstPosts}
 
--- a post: what it is, its seat, its chips, whether it stands on the first street before any move,
--- and where it stands
+-- a post: its kind, its seat, its chips, whether it comes on the first street before any move, and
+-- the place of its action
 pub record PlainPost : Type 0 where
   pub kind : PostKind
   pub seat : ℕ
@@ -18,7 +18,7 @@ pub record PlainPost : Type 0 where
   pub early : Bool
   pub place : ActionPlace
 
--- a post with plain numbers
+-- a post, as the definitions see it
 abbrev pub plain_post : Post → PlainPost
 plain_post post =
     record {
@@ -57,7 +57,7 @@ is_straddle kinds.SmallBlind = false
 is_straddle kinds.BigBlind = false
 is_straddle kinds.Straddle = true
 
--- the chips of the first post of a kind that this seat has among some posts, if it has one
+-- the chips of a seat's first post of a kind among some posts, if it has one
 abbrev pub first_post : (PostKind → Bool) → ℕ → List PlainPost → Option ℕ
 first_post is_kind seat posts =
     option_map (λ post. post.amount) (find (λ post. is_kind post.kind && (post.seat == seat)) posts)
@@ -78,15 +78,15 @@ has_small_blind posts = list_any (λ post. is_small_blind post.kind) posts
 abbrev pub has_big_blind : List PlainPost → Bool
 has_big_blind posts = list_any (λ post. is_big_blind post.kind) posts
 
--- the ante of a seat: its first one, or 0 where it has none
+-- the ante of a seat: its first one, or 0 if it has none
 abbrev pub ante_of : List PlainPost → ℕ → ℕ
 ante_of posts seat = option_map_or (λ ante. ante) (first_ante seat posts) 0
 
--- the chips that are kept for a seat, if some are
+-- the chips that are stored for a seat, if there are any
 abbrev pub chips_in : List (Option Chips) → ℕ → Option ℕ
 chips_in row seat = option_map (λ chips. chips.number) (slice_index_or row (seat - 1) None)
 
--- what was kept are the first posts of these
+-- what is stored are the first posts of these
 pub record AreFirst (posts : List PlainPost) (firsts : FirstPosts) : Type 0 where
   pub antes : (seat : ℕ) → 1 ≤ seat → seat ≤ 10 → chips_in firsts.antes seat ≡ first_ante seat posts
   pub straddles : (seat : ℕ) → 1 ≤ seat → seat ≤ 10

@@ -1,4 +1,4 @@
-//! The antes of all seats, as the first posts say them.
+//! The antes of all seats, from the first ante that each posts.
 ghost use Rattle.std.specs.Prelude.{◌≡◌, List, min};
 ghost use Rattle.ohh_posts.specs.Conditions.{greatest_ante, has_all_antes};
 ghost use Rattle.ohh_posts.specs.Posts.{AreFirst, PlainPost, ante_of};
@@ -8,7 +8,7 @@ use crate::firsts::FirstPosts;
 use crate::named_blinds::NamedBlinds;
 use chip_ledger::Seat;
 
-/// Whether each of the first so many seats posts an ante.
+/// Whether every seat posts an ante.
 pub fn all_post(table: &NamedBlinds, firsts: &FirstPosts) -> bool
     ensures { (posts : List PlainPost) → AreFirst posts firsts.now
         → result ≡ has_all_antes (plain_named_blinds table.now) posts }
@@ -21,7 +21,7 @@ pub fn all_post(table: &NamedBlinds, firsts: &FirstPosts) -> bool
     true
 }
 
-/// The greatest ante of the first so many seats.
+/// The greatest ante of a seat.
 pub fn greatest(table: &NamedBlinds, firsts: &FirstPosts) -> u64
     ensures { (posts : List PlainPost) → AreFirst posts firsts.now
         → result ≡ greatest_ante (plain_named_blinds table.now) posts }
@@ -36,7 +36,7 @@ pub fn greatest(table: &NamedBlinds, firsts: &FirstPosts) -> u64
     greatest
 }
 
-/// The first ante of a seat, or 0 where it has none.
+/// The first ante of a seat, or 0 if it has none.
 pub fn ante_or_zero(firsts: &FirstPosts, seat: Seat) -> u64
     ensures { (posts : List PlainPost) → AreFirst posts firsts.now
         → result ≡ ante_of posts seat.number }
@@ -47,7 +47,7 @@ pub fn ante_or_zero(firsts: &FirstPosts, seat: Seat) -> u64
     }
 }
 
-/// The lesser of two numbers of chips.
+/// The smaller of two numbers of chips.
 pub fn lesser(first: u64, second: u64) -> u64
     ensures { result ≡ min first second }
 {

@@ -1,4 +1,4 @@
-//! The posts of a hand give its antes and its blinds.
+//! The antes and the blinds of a hand, from its posts.
 ghost use Rattle.std.specs.Prelude.{◌≡◌, ◌≤◌, ◌&&◌, ℕ, List, map, not};
 ghost use Rattle.chip_ledger.specs.declared.numbers.TheConstants.{MOST_CHIPS};
 ghost use Rattle.chip_ledger.specs.SeatRow.{amount_of};
@@ -13,14 +13,15 @@ use crate::named_blinds::NamedBlinds;
 use crate::post::Post;
 use chip_ledger::{Seat, SeatRow};
 
-/// What a hand begins with, in chips.
+/// The antes and blinds of a hand, in chips.
 #[derive(Clone, Copy, Debug, PartialEq, Eq)]
 pub struct AntesAndBlinds {
     /// The antes, each no more than its stack.
     pub antes: SeatRow,
-    /// Whether the antes belong to no seat's bets: some seats post one, and not all.
+    /// Whether the antes are dead, that is, no part of any seat's bets: some seats post one, but
+    /// not all.
     pub dead_antes: bool,
-    /// The blinds and straddles as they are named.
+    /// The blinds and straddles as they are named, even if a stack is smaller.
     pub blinds: SeatRow,
 }
 
@@ -58,7 +59,7 @@ fn antes_of(table: &NamedBlinds, firsts: &FirstPosts) -> SeatRow
     row
 }
 
-// The ante of a seat, held as the lesser of what it posts and its stack.
+// The ante of a seat: the smaller of what it posts and its stack.
 fn held(table: &NamedBlinds, firsts: &FirstPosts, seat: Seat) -> u64
     ensures ante { (posts : List PlainPost) → AreFirst posts firsts.now
         → result ≡ held_ante (plain_named_blinds table.now) posts seat.number }
@@ -101,7 +102,7 @@ fn named(table: &NamedBlinds, firsts: &FirstPosts, seat: Seat) -> u64
     }
 }
 
-// Whether some seats post an ante, and not all.
+// Whether some seats post an ante, but not all.
 fn are_dead(table: &NamedBlinds, firsts: &FirstPosts, antes: &SeatRow) -> bool
     requires { antes.now.seats ≡ table.now.stacks.seats }
     ensures { (posts : List PlainPost) → AreFirst posts firsts.now

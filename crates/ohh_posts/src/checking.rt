@@ -1,4 +1,4 @@
-//! The conditions of posts are tried one after the other, each over all posts.
+//! Checks the conditions of posts one after the other, each over all posts.
 ghost use Rattle.std.specs.Prelude.{◌≡◌, List, map};
 ghost use Rattle.ohh_posts.specs.Conditions as conditions;
 ghost use Rattle.ohh_posts.specs.Conditions.{AreFacts, has_blinds, holds, left_of, posts_checked};
@@ -14,20 +14,20 @@ use chip_ledger::Seat;
 /// A condition that each post of a hand meets.
 #[derive(Clone, Copy, Debug, PartialEq, Eq)]
 pub enum Condition {
-    /// It stands on the first street, before any move.
+    /// It comes on the first street, before any move.
     Early,
-    /// It is no second small blind and no second big blind.
+    /// It is not a second small blind and not a second big blind.
     OneOfEachBlind,
-    /// A blind is that of its seat.
+    /// A blind is posted by the seat that it belongs to.
     BlindSeats,
-    /// A blind is as it is named, or all that the stack has left.
+    /// A blind has its named amount, or is all that the stack has left.
     BlindAmounts,
-    /// A straddle is of a seat behind the blinds, of some chips that the stack has, and the seat's
-    /// first.
+    /// A straddle is posted by a seat after the blinds, is of at least one chip and within the
+    /// stack without the ante, and is the seat's first.
     Straddles,
-    /// An ante is of some chips that the stack has, and the seat's first.
+    /// An ante is of at least one chip and within the stack, and is the seat's first.
     Antes,
-    /// Where every seat posts an ante, it is the greatest of them or the stack.
+    /// If every seat posts an ante, each is the greatest of them or the whole stack.
     EvenAntes,
 }
 
@@ -42,7 +42,7 @@ pub struct Facts {
 }
 
 impl Facts {
-    // The stack of a seat less its ante.
+    // The stack of a seat without its ante.
     fn left(&self, seat: Seat) -> u64
         ensures { (posts : List PlainPost) → AreFacts posts self.now
             → result ≡ left_of (plain_named_blinds self.now.table) posts seat.number }
@@ -59,8 +59,8 @@ impl Facts {
     }
 }
 
-/// Tries the conditions of the posts of a hand, one after the other, or names the first post that
-/// breaks the first condition that is broken.
+/// Checks the conditions of the posts of a hand, one after the other; for the first broken
+/// condition it names the first post that breaks it.
 #[tactic(auto, unfolding(crate::specs::Conditions::posts_checked))]
 pub fn check_posts(table: &NamedBlinds, posts: &[Post]) -> Result<(), PostFault>
     ensures { result ≡ posts_checked (plain_named_blinds table.now) (map plain_post posts.now) }
@@ -90,7 +90,7 @@ fn facts_of(table: &NamedBlinds, posts: &[Post]) -> Facts
     }
 }
 
-// A condition holds of all posts, or the first that breaks it is named.
+// Checks a condition for all posts, and names the first that breaks it.
 fn hold(condition: Condition, facts: &Facts, posts: &[Post]) -> Result<(), PostFault>
     requires { AreFacts (map plain_post posts.now) facts.now }
     ensures { result
@@ -106,7 +106,7 @@ fn hold(condition: Condition, facts: &Facts, posts: &[Post]) -> Result<(), PostF
     Ok(())
 }
 
-// Whether a post breaks a condition, where these were posted before it.
+// Whether a post breaks a condition, after these posts.
 #[tactic(auto, unfolding(crate::specs::Conditions::is_breaking))]
 fn is_breaking(condition: Condition, facts: &Facts, before: &FirstPosts, post: &Post) -> bool
     ensures { (posts earlier : List PlainPost) → AreFacts posts facts.now
@@ -138,7 +138,7 @@ fn is_second_blind(before: &FirstPosts, post: &Post) -> bool
     }
 }
 
-// Whether a post is a blind of another seat than its own.
+// Whether a post is a blind that belongs to another seat.
 fn is_misplaced_blind(table: &NamedBlinds, post: &Post) -> bool
     ensures { result
         ≡ conditions.is_misplaced_blind (plain_named_blinds table.now) (plain_post post.now) }
@@ -150,8 +150,8 @@ fn is_misplaced_blind(table: &NamedBlinds, post: &Post) -> bool
     }
 }
 
-// Whether a post is a blind that is not the lesser of the blind as it is named and the stack less
-// the ante.
+// Whether a post is a blind that is not the smaller of its named amount and the stack without the
+// ante.
 fn is_wrong_blind(facts: &Facts, post: &Post) -> bool
     ensures { (posts : List PlainPost) → AreFacts posts facts.now
         → result ≡ conditions.is_wrong_blind (plain_named_blinds facts.now.table) posts
@@ -166,7 +166,7 @@ fn is_wrong_blind(facts: &Facts, post: &Post) -> bool
 }
 
 // Whether a post is a straddle of a seat in the blinds, of no chips, a second one of its seat, or
-// above what is left.
+// more than the stack has left.
 fn is_wrong_straddle(facts: &Facts, before: &FirstPosts, post: &Post) -> bool
     ensures { (posts earlier : List PlainPost) → AreFacts posts facts.now
         → AreFirst earlier before.now
@@ -201,8 +201,8 @@ fn is_wrong_ante(table: &NamedBlinds, before: &FirstPosts, post: &Post) -> bool
     }
 }
 
-// Whether every seat posts an ante, and the post is one that is not the lesser of the greatest ante
-// and the stack.
+// Whether every seat posts an ante, and this one is not the smaller of the greatest ante and the
+// stack.
 fn is_uneven_ante(facts: &Facts, post: &Post) -> bool
     ensures { (posts : List PlainPost) → AreFacts posts facts.now
         → result ≡ conditions.is_uneven_ante (plain_named_blinds facts.now.table) posts

@@ -1,5 +1,4 @@
-//! The first ante and the first straddle of each seat, and whether the blinds are posted, are kept
-//! post by post.
+//! Keeps the first ante and the first straddle of each seat, and whether the blinds are posted.
 ghost use Rattle.std.specs.Prelude.{◌≡◌, Some, length};
 ghost use Rattle.std.specs.Option.{option_or};
 
@@ -41,7 +40,7 @@ impl FirstPosts {
         self.straddles[seat.number as usize - 1]
     }
 
-    /// The first posts of a list of them.
+    /// The first posts of each seat in this list.
     pub fn of(posts: &[Post]) -> Self
         ensures { AreFirst (map plain_post posts.now) result }
     {
@@ -81,7 +80,7 @@ impl FirstPosts {
     }
 }
 
-// The chips of the first post, where one more has these chips.
+// The chips of the first post; these chips, if there was none before.
 fn first_of(first: Option<Chips>, chips: Chips) -> Option<Chips>
     ensures { result ≡ option_or first (Some chips) }
 {

@@ -1,5 +1,5 @@
-//! The posts of a hand, in the order in which they are told, meet the seven conditions of posts, or
-//! one that does not is named; and they give the antes and the blinds.
+//! Checks that the posts of a hand, in the order of its actions, meet the seven conditions of
+//! posts, or names one that does not; and gives the antes and the blinds.
 #![tactic(auto)]
 
 mod antes;

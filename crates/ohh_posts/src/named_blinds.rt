@@ -1,5 +1,4 @@
-//! What the posts of a hand are compared with: the starting stacks, and the blinds as they are
-//! named.
+//! What the posts of a hand are checked against: the starting stacks, and the named blinds.
 ghost use Rattle.std.specs.Prelude.{◌≤◌};
 ghost use Rattle.chip_ledger.specs.declared.numbers.TheConstants.{MOST_CHIPS};
 
@@ -19,7 +18,7 @@ impl NamedBlinds {
     ghost use Rattle.std.specs.Prelude.{◌≡◌};
     ghost use Rattle.ohh_posts.specs.NamedBlinds.{big_blind_seat, plain_named_blinds, small_blind_seat, stack_of};
 
-    /// The stack of a seat, or 0 where the hand has no such seat.
+    /// The stack of a seat, or 0 if the hand has no such seat.
     #[tactic(auto, using(list_laws::proofs::Entries::at_taken))]
     pub fn stack(&self, seat: Seat) -> u64
         ensures { result ≡ stack_of (plain_named_blinds self.now) seat.number }

@@ -1,8 +1,8 @@
-//! A post is chips that a player puts in before the play: an ante, one of the two blinds, or a
+//! A post is chips that a player puts in before play begins: an ante, one of the two blinds, or a
 //! straddle.
 use chip_ledger::{Chips, Seat};
 
-/// What a post is.
+/// The kinds of posts.
 #[derive(Clone, Copy, Debug, PartialEq, Eq)]
 pub enum PostKind {
     Ante,
@@ -11,7 +11,7 @@ pub enum PostKind {
     Straddle,
 }
 
-/// Where an action stands: the index of its round, and its index in that round, both from 0.
+/// Where an action is: the index of its round, and its index in that round, both from 0.
 #[derive(Clone, Copy, Debug, PartialEq, Eq)]
 pub struct ActionPlace {
     pub round: u64,
@@ -24,16 +24,16 @@ pub struct Post {
     pub kind: PostKind,
     pub seat: Seat,
     pub amount: Chips,
-    /// Whether it stands on the first street, and no move stands before it.
+    /// Whether it is on the first street, and no move comes before it.
     pub early: bool,
     pub place: ActionPlace,
 }
 
-/// Why posts are not those of a hand.
+/// What is wrong with the posts of a hand.
 #[derive(Clone, Copy, Debug, PartialEq, Eq)]
 pub enum PostFault {
     /// The small blind or the big blind is missing.
     MissingBlind,
-    /// The post of this action is the first that shows it.
+    /// The post at this action is wrong.
     At(ActionPlace),
 }

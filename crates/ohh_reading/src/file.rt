@@ -1,4 +1,4 @@
-//! The blocks of a file are read as its hands, in order.
+//! Reads the blocks of a file as its hands, in order.
 ghost use Rattle.std.specs.Prelude.{◌≡◌, ◌≤◌, [], ◌∷◌, Some, option_map, map, IfOk};
 ghost use Rattle.serde_json.specs.View.{view};
 ghost use Rattle.first_fault.specs.declared.limits.TheConstants.{MOST_FILE_MOVES, MOST_HANDS};
@@ -22,7 +22,7 @@ use ohh_members::values::{field, wrong};
 use serde_json::Value;
 use std::alloc::Global;
 
-/// The hands of a file in a dialect, and its moves.
+/// The hands of a file in a dialect, and the number of moves in the file.
 pub fn read_file(
     alloc: Global,
     dialect: Dialect,
@@ -37,7 +37,7 @@ pub fn read_file(
     Ok(found)
 }
 
-// The hands of blocks, in order, and the moves of the file after them.
+// The hands of blocks, in order, and the number of moves in the file so far.
 fn read_blocks(
     alloc: Global,
     dialect: Dialect,
@@ -59,7 +59,7 @@ fn read_blocks(
     Ok((records, file_moves))
 }
 
-// The hand with this number, from 1, after so many moves of the file.
+// The hand with this number, from 1, after `file_moves` moves of the file.
 #[tactic(auto, unfolding(crate::specs::Reading::numbered_hand, crate::specs::Reading::found_said))]
 fn read_numbered(
     alloc: Global,
@@ -98,7 +98,7 @@ fn in_hand(hand: u32, what: HandFaultKind) -> Stop<OhhHandFault>
     Stop::At(OhhHandFault { hand, what })
 }
 
-// The tree that a block is, or nothing where it is none.
+// The JSON tree of a block, or nothing if it is not JSON.
 #[tactic(auto, using(crate::proofs::Trees::no_tree, card_set::specs::Refusal::an_allocator_said_so))]
 fn parse(alloc: Global, block: &[u8]) -> Result<Option<Value>, Memory>
     ensures { IfOk result (λ tree. option_map view tree ≡ tree_of block.now) }
@@ -115,7 +115,7 @@ fn parse(alloc: Global, block: &[u8]) -> Result<Option<Value>, Memory>
     }
 }
 
-// The hand of a tree at this place of its file, from 0, after so many moves of the file.
+// The hand of a tree at this place of its file, from 0, after `file_moves` moves of the file.
 #[tactic(auto, unfolding(crate::specs::Reading::tree_said))]
 fn read_tree(
     alloc: Global,
@@ -144,7 +144,7 @@ fn object_in(tree: &Value) -> Result<&Value, Stop<MemberFault>>
     }
 }
 
-// The object that a value is.
+// The value as an object.
 fn object_or_none(value: &Value) -> Result<&Value, Stop<MemberFault>>
     ensures { Gives (λ ohh. view ohh.now) result (object_of (Some (view value.now))) }
 {

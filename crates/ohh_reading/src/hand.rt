@@ -1,4 +1,4 @@
-//! The object of a hand is read as its record.
+//! Reads the object of a hand as its record.
 ghost use Rattle.std.specs.Prelude.{◌≡◌, ◌≤◌, ◌+◌, IfOk};
 ghost use Rattle.serde_json.specs.View.{view};
 ghost use Rattle.first_fault.specs.declared.limits.TheConstants.{MOST_FILE_MOVES};
@@ -19,8 +19,8 @@ use ohh_members::front::read_front;
 use serde_json::Value;
 use std::alloc::Global;
 
-/// The hand of an object at this place of its file, from 0, after so many moves of the file; and
-/// the moves of the file after it.
+/// The hand of an object at this place of its file, from 0, after `file_moves` moves of the file;
+/// and the moves of the file after it.
 #[tactic(auto, unfolding(crate::specs::Hand::hand_said))]
 pub fn read_hand(
     alloc: Global,

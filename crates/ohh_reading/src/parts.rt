@@ -1,4 +1,4 @@
-//! The parts of a hand beside its play are read with what stands in front of its rounds.
+//! Reads the parts of a hand other than its play, with what comes before its rounds.
 ghost use Rattle.std.specs.Prelude.{◌≡◌, ◌<◌, ℕ, length, map, slice_index, IfOk};
 ghost use Rattle.serde_json.specs.View.{view};
 ghost use Rattle.hand_records.specs.AllowedNotes.{AreAllowed};
@@ -43,7 +43,7 @@ pub fn ids_in(alloc: Global, front: &Front) -> Result<Vec<i128>, Memory>
     ids_of(alloc, &front.players)
 }
 
-/// What is stated of the pots of a hand with these players, whose ids they are.
+/// What a hand with these players states of its pots.
 pub fn read_paid(
     alloc: Global,
     front: &Front,

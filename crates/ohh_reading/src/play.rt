@@ -1,4 +1,4 @@
-//! What the rounds of a hand say is read with what stands in front of them.
+//! Reads the rounds of a hand, with what comes before them.
 ghost use Rattle.std.specs.Prelude.{◌≡◌, ◌≤◌, ◌+◌, count_by, length, map, IfOk};
 ghost use Rattle.serde_json.specs.View.{view};
 ghost use Rattle.canon_script.specs.PlayedScript.{IsWithinLimits, is_move};
@@ -22,7 +22,7 @@ use ohh_rounds::{RoundsPlay, Setting, read_rounds};
 use serde_json::Value;
 use std::alloc::Global;
 
-/// What the rounds of a hand say, with the stacks and the ids of its players.
+/// The rounds of a hand, read with the stacks and the ids of its players.
 pub fn read_play(
     alloc: Global,
     dialect: Dialect,

@@ -1,4 +1,4 @@
-//! The record of a hand is made of its parts.
+//! Makes the record of a hand from its parts.
 ghost use Rattle.std.specs.Prelude.{◌≡◌, ◌<◌, ℕ, length, map, slice_index};
 ghost use Rattle.canon_script.specs.PlayedScript.{IsWithinLimits};
 ghost use Rattle.hand_records.specs.AllowedNotes.{AreAllowed};

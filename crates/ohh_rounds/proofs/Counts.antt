@@ -10,11 +10,11 @@ use Rattle.play_event.specs.Said.{Said, Numbered, numbered, said_of}
 use Rattle.ohh_rounds.specs.Steps.{PlainDeed, PlainStep, Posted, Dealt, Happened, Passed, is_move_deed, is_other_deed, moves_in, others_in}
 use Rattle.ohh_rounds.specs.Play.{event_in, events_in, hole_deal, script_said}
 
--- what numbered events say
+-- numbered events, without the numbers
 abbrev pub said_in : List Numbered → List Said
 said_in events = map (λ event. event.1) events
 
--- what events say is what they say with their numbers
+-- events without their numbers are the same
 pub said_numbered : (events : List Event) → map said_of events ≡ said_in (map numbered events)
 said_numbered [] = refl
 said_numbered (event ∷ rest) = ap (λ others. said_of event ∷ others) (said_numbered rest)
@@ -50,14 +50,14 @@ others_of_deals : (count : ℕ) (steps : List PlainStep) (seats : List ℕ) → 
 others_of_deals count steps [] = refl
 others_of_deals count steps (seat ∷ seats) = omega (arith, count_by-cons (λ event. not (is_move event)) ((hole_deal count steps seat).1) (said_in (map (hole_deal count steps) seats)), others_of_deals count steps seats)
 
--- the moves of a script are those that were told
+-- the moves of a script are those of the steps
 pub script_moves : (seats count : ℕ) (steps : List PlainStep) (events : List Event) → map numbered events ≡ script_said seats count steps → count_by is_move (map said_of events) ≡ moves_in steps
 unfolding script_said
 script_moves seats count steps events is =
     let same = ap (count_by is_move) (said_numbered events ∙ ap said_in is) in
     omega (arith, same, two_parts is_move (map (hole_deal count steps) (seats_of seats)) (events_in steps), moves_of_deals count steps (seats_of seats), moves_of_events steps)
 
--- its other events are the hole deals, and those that were told
+-- its other events are the hole deals, and those of the steps
 pub script_others : (seats count : ℕ) (steps : List PlainStep) (events : List Event) → map numbered events ≡ script_said seats count steps → count_by (λ event. not (is_move event)) (map said_of events) ≡ seats + others_in steps
 unfolding script_said
 script_others seats count steps events is =

@@ -1,4 +1,4 @@
--- What is told of a seat, with one step more.
+-- The state of a seat, after one more step.
 use Rattle.std.proofs.Common.{◌≡◌, ◌≢◌, ℕ, ◌-◌, ◌≤◌, Bool, true, false, ◌||◌, cond, List, [], ◌∷◌, ◌++◌, find, set, inl, inr, subst, slice_get, Option, Some, None, option_map, refl, sym, ap, ◌∙◌, arith}
 use Rattle.std.specs.Option.{option_or}
 use Rattle.std.proofs.Math.Bool.{or-true}
@@ -17,14 +17,14 @@ use Rattle.list_laws.proofs.Entries.{at_other, at_set}
 use Rattle.list_laws.proofs.Numbers.{different_number, same_number}
 use Rattle.list_laws.proofs.Options.{or_nothing}
 
--- one step more folds the seat, or does not
+-- one more step folds the seat, or does not
 pub folds : (seat : ℕ) (steps : List PlainStep) (step : PlainStep) → has_folded seat (steps ++ step ∷ []) ≡ (has_folded seat steps || is_fold_of seat step.deed)
 folds seat steps step = list_any-push (λ x. is_fold_of seat x.deed) steps step
 
 dealt_parts : (seat : ℕ) (steps others : List PlainStep) → dealt_to seat (steps ++ others) ≡ dealt_to seat steps ++ dealt_to seat others
 dealt_parts seat steps others = flat_map-append (λ x. dealt_in seat x.deed) steps others
 
--- one step more deals some hole cards to the seat, or none
+-- one more step deals some hole cards to the seat, or none
 pub deals : (seat : ℕ) (steps : List PlainStep) (step : PlainStep) → dealt_to seat (steps ++ step ∷ []) ≡ dealt_to seat steps ++ dealt_in seat step.deed
 deals seat steps step = dealt_parts seat steps (step ∷ []) ∙ ap (λ cards. dealt_to seat steps ++ cards) (append-nil (dealt_in seat step.deed))
 
@@ -33,13 +33,13 @@ either (Some x) step is_one = refl
 either None step true = refl
 either None step false = refl
 
--- one step more is the first deal to the seat, or is not
+-- one more step is the first deal to the seat, or is not
 pub first_deals : (seat : ℕ) (steps : List PlainStep) (step : PlainStep) → first_deal seat (steps ++ step ∷ []) ≡ option_or (first_deal seat steps) (cond (is_deal_to seat step.deed) (Some step.number) None)
 first_deals seat steps step =
     ap (option_map (λ x. x.number)) (find-append (λ x. is_deal_to seat x.deed) steps (step ∷ []))
     ∙ either (find (λ x. is_deal_to seat x.deed) steps) step (is_deal_to seat step.deed)
 
--- a step that tells nothing of the seat
+-- a step that does not concern the seat
 pub untold : (seat : ℕ) (steps : List PlainStep) (step : PlainStep) (kept : SeatTold) → is_fold_of seat step.deed ≡ false → dealt_in seat step.deed ≡ [] → is_deal_to seat step.deed ≡ false → IsToldOf seat steps kept → IsToldOf seat (steps ++ step ∷ []) kept
 untold seat steps step kept no_fold no_cards no_deal told =
     record {
@@ -68,7 +68,7 @@ dealt seat steps step before after more no_fold cards deal same_fold joined firs
       first_deal = first ∙ ap (λ found. option_or found (Some step.number)) told.first_deal ∙ sym (first_deals seat steps step ∙ ap (λ b. option_or (first_deal seat steps) (cond b (Some step.number) None)) deal);
     }
 
--- what a fold tells
+-- what a fold means for its seat
 pub fold_here : (seat : ℕ) (deed : PlainDeed) → IsFoldBy seat deed → is_fold_of seat deed ≡ true
 fold_here seat (Happened event) is = ap (is_seat seat) is ∙ same_number seat
 fold_here seat (Posted post) is = absurd is
@@ -93,7 +93,7 @@ fold_is_deal at seat (Posted post) is = absurd is
 fold_is_deal at seat (Dealt other slots) is = absurd is
 fold_is_deal at seat Passed is = absurd is
 
--- what a deal tells
+-- what a deal means for its seat
 pub deal_here : (seat : ℕ) (slots : List Slot) → dealt_in seat (Dealt seat slots) ≡ slots
 deal_here seat slots = ap (λ b. cond b slots []) (same_number seat)
 
@@ -106,7 +106,7 @@ deal_elsewhere at seat slots apart = ap (λ b. cond b slots []) (different_numbe
 pub is_elsewhere : (at seat : ℕ) (slots : List Slot) → seat ≢ at → is_deal_to seat (Dealt at slots) ≡ false
 is_elsewhere at seat slots apart = different_number at seat apart
 
--- what holds of each seat, where one seat has something else
+-- what holds of each seat, if one seat has a new state
 pub each_seat : (P : ℕ → SeatTold → Type 0) (seats : List SeatTold) (at : ℕ) (new : SeatTold) → 1 ≤ at → P at new
     → ((seat : ℕ) → 1 ≤ seat → seat ≤ 10 → seat ≢ at → (kept : SeatTold) → slice_get seats (seat - 1) ≡ Some kept → P seat kept)
     → (seat : ℕ) → 1 ≤ seat → seat ≤ 10 → (kept : SeatTold) → slice_get (set seats (at - 1) new) (seat - 1) ≡ Some kept → P seat kept

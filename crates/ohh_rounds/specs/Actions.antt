@@ -35,8 +35,7 @@ use Rattle.ohh_rounds.specs.Setting.{PlainSetting}
 abbrev pub at_action : ActionPlace → ActionMember → Path
 at_action place member = paths.Round place.round (rounds.Action place.action member)
 
--- the word of an action: one of those that are read, and hole cards are dealt in the first round
--- alone
+-- the word of an action: one of the supported words; hole cards are dealt in the first round only
 unfoldable pub word_said : ActionPlace → Data → Result Word MemberFault
 word_said place action = do
   text ← needed (at_action place members.Word) action >>= text_said (at_action place members.Word)
@@ -57,7 +56,7 @@ chips_said place action =
     needed (at_action place members.Amount) action
     >>= number_said 0 MOST_CHIPS (at_action place members.Amount)
 
--- a post of some chips; it is early on the first street before any move
+-- a post of some chips; it is early if it comes on the first street before any move
 unfoldable pub posted : PostKind → List PlainStep → ActionPlace → ℕ → Data
     → Result PlainDeed MemberFault
 posted kind earlier place seat action = do
@@ -65,7 +64,7 @@ posted kind earlier place seat action = do
   let early : Bool = (place.round == 0) && (moves_in earlier == 0)
   Ok (Posted (record { kind = kind; seat = seat; amount = chips; early = early; place = place }))
 
--- hole cards that are listed: with those that the seat has they are at most seven
+-- hole cards that are listed: with those that the seat already has they are at most seven
 unfoldable pub listed_cards : List PlainStep → Path → ℕ → Data → Result PlainDeed MemberFault
 listed_cards earlier path seat cards = do
   items ← few_said path cards
@@ -73,15 +72,15 @@ listed_cards earlier path seat cards = do
       then (slots_said path cards >>= λ slots. Ok (Dealt seat slots))
       else wrong whats.WrongType path
 
--- hole cards, or none where they lack
+-- hole cards, or none if they are missing
 unfoldable pub dealt_cards : List PlainStep → ActionPlace → ℕ → Data → Result PlainDeed MemberFault
 dealt_cards earlier place seat action = elim (field (at_action place members.Cards) action) [
   | None ↦ Ok (Dealt seat [])
   | Some cards ↦ listed_cards earlier (at_action place members.Cards) seat cards
 ]
 
--- how the amount of a raise is meant: the chips that it adds, or the street's chips to which it
--- goes
+-- what the amount of a raise means: the chips that it adds, or the bet on the street that it raises
+-- to
 abbrev pub raise_by : Dialect → ℕ → Spelled
 raise_by dialects.Added chips = spelled.Added chips
 raise_by dialects.To chips = spelled.To chips
@@ -104,11 +103,11 @@ shown place seat action = do
       >>= cards_said (at_action place members.Cards)
   Ok (Happened (said.Show seat cards))
 
--- a muck, which is passed over where the player folded before
+-- a muck, which is ignored if the player folded before
 abbrev pub mucked : List PlainStep → ℕ → PlainDeed
 mucked earlier seat = if has_folded seat earlier then Passed else Happened (said.Muck seat)
 
--- what a word says of a player
+-- what a word means for a player
 unfoldable pub deed_said : PlainSetting → List PlainStep → ActionPlace → ℕ → Data → Word
     → Result PlainDeed MemberFault
 deed_said setting earlier place seat action words.PostAnte =
@@ -131,7 +130,7 @@ deed_said setting earlier place seat action words.MucksCards = Ok (mucked earlie
 deed_said setting earlier place seat action words.SitsDown = Ok Passed
 deed_said setting earlier place seat action words.StandsUp = Ok Passed
 
--- an event passes no limit; the hole cards of each seat are dealt first, and count as other events
+-- an event exceeds no limit; the hole cards of each seat are dealt first, and count as other events
 unfoldable pub event_counted : PlainSetting → List PlainStep → Path → Said → Result ⊤ MemberFault
 event_counted setting earlier path event =
     if is_move event
@@ -143,7 +142,7 @@ event_counted setting earlier path event =
     then wrong (whats.TooMany quantities.OtherEvents) path
     else Ok tt)
 
--- what was done passes no limit
+-- the action exceeds no limit
 abbrev pub deed_counted : PlainSetting → List PlainStep → Path → PlainDeed → Result ⊤ MemberFault
 deed_counted setting earlier path (Happened event) = event_counted setting earlier path event
 deed_counted setting earlier path (Posted post) = Ok tt
@@ -158,7 +157,7 @@ members_said setting earlier place action = do
   seat ← seat_said setting place action
   deed_said setting earlier place seat action word
 
--- the members of an action that passes no limit
+-- the members of an action that exceeds no limit
 abbrev pub counted_said : PlainSetting → List PlainStep → ActionPlace → Data
     → Result PlainDeed MemberFault
 counted_said setting earlier place action = do

@@ -1,5 +1,5 @@
--- What the rounds of a hand say: streets, what was told so far, actions, rounds, and the play of
--- them.
+-- The rounds of a hand in Open Hand History: streets, the steps so far, actions, rounds, and the
+-- play made of them.
 pub mod Streets
 pub mod Steps
 pub mod Kept

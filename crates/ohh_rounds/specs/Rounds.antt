@@ -33,7 +33,7 @@ no_cards path cards = do
   items ← list_said path cards
   if length items == 0 then Ok [] else wrong whats.BadStreet path
 
--- the board cards of a round: known ones where its street deals some, and none where they lack
+-- the board cards of a round: known ones if its street deals some, and none if they are missing
 unfoldable pub board_said : StreetName → ℕ → Data → Result (List Card) MemberFault
 board_said street index round = elim (field (at_round index members.Cards) round) [
   | None ↦ Ok []
@@ -43,7 +43,7 @@ board_said street index round = elim (field (at_round index members.Cards) round
       else no_cards (at_round index members.Cards) cards
 ]
 
--- the steps with a deal to the board, where there are cards
+-- the steps with a deal to the board, if there are cards
 unfoldable pub board_dealt : PlainSetting → List PlainStep → ℕ → List Card
     → Result (List PlainStep) MemberFault
 board_dealt setting earlier index cards =
@@ -93,16 +93,16 @@ round_said setting before index value = do
   steps ← actions_said setting index opening.1 round
   Ok (Some opening.0, steps)
 
--- the rounds, one at least
+-- the list of rounds: at least one
 unfoldable pub rounds_listed : Data → Result (List Data) MemberFault
 rounds_listed ohh = do
   items ← needed paths.Rounds ohh >>= list_said paths.Rounds
   if length items == 0 then wrong whats.BadStreet paths.Rounds else Ok items
 
--- what a list of rounds tells
+-- the steps of a list of rounds
 abbrev pub each_told : PlainSetting → List Data → Result (List PlainStep) MemberFault
 each_told setting items = added_from (round_said setting) (None, []) 0 items >>= λ found. Ok found.1
 
--- what the rounds tell
+-- the steps of the rounds
 unfoldable pub steps_said : PlainSetting → Data → Result (List PlainStep) MemberFault
 steps_said setting ohh = rounds_listed ohh >>= each_told setting

@@ -1,11 +1,11 @@
--- What stands before the rounds of a hand.
+-- What is known before the rounds of a hand are read.
 use Rattle.std.specs.Prelude.{ℕ, ℤ, List}
 use Rattle.ohh_members.specs.declared.dialect.Dialect.{Dialect}
 use Rattle.ohh_posts.specs.NamedBlinds.{PlainNamedBlinds, plain_named_blinds}
 use Rattle.ohh_rounds.specs.declared.setting.Setting.{Setting}
 
 -- the players' ids by seat, stacks and blinds, how many hole cards a seat is dealt, the dialect,
--- and the moves of the file before this hand
+-- and the number of moves in the file before this hand
 pub record PlainSetting : Type 0 where
   pub ids : List ℤ
   pub table : PlainNamedBlinds
@@ -13,7 +13,7 @@ pub record PlainSetting : Type 0 where
   pub dialect : Dialect
   pub file_moves : ℕ
 
--- the same with plain numbers and lists
+-- what is known before the rounds, as the definitions see it
 abbrev pub plain_setting : Setting → PlainSetting
 plain_setting setting =
     record {

@@ -1,4 +1,4 @@
--- What was told so far, action by action, with the cards of the board where they were dealt.
+-- The steps so far, action by action, with the cards of the board when they were dealt.
 use Rattle.std.specs.Prelude.{◌≡◌, ℕ, ◌+◌, ◌<◌, ◌≤◌, ◌==◌, nat_lt, Bool, true, false, not, if◌then◌else◌, List, [], length, flat_map, count_by, find, option_map, Option, Some, None}
 use Rattle.std.specs.List.{list_any}
 use Rattle.card_set.specs.declared.card.Slot.{Slot}
@@ -21,23 +21,23 @@ pub data PlainDeed : Type 0 where
   Happened : Said → PlainDeed
   Passed : PlainDeed
 
--- what was done, and the number of its action through all rounds, or 0 where no action says it
+-- what was done, and the number of its action through all rounds, or 0 if it comes from no action
 pub record PlainStep : Type 0 where
   pub number : ℕ
   pub deed : PlainDeed
 
--- what was done, with plain numbers and lists
+-- what was done, as the definitions see it
 abbrev pub plain_deed : Deed → PlainDeed
 plain_deed (deeds.Posted post) = Posted (plain_post post)
 plain_deed (deeds.Dealt seat cards) = Dealt seat.number (slots_of cards)
 plain_deed (deeds.Happened kind) = Happened (kind_said kind)
 plain_deed deeds.Passed = Passed
 
--- a step with plain numbers and lists
+-- a step, as the definitions see it
 abbrev pub plain_step : RoundStep → PlainStep
 plain_step step = record { number = step.number; deed = plain_deed step.deed }
 
--- an action says the step
+-- the step comes from an action
 abbrev pub is_action : PlainStep → Bool
 is_action step = nat_lt 0 step.number
 
@@ -67,7 +67,7 @@ moves_in steps = count_by (λ step. is_move_deed step.deed) steps
 abbrev pub others_in : List PlainStep → ℕ
 others_in steps = count_by (λ step. is_other_deed step.deed) steps
 
--- the seat that an event folds, if it is a fold
+-- the seat that folds, if the event is a fold
 abbrev pub folder : Said → Option ℕ
 folder (said.Fold actor) = actor
 folder (said.Hole seat slots) = None
@@ -79,7 +79,7 @@ folder (said.Discard seat slots) = None
 folder (said.Show seat cards) = None
 folder (said.Muck seat) = None
 
--- this seat
+-- the seat is this one
 abbrev pub is_seat : ℕ → Option ℕ → Bool
 is_seat seat None = false
 is_seat seat (Some other) = other == seat
@@ -109,7 +109,7 @@ dealt_in seat (Posted post) = []
 dealt_in seat (Happened event) = []
 dealt_in seat Passed = []
 
--- the hole cards that were dealt to the seat, joined in order
+-- the hole cards that were dealt to the seat, in order
 abbrev pub dealt_to : ℕ → List PlainStep → List Slot
 dealt_to seat steps = flat_map (λ step. dealt_in seat step.deed) steps
 
@@ -125,14 +125,14 @@ abbrev pub first_deal : ℕ → List PlainStep → Option ℕ
 first_deal seat steps =
     option_map (λ step. step.number) (find (λ step. is_deal_to seat step.deed) steps)
 
--- one more event, a move or another, passes no limit in a hand of so many seats, after so many
--- moves of the file
+-- one more event, a move or another, exceeds no limit in a hand with this number of seats, after
+-- this number of moves of the file
 abbrev pub HasRoom : ℕ → ℕ → Bool → List PlainStep → Type 0
 HasRoom seats file_moves true earlier =
     (moves_in earlier < MOST_MOVES) × (file_moves + moves_in earlier < MOST_FILE_MOVES)
 HasRoom seats file_moves false earlier = seats + others_in earlier < MOST_OTHER_EVENTS
 
--- what an event does passes no limit
+-- the event of a step exceeds no limit
 abbrev pub IsWithin : ℕ → ℕ → List PlainStep → PlainDeed → Type 0
 IsWithin seats file_moves earlier (Happened event) =
     HasRoom seats file_moves (is_move event) earlier
@@ -140,7 +140,7 @@ IsWithin seats file_moves earlier (Posted post) = Unit {0}
 IsWithin seats file_moves earlier (Dealt seat slots) = Unit {0}
 IsWithin seats file_moves earlier Passed = Unit {0}
 
--- a deal leaves its seat with seven hole cards at most
+-- a deal leaves its seat with at most seven hole cards
 abbrev pub LeavesFew : List PlainStep → PlainDeed → Type 0
 LeavesFew earlier (Dealt seat slots) = length (dealt_to seat earlier) + length slots ≤ 7
 LeavesFew earlier (Posted post) = Unit {0}

@@ -1,4 +1,4 @@
-//! An action of a round is read: its word, its player, and then its amount or its cards.
+//! Reads an action of a round: its word, its player, and then its amount or its cards.
 ghost use Rattle.std.specs.Prelude.{◌≡◌, ◌≤◌, ◌+◌, IfOk, length, map};
 ghost use Rattle.serde_json.specs.View.{view};
 ghost use Rattle.card_set.specs.Row.{slots_of};
@@ -27,7 +27,7 @@ use ohh_posts::{ActionPlace, Post, PostKind};
 use play_event::{Kind, Spelled};
 use serde_json::Value;
 
-/// An action after what was told; it passes no limit.
+/// Reads an action after the steps before it, and checks the limits.
 #[tactic(auto, unfolding(crate::specs::Actions::step_said, crate::specs::Actions::members_said))]
 pub fn read_step(
     told: &Told,
@@ -78,7 +78,7 @@ fn read_seat(told: &Told, place: ActionPlace, action: &Value) -> Result<Seat, St
     read_player(needed(action, path)?, told.setting.ids, path)
 }
 
-// What a word says of a player.
+// What a word means for a player.
 #[tactic(auto, unfolding(crate::specs::Actions::deed_said))]
 fn read_deed(
     told: &Told,
@@ -152,7 +152,7 @@ fn read_post(
     })
 }
 
-// Hole cards, or none where they lack.
+// Hole cards, or none if they are missing.
 #[tactic(auto, unfolding(crate::specs::Actions::dealt_cards, crate::specs::Actions::listed_cards, ohh_members::specs::Values::slots_said))]
 fn read_dealt(
     told: &Told,
@@ -219,7 +219,7 @@ fn read_chips(place: ActionPlace, action: &Value) -> Result<Chips, Stop<MemberFa
     Ok(Chips { number })
 }
 
-// How the amount of a raise is meant.
+// The raise that this amount means in the dialect.
 fn raise_of(dialect: Dialect, amount: Chips) -> Spelled
     ensures { result ≡ raise_by dialect amount.number }
 {
@@ -253,7 +253,7 @@ pub fn path_of(place: ActionPlace, member: ActionMember) -> Path
     }
 }
 
-// A muck, which is passed over where the player folded before.
+// A muck, which is ignored if the player folded before.
 fn muck(told: &Told, seat: Seat) -> Deed
     ensures said { plain_deed result ≡ mucked (map plain_step told.now.steps.items) seat.number }
     ensures few { LeavesFew (map plain_step told.now.steps.items) (plain_deed result) }
@@ -265,7 +265,7 @@ fn muck(told: &Told, seat: Seat) -> Deed
     }
 }
 
-// What was done passes no limit.
+// Checks that the action exceeds no limit.
 fn count_deed(told: &Told, path: Path, deed: Deed) -> Result<(), Stop<MemberFault>>
     ensures said { Gives (λ x. x) result (deed_counted (plain_setting told.now.setting)
         (map plain_step told.now.steps.items) path (plain_deed deed)) }
@@ -278,7 +278,7 @@ fn count_deed(told: &Told, path: Path, deed: Deed) -> Result<(), Stop<MemberFaul
     }
 }
 
-/// An event passes no limit.
+/// Checks that an event exceeds no limit.
 #[tactic(auto, unfolding(crate::specs::Actions::event_counted))]
 pub fn count_event(told: &Told, path: Path, kind: Kind) -> Result<(), Stop<MemberFault>>
     ensures said { Gives (λ x. x) result (event_counted (plain_setting told.now.setting)
@@ -303,7 +303,7 @@ pub fn count_event(told: &Told, path: Path, kind: Kind) -> Result<(), Stop<Membe
     }
 }
 
-// A fault of a quantity that passes its limit.
+// The fault of a quantity that exceeds its limit.
 fn too_many(quantity: Quantity, path: Path) -> Stop<MemberFault>
     ensures { result ≡ Stop.At (record { what = MemberFaultKind.TooMany quantity; path = path }) }
 {

@@ -1,4 +1,4 @@
-//! Each step tells something of one seat at most.
+//! What each step changes for the seats: every step concerns at most one seat.
 ghost use Rattle.std.specs.Prelude.{◌≡◌, ◌≤◌, ◌+◌, ◌∷◌, ◌++◌, [], Some, map, option_map, true};
 ghost use Rattle.std.specs.Option.{option_or};
 ghost use Rattle.card_set.specs.Row.{slots_of};
@@ -12,7 +12,7 @@ use card_set::SlotRow;
 use chip_ledger::Seat;
 use play_event::Kind;
 
-/// What is told of each seat, with one step more.
+/// The state of each seat after one more step.
 pub fn seats_after(
     mut seats: [SeatTold; 10],
     step: RoundStep,
@@ -41,7 +41,7 @@ pub fn seats_after(
     }
 }
 
-// The seat was dealt more cards, in the step with this number.
+// The seat after it was dealt more cards, in the step with this number.
 fn with_deal(told: SeatTold, cards: SlotRow, number: u32) -> SeatTold
     requires { told.cards.len + cards.len ≤ 7 }
     ensures folded { result.folded ≡ told.folded }
@@ -55,7 +55,7 @@ fn with_deal(told: SeatTold, cards: SlotRow, number: u32) -> SeatTold
     }
 }
 
-// Cards and more cards behind them.
+// The cards, followed by more cards.
 fn joined(cards: SlotRow, more: SlotRow) -> SlotRow
     requires { cards.len + more.len ≤ 7 }
     ensures { slots_of result ≡ slots_of cards ++ slots_of more }
@@ -67,7 +67,7 @@ fn joined(cards: SlotRow, more: SlotRow) -> SlotRow
     all
 }
 
-// The number of the first deal, where one more has this number.
+// The number of the first deal; this number, if there was none before.
 fn first_of(first: Option<u32>, number: u32) -> Option<u32>
     ensures { result ≡ option_or first (Some number) }
 {
@@ -87,7 +87,7 @@ fn folder(kind: Kind) -> Option<Seat>
     }
 }
 
-// The seat folded.
+// The seat after it folded.
 fn with_fold(told: SeatTold) -> SeatTold
     ensures { result ≡ record {
       folded = true;

@@ -1,5 +1,5 @@
-//! The rounds of a hand in Open Hand History are read in their order: the posts are checked, and
-//! the events of the script given; or the first fault is named, with the path of its member.
+//! Reads the rounds of a hand in Open Hand History in order: checks the posts, and gives the events
+//! of the script; or names the first fault, with the path of its member.
 #![tactic(auto)]
 
 mod actions;

@@ -1,4 +1,4 @@
-//! The posts of a hand are checked, and its script is put together.
+//! Checks the posts of a hand, and puts its script together.
 ghost use Rattle.std.specs.Prelude.{◌≡◌, ◌≤◌, ◌+◌, ◌++◌, IfOk, OnOk, count_by, map};
 ghost use Rattle.serde_json.specs.View.{view};
 ghost use Rattle.canon_script.specs.PlayedScript.{IsWithinLimits, is_move};
@@ -30,19 +30,18 @@ use play_event::{Event, Kind, Script};
 use serde_json::Value;
 use std::alloc::Global;
 
-/// What the rounds of a hand say.
+/// The rounds of a hand, as they are read.
 #[derive(Debug, Drop)]
 pub struct RoundsPlay {
     /// The antes and blinds.
     pub stakes: AntesAndBlinds,
-    /// The hole deals of all seats, and then what happened.
+    /// The hole deals of all seats, followed by the other events.
     pub script: Script,
-    /// The moves of the file after this hand.
+    /// The number of moves in the file after this hand.
     pub file_moves: usize,
 }
 
-/// What the rounds of a hand say, whose object this is: its posts are checked, and its script is
-/// put together.
+/// Reads the rounds of this hand: checks its posts, and puts its script together.
 #[tactic(auto, unfolding(crate::specs::Play::rounds_said))]
 pub fn read_rounds(
     alloc: Global,
@@ -68,7 +67,7 @@ pub fn read_rounds(
     })
 }
 
-// The stakes of the posts, which meet their conditions.
+// The antes and blinds of the posts, which meet their conditions.
 fn read_stakes(
     alloc: Global,
     table: &NamedBlinds,
@@ -99,7 +98,7 @@ fn posts_of(alloc: Global, steps: &[RoundStep]) -> Result<Vec<Post>, Memory>
     Ok(posts)
 }
 
-// The posts with that of a step, if it is one.
+// Appends the post of a step, if it is one.
 fn push_post(posts: &mut Vec<Post>, deed: Deed) -> Result<(), Memory>
     ensures { OnOk result (map plain_post posts.new.items
         ≡ map plain_post posts.old.items ++ post_in (plain_deed deed)) }
@@ -113,7 +112,7 @@ fn push_post(posts: &mut Vec<Post>, deed: Deed) -> Result<(), Memory>
     }
 }
 
-// The posts meet their conditions, or the first that does not is told at its action.
+// Checks the posts; the first that breaks a condition is reported at its action.
 fn check(table: &NamedBlinds, posts: &[Post]) -> Result<(), Stop<MemberFault>>
     ensures { Gives (λ x. x) result
         (at_posts (posts_checked (plain_named_blinds table.now) (map plain_post posts.now))) }
@@ -172,7 +171,7 @@ fn hole_deal(told: &Told, seat: Seat) -> Event
     }
 }
 
-// The cards, and unknown ones up to so many.
+// The cards, filled up to `count` with unknown ones.
 fn filled(cards: SlotRow, count: u8) -> SlotRow
     requires { count ≤ 7 }
     ensures { slots_of result ≡ hole_cards_said count (slots_of cards) }
@@ -184,7 +183,7 @@ fn filled(cards: SlotRow, count: u8) -> SlotRow
     all
 }
 
-// The script with what happened.
+// Appends the events of the steps.
 fn push_events(script: &mut Script, steps: &[RoundStep]) -> Result<(), Memory>
     ensures { OnOk result (map numbered script.new
         ≡ map numbered script.old ++ events_in (map plain_step steps.now)) }
@@ -195,7 +194,7 @@ fn push_events(script: &mut Script, steps: &[RoundStep]) -> Result<(), Memory>
     Ok(())
 }
 
-// The script with the event of a step, if it is one.
+// Appends the event of a step, if it is one.
 fn push_event(script: &mut Script, step: RoundStep) -> Result<(), Memory>
     ensures { OnOk result (map numbered script.new
         ≡ map numbered script.old ++ event_in (plain_step step) (plain_deed step.deed)) }

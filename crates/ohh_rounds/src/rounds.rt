@@ -1,4 +1,4 @@
-//! The rounds are read, each with its street, its cards and its actions.
+//! Reads the rounds, each with its street, its cards and its actions.
 ghost use Rattle.std.specs.Prelude.{◌≡◌, Some, IfOk, map};
 ghost use Rattle.serde_json.specs.View.{view};
 ghost use Rattle.card_set.specs.Row.{cards_of};
@@ -22,7 +22,7 @@ use play_event::Kind;
 use serde_json::Value;
 use std::alloc::Global;
 
-/// What the rounds of the object tell.
+/// The steps of the rounds of the object.
 #[tactic(auto, unfolding(crate::specs::Rounds::steps_said))]
 pub fn read_told<'a>(
     alloc: Global,
@@ -43,7 +43,7 @@ pub fn read_told<'a>(
     Ok(told)
 }
 
-// The rounds, one at least.
+// The list of rounds: at least one.
 #[tactic(auto, unfolding(crate::specs::Rounds::rounds_listed))]
 fn read_listed(ohh: &Value) -> Result<&[Value], Stop<MemberFault>>
     ensures { Gives (λ values. map view values.now) result (rounds_listed (view ohh.now)) }
@@ -55,7 +55,7 @@ fn read_listed(ohh: &Value) -> Result<&[Value], Stop<MemberFault>>
     Ok(values)
 }
 
-// One more round is told.
+// Reads one more round.
 #[tactic(auto, unfolding(crate::specs::Rounds::round_said, crate::specs::Rounds::opening_said))]
 fn read_round(
     told: &mut Told,
@@ -121,7 +121,7 @@ fn read_no_cards(cards: &Value, path: Path) -> Result<CardRow, Stop<MemberFault>
     Ok(CardRow::new())
 }
 
-// A deal to the board is told, where there are cards.
+// Adds a deal to the board, if there are cards.
 #[tactic(auto, unfolding(crate::specs::Rounds::board_dealt))]
 fn deal_board(told: &mut Told, index: u64, cards: CardRow) -> Result<(), Stop<MemberFault>>
     ensures said { Gives (λ x. map plain_step told.new.steps.items) result
@@ -148,7 +148,7 @@ fn path_of(index: u64, member: RoundMember) -> Path
     Path::Round { index, member }
 }
 
-// The actions that a round lists are told.
+// Reads the actions that a round lists.
 fn read_actions(told: &mut Told, index: u64, round: &Value) -> Result<(), Stop<MemberFault>>
     ensures said { Gives (λ x. map plain_step told.new.steps.items) result
         (actions_said (plain_setting told.old.setting) index

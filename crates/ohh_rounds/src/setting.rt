@@ -1,4 +1,4 @@
-//! What stands before the rounds of a hand.
+//! What is known before the rounds of a hand are read.
 ghost use Rattle.std.specs.Prelude.{◌≤◌, length};
 ghost use Rattle.first_fault.specs.declared.limits.TheConstants.{MOST_FILE_MOVES};
 
@@ -15,7 +15,7 @@ pub struct Setting<'a> {
     /// How many hole cards the game deals to a seat.
     pub hole_cards: u8,
     pub dialect: Dialect,
-    /// The moves of the file before this hand.
+    /// The number of moves in the file before this hand.
     pub file_moves: usize,
     pub ghost few_ids: { length ids.now ≤ 10 },
     pub ghost few_cards: { hole_cards ≤ 7 },

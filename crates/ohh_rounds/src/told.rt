@@ -1,4 +1,4 @@
-//! What is told so far is kept step by step, with what later actions ask of it.
+//! State while reading rounds: what later actions need to know.
 ghost use Rattle.std.specs.Prelude.{◌≡◌, ◌≤◌, ◌+◌, length, map};
 ghost use Rattle.canon_script.specs.declared.limits.TheConstants.{MOST_MOVES, MOST_OTHER_EVENTS};
 ghost use Rattle.first_fault.specs.declared.limits.TheConstants.{MOST_FILE_MOVES};
@@ -13,7 +13,7 @@ use card_set::{Memory, SlotRow};
 use chip_ledger::Seat;
 use std::alloc::Global;
 
-/// The steps so far, and what they tell of each seat.
+/// The steps so far, and what is known of each seat.
 #[derive(Debug, Drop)]
 pub struct Told<'a> {
     pub setting: Setting<'a>,
@@ -21,9 +21,9 @@ pub struct Told<'a> {
     /// The number of the next action.
     pub next: u32,
     pub moves: usize,
-    /// The events of the script so far that are no moves, but for the hole deals.
+    /// The number of events of the script so far that are not moves, not counting the hole deals.
     pub other_events: usize,
-    /// What is told of each seat, the first seat at index 0.
+    /// What is known of each seat, the first seat at index 0.
     pub seats: [SeatTold; 10],
     pub ghost next_is: { next ≡ next_number (map plain_step steps.items) },
     pub ghost moves_are: { moves ≡ moves_in (map plain_step steps.items) },
@@ -38,7 +38,7 @@ impl<'a> Told<'a> {
     ghost use Rattle.std.specs.Prelude.{◌∷◌, ◌++◌, [], OnOk};
     ghost use Rattle.ohh_rounds.specs.Steps.{IsWithin, LeavesFew, dealt_to, has_folded, plain_deed};
 
-    /// Nothing is told yet.
+    /// The state before the first step.
     pub fn none(alloc: Global, setting: &Setting<'a>) -> Self
         ensures steps { result.steps.items ≡ [] }
         ensures setting { result.setting ≡ setting.now }
@@ -75,14 +75,14 @@ impl<'a> Told<'a> {
         told.cards.as_slice().len()
     }
 
-    /// What is told of a seat.
+    /// What is known of a seat.
     pub fn seat(&self, seat: Seat) -> SeatTold
         ensures { IsToldOf seat.number (map plain_step self.now.steps.items) result }
     {
         self.seats[seat.number as usize - 1]
     }
 
-    /// Takes one more step, which passes no limit.
+    /// Takes one more step, which exceeds no limit.
     pub fn push(&mut self, step: RoundStep) -> Result<(), Memory>
         requires within { IsWithin self.old.setting.table.stacks.seats self.old.setting.file_moves
             (map plain_step self.old.steps.items) (plain_deed step.deed) }

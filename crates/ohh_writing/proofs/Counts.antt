@@ -116,7 +116,7 @@ actions_few dialect trace few =
       showdown_few (showings trace),
     )
 
--- the rounds of the code have as many actions
+-- the rounds of the code have the same number of actions
 pub same_count : (rounds : List Round) → sum_by (λ (round : Round). length round.actions.items) rounds ≡ count (map round_said rounds)
 same_count [] = refl
 same_count (first ∷ rest) =

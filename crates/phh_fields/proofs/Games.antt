@@ -1,4 +1,4 @@
--- The game whose code a text is: one of the eleven, or none.
+-- The game with this code: one of the eleven, or none.
 use Rattle.std.proofs.Common.{◌≡◌, ℕ, bytes_eq, List, [], ◌∷◌, find, Option, Some, None, IfSome, IfNone, refl, sym, ap, ◌∙◌, inl, inr}
 use Rattle.std.proofs.lemmas.Bool.{cases_Bool}
 use Rattle.std.proofs.lemmas.Slice.Eq.{bytes_eq-Decides}
@@ -30,7 +30,7 @@ no_code text none (code ∷ rest) =
       | inr other ↦ rw other (no_code text none rest)
     ]
 
--- what is read of a text is the game whose code it is
+-- what is read from a text is the game whose code it is
 pub game_read : (text : List ℕ) (read : Option Code) → IfSome read (λ code. code_text code ≡ text) → IfNone read ((code : Code) → code_text code ≡ text → ⊥) → read ≡ game_named text
 unfolding game_named
 game_read text (Some code) is none = sym (ap game_named (sym is) ∙ own_code code)

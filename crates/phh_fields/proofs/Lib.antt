@@ -1,4 +1,4 @@
--- Laws of what the fields of a hand say.
+-- Laws of the fields of a hand.
 pub mod Lists
 pub mod Zeros
 pub mod Games

@@ -1,4 +1,4 @@
--- Where there are no rakes, none is above the greatest amount.
+-- If there are no rakes, none is more than the limit of amounts.
 use Rattle.std.proofs.Common.{◌≡◌, ℕ, ◌-◌, ◌≤◌, sym, subst, arith}
 use Rattle.chip_ledger.specs.declared.rakes.RakeRow.{RakeRow}
 use Rattle.chip_ledger.specs.declared.seat_row.TheConstants.{MOST_AMOUNT}

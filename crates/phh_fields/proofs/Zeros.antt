@@ -1,4 +1,4 @@
--- A list with zeros from an index on is its numbers before that index, and zeros behind them.
+-- A list with zeros from an index on is its numbers before that index, and zeros after them.
 use Rattle.std.proofs.Common.{◌≡◌, ℕ, ◌-◌, ◌≤◌, List, ◌++◌, length, take, replicate, get_or, refl, sym, ◌∙◌, arith}
 use Rattle.std.proofs.lemmas.List.{length-take-le}
 use Rattle.list_laws.proofs.Entries.{cut_zeros}

@@ -11,7 +11,7 @@ use Rattle.phh_fields.specs.declared.fault.FieldFaultKind.TheVariants as whats
 use Rattle.phh_fields.specs.declared.fault.FieldPlace.{FieldPlace}
 use Rattle.phh_fields.specs.declared.fault.FieldFault.{FieldFault}
 
--- how the keys are spelled
+-- how the keys are written
 abbrev pub key_text : FieldKey → List ℕ
 key_text keys.Variant = codes "variant"
 key_text keys.StartingStacks = codes "starting_stacks"
@@ -46,7 +46,7 @@ at_key key = record { key = key; item = 0 }
 abbrev pub at_item : FieldKey → ℕ → FieldPlace
 at_item key n = record { key = key; item = n }
 
--- how a place is spelled: the key, and for an item a space and its number
+-- a place as text: the key, and for an item a space and its number
 abbrev pub place_text : FieldPlace → List ℕ
 place_text place =
     if place.item == 0
@@ -69,7 +69,7 @@ or_wrong what place found = or_fault (fault_at what place) found
 abbrev pub field : FieldKey → Members → Option Data
 field key members = get_member (key_text key) members
 
--- the value at a key that is needed
+-- the value at a required key
 unfoldable pub needed : FieldKey → Members → Result Data FieldFault
 needed key members = or_wrong whats.MissingField (at_key key) (field key members)
 
@@ -105,7 +105,7 @@ list_of _ = None
 unfoldable pub list_said : FieldPlace → Data → Result (List Data) FieldFault
 list_said place value = or_wrong whats.WrongType place (list_of value)
 
--- a list with one item for each of so many seats
+-- a list with one item for each of this many seats
 unfoldable pub items_said : ℕ → FieldKey → Data → Result (List Data) FieldFault
 items_said seats key value = do
   items ← list_said (at_key key) value
@@ -131,7 +131,7 @@ unfoldable pub amount_said : ℕ → ℕ → FieldPlace → Data → Result ℕ 
 amount_said least most place value =
     whole_within (amount_faults place) least most (numeral_of value)
 
--- the faults of a number that is no amount: with a fraction it is of another kind
+-- the faults of a number that is not an amount: with a fraction it has the wrong type
 abbrev pub number_faults : FieldPlace → NumberFaults FieldFault
 number_faults place =
     record {
@@ -140,7 +140,7 @@ number_faults place =
       no_number = fault_at whats.WrongType place;
     }
 
--- a whole number from least to most that is no amount
+-- a whole number from least to most that is not an amount of chips
 unfoldable pub number_said : ℕ → ℕ → FieldPlace → Data → Result ℕ FieldFault
 number_said least most place value =
     whole_within (number_faults place) least most (numeral_of value)

@@ -1,4 +1,4 @@
--- What the fields of a hand say.
+-- The fields of a hand in the Poker Hand History format.
 pub mod Fields
 pub mod Rows
 pub mod SetupFields

@@ -1,5 +1,5 @@
--- The notes that the fields of a hand say, examined in this order. A note that equals its default
--- is none.
+-- The notes in the fields of a hand, read in this order. A note that equals its default counts as
+-- none.
 use Rattle.std.specs.Prelude.{◌≡◌, ℕ, ◌-◌, ◌≤◌, ◌==◌, Bool, true, nat_le, ◌&&◌, if◌then◌else◌, List, [], take, replicate, slice_index_or, Option, Some, None, IfSome, option_map, Result, Ok}
 use Rattle.std.specs.Fmt.{decimal, signed_decimal}
 use Rattle.toml.specs.Data.{Data, string, integer, datetime, Members}
@@ -27,7 +27,7 @@ pub record PlainSeating : Type 0 where
   pub seats : Option (List ℕ)
   pub seat_count : Option ℕ
 
--- who sits where at a table with so many seats
+-- who sits where at a table with this number of seats
 abbrev pub plain_seating : ℕ → Seating → PlainSeating
 plain_seating count seating =
     record {
@@ -36,7 +36,7 @@ plain_seating count seating =
       seat_count = seating.seat_count;
     }
 
--- the names of the players of so many seats, and none behind them
+-- the names of the players of this many seats, and none after them
 pub record AreNames (count : ℕ) (names : List (Option (List ℕ))) : Type 0 where
   pub each : (seat : ℕ) → 1 ≤ seat → seat ≤ count
       → IfSome (slice_index_or names (seat - 1) None) (IsName seat)
@@ -51,23 +51,23 @@ note_said default place text =
 unfoldable pub text_note_said : List ℕ → FieldPlace → Data → Result (Option (List ℕ)) FieldFault
 text_note_said default place value = text_said place value >>= note_said default place
 
--- a text with this default, or a whole number that stands for its decimal text
+-- a text with this default; a whole number counts as its decimal text
 unfoldable pub label_said : List ℕ → FieldPlace → Data → Result (Option (List ℕ)) FieldFault
 label_said default place (string text) = note_said default place text
 label_said default place (integer number) = note_said default place (signed_decimal number)
 label_said default place _ = wrong whats.WrongType place
 
--- the names of the players of so many seats
+-- the names of the players, one per value
 abbrev pub names_from : List Data → Result (List (Option (List ℕ))) FieldFault
 names_from items =
     each_from (λ n value. text_note_said (default_name n) (at_item keys.Players n) value) 1 items
 
--- the names of the players, none where the key does not stand
+-- the names of the players; none if the key is missing
 unfoldable pub names_said : ℕ → Option Data → Result (List (Option (List ℕ))) FieldFault
 names_said count None = Ok (replicate count None)
 names_said count (Some value) = items_said count keys.Players value >>= names_from
 
--- the numbers of so many seats
+-- the numbers of seats, one per value
 abbrev pub numbers_from : List Data → Result (List ℕ) FieldFault
 numbers_from items = each_from (λ n value. number_said 1 255 (at_item keys.Seats n) value) 1 items
 
@@ -91,7 +91,7 @@ seating_said count members = do
   seat_count ← or_none (seat_count_said count) (field keys.SeatCount members)
   Ok (record { names = names; seats = seats; seat_count = seat_count })
 
--- where the hand was played; place is the hand's place in its file, from 0
+-- where the hand was played; the first number is the hand's place in its file, from 0
 unfoldable pub labels_said : ℕ → Members → Result Labels FieldFault
 labels_said place members = do
   hand ← or_none (label_said (decimal place) (at_key keys.Hand)) (field keys.Hand members)
@@ -100,7 +100,7 @@ labels_said place members = do
   currency ← or_none (text_note_said [] (at_key keys.Currency)) (field keys.Currency members)
   Ok (record { hand = hand; table = table; venue = venue; currency = currency })
 
--- year, month and day are a day of the calendar where all three stand
+-- year, month and day are a date of the calendar, if all three are given
 abbrev pub is_in_calendar : Option ℕ → Option ℕ → Option ℕ → Bool
 is_in_calendar (Some year) (Some month) (Some day) = nat_le day (days_in_month year month)
 is_in_calendar _ _ _ = true
@@ -115,17 +115,17 @@ day_said members = do
       then Ok (record { year = year; month = month; day = day })
       else wrong whats.WrongType (at_key keys.Day)
 
--- the local time that a date-time is, if it has no day and no zone
+-- the local time of a date-time, if it has no date and no zone
 abbrev pub time_alone : Option Date → Option Time → Option Offset → Option Time
 time_alone None (Some time) None = Some time
 time_alone _ _ _ = None
 
--- what is said, or 0
+-- what is given, or 0
 abbrev pub or_zero : Option ℕ → ℕ
 or_zero (Some number) = number
 or_zero None = 0
 
--- a time of a day; a second or a fraction that is not said is 0
+-- a time of day; a missing second or fraction is 0
 abbrev pub clock_of : Time → Clock
 clock_of time =
     record {
@@ -135,13 +135,13 @@ clock_of time =
       nano = or_zero time.nanosecond;
     }
 
--- a day has the time
+-- it is a valid time of day
 abbrev pub is_clock : Clock → Bool
 is_clock clock =
     (nat_le clock.hour 23 && nat_le clock.minute 59)
     && (nat_le clock.second 59 && nat_le clock.nano 999999999)
 
--- the time of a day that a local time says
+-- the time of day of a local time
 unfoldable pub clock_said : Option Time → Result Clock FieldFault
 clock_said None = wrong whats.WrongType (at_key keys.Time)
 clock_said (Some time) =
@@ -149,12 +149,12 @@ clock_said (Some time) =
     then Ok (clock_of time)
     else wrong whats.WrongType (at_key keys.Time)
 
--- the time of the day: a local time
+-- the time of day: a local time
 unfoldable pub time_said : Data → Result Clock FieldFault
 time_said (datetime said) = clock_said (time_alone said.date said.time said.offset)
 time_said _ = wrong whats.WrongType (at_key keys.Time)
 
--- the notes of their parts
+-- the notes made of their parts
 abbrev pub notes_from : PlainSeating → Labels → PartialDate → Option Clock → Option (List ℕ)
     → SaidNotes
 notes_from seating labels date time zone =

@@ -1,4 +1,4 @@
--- Lists of amounts: one for each seat, or one for each pot.
+-- Lists of amounts: one per seat, or one per pot.
 use Rattle.std.specs.Prelude.{◌≡◌, ℕ, ◌-◌, ◌≤◌, nat_le, ◌&&◌, min, max, if◌then◌else◌, List, [], ◌∷◌, ◌++◌, length, replicate, slice_index, Result, Ok}
 use Rattle.toml.specs.Data.{Data}
 use Rattle.chip_ledger.specs.declared.numbers.TheConstants.{MOST_CHIPS}
@@ -17,11 +17,11 @@ abbrev pub amounts_said : ℕ → ℕ → FieldKey → List Data → Result (Lis
 amounts_said least most key items =
     each_from (λ n value. amount_said least most (at_item key n) value) 1 items
 
--- an amount of up to so many chips for each of so many seats
+-- one amount of at most this many chips for each of this many seats
 unfoldable pub row_said : ℕ → ℕ → FieldKey → Data → Result (List ℕ) FieldFault
 row_said seats most key value = items_said seats key value >>= amounts_said 0 most key
 
--- the starting stacks, of two seats to the most of the game
+-- the starting stacks of two seats up to the most of the game
 unfoldable pub stacks_said : ℕ → Data → Result (List ℕ) FieldFault
 stacks_said most_seats value = do
   items ← list_said (at_key keys.StartingStacks) value
@@ -29,7 +29,7 @@ stacks_said most_seats value = do
       then amounts_said 1 MOST_CHIPS keys.StartingStacks items
       else wrong whats.SeatCount (at_key keys.StartingStacks)
 
--- the ante of a seat with this stack, held as the lesser of what is named and the stack
+-- the ante of a seat with this stack: the smaller of the stated ante and the stack
 unfoldable pub ante_said : ℕ → FieldPlace → Data → Result ℕ FieldFault
 ante_said stack place value = amount_said 0 MOST_CHIPS place value >>= λ ante. Ok (min ante stack)
 
@@ -48,18 +48,18 @@ antes_from stacks items =
 unfoldable pub antes_said : List ℕ → Data → Result (List ℕ) FieldFault
 antes_said stacks value = items_said (length stacks) keys.Antes value >>= antes_from stacks
 
--- of two blinds the greater is the first seat's
+-- the blinds in the order of seats: with two seats, the first seat has the greater one
 abbrev pub posted : List ℕ → List ℕ
 posted (first ∷ second ∷ []) = max first second ∷ min first second ∷ []
 posted blinds = blinds
 
--- the rakes of so many pots, the lowest pot's first; a pot past the last one has 0
+-- the rakes of pots, the lowest pot's first; a pot past the last one has 0
 unfoldable pub rakes_from : List Data → Result (List ℕ) FieldFault
 rakes_from items =
     amounts_said 0 MOST_AMOUNT keys.Rakes items
     >>= λ rakes. Ok (rakes ++ replicate (11 - length rakes) 0)
 
--- the rakes of eleven pots at most
+-- the rakes of at most eleven pots
 unfoldable pub rakes_said : Data → Result (List ℕ) FieldFault
 rakes_said value = do
   items ← list_said (at_key keys.Rakes) value

@@ -1,4 +1,4 @@
--- The setup that the fields of a hand say, examined in this order.
+-- The setup in the fields of a hand, read in this order.
 use Rattle.std.specs.Prelude.{ℕ, Bool, false, ◌&&◌, not, nat_lt, bytes_eq, if◌then◌else◌, List, length, replicate, Option, find, Result, Ok}
 use Rattle.std.specs.List.{list_any}
 use Rattle.std.specs.Option.{option_map_or}
@@ -19,7 +19,7 @@ use Rattle.phh_fields.specs.declared.fault.FieldFault.{FieldFault}
 use Rattle.phh_fields.specs.Fields.{at_key, or_wrong, field, needed, text_said, flag_said, amount_said}
 use Rattle.phh_fields.specs.Rows.{row_said, stacks_said, antes_said, posted}
 
--- the game whose code the text is, if it is one of the eleven
+-- the game with this code, if it is one of the eleven
 unfoldable pub game_named : List ℕ → Option Code
 game_named text = find (λ code. bytes_eq text (code_text code)) all_games
 
@@ -29,13 +29,13 @@ variant_said value =
     text_said (at_key keys.Variant) value
     >>= λ text. or_wrong whats.UnknownVariant (at_key keys.Variant) (game_named text)
 
--- the antes are trimmed: they are not dead
+-- the fields say that antes are trimmed, which means that they are not dead
 unfoldable pub trimming_said : Members → Result Bool FieldFault
 trimming_said members =
     read_if (flag_said (at_key keys.AnteTrimmingStatus)) (field keys.AnteTrimmingStatus members)
     >>= λ said. Ok (option_map_or (λ trimmed. trimmed) said false)
 
--- antes are dead where they are not trimmed and some seat posts one
+-- antes are dead if they are not trimmed and some seat posts one
 abbrev pub are_dead : Bool → List ℕ → Bool
 are_dead trimmed antes = not trimmed && list_any (λ ante. nat_lt 0 ante) antes
 
@@ -46,7 +46,7 @@ blinds_said code seats members =
     else (needed keys.BlindsOrStraddles members >>= row_said seats MOST_CHIPS keys.BlindsOrStraddles
     >>= λ blinds. Ok (posted blinds))
 
--- a size that the game uses; a size that it does not use is 0
+-- a bet size, if the game uses it, else 0
 unfoldable pub size_said : Bool → FieldKey → Members → Result ℕ FieldFault
 size_said used key members =
     if used then (needed key members >>= amount_said 1 MOST_CHIPS (at_key key)) else Ok 0

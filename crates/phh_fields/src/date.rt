@@ -1,4 +1,4 @@
-//! When a hand was played is read from its fields: a day of the calendar, and a time of the day.
+//! Reads when a hand was played from its fields: a date and a time of day.
 ghost use Rattle.std.specs.Prelude.{◌≡◌, Option, Some, None, true, IfOk, IfSome};
 ghost use Rattle.toml.specs.View.{table_view, view};
 ghost use Rattle.hand_records.specs.AllowedNotes.{IsTime, IsWithin};
@@ -14,7 +14,7 @@ use hand_records::{Clock, has_day};
 use toml::value::{Datetime, Time};
 use toml::{Table, Value};
 
-/// The day on which a hand was played, as far as it is said.
+/// The date of a hand; each part may be missing.
 #[derive(Clone, Copy, Debug, PartialEq, Eq)]
 pub struct PartialDate {
     pub year: Option<u16>,
@@ -22,7 +22,7 @@ pub struct PartialDate {
     pub day: Option<u8>,
 }
 
-/// The day on which the hand was played.
+/// The date on which the hand was played.
 #[tactic(auto, unfolding(crate::specs::NoteFields::day_said))]
 pub fn read_day(table: &Table) -> Result<PartialDate, Stop<FieldFault>>
     ensures said { Gives (λ day. day) result (day_said (table_view table.now)) }
@@ -74,7 +74,7 @@ fn read_part(table: &Table, key: FieldKey, most: u8) -> Result<Option<u8>, Stop<
     }
 }
 
-// Whether year, month and day are a day of the calendar where all three stand.
+// Whether year, month and day are a date of the calendar, if all three are given.
 fn is_in_calendar(date: PartialDate) -> bool
     requires year { IfSome date.year (IsWithin 1 9999) }
     requires month { IfSome date.month (IsWithin 1 12) }
@@ -87,7 +87,7 @@ fn is_in_calendar(date: PartialDate) -> bool
     }
 }
 
-/// The time of the day, if it is said.
+/// The time of day, if it is given.
 pub fn read_time_at(table: &Table) -> Result<Option<Clock>, Stop<FieldFault>>
     ensures said { Gives (λ clock. clock) result
         (read_if time_said (field_said keys.Time (table_view table.now))) }
@@ -99,7 +99,7 @@ pub fn read_time_at(table: &Table) -> Result<Option<Clock>, Stop<FieldFault>>
     }
 }
 
-// The time of the day.
+// The time of day.
 #[tactic(auto, unfolding(crate::specs::NoteFields::time_said, crate::specs::NoteFields::clock_said))]
 fn read_time(value: &Value) -> Result<Clock, Stop<FieldFault>>
     ensures said { Gives (λ clock. clock) result (time_said (view value.now)) }
@@ -119,7 +119,7 @@ fn read_time(value: &Value) -> Result<Clock, Stop<FieldFault>>
     ))
 }
 
-// A time of a day; a second or a fraction that is not said is 0.
+// A time of day; a missing second or fraction is 0.
 fn clock_of(time: Time) -> Clock
     ensures { result ≡ clock_of_said time }
 {
@@ -137,14 +137,14 @@ fn clock_of(time: Time) -> Clock
     }
 }
 
-// Whether a day has the time.
+// Whether it is a valid time of day.
 fn is_clock(clock: Clock) -> bool
     ensures { result ≡ is_clock_said clock }
 {
     (clock.hour <= 23 && clock.minute <= 59) && (clock.second <= 59 && clock.nano <= 999_999_999)
 }
 
-// The local time that a date-time is, if it has no day and no zone.
+// The local time of a date-time, if it has no date and no zone.
 fn time_alone(said: &Datetime) -> Option<Time>
     ensures { result ≡ time_alone_said said.now.date said.now.time said.now.offset }
 {

@@ -1,5 +1,4 @@
-//! What is wrong with a hand, and where: the first fault in the order in which its fields are
-//! examined.
+//! What is wrong with a hand, and where: the first fault in the order in which fields are examined.
 ghost use Rattle.std.specs.Prelude.{◌≡◌};
 ghost use Rattle.phh_fields.specs.Fields.{at_item as item_of, at_key as place_of, key_text};
 
@@ -8,23 +7,23 @@ use first_fault::Quantity;
 /// What is wrong.
 #[derive(Clone, Copy, Debug, PartialEq, Eq)]
 pub enum FieldFaultKind {
-    /// A field that is needed lacks.
+    /// A required field is missing.
     MissingField,
-    /// A field is of another kind, or a day is none of the calendar.
+    /// A field has the wrong type, or the date does not exist.
     WrongType,
     /// An amount has a fraction.
     AmountNotWhole,
     /// A number is out of its range.
     AmountLimit,
-    /// The variant is none of the eleven.
+    /// Unknown variant code.
     UnknownVariant,
-    /// The game is not played by so many seats.
+    /// The game is not played with this number of seats.
     SeatCount,
-    /// A list has not one item for each seat, or more rakes than pots.
+    /// A list does not have one item per seat, or has more rakes than a hand can have pots.
     ListLength,
-    /// An action has another form.
+    /// An action has none of the known forms.
     BadAction,
-    /// There is more than the limit allows.
+    /// There is more than the limit of the quantity allows.
     TooMany { quantity: Quantity },
 }
 
@@ -58,7 +57,7 @@ pub enum FieldKey {
 }
 
 impl FieldKey {
-    /// The key as it is spelled.
+    /// The key as it is written.
     pub fn text(self) -> &'static str
         ensures { result.now ≡ key_text self }
     {

@@ -1,4 +1,4 @@
-//! Where a hand was played is read from its fields.
+//! Reads where a hand was played from its fields.
 ghost use Rattle.std.specs.Prelude.{[], IfOk, IfSome};
 ghost use Rattle.std.specs.Fmt.{decimal};
 ghost use Rattle.toml.specs.View.{table_view};
@@ -45,8 +45,8 @@ pub fn read_labels(alloc: Global, table: &Table, place: u32) -> Result<Labels, S
     })
 }
 
-// The name of the hand at this place of its file, from 0, if there is one. Most files say none, and
-// the number of a place is spelled only where one is.
+// The name of the hand at this place of its file, from 0, if there is one. Most files have none, so
+// the number of the place is made into text only if there is a name to compare it with.
 fn hand_at(alloc: Global, table: &Table, place: u32) -> Result<Option<Text>, Stop<FieldFault>>
     ensures said { Gives (λ note. note) result
         (or_none (label_said (decimal place) (at_key keys.Hand))

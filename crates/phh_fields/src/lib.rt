@@ -1,5 +1,5 @@
-//! The fields of a hand in the Poker Hand History format are read in their order, as its setup and
-//! its notes.
+//! Reads the fields of a hand in the Poker Hand History format in order, as its setup and its
+//! notes.
 #![tactic(auto)]
 
 pub mod date;

@@ -1,4 +1,4 @@
-//! The notes of a hand are read from its fields, and are allowed.
+//! Reads the notes of a hand from its fields, and checks that they are allowed.
 ghost use Rattle.std.specs.Prelude.{◌≤◌, IfOk};
 ghost use Rattle.toml.specs.View.{table_view};
 ghost use Rattle.hand_records.specs.AllowedNotes.{AreAllowed};
@@ -15,7 +15,7 @@ use hand_records::Notes;
 use std::alloc::Global;
 use toml::Table;
 
-/// The notes of a hand with so many seats, at this place of its file, from 0.
+/// The notes of a hand with `seats` seats, at this place of its file, from 0.
 #[tactic(auto, unfolding(crate::specs::NoteFields::notes_said))]
 pub fn read_notes(
     alloc: Global,

@@ -1,4 +1,4 @@
-//! A list of amounts is read as a row: one for each seat, or one for each pot.
+//! Reads a list of amounts as a row: one amount per seat, or one per pot.
 ghost use Rattle.std.specs.Prelude.{◌≡◌, ℕ, ◌<◌, ◌≤◌, length, map, slice_index, take, IfOk};
 ghost use Rattle.toml.specs.View.{view};
 ghost use Rattle.chip_ledger.specs.declared.seat_row.TheConstants.{MOST_AMOUNT};
@@ -15,7 +15,7 @@ use chip_ledger::{MOST_AMOUNT, MOST_CHIPS, RakeRow, SeatRow};
 use first_fault::{Stop, has_count};
 use toml::Value;
 
-/// A row of so many seats, each with an amount of up to `most` chips.
+/// One amount per seat, for `seats` seats, each of at most `most` chips.
 #[tactic(auto, unfolding(crate::specs::Rows::row_said))]
 pub fn read_row(
     value: &Value,
@@ -34,7 +34,7 @@ pub fn read_row(
     read_amounts(values, 0, most, key)
 }
 
-/// The starting stacks of two seats to `most_seats`, each of at least one chip.
+/// The starting stacks of 2 to `most_seats` seats, each of at least one chip.
 #[tactic(auto, unfolding(crate::specs::Rows::stacks_said))]
 pub fn read_stacks(value: &Value, most_seats: u8) -> Result<SeatRow, Stop<FieldFault>>
     requires { most_seats ≤ 10 }
@@ -113,7 +113,7 @@ fn fill_antes(values: &[Value], stacks: &SeatRow) -> Result<SeatRow, Stop<FieldF
     })
 }
 
-// An ante, held as the lesser of what is named and the stack.
+// An ante: the smaller of the stated one and the stack.
 #[tactic(auto, unfolding(crate::specs::Rows::ante_said))]
 fn read_ante(value: &Value, stack: u64, place: FieldPlace) -> Result<u64, Stop<FieldFault>>
     ensures within { IfOk result (λ ante. ante ≤ stack) }
@@ -123,7 +123,7 @@ fn read_ante(value: &Value, stack: u64, place: FieldPlace) -> Result<u64, Stop<F
     Ok(if ante < stack { ante } else { stack })
 }
 
-/// Of two blinds the greater is the first seat's.
+/// The blinds in the order of seats: with two seats, the first seat has the greater one.
 pub fn posted(mut blinds: SeatRow) -> SeatRow
     ensures amounts { amounts_in result ≡ posted_said (amounts_in blinds) }
     ensures seats { result.seats ≡ blinds.seats }
@@ -138,7 +138,7 @@ pub fn posted(mut blinds: SeatRow) -> SeatRow
     blinds
 }
 
-/// The rakes of eleven pots at most.
+/// The rakes of at most eleven pots.
 #[tactic(auto, unfolding(crate::specs::Rows::rakes_said, crate::specs::Rows::rakes_from))]
 pub fn read_rakes(value: &Value) -> Result<RakeRow, Stop<FieldFault>>
     ensures said { Gives (λ row. row.rakes) result (rakes_said (view value.now)) }
@@ -153,7 +153,8 @@ pub fn read_rakes(value: &Value) -> Result<RakeRow, Stop<FieldFault>>
     Ok(RakeRow { rakes })
 }
 
-// The rakes of eleven pots at most, each of up to the greatest amount, and zeros behind them.
+// The rakes of at most eleven pots, each within the limit of stated amounts; the other entries are
+// 0.
 fn read_each_rake(values: &[Value]) -> Result<[u64; 11], Stop<FieldFault>>
     requires { length values.now ≤ 11 }
     ensures amounts { Gives (λ rakes. take (length values.now) rakes) result

@@ -1,4 +1,4 @@
-//! Who sits where is read from the fields of a hand.
+//! Reads who sits where from the fields of a hand.
 ghost use Rattle.std.specs.Prelude.{◌≡◌, ℕ, ◌+◌, ◌≤◌, ◌<◌, None, length, map, replicate, take, slice_index, slice_index_or, IfOk, IfSome, option_map};
 ghost use Rattle.toml.specs.View.{table_view, view};
 ghost use Rattle.hand_records.specs.AllowedNotes.{AreSeatNumbers, IsName, IsSeatCount, IsWithin};
@@ -16,7 +16,7 @@ use hand_records::unless_usual;
 use std::alloc::Global;
 use toml::{Table, Value};
 
-/// Who sits where, as the notes of a hand have it.
+/// Who sits where: names, numbers of seats, and the size of the table.
 #[derive(Debug, Drop)]
 pub struct Seating {
     pub names: [Option<Text>; 10],
@@ -24,7 +24,7 @@ pub struct Seating {
     pub seat_count: Option<u8>,
 }
 
-/// Who sits where in a hand with so many seats.
+/// Who sits where in a hand with `seats` seats.
 #[tactic(auto, unfolding(crate::specs::NoteFields::seating_said))]
 pub fn read_seating(alloc: Global, table: &Table, seats: u8) -> Result<Seating, Stop<FieldFault>>
     requires { seats ≤ 10 }
@@ -43,7 +43,7 @@ pub fn read_seating(alloc: Global, table: &Table, seats: u8) -> Result<Seating, 
     })
 }
 
-// The names of the players of so many seats.
+// The names of the players of `seats` seats.
 #[tactic(auto, unfolding(crate::specs::NoteFields::names_said))]
 fn read_names(
     alloc: Global,
@@ -78,7 +78,7 @@ fn fill_names(alloc: Global, values: &[Value]) -> Result<[Option<Text>; 10], Sto
     Ok(names)
 }
 
-// No names: the first of them are no names of so many seats.
+// Ten seats without names.
 fn no_names() -> [Option<Text>; 10]
     ensures none { (index : ℕ) → slice_index_or result index None ≡ None }
     ensures first { (seats : ℕ) → seats ≤ 10 → take seats result ≡ replicate seats None }
@@ -101,7 +101,7 @@ fn read_name(alloc: Global, value: &Value, seat: u8) -> Result<Option<Text>, Sto
     read_text_note(alloc, value, usual.as_str(), place)
 }
 
-// The numbers of the seats, if they are said and are not the usual ones.
+// The numbers of the seats, if they are given and are not the usual ones.
 #[tactic(auto, unfolding(crate::specs::NoteFields::seats_said))]
 fn read_seats(table: &Table, seats: u8) -> Result<Option<[u8; 10]>, Stop<FieldFault>>
     requires { seats ≤ 10 }
@@ -138,7 +138,7 @@ fn fill_numbers(values: &[Value]) -> Result<[u8; 10], Stop<FieldFault>>
     Ok(numbers)
 }
 
-// How many seats the table has, if that is said and it has others than those of the hand.
+// The number of seats of the table, if it is given and differs from that of the hand.
 #[tactic(auto, unfolding(crate::specs::NoteFields::seat_count_said))]
 fn read_seat_count(table: &Table, seats: u8) -> Result<Option<u8>, Stop<FieldFault>>
     ensures said { Gives (λ count. count) result

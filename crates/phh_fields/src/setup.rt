@@ -1,4 +1,4 @@
-//! The setup of a hand is read from its fields, and is valid.
+//! Reads the setup of a hand from its fields, and checks that it is valid.
 ghost use Rattle.std.specs.Prelude.{◌≡◌, ℕ, ◌≤◌, true, nat_lt, slice_index, IfOk};
 ghost use Rattle.std.specs.List.{list_any};
 ghost use Rattle.toml.specs.View.{table_view, view};
@@ -21,7 +21,7 @@ use hand_records::Sizes;
 use play_event::{Code, Setup};
 use toml::{Table, Value};
 
-/// The setup that a hand's fields say, from its variant to its least bet; it has no rakes yet.
+/// The setup in a hand's fields, from its variant to its least bet; it has no rakes yet.
 #[tactic(auto, unfolding(crate::specs::SetupFields::setup_said))]
 pub fn read_setup(table: &Table) -> Result<Setup, Stop<FieldFault>>
     ensures said { Gives plain_setup result (setup_said (table_view table.now)) }
@@ -72,7 +72,7 @@ fn game(text: &str) -> Option<Code>
     Code::read(text)
 }
 
-// Whether the antes are said to be trimmed.
+// Whether the fields say that antes are trimmed.
 #[tactic(auto, unfolding(crate::specs::SetupFields::trimming_said))]
 fn read_trimming(table: &Table) -> Result<bool, Stop<FieldFault>>
     ensures { Gives (λ trimmed. trimmed) result (trimming_said (table_view table.now)) }
@@ -83,7 +83,7 @@ fn read_trimming(table: &Table) -> Result<bool, Stop<FieldFault>>
     }
 }
 
-// The blinds of so many seats; stud has none.
+// The blinds of `seats` seats; stud has none.
 #[tactic(auto, unfolding(crate::specs::SetupFields::blinds_said))]
 fn read_blinds(table: &Table, code: Code, seats: u8) -> Result<SeatRow, Stop<FieldFault>>
     requires some { 2 ≤ seats }

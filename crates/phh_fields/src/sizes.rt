@@ -1,4 +1,4 @@
-//! The sizes of a hand's bets are those that its game uses.
+//! The bet sizes of a hand are those that its game uses.
 ghost use Rattle.std.specs.Prelude.{◌≡◌, not, IfOk};
 ghost use Rattle.toml.specs.View.{table_view};
 ghost use Rattle.play_event.specs.Streets.{is_stud as is_stud_said, limit_of};
@@ -14,7 +14,7 @@ use hand_records::Sizes;
 use play_event::Code;
 use toml::Table;
 
-/// The sizes of the game's bets.
+/// The bet sizes of the game.
 #[tactic(auto, unfolding(crate::specs::SetupFields::sizes_said))]
 pub fn read_sizes(table: &Table, code: Code) -> Result<Sizes, Stop<FieldFault>>
     ensures said { Gives (λ sizes. sizes) result (sizes_said code (table_view table.now)) }
@@ -39,7 +39,7 @@ pub fn read_sizes(table: &Table, code: Code) -> Result<Sizes, Stop<FieldFault>>
     })
 }
 
-// A size that the game uses or does not.
+// A bet size, if the game uses it, else 0.
 #[tactic(auto, unfolding(crate::specs::SetupFields::size_said))]
 fn read_size(table: &Table, used: bool, key: FieldKey) -> Result<u64, Stop<FieldFault>>
     ensures said { Gives (λ size. size) result (size_said used key (table_view table.now)) }

@@ -1,4 +1,4 @@
-//! The text of a note is kept where it is not empty and not the default of the note.
+//! Keeps the text of a note if it is neither empty nor the default of the note.
 ghost use Rattle.std.specs.Prelude.{◌≡◌, IfOk, IfSome};
 ghost use Rattle.toml.specs.View.{view};
 ghost use Rattle.hand_records.specs.AllowedNotes.{IsUnusualNote};
@@ -28,7 +28,7 @@ pub fn read_text_note(
     keep_text(alloc, read_text(value, place)?, default, too_long(place))
 }
 
-/// The same, where a whole number may stand for its decimal text.
+/// The text of a note with this default; a whole number counts as its decimal text.
 #[tactic(auto, unfolding(crate::specs::NoteFields::label_said, crate::specs::NoteFields::note_said))]
 pub fn read_label(
     alloc: Global,

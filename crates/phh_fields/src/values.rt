@@ -1,4 +1,4 @@
-//! A value of a document is read in one form, or refused with its place.
+//! Reads a value of a document in one form, or refuses it with its place.
 ghost use Rattle.std.specs.Prelude.{◌≡◌, ◌≤◌, length, map, option_map, IfOk};
 ghost use Rattle.toml.specs.View.{array_view, table_view, view};
 ghost use Rattle.first_fault.specs.Reading.{Gives};
@@ -8,7 +8,7 @@ use crate::fault::{FieldFault, FieldFaultKind, FieldKey, FieldPlace};
 use first_fault::{Stop, keep_within};
 use toml::{Table, Value};
 
-/// The value at a key that is needed.
+/// The value at a required key.
 #[tactic(auto, unfolding(crate::specs::Fields::needed))]
 pub fn needed<'a>(table: &'a Table, key: FieldKey) -> Result<&'a Value, Stop<FieldFault>>
     ensures { Gives (λ value. view value.now) result (needed_said key (table_view table.now)) }
@@ -49,7 +49,7 @@ pub fn read_flag(value: &Value, place: FieldPlace) -> Result<bool, Stop<FieldFau
     }
 }
 
-/// The values of a list with one for each of so many seats.
+/// The values of a list with one item for each of `seats` seats.
 #[tactic(auto, unfolding(crate::specs::Fields::items_said))]
 pub fn read_items(value: &Value, seats: u8, key: FieldKey) -> Result<&Vec<Value>, Stop<FieldFault>>
     ensures said { Gives (λ values. map view values.now.items) result
@@ -104,7 +104,7 @@ pub fn read_amount(
     }
 }
 
-/// A whole number from `least` to `most` that is no amount.
+/// A whole number from `least` to `most` that is not an amount of chips.
 #[tactic(auto, unfolding(crate::specs::Fields::number_said))]
 pub fn read_number(
     value: &Value,

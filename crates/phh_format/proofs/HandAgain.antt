@@ -39,11 +39,11 @@ all_zero all eleven none =
     let left : length all - 0 ≡ 11 = omega (arith, eleven) in
     cut_zeros all 0 (omega arith) (λ k _. none k) ∙ ap (λ (n : ℕ). replicate n 0) left
 
--- who sits where, as notes say it
+-- who sits where, according to the notes
 abbrev seating_of : SaidNotes → PlainSeating
 seating_of notes = record { names = notes.names; seats = notes.seats; seat_count = notes.seat_count }
 
--- the rakes that are said, or none
+-- the rakes that are given, or none
 abbrev rakes_found : Option Data → Result (List ℕ) FieldFault
 rakes_found (Some value) = rakes_said value
 rakes_found None = Ok (replicate 11 0)

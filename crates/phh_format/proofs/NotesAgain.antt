@@ -30,7 +30,7 @@ unfolding text_note_said text_said
 text_note_again place None is = refl
 text_note_again place (Some text) is = note_again [] text place is (not_empty text is)
 
--- a number within the greatest is what its digits say
+-- a number within the limit is what its digits mean
 of_number : (most : ℕ) (digits : List ℕ) (number : ℕ) → number_of most digits ≡ Some number → (digits_value 10 digits ≡ number) × (number ≤ most)
 unfolding number_of
 of_number most digits number is = go (nat_le (digits_value 10 digits) most) refl is
@@ -56,7 +56,7 @@ number_is text number is = go (are_digits text && (not (slice_index text 0 == 48
         let small : digits_value 10 text < 2 ^ 64 = omega (arith, value.0, value.1) in
         ap decimal (sym value.0) ∙ decimal-digits_value own_digits text (all_digits text digits.1) (ltb-true 0 (length text) digits.0) no_zero small
 
--- a label says its text again
+-- a label reads back as its text
 pub label_again : (default text : List ℕ) (place : FieldPlace) → IsNoteText text → bytes_eq text default ≡ false → label_said default place (label text) ≡ Ok (Some text)
 unfolding label_said
 label_again default text place is other = go (number_written text) refl

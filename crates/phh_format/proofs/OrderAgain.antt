@@ -1,4 +1,5 @@
--- Hands that were written under 1, 2 and so on are read in this order: it does not matter in which order they are placed.
+-- Hands that were written under 1, 2 and so on are read in this order: it does not matter in which
+-- order they are placed.
 use Rattle.std.proofs.Common.{◌≡◌, ℕ, ◌+◌, ◌≤◌, ◌<◌, ◌^◌, ◌&&◌, true, List, [], ◌∷◌, ◌++◌, length, map, decimal, Ordering, Less, Equal, Greater, nat_cmp, is_eq, refl, sym, ap, ◌∙◌, arith, append_assoc}
 use Rattle.std.specs.List.{AllByRecursion}
 use Rattle.std.specs.Cmp.{IsTotalOrder, nat_cmp_is}
@@ -34,7 +35,7 @@ key_total = then_total number_total nat_list_cmp_total
 IsOther : List ℕ → List ℕ → Type 0
 IsOther k l = key_cmp k l ≡ Equal → ⊥
 
--- an entry beside the first of others: before it, in its place, or behind it
+-- an entry compared with the first of others: before it, in its place, or after it
 before : (k : List ℕ) (v : Data) (e : Entry) (es : List Entry) → key_cmp k e.0 ≡ Less → placed k v (e ∷ es) ≡ (k, v) ∷ e ∷ es
 before k v e es is = ap (λ o. match_ordering o ((k, v) ∷ e ∷ es) ((e.0, v) ∷ es) (e ∷ placed k v es)) is
 
@@ -124,7 +125,7 @@ put_at Equal es k l v w rest is other later =
     absurd (other (ap (key_cmp k) (sym same) ∙ same_key_cmp k))
 put_at Greater es k l v w rest is other later = later ∙ ap (λ (entries : List Entry). placed_all entries rest) (placed_either k l v w other es)
 
--- what is put among members may be placed before them
+-- what is put among members can be placed before them
 placed_first : (es : List Entry) (k : List ℕ) (v : Data) (members : Members) → IsNew k members → placed_all es (put k v members) ≡ placed_all (placed k v es) members
 placed_first es k v no_members new = refl
 placed_first es k v (member l w rest) new =
@@ -145,7 +146,7 @@ lower_key : (n m : ℕ) → n < m → m < 2 ^ 64 → key_cmp (decimal n) (decima
 lower_key n m lower small =
     rw (sym (nat_cmp_is (digits_value 10 (decimal n)) (digits_value 10 (decimal m)) Less (omega (arith, lower, number_said n (omega (arith, lower, small)), number_said m small)))) refl
 
--- the hands of plays with their keys, of which the first is at this place
+-- the hands of plays with their keys; the first is at this place
 abbrev pub hands_from : ℕ → List Play → List Entry
 hands_from place [] = []
 hands_from place (play ∷ rest) = (decimal (place + 1), table (hand_table place play)) ∷ hands_from (place + 1) rest
@@ -162,7 +163,7 @@ new_key n place (play ∷ rest) lower few =
 abbrev pub AreUpTo : ℕ → List Entry → Type 0
 AreUpTo most es = AllByRecursion (λ (e : Entry). (n : ℕ) × (e.0 ≡ decimal n) × (n ≤ most)) es
 
--- an entry with a greater number is placed behind all
+-- an entry with a greater number is placed after all
 placed_last : (most : ℕ) (v : Data) (es : List Entry) → AreUpTo most es → most + 1 < 2 ^ 64 → placed (decimal (most + 1)) v es ≡ es ++ (decimal (most + 1), v) ∷ []
 placed_last most v [] each small = refl
 placed_last most v (e ∷ es) each small =
@@ -176,7 +177,7 @@ more_up_to : (most : ℕ) (v : Data) (es : List Entry) → AreUpTo most es → A
 more_up_to most v [] each = ((most + 1, refl, omega arith), tt)
 more_up_to most v (e ∷ es) each = ((each.0.0, each.0.1, omega (arith, each.0.2)), more_up_to most v es each.1)
 
--- the hands of plays are placed behind those before them
+-- the hands of plays are placed after those before them
 pub placed_in_order : (place : ℕ) (plays : List Play) (es : List Entry) → AreUpTo place es → place + length plays < 2 ^ 64
     → placed_all es (table_of (numbered_hands place plays)) ≡ es ++ hands_from place plays
 placed_in_order place [] es each small = sym (append-nil es)
@@ -188,7 +189,7 @@ placed_in_order place (play ∷ rest) es each small =
     ∙ placed_in_order (place + 1) rest (es ++ (decimal (place + 1), value) ∷ []) (more_up_to place value es each) (omega (arith, small))
     ∙ append_assoc es ((decimal (place + 1), value) ∷ []) (hands_from (place + 1) rest)
 
--- the tables of plays, of which the first is at this place
+-- the tables of plays; the first is at this place
 abbrev pub hand_tables : ℕ → List Play → List Members
 hand_tables place [] = []
 hand_tables place (play ∷ rest) = hand_table place play ∷ hand_tables (place + 1) rest

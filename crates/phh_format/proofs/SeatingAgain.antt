@@ -27,7 +27,7 @@ use Rattle.chip_ledger.specs.SeatsSaid.{default_name}
 abbrev pub name_at : Notes → ℕ → Option (List ℕ)
 name_at notes seat = get_or notes.names (seat - 1) None
 
--- a name that is the default is none
+-- a name that is the default counts as none
 default_again : (seat : ℕ) (place : FieldPlace) → seat ≤ 10 → note_said (default_name seat) place (default_name seat) ≡ Ok None
 unfolding note_said
 default_again seat place few =
@@ -58,7 +58,7 @@ module _ (notes : Notes) (count : ℕ) (few : count ≤ 10) (named : (seat : ℕ
       let long : length all ≡ count = length-map (map (name_written notes) (range_with_len 1 count)) string ∙ length-map-range_with_len (name_written notes) 1 count in
       rw (listed_again all, eq-eqb (length all) count long) refl
 
-  -- the names of players where none is said
+  -- the names of players, if none is noted
   none_named : (some : Bool) → list_any is_some (take count notes.names) ≡ some → names_said count (cond some (Some (texts (map (name_written notes) (range_with_len 1 count)))) None) ≡ Ok (map (name_at notes) (range_with_len 1 count))
   unfolding names_said
   none_named true is = rw items_named (each_name 0 count (omega arith))

@@ -27,7 +27,7 @@ use Rattle.list_laws.proofs.NumbersOfRange.{any_taken}
 use Rattle.hand_records.specs.AllowedNotes.{IsWithin}
 use Rattle.hand_records.specs.PlainHands.{plain_setup}
 
--- an ante that is no more than the stack stands as it is
+-- an ante that is no more than the stack stays as it is
 ante_again : (stack ante n : ℕ) → ante ≤ stack → ante ≤ MOST_CHIPS → ante_said stack (at_item keys.Antes n) (integer (pos ante)) ≡ Ok ante
 unfolding ante_said
 ante_again stack ante n less few =
@@ -49,7 +49,7 @@ unfolding antes_said
 antes_kept stacks antes same each less =
     rw (items_again (length stacks) keys.Antes antes same) (antes_at stacks 0 antes each (λ k. subst (λ (j : ℕ). get_or antes k 0 ≤ get_or stacks j 0) (omega arith) (less k)))
 
--- of two blinds the greater is the first seat's again
+-- with two blinds, the greater is again the first seat's
 posted_again : (blinds : List ℕ) → (length blinds ≡ 2 → get_or blinds 1 0 ≤ get_or blinds 0 0) → posted (blinds_written blinds) ≡ blinds
 posted_again [] heads_up = refl
 posted_again (first ∷ []) heads_up = refl

@@ -1,5 +1,5 @@
--- A play that the format does not spell is that of no hand that bytes say: each such hand is under the rules of hand histories,
--- where no raise of a legal hand is closed.
+-- A play that the format cannot write is in no bytes: each hand that is read is under the rules of
+-- hand histories, where no raise of a legal hand is closed.
 use Rattle.std.proofs.Common.{◌≡◌, ℕ, ◌+◌, ◌-◌, nat_lt, Bool, true, false, if◌then◌else◌, List, [], ◌∷◌, ◌++◌, map, Option, Some, None, Result, Ok, Err, IfOk, length, refl, sym, ap, subst, ◌∙◌}
 use Rattle.std.specs.List.{AllByRecursion, list_any}
 use Rattle.toml.specs.Data.{Data, Members}
@@ -46,7 +46,7 @@ abbrev AreRuled : {S : Type 0} → List PlainHand × S → Type 0
 AreRuled found = AllByRecursion IsRuled found.0
 
 module _ (file_moves place : ℕ) (members : Members) where
-  -- what is read behind each field, in order
+  -- what is read after each field, in order
   abbrev after_notes : PlainSetup → List Numbered × EventCounts → Option (List ℕ) → List ℕ → SaidNotes → Result (PlainHand × ℕ) FieldFault
   after_notes setup events finish rakes notes =
       Ok (record { setup = setup; rakes = rakes; rules = history_rules; script = events.0; stated = finish_stated finish; notes = notes }, events.1.file_moves)
@@ -106,7 +106,7 @@ then_ruled : (found : List PlainHand × ℕ) (others : Result (List PlainHand ×
 then_ruled found (Ok rest) is all = both_ruled found.0 rest.0 is all
 then_ruled found (Err fault) is all = tt
 
--- hands behind the first one, from the moves of the file behind it
+-- hands after the first one, from the moves of the file after it
 rest_ruled : (rest : ℕ → Result (List PlainHand × ℕ) PhhHandFault) (first : Result (List PlainHand × ℕ) PhhHandFault) → IfOk first AreRuled → ((file_moves : ℕ) → IfOk (rest file_moves) AreRuled)
     → IfOk (first >>= λ found. rest found.1 >>= λ others. Ok (found.0 ++ others.0, others.1)) AreRuled
 rest_ruled rest (Ok found) is all = then_ruled found (rest found.1) is (all found.1)
@@ -137,7 +137,7 @@ document_ruled : (document : Option Members) → IfOk (document_said document) (
 document_ruled None = tt
 document_ruled (Some members) = spelled_ruled (those_said (hands_of members)) (those_ruled (hands_of members))
 
--- each hand that bytes say is under the rules of hand histories
+-- each hand that is read from bytes is under the rules of hand histories
 reading_ruled : (bytes : List ℕ) → IfOk (reading bytes) (AllByRecursion IsRuled)
 unfolding reading
 reading_ruled bytes = document_ruled (document_of bytes)
@@ -162,7 +162,7 @@ each_other play fact is (hand ∷ hands) ruled = (
   each_other play fact is hands ruled.1,
 )
 
--- what the format does not spell, no bytes say
+-- what the format cannot write is in no bytes
 pub unspelled_unsaid : (play : Play) (fact : Unspelled) → unspelled play ≡ Some fact → (bytes : List ℕ) (hands : List Record) → reading bytes ≡ Ok (map plain hands) → AllByRecursion (IsOther play) hands
 unspelled_unsaid play fact is bytes hands reads =
     let P : Result (List PlainHand) Wrong → Type 0 = λ read. IfOk read (AllByRecursion IsRuled) in

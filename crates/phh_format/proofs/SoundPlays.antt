@@ -1,4 +1,4 @@
--- Sound plays have all that a reader needs, so what was written of them reads back.
+-- Sound plays have all that a reader needs, so what was written for them reads back.
 use Rattle.std.proofs.Common.{◌≡◌, ℕ, ◌-◌, ◌≤◌, ◌<◌, List, [], ◌∷◌, length, count_by, sum_by, Ok, refl, sym, ap, subst, ◌∙◌, arith}
 use Rattle.std.specs.List.{AllByRecursion}
 use Rattle.std.proofs.lemmas.List.{length-map, length-take-le}
@@ -59,7 +59,7 @@ module _ (play : Play) (sound : IsSound play) where
       sym (ap (λ (of : Setup). canonical_script of (core_said play.trace)) sound.trace.same_setup
       ∙ ap (canonical_script setup) sound.trace.core)
 
-  -- as many moves are written as were played
+  -- the same number of moves is written as was played
   pub same_count : moves_written play ≡ moves_played play
   same_count =
       ap (count_by is_move) (sym same_script) ∙ same_moves setup play.hand.rules script sound.legal.played

@@ -20,11 +20,11 @@ use Rattle.phh_fields.specs.Fields.{at_item, wrong, text_said}
 use Rattle.phh_reading.specs.declared.events.EventCounts.{EventCounts}
 use Rattle.first_fault.specs.Numbers.{kept_number}
 
--- the counts before the first action of a hand, after so many moves of the file
+-- the counts before the first action of a hand, after this number of moves of the file
 abbrev pub counts_after : ℕ → EventCounts
 counts_after file_moves = record { moves = 0; other_events = 0; file_moves = file_moves }
 
--- no count passes its limit
+-- no count exceeds its limit
 pub record AreFew (counts : EventCounts) : Type 0 where
   pub moves : counts.moves ≤ MOST_MOVES
   pub other_events : counts.other_events ≤ MOST_OTHER_EVENTS
@@ -41,7 +41,7 @@ abbrev pub IsAfter : EventCounts → Option Event → EventCounts → Type 0
 IsAfter before None after = after ≡ before
 IsAfter before (Some event) after = IsOneMore before (is_move (said_of event)) after
 
--- the counts after a hand's first events, where the file had so many moves before the hand
+-- the counts after a hand's first events; the file had this number of moves before the hand
 pub record AreCounted (earlier : ℕ) (script : List Event) (counts : EventCounts) : Type 0 where
   pub moves : counts.moves ≡ count_by is_move (map said_of script)
   pub other_events :

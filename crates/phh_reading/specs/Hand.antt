@@ -1,4 +1,4 @@
--- A hand: its fields are examined in this order.
+-- A hand: its fields are read in this order.
 use Rattle.std.specs.Prelude.{ℕ, List, length, replicate, Option, Some, None, Result, Ok}
 use Rattle.toml.specs.Data.{Members}
 use Rattle.chip_ledger.specs.declared.seat_row.TheConstants.{MOST_AMOUNT}
@@ -17,13 +17,13 @@ use Rattle.phh_reading.specs.Events.{counts_after, events_said}
 abbrev pub finish_stated : Option (List ℕ) → PlainStated
 finish_stated finish = record { finish = finish; wins = None; pot_total = None; values = None }
 
--- the rakes, or none where they are not said
+-- the rakes; 0 if the field is missing
 unfoldable pub rakes_at : Members → Result (List ℕ) FieldFault
 rakes_at members =
     elim (field keys.Rakes members) [ Some value ↦ rakes_said value | None ↦ Ok (replicate 11 0) ]
 
--- the hand at this place of its file, from 0, after so many moves of the file; and the moves of the
--- file after it
+-- the hand at this place of its file, from 0, after this number of moves of the file; and the moves
+-- of the file after it
 unfoldable pub hand_said : ℕ → ℕ → Members → Result (PlainHand × ℕ) FieldFault
 hand_said file_moves place members = do
   setup ← setup_said members

@@ -1,4 +1,4 @@
--- What bytes in the Poker Hand History format say.
+-- The hands in bytes in the Poker Hand History format.
 pub mod Events
 pub mod Hand
 pub mod Stripped

@@ -1,4 +1,4 @@
-//! Actions are read as events, counted, with the numbers of their actions.
+//! Reads actions as events, counts them, and numbers them by their actions.
 ghost use Rattle.std.specs.Prelude.{◌≡◌, ◌≤◌, ◌+◌, ◌++◌, map, IfOk, OnOk, option_map};
 ghost use Rattle.toml.specs.View.{view};
 ghost use Rattle.first_fault.specs.declared.limits.TheConstants.{MOST_FILE_MOVES};
@@ -19,7 +19,7 @@ use play_event::{Event, Kind, Script};
 use std::alloc::Global;
 use toml::Value;
 
-/// How many moves and other events were read of a hand, and how many moves of the file.
+/// How many moves and other events were read of a hand, and how many moves of the whole file.
 #[derive(Clone, Copy, Debug, PartialEq, Eq)]
 pub struct EventCounts {
     pub moves: usize,
@@ -27,8 +27,8 @@ pub struct EventCounts {
     pub file_moves: usize,
 }
 
-/// The events of the actions of a hand with so many seats, after so many moves of the file; and the
-/// counts after them.
+/// The events of the actions of a hand with `seats` seats, after `file_moves` moves of the file;
+/// and the counts after them.
 pub fn read_events(
     alloc: Global,
     seats: u8,
@@ -85,7 +85,7 @@ fn read_event(
     }
 }
 
-// What the text of an action says.
+// The event of an action's text.
 fn read_kind(text: &str, seats: u8, place: FieldPlace) -> Result<Option<Kind>, Stop<FieldFault>>
     requires { seats ≤ 10 }
     ensures { Gives (option_map kind_said) result (at_place place (action_said seats text.now)) }
@@ -142,14 +142,14 @@ fn count(
     }
 }
 
-// A fault of a quantity that passes its limit.
+// The fault of a quantity that exceeds its limit.
 fn too_many(quantity: Quantity, place: FieldPlace) -> Stop<FieldFault>
     ensures { result ≡ Stop.At (record { what = FieldFaultKind.TooMany quantity; place = place }) }
 {
     wrong(FieldFaultKind::TooMany { quantity }, place)
 }
 
-// Whether it is a move.
+// Whether the event is a move.
 fn is_move(kind: Kind) -> bool
     ensures { result ≡ is_move_said (kind_said kind) }
 {
@@ -159,7 +159,7 @@ fn is_move(kind: Kind) -> bool
     }
 }
 
-// The number of an action as it is kept.
+// The number of an action as it is stored.
 fn kept(number: u64) -> u32
     ensures { result ≡ kept_number number }
 {
@@ -170,7 +170,7 @@ fn kept(number: u64) -> u32
     }
 }
 
-// The script with one more event, if there is one.
+// Appends the event to the script, if there is one.
 fn push_if(script: &mut Script, event: Option<Event>) -> Result<(), Memory>
     ensures events { OnOk result (script.new ≡ script.old ++ one_event event) }
     ensures numbered { OnOk result (map numbered script.new

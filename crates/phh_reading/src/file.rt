@@ -1,5 +1,5 @@
-//! The hands of a document are read in order: one where it has a variant, else those under its
-//! numbers.
+//! Reads the hands of a document in order: one hand if the document has a variant, else those under
+//! its numbers.
 ghost use Rattle.std.specs.Prelude.{◌≡◌, ◌≤◌, map, [], ◌∷◌, IfOk};
 ghost use Rattle.toml.specs.View.{table_view};
 ghost use Rattle.first_fault.specs.declared.limits.TheConstants.{MOST_FILE_MOVES, MOST_HANDS};
@@ -46,7 +46,7 @@ fn read_records(alloc: Global, tables: &[&Table]) -> Result<Records, Stop<PhhHan
     Ok(records)
 }
 
-// The hands of tables, in order, and the moves of the file after them.
+// The hands of tables, in order, and the number of moves in the file.
 fn read_tables(alloc: Global, tables: &[&Table]) -> Result<(Records, usize), Stop<PhhHandFault>>
     ensures said { Gives (λ found. (map plain found.0, found.1)) result
         (hands_said (map (λ hand. table_view hand.now) tables.now)) }
@@ -63,7 +63,7 @@ fn read_tables(alloc: Global, tables: &[&Table]) -> Result<(Records, usize), Sto
     Ok((records, file_moves))
 }
 
-// The hand with this number, from 1, after so many moves of the file.
+// The hand with this number, from 1, after `file_moves` moves of the file.
 #[tactic(auto, unfolding(crate::specs::Reading::numbered_hand))]
 fn read_numbered(
     alloc: Global,

@@ -1,4 +1,4 @@
-//! The fields of a table are read as the record of one hand.
+//! Reads the fields of a table as the record of one hand.
 ghost use Rattle.std.specs.Prelude.{◌≡◌, ◌≤◌, ◌+◌, ℕ, IfOk, option_map};
 ghost use Rattle.std.specs.Option.{ForSome};
 ghost use Rattle.toml.specs.View.{table_view};
@@ -28,8 +28,8 @@ use play_event::{Reopen, Rules, Setup};
 use std::alloc::Global;
 use toml::Table;
 
-/// The hand of a table at this place of its file, from 0, after so many moves of the file; and the
-/// moves of the file after it.
+/// The hand of a table at this place of its file, from 0, after `file_moves` moves of the file; and
+/// the moves of the file after it.
 #[tactic(auto, unfolding(crate::specs::Hand::hand_said))]
 pub fn read_hand(
     alloc: Global,
@@ -73,7 +73,7 @@ pub fn read_hand(
     Ok((hand, counts.file_moves))
 }
 
-// The finishing stacks of so many seats, if they are stated.
+// The finishing stacks of `seats` seats, if they are stated.
 fn read_finish(table: &Table, seats: u8) -> Result<Option<SeatRow>, Stop<FieldFault>>
     requires some { 2 ≤ seats }
     requires few { seats ≤ 10 }
@@ -91,7 +91,7 @@ fn read_finish(table: &Table, seats: u8) -> Result<Option<SeatRow>, Stop<FieldFa
     }
 }
 
-// The rakes, or none.
+// The rakes; 0 if the field is missing.
 #[tactic(auto, unfolding(crate::specs::Hand::rakes_at))]
 fn read_rakes_at(table: &Table) -> Result<RakeRow, Stop<FieldFault>>
     ensures said { Gives (λ row. row.rakes) result (rakes_at (table_view table.now)) }

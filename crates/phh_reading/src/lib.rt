@@ -1,5 +1,4 @@
-//! Bytes in the Poker Hand History format are read as the records that they say, or refused with
-//! their first fault.
+//! Reads bytes in the Poker Hand History format as records, or refuses them with their first fault.
 #![tactic(auto)]
 
 pub mod events;

@@ -1,4 +1,4 @@
--- The status of an answer is its own, whatever the input.
+-- The status of an answer does not come from a device or memory, whatever the input.
 use Rattle.std.proofs.Common.{◌≡◌, ℕ, ◌==◌, Bool, true, false, if◌then◌else◌, List, [], ◌∷◌, length, Option, Some, None, IfOk, Result, Ok, Err, subst, sym}
 use Rattle.std.specs.Option.{option_map}
 use Rattle.std.proofs.lemmas.Option.{same_Some}
@@ -38,7 +38,8 @@ use Rattle.poker_cli.specs.declared.task.Task.{Task}
 use Rattle.poker_cli.specs.declared.task.Task.TheVariants as tasks
 use Rattle.poker_cli.specs.declared.task.Way.{Way}
 
--- a status of an answer to what was read of the input is none of a fault, and comes behind the reading
+-- a status of an answer to what was read of the input is not that of a fault, and comes after the
+-- reading
 pub own_of_input : (status : Status) → IsOfInput status → IsOwn status
 own_of_input statuses.BadGame of = tt
 own_of_input _ of = of
@@ -55,7 +56,7 @@ read_of_input _ of nothing = nothing
 same_own : (answer other : Answer) → answer ≡ other → IsOfInput other.status → IsOfInput answer.status
 same_own answer other same of = subst (λ (a : Answer). IsOfInput a.status) (sym same) of
 
--- ---- bytes that do not read
+-- ---- bytes that cannot be read
 
 phh_own : (wrong : in_phh.Wrong) → IsOfInput (phh_status wrong)
 phh_own in_phh.NoDocument = tt
@@ -158,7 +159,7 @@ comparison_own : (by : Comparison) (file bytes : List ℕ) (answer : Answer) →
 comparison_own by file bytes _ (answers.InputTooLong many) = tt
 comparison_own by file bytes answer (answers.InputRead few _ is) = made_own _ _ _ (beside_own by.other by.notes file) answer is
 
--- ---- bytes of a source, whether it tells them or not
+-- ---- bytes of a source, whether it shows them or not
 
 some_bytes : (left : Option (List ℕ)) (P : List ℕ → Type 0) (This : Type 0) → ((bytes : List ℕ) → P bytes → This) → OfBytes left P → This
 some_bytes (Some bytes) P This each is = each bytes is

@@ -1,4 +1,4 @@
--- What a reply keeps, and why there is none, follows from what is read for it.
+-- What holds after a reply, and why there is none, follow from what is read for it.
 use Rattle.std.proofs.Common.{◌≡◌, ℕ, ◌≤◌, Bool, List, Option, None, IfErr, IfOk, IfSome, IsErrOf, Result, Ok, Err, refl, arith}
 use Rattle.acpc_game.specs.declared.game.Game.{Game}
 use Rattle.command_words.specs.Words.{Compare, Plain, Sides, Under}
@@ -18,7 +18,7 @@ use Rattle.poker_cli.proofs.Answering.{of_files}
 use Rattle.poker_cli.proofs.OwnStatus.{own_of_input, read_of_input}
 use Rattle.poker_cli.proofs.Replying.{game_there, missing_reply, where_lacking}
 
--- where nothing but the input is read
+-- if nothing but the input is read
 pub keeps_read : {S : Type 0} (input read : S) (reads asks : ℕ × ℕ) (result : Result made.Answer NoAnswer)
     → IfOk result (λ answer. IsOfInput answer.status) → (IsErrOf result whys.ReadFault → Rose reads.0 reads.1)
     → IfErr result (λ why. ComesFirst why → ⊥) → Keeps input read reads asks result
@@ -46,7 +46,7 @@ none_under_game name logs game left told gives whys.ShelfFault alone = absurd (a
 none_under_game name logs game left told gives whys.GameMissing alone = absurd (alone tt)
 none_under_game name logs game left told gives whys.FileMissing alone = absurd (alone tt)
 
--- where the shelf was asked before
+-- if the shelf was asked before
 pub keeps_later : {S : Type 0} (input read : S) (reads : ℕ × ℕ) (before between now : ℕ) (result : Result made.Answer NoAnswer)
     → before ≤ between → Keeps input read reads (between, now) result → Keeps input read reads (before, now) result
 keeps_later input read reads before between now (Err whys.ShelfFault) later kept =
@@ -54,7 +54,7 @@ keeps_later input read reads before between now (Err whys.ShelfFault) later kept
 keeps_later input read reads before between now (Err why) later kept = kept
 keeps_later input read reads before between now (Ok answer) later kept = kept
 
--- where the file that hands are compared with is asked for behind a game
+-- if the file to compare with is asked for after a game
 pub none_beside : (sides : Sides) (name : List ℕ) (notes : Bool) (by : Comparison) (left : Option (List ℕ)) (told : Option Files)
     → IfSome told (λ files. IsComparisonOf files sides notes by) → (result : Result made.Answer NoAnswer)
     → (IsErrOf result whys.ReadFault → IfSome told (λ files. IsNotThere (files name) → ⊥))

@@ -1,4 +1,4 @@
--- What the program answers, prints and leaves.
+-- What the program answers, prints and writes.
 pub mod Status
 pub mod AnswerParts
 pub mod Compared

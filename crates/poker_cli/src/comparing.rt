@@ -1,5 +1,5 @@
-//! A request to compare is answered by the bytes of the other file and, where logs are read, under
-//! the game of its file.
+//! Answers a request to compare: reads the game file if one of the two files is a log, then the
+//! other file, then the input.
 ghost use Rattle.std.specs.Prelude.{◌≡◌, ◌≤◌, length, IfErr, IfOk, IfSome, IsErrOf};
 ghost use Rattle.command_words.specs.Requests.{sides_in};
 ghost use Rattle.command_words.specs.Words.{Compare};
@@ -22,20 +22,20 @@ use command_words::Sides;
 use host_io::{Fetched, InFault, Shelf, ShelfFault, Source, read_all};
 use std::alloc::Global;
 
-/// Why the other file is not compared with.
+/// Why the other file cannot be compared with.
 #[derive(Clone, Copy, Debug, PartialEq, Eq)]
 pub enum NoFile {
-    /// It is not there.
+    /// The file is not there.
     Missing,
-    /// It is too long.
+    /// The file is too long.
     TooLong,
     ShelfFault,
     Memory(Memory),
 }
 
-/// The answer where the hands that the source has left are compared with those of the file of this
-/// name. The shelf is asked for the file of a game first, where logs are read, and behind a game
-/// that it gives for that file.
+/// The answer if the hands that are left in the source are compared with those in the file of this
+/// name. If one of the two is a log, the shelf is asked for the game file first, and for the other
+/// file only if the game file gives a game.
 pub fn reply_to_comparison<S: Source, H: Shelf>(
     alloc: Global,
     sides: Sides<'_>,
@@ -69,7 +69,7 @@ pub fn reply_to_comparison<S: Source, H: Shelf>(
     }
 }
 
-// How two files are compared, of which logs are under the game that a file says.
+// How two files are compared if logs are read under the game in the game file.
 fn comparison_of<H: Shelf>(
     alloc: Global,
     sides: Sides<'_>,
@@ -96,7 +96,7 @@ fn comparison_of<H: Shelf>(
     }
 }
 
-// The answer where hands are compared with those of the file of this name.
+// The answer if hands are compared with those in the file of this name.
 fn reply_beside<S: Source, H: Shelf>(
     alloc: Global,
     by: &Comparison,
@@ -149,7 +149,7 @@ fn fetch_file<H: Shelf>(alloc: Global, shelf: &mut H, name: &str) -> Result<Vec<
     }
 }
 
-// The answer where the other file is too long.
+// The answer if the other file is too long.
 fn answer_to_long_file(alloc: Global) -> Result<Answer, Memory>
     ensures { IfOk result (λ answer. answer_told answer ≡ definition.to_file_excess) }
 {
@@ -157,7 +157,7 @@ fn answer_to_long_file(alloc: Global) -> Result<Answer, Memory>
     Ok(refusal(alloc, Status::Limit, line))
 }
 
-// The answer where all that the source has left is compared with the bytes of another file.
+// The answer if all that the source has left is compared with the bytes of the other file.
 fn reply_to_both<S: Source>(
     alloc: Global,
     by: &Comparison,

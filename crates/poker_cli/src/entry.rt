@@ -1,4 +1,5 @@
-//! The top call: from the words and the input to the status, the output and the line.
+//! The entry point: from the words of the command line and the input to the status, the output and
+//! the diagnostic line.
 ghost use Rattle.std.specs.Prelude.{◌≡◌, ◌↔◌, [], map, None, Some, IfErr, IfOk, IfSome, IsErrOf, string_bytes};
 ghost use Rattle.card_set.specs.Refusal.{WasRefused};
 ghost use Rattle.command_words.specs.Requests.{request_in};
@@ -29,10 +30,10 @@ use std::alloc::Global;
 const USAGE: &[u8] =
     b"usage: handref check|replay|report|convert|game|load|views|options|session|equity|judge|compare [options]\n";
 
-/// Runs the program on its words, without its own name. It reads the file of a game from the shelf
-/// where the words name one, and behind it the file that hands are compared with, then the input to
-/// its end, writes the output where all is done, and tells one line beside it where it is not.
-/// What is written of hands has one form: `law_of_equal_runs`, `law_of_runs_again` and
+/// Runs the program on the words of its command line, without its own name. If the words name a
+/// game file, it is read from the shelf first, then the file to compare with, if there is one, then
+/// the input to its end. The output is written if all is done; otherwise one line is printed on
+/// `diag`. For the form of the output see `law_of_equal_runs`, `law_of_runs_again` and
 /// `law_of_runs_by_way`.
 pub fn run<S: Source, H: Shelf, K: Sink, D: Sink>(
     alloc: Global,
@@ -42,23 +43,23 @@ pub fn run<S: Source, H: Shelf, K: Sink, D: Sink>(
     out: &mut K,
     diag: &mut D,
 ) -> Status
-    // Want of memory is answered only where a request for memory was refused.
+    // The status is Memory only if a request for memory was refused.
     ensures memory { result ≡ Status.Memory → WasRefused }
 
-    // The words ask for nothing: want of memory is not answered then.
+    // If the words are no request, the status is Usage and never Memory.
     ensures usage { (result ≡ Status.Usage) ↔ (request_said (map string_bytes words.now) ≡ None) }
 
-    // The words ask for something: the run ends with the answer to the file that the shelf has and
-    // to the input, or with a fault whose count rose in this call. What the file decides is so over
-    // every source: one that does not tell its bytes is as good as one that tells some. Where there
-    // is nothing to write, the output is as it was.
+    // If the words are a request, the run ends with the answer to the file on the shelf and to the
+    // input, or with a fault whose count rose in this call. What depends on the file holds for
+    // every source: one that does not show its bytes counts as one that has some bytes. If there is
+    // nothing to write, the output stays as it was.
     ensures ends { IfSome (request_said (map string_bytes words.now)) (λ request.
         WhereTold request (S.left input.old) (H.files shelf.old) (λ files bytes.
         EndsLeaving request files bytes
         (change_of K.held K.faults out.old out.new)
         (change_of D.held D.faults diag.old diag.new) result (out.new ≡ out.old))) }
 
-    // The words ask for a conversion: hands are read by `from`, and written by `to` with `keep`.
+    // If the words ask for a conversion: hands are read by `from`, and written by `to` with `keep`.
     ensures headline { IfSome (request_said (map string_bytes words.now)) (λ request.
         WhereTold request (S.left input.old) (H.files shelf.old) (λ files bytes.
         (from to : Format) (keep : Keep)
@@ -66,15 +67,15 @@ pub fn run<S: Source, H: Shelf, K: Sink, D: Sink>(
         (change_of K.held K.faults out.old out.new)
         (change_of D.held D.faults diag.old diag.new) result)) }
 
-    // A fault of a device is told only where its count rose, and the line of a fault depends on no
-    // input. Nothing is written before all is done.
+    // A device fault is reported only if its count rose, and the line of a fault does not depend on
+    // the input. Nothing is written before all is done.
     ensures tells { Tells result (S.faults input.old, S.faults input.new)
         (H.faults shelf.old, H.faults shelf.new)
         (change_of K.held K.faults out.old out.new)
         (change_of D.held D.faults diag.old diag.new) }
     ensures leaves { Leaves result input.old input.new out.old out.new diag.old diag.new }
 
-    // Of the shelf no name is asked but those that the words give, and the input is read behind it.
+    // The shelf is asked only for the names that the words give, and the input is read after that.
     ensures asks { AsksInTurn H.Asked (H.files shelf.old)
         (request_said (map string_bytes words.now)) result shelf.old shelf.new }
     ensures without_file { IfSome (request_said (map string_bytes words.now)) (λ request.
@@ -95,7 +96,7 @@ pub fn run<S: Source, H: Shelf, K: Sink, D: Sink>(
     }
 }
 
-// Runs what the words ask for.
+// Carries out the request.
 fn run_request<S: Source, H: Shelf, K: Sink, D: Sink>(
     alloc: Global,
     request: Request<'_>,
@@ -146,7 +147,7 @@ fn run_request<S: Source, H: Shelf, K: Sink, D: Sink>(
     }
 }
 
-// The answer to a request: to hands that are made, or else by the file of its game and by all that
+// The answer to a request: to hands that are generated, or else by the game file and by all that
 // the source has left.
 fn reply<S: Source, H: Shelf>(
     alloc: Global,
@@ -179,7 +180,7 @@ fn reply<S: Source, H: Shelf>(
     }
 }
 
-// The answer where logs are under the game that a file says, and to all that the source has left.
+// The answer if logs are read under the game in the game file, from all that the source has left.
 fn reply_under<S: Source, H: Shelf>(
     alloc: Global,
     name: &str,
@@ -210,7 +211,7 @@ fn reply_under<S: Source, H: Shelf>(
     }
 }
 
-// The answer in a way to all that the source has left.
+// The answer to all that the source has left, read and handled as `way` says.
 fn reply_with<S: Source>(alloc: Global, way: Way, input: &mut S) -> Result<Answer, NoAnswer>
     ensures answer { IfOk result (λ answer. OfBytes (S.left input.old) (λ bytes.
         IsAnswerBy way bytes (answer_told answer))) }
@@ -232,7 +233,7 @@ fn reply_with<S: Source>(alloc: Global, way: Way, input: &mut S) -> Result<Answe
     }
 }
 
-// Writes the output of an answer that is done, and else tells its line.
+// Writes the output of an answer that is done; otherwise prints its diagnostic line.
 fn deliver<K: Sink, D: Sink>(answer: &Answer, out: &mut K, diag: &mut D) -> Status
     requires { IsOwn answer.now.status }
     ensures read { result ≡ Status.ReadFault → ⊥ }
@@ -263,7 +264,7 @@ fn deliver<K: Sink, D: Sink>(answer: &Answer, out: &mut K, diag: &mut D) -> Stat
     }
 }
 
-/// Tells a line, as far as the sink takes it.
+/// Prints a line, as far as the sink takes it.
 pub fn tell<D: Sink>(diag: &mut D, line: &[u8])
     ensures { TellsLine
         (D.faults diag.old) (D.faults diag.new) (D.held diag.old) (D.held diag.new) line.now }

@@ -1,4 +1,4 @@
-//! The game of a log is what a file on the shelf says, or the reason why there is none is told.
+//! Fetches the game of a log from the shelf, or reports why there is no game.
 ghost use Rattle.std.specs.Prelude.{◌≡◌, ◌≤◌, IfErr, IfOk, IfSome, IsErrOf, string_bytes};
 ghost use Rattle.host_io.specs.Faults.{Rose};
 ghost use Rattle.poker_cli.specs.Answer.{GivesGame};
@@ -16,7 +16,7 @@ use card_set::Memory;
 use host_io::{Fetched, Shelf, ShelfFault};
 use std::alloc::Global;
 
-/// What the file of a game lacks: it is too long, or says no game that is played here.
+/// What is wrong with a game file: it is too long, or has no game that is supported.
 #[derive(Clone, Copy, Debug, PartialEq, Eq)]
 pub enum Lack {
     TooLong,
@@ -33,7 +33,7 @@ pub enum NoGame {
     Memory(Memory),
 }
 
-/// The game that the file of this name says.
+/// The game in the file of this name.
 pub fn fetch_game<H: Shelf>(alloc: Global, shelf: &mut H, name: &str) -> Result<Game, NoGame>
     ensures game { IfOk result (λ game.
         IfSome (H.files shelf.old) (λ files. GivesGame (files name.now) game)) }
@@ -58,7 +58,7 @@ pub fn fetch_game<H: Shelf>(alloc: Global, shelf: &mut H, name: &str) -> Result<
     }
 }
 
-/// The answer where the file of a game lacks this.
+/// The answer if this is wrong with the game file.
 pub fn answer_to_lack(alloc: Global, lack: Lack) -> Result<Answer, Memory>
     ensures { IfOk result (λ answer. IsLackTold lack (answer_told answer)) }
 {
@@ -74,7 +74,7 @@ pub fn answer_to_lack(alloc: Global, lack: Lack) -> Result<Answer, Memory>
     }
 }
 
-// The line of a fault of a game's file.
+// The line of a fault in a game file.
 fn bad_game_line(alloc: Global, fault: &AcpcFault) -> Result<String, Memory>
     ensures { IfOk result (λ line. string_bytes line ≡ bad_game_line_said fault.now) }
 {

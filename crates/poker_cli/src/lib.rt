@@ -1,5 +1,5 @@
-//! One call, `run`, makes the status, the output and the line of the program from its words and the
-//! bytes of its input.
+//! One call, `run`: from the words of the command line and the bytes of the input to the status,
+//! the output and the diagnostic line of the program.
 #![tactic(auto)]
 
 mod acpc_faults;

@@ -1,4 +1,4 @@
-//! The plays of hands are taken one after the other, up to the first refused hand.
+//! Takes the plays of hands one after the other, up to the first refused hand.
 ghost use Rattle.std.specs.Prelude.{◌≡◌, ◌<◌, ◌≤◌, ◌++◌, [], ◌∷◌, false, All, List, length, IfErr, IfOk, OnOk};
 ghost use Rattle.convert_core.specs.Judged.{IsPlaysFaultOf};
 ghost use Rattle.convert_core.specs.Verdicts.{legal_plays};
@@ -15,14 +15,14 @@ use std::alloc::Global;
 
 /// Takes the plays of a file, one after the other. Each is dropped before the next is made.
 pub trait PlayTaker {
-    /// What is so of a taker, as it was and as it is, where these plays were taken in between.
+    /// What holds of a taker before and after it took these plays.
     ghost TookPlays: { Self → Self → List AnyPlay → Type 0 };
 
     /// Takes the play of the hand at its place in the file, from 0.
     ///
     /// # Errors
     ///
-    /// Want of memory.
+    /// Out of memory.
     fn take_play(&mut self, alloc: Global, place: usize, play: &Play) -> Result<(), Memory>
         requires taken { (start : Self) × HasTakenPlays (TookPlays start self.old) place }
         requires few { place < MOST_HANDS }
@@ -32,7 +32,7 @@ pub trait PlayTaker {
             → OnOk result (TookPlays start self.new (before ++ play.now ∷ [])) };
 }
 
-// A taker of verdicts to which the first refused hand is the end.
+// Takes verdicts and stops at the first refused hand.
 #[derive(Drop)]
 struct LegalPlays<T: PlayTaker + Drop> {
     taker: T,
@@ -66,11 +66,11 @@ impl<T: PlayTaker + Drop> Taker for LegalPlays<T> {
     }
 }
 
-/// The taker with the plays of these hands.
+/// The taker after it took the plays of these hands.
 ///
 /// # Errors
 ///
-/// The first refused hand, with what is wrong with it first; or want of memory.
+/// The first refused hand, with what is wrong with it first; or out of memory.
 pub fn take_plays<T: PlayTaker + Drop>(
     alloc: Global,
     taker: T,

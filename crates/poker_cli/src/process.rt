@@ -1,5 +1,4 @@
-//! A process is run on the words after its own name, over its streams and the files of the system,
-//! and ends with the number of the status that the run answers.
+//! Runs the program as a process: on its words, over its streams and the files of the system.
 ghost use Rattle.std.specs.Prelude.{◌≡◌, ◌≢◌, ◌⊎◌, [], drop, IfErr, IfOk};
 ghost use Rattle.std.specs.Process.{exit_status};
 ghost use Rattle.std.specs.IoError.{error_kind};
@@ -22,8 +21,8 @@ use std::io::{self, Read, Write};
 use std::process::ExitCode;
 use std::rt::{Env, Files};
 
-/// Runs the program as the process that it is in, over these streams and the files of the system,
-/// and returns the status to end with.
+/// Runs the program as the current process, over these streams and the files of the system, and
+/// returns the exit status.
 pub fn run_process<R: Read + Drop, W: Write + Drop, D: Write + Drop>(
     rt: &(impl Env + Files + AllocGlobal),
     input: R,
@@ -59,7 +58,7 @@ pub fn end_with<S: Source, H: Shelf, K: Sink, D: Sink>(
     out: &mut K,
     diag: &mut D,
 ) -> ExitCode
-    // The status is that of a run on these words, of which all holds that is promised of `run`.
+    // The status is that of a run on these words, with everything that `run` promises.
     ensures run { (status : AnyStatus) × ((exit_status result ≡ status_number status)
         × (LacksWords (change_of D.held D.faults diag.old diag.new) status
         input.old input.new shelf.old shelf.new out.old out.new
@@ -73,7 +72,7 @@ pub fn end_with<S: Source, H: Shelf, K: Sink, D: Sink>(
         × HasRun input.old input.new out.old out.new diag.old diag.new status) }
     // The status is 8 only where a request for memory was refused.
     ensures memory { exit_status result ≡ 8 → WasRefused }
-    // Words that are no text are no command.
+    // Words that are not text are no command.
     ensures no_text { IfErr all (λ error. error_kind error ≢ OutOfMemory
         → exit_status result ≡ 2) }
 {
@@ -81,7 +80,7 @@ pub fn end_with<S: Source, H: Shelf, K: Sink, D: Sink>(
     ExitCode::from(status.number())
 }
 
-// The status of a run on the words behind the first of all.
+// The status of a run on the words after the first one.
 fn answer_to_words<S: Source, H: Shelf, K: Sink, D: Sink>(
     alloc: Global,
     all: io::Result<Args>,
@@ -110,9 +109,10 @@ fn answer_to_words<S: Source, H: Shelf, K: Sink, D: Sink>(
     }
 }
 
-// It is a door: the library tells want of memory for the words where a request was refused.
+// The library reports out of memory for the words only if a request was refused; that is assumed
+// here.
 //
-// The words behind the first one. Words that are no text are no command, as no words are.
+// The words after the first one. Words that are not text are no command, just as no words are.
 #[tactic(auto, using(card_set::specs::Refusal::an_allocator_said_so))]
 fn words_behind_first(alloc: Global, all: io::Result<Args>) -> Result<Vec<String>, Memory>
     ensures no_text { IfErr all (λ error. error_kind error ≢ OutOfMemory → IfErr result (λ _. ⊥)) }

@@ -1,4 +1,4 @@
-//! A report takes each hand, and keeps the tallies of the names and the sums of the games.
+//! Answers `report`: takes each hand, and keeps a tally per name and the sums per game.
 ghost use Rattle.std.specs.Prelude.{◌≤◌, All, length, IfErr, IfOk, string_bytes};
 ghost use Rattle.command_words.specs.declared.command.Command.TheVariants as commands;
 ghost use Rattle.convert_core.specs.Judged.{IsPlaysFaultOf};
@@ -26,7 +26,7 @@ impl PlayTaker for OpenReport {
 ///
 /// # Errors
 ///
-/// The first refused hand, with what is wrong with it first; or want of memory.
+/// The first refused hand, with what is wrong with it first; or out of memory.
 pub fn report_of(alloc: Global, records: Records) -> Result<String, PlaysFault>
     requires sound { All IsSoundRecord records }
     requires few { length records ≤ MOST_HANDS }

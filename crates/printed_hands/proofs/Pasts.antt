@@ -18,7 +18,7 @@ use Rattle.play_event.specs.declared.setup.Setup.{Setup}
 use Rattle.printed_hands.specs.Steps.{event_named}
 use Rattle.play_event.proofs.SaidSoFar.{so_far}
 
--- the events behind the first ones, the newest first
+-- the events after the first ones, the newest first
 abbrev pub later_than : List Event → ℕ → List Said
 later_than script count = reverse (drop count (map said_of script))
 
@@ -36,7 +36,7 @@ pub legal_before : (setup : Setup) (rules : Rules) (later events : List Said) �
 legal_before setup rules [] events legal = legal
 legal_before setup rules (event ∷ later) events legal = legal_before setup rules later events legal.1
 
--- the moves of a past with one event more are in front of those before it
+-- the moves of a past with one more event begin with the new ones
 added : (newest : Resolved) (before : Past) → (front : List Move) × (moves_of (newest ∷ before) ≡ front ++ moves_of before)
 added (past.Moved move) before = (move ∷ [], refl)
 added (past.Dealt street seat cards) before = ([], refl)
@@ -62,7 +62,7 @@ longer setup (event ∷ later) events =
       is = new.1 ∙ ap (λ list. new.0 ++ list) before.is ∙ sym (append_assoc new.0 before.front (moves_of (past_of setup events)));
     }
 
--- an event of cards takes place as it is said, and moves nothing
+-- an event of cards takes place as it is, and moves nothing
 pub record OnCards (setup : Setup) (before : Past) (event : Said) : Type 0 where
   pub newest : Resolved
   pub is : with_event setup event before ≡ newest ∷ before

@@ -1,4 +1,5 @@
--- Rows of different names are those that are found by them, so that their lines are the lines of the names.
+-- Rows of different names are those that are found by them, so that their lines are the lines of
+-- the names.
 use Rattle.std.proofs.Common.{◌≡◌, ℕ, Bool, false, cond, List, [], ◌∷◌, map, zero, suc, slice_get, flat_map, Some, bytes_eq, refl, sym, ap, subst, ◌∙◌}
 use Rattle.std.specs.List.{AllByRecursion, list_any}
 use Rattle.std.specs.Option.{option_map, option_to_list}

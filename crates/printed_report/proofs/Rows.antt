@@ -50,7 +50,7 @@ at_insert (row ∷ rows) name tally asked = by (bytes_eq name row.0) refl (at_in
         ∙ swapped (bytes_eq asked row.0) (bytes_eq asked name) tally row.1 (tally_at rows asked) (λ first second. absurd (true≢false (sym (same_key asked name row.0 first second) ∙ other)))
         ∙ ap (λ rest. cond (bytes_eq asked name) tally rest) (sym (at_front row rows asked))
 
--- a name that got a tally stands where it stood, or last
+-- a name that got a tally stays at its place, or comes last
 pub names_insert : (rows : List (List ℕ × Tally)) (name : List ℕ) (tally : Tally)
     → row_names (insert_entry bytes_eq rows name tally) ≡ with_name (row_names rows) name
 names_insert [] name tally = refl
@@ -65,7 +65,7 @@ names_insert (row ∷ rows) name tally = by (bytes_eq name row.0) (names_insert 
         ap (λ rest. row.0 ∷ rest) later
         ∙ longer_either (list_any (bytes_eq name) (row_names rows)) row.0 (row_names rows) (row_names rows ++ name ∷ [])
 
--- a tally with one more seat, where the seat has the name
+-- a tally with one more seat, if the seat has the name
 abbrev pub step : ℕ → List ℕ → Tally → Seated → Tally
 step number asked tally seat = cond (bytes_eq asked seat.name) (with_seat number tally seat) tally
 

@@ -1,5 +1,4 @@
-//! The seats of all hands are tallied by their names, which stay in the order in which they are
-//! first seen.
+//! Tallies the seats of all hands by their names, in the order in which names are first seen.
 ghost use Rattle.std.specs.Prelude.{◌≡◌, OnOk};
 ghost use Rattle.printed_report.specs.Report.{seated_in};
 ghost use Rattle.printed_report.specs.Tallies.{AreTallied, AreWithin, MOST_SEATS, rows_of, with_row};

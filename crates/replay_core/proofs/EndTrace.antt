@@ -1,4 +1,4 @@
--- Rows that say what the past says, field by field, are its trace.
+-- Rows that agree with the past, field by field, are its trace.
 use Rattle.std.proofs.Common.{◌≡◌, ℕ, suc, ◌+◌, ◌≤◌, List, [], ◌∷◌, All, length, map, sum_by, sym, ap, ◌∙◌, arith}
 use Rattle.std.proofs.lemmas.List.{length-map}
 use Rattle.chip_ledger.specs.declared.pots.Pot.{Pot}
@@ -25,7 +25,7 @@ use Rattle.replay_core.specs.Events.{said_by}
 use Rattle.replay_core.proofs.SameShowdown.{AreOfSeats}
 use Rattle.list_laws.proofs.Counting.{count_both}
 
--- cores are one, field by field
+-- cores are equal if their fields are
 pub same_core : (a b : TraceCore) → a.places ≡ b.places → a.moves ≡ b.moves → a.shown ≡ b.shown → a.mucked ≡ b.mucked → a.pots ≡ b.pots → a.returned ≡ b.returned → a ≡ b
 same_core a b places moves shown mucked pots returned =
     ap {B = TraceCore} (λ (x : List TracedPlace). record { places = x; moves = a.moves; shown = a.shown; mucked = a.mucked; pots = a.pots; returned = a.returned }) places
@@ -48,7 +48,7 @@ pub nets_of_seats : (number : ℕ) (rakes : RakeRow) (pots : List PlainPot) (sea
 nets_of_seats number rakes [] seats inside = tt
 nets_of_seats number rakes (pot ∷ pots) seats inside = (inside.0, nets_of_seats (suc number) rakes pots seats inside.1)
 
--- what a seat ends with
+-- what a player finishes with
 pub finish_is : (setup : Setup) (past : Past) (rows : List SeatRow) (left returned finish seat : ℕ) → left ≡ chips_left setup (moves_of past) seat → returned ≡ returned_after setup (moves_of past) seat → finish ≡ left + (returned + sum_by (λ row. amount_of row seat) rows)
     → finish ≡ finishing_stack setup (plain_moves (core_of setup past).moves) (map amount_of rows) seat
 finish_is setup past rows left returned finish seat left_is returned_is is =

@@ -1,4 +1,4 @@
--- A script that was played to its end: what the machines say is what the rules say of its past.
+-- A script that was played to its end: betting and cards agree with the rules for its past.
 use Rattle.std.proofs.Common.{◌≡◌, ℕ, ◌≤◌, false, Some, List, reverse, sym, ap, subst, ◌∙◌, arith}
 use Rattle.betting_numbers.specs.declared.running.RunningNumbers.{RunningNumbers}
 use Rattle.betting_numbers.specs.Standing as betting
@@ -36,7 +36,7 @@ use Rattle.replay_core.proofs.ShownHands.{IsEnd}
 use Rattle.play_event.proofs.ScriptLaws.{at_end}
 use Rattle.chip_ledger.specs.Seat.{IsSeatOf}
 
--- after all events of a script, where it may end there, the machines stand at its end
+-- after all events of a script, if it may end there, betting and cards describe its end
 pub ended : (setup : Setup) (rules : Rules) (script : List Said) (first b : RunningNumbers) (t : CardState) (due : Due) → first.setup ≡ setup → first.rules ≡ rules → b.setup ≡ first.setup
     → AreLegal first.setup first.rules (reverse script) → StandTogether b t (past_at_end first.setup script) → ((past : Past) → StandTogether b t past → due ≡ (turn b.setup past).1) → is_unfinished due ≡ false → StandAtEnd setup rules script b t
 ended setup rules script first b t due start same_rules kept legal stands due_is finished =

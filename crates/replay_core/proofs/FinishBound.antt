@@ -1,4 +1,4 @@
--- What a seat ends with is no more than all stacks together.
+-- What a player finishes with is no more than all stacks together.
 use Rattle.std.proofs.Common.{◌≡◌, ℕ, suc, ◌+◌, ◌-◌, ◌≤◌, List, [], ◌∷◌, All, slice_get, sum_by, refl, ap, arith}
 use Rattle.std.specs.Option.{option_map_or}
 use Rattle.std.proofs.lemmas.List.Sums.{sum_by-cons}

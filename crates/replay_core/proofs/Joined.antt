@@ -1,4 +1,4 @@
--- What one of betting and cards asks for, by what the other says.
+-- What betting and cards need of each other, by what the other gives.
 use Rattle.std.proofs.Common.{◌≡◌, ℕ, ◌≤◌, Bool, true, false, None, refl, sym, ap, subst, ◌∙◌}
 use Rattle.chip_ledger.specs.declared.live_row.LiveRow.{LiveRow}
 use Rattle.chip_ledger.specs.LiveRow.{flag_of}
@@ -28,7 +28,7 @@ use Rattle.street_laws.specs.Done.{is_done}
 use Rattle.replay_core.specs.Together.{StandTogether, StandUpToDue}
 use Rattle.chip_ledger.specs.Seat.{IsSeatOf}
 
--- what the cards ask of a past, by the views of the betting
+-- what the cards need of a past, by the views of the betting
 pub now_of : (b : RunningNumbers) (t : CardState) (live : LiveRow) (past : Past) → StandTogether b t past → ((seat : ℕ) → IsSeatOf b.setup.stacks.seats seat → flag_of live seat ≡ is_live (moves_of past) seat) → IsNow t b.due live b.setup past
 now_of b t live past both lives = record {
   code_is = both.code_is;
@@ -45,7 +45,7 @@ ups_of_past code b t up past code_is both row = λ seat low high.
     row seat (record { first = low; last = subst (λ (n : ℕ). seat ≤ n) both.seats high })
     ∙ ap (λ game. up_cards game past seat) (sym code_is)
 
--- the same, where this is the due that the betting tells
+-- the same, if this is the due of the betting
 pub now_at : (b : RunningNumbers) (t : CardState) (due : Due) (live : LiveRow) (past : Past) → StandTogether b t past → due ≡ b.due → ((seat : ℕ) → IsSeatOf b.setup.stacks.seats seat → flag_of live seat ≡ is_live (moves_of past) seat) → IsNow t due live b.setup past
 now_at b t due live past both is lives = subst (λ (d : Due). IsNow t d live b.setup past) (sym is) (now_of b t live past both lives)
 
@@ -57,7 +57,7 @@ lives_by : (b : RunningNumbers) (t : CardState) (live : LiveRow) (past : Past) �
 lives_by b t live past half stands up_to true is = up_to (half.ended is)
 lives_by b t live past half stands up_to false is = stands (half.kept is)
 
--- what the cards ask of a past where what is due may be complete
+-- what the cards need of a past if what is due may be complete
 pub now_up_to : (b : RunningNumbers) (t : CardState) (live : LiveRow) (past : Past) → StandUpToDue b t past
     → (StandsFor b past → (seat : ℕ) → IsSeatOf b.setup.stacks.seats seat → flag_of live seat ≡ is_live (moves_of past) seat)
     → (StandsUpTo b past → (seat : ℕ) → IsSeatOf b.setup.stacks.seats seat → flag_of live seat ≡ is_live (moves_of past) seat)
@@ -70,7 +70,7 @@ now_up_to b t live past half stands up_to = record {
   lives = λ seat in_hand. lives_by b t live past half stands up_to (is_done b.setup past b.due) refl seat (record { first = in_hand.first; last = subst (λ (n : ℕ). seat ≤ n) (sym half.seats) in_hand.last });
 }
 
--- after a legal event of cards both stand, but for the end of what is due
+-- after a legal event of cards both describe the past, except for the end of what is due
 pub up_to_after : (b : RunningNumbers) (past : Past) (event : Said) (t next : CardState) → StandTogether b t past → is_card_said event ≡ true → why b.setup b.rules past event ≡ None
     → 1 ≤ b.street → b.street ≤ street_count b.setup.code → next.table.code ≡ t.table.code → next.seats ≡ t.seats → cards.StandsFor next (with_event b.setup event past) → StandUpToDue b next (with_event b.setup event past)
 up_to_after b past event t next both card legal from_one within same_code same_seats after = record {
@@ -81,11 +81,12 @@ up_to_after b past event t next both card legal from_one within same_code same_s
   ended = card_ended b b.rules past event both.betting card legal from_one within;
 }
 
--- where the hand is over, both stand
+-- if the hand is over, both describe the past
 both_over : (b : RunningNumbers) (t : CardState) (past : Past) → StandUpToDue b t past → b.due ≡ dues.Over → StandTogether b t past
 both_over b t past half is = record { code_is = half.code_is; seats = half.seats; betting = half.kept (ap (is_done b.setup past) is); cards = half.cards }
 
--- after a second end both stand: what is complete behind what was ended is the showdown, and behind that nothing is due
+-- after a second end both describe the past: what is complete after what was ended is the showdown,
+-- and after that nothing is due
 pub end_by : (b next : RunningNumbers) (t after : CardState) (past : Past) (more : Bool) → (more ≡ false → StandTogether next after past) → (more ≡ true → is_done b.setup past b.due ≡ true) → (is_done b.setup past b.due ≡ true → b.due ≡ dues.Show)
     → (more ≡ true → b.due ≡ dues.Show → next.due ≡ dues.Over) → StandUpToDue next after past → StandTogether next after past
 end_by b next t after past false undone done shows over half = undone refl

@@ -25,7 +25,7 @@ use Rattle.street_laws.proofs.CardTurns.{moves_kept}
 use Rattle.street_laws.proofs.LegalCards.{card_resolved}
 use Rattle.replay_core.specs.Told.{IsToldOf}
 
--- an event that is no event of cards takes place as a move
+-- an event that is not an event of cards takes place as a move
 pub record IsMove (setup : Setup) (past : Past) (event : Said) : Type 0 where
   pub move : Move
   pub made : with_event setup event past ≡ Moved move ∷ past
@@ -54,7 +54,7 @@ made_move setup past (said.Discard seat cards) is = absurd (true≢false is)
 made_move setup past (said.Show seat cards) is = absurd (true≢false is)
 made_move setup past (said.Muck seat) is = absurd (true≢false is)
 
--- what a step of the betting says of the move that it gave
+-- what a step of the betting says about its move
 abbrev pub IsStepped : Setup → Past → Said → rows.Move → Type 0
 IsStepped setup past event moved = (move : Move) → with_event setup event past ≡ Moved move ∷ past → move_said moved ≡ traced_move setup move (moves_of past)
 

@@ -1,4 +1,4 @@
--- Where blinds decide who opens, no card is dealt face up.
+-- If blinds decide who opens, no card is dealt face up.
 use Rattle.std.proofs.Common.{◌≡◌, ℕ, zero, suc, ◌-◌, false, ◌&&◌, nat_lt, nat_le, List, [], ◌∷◌, map, slice_get, refl, ap}
 use Rattle.std.specs.Option.{option_map_or}
 use Rattle.play_event.specs.declared.code.Code.{Code}

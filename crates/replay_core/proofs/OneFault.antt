@@ -1,4 +1,4 @@
--- Of a script one fault holds at most, and of a legal hand none.
+-- A script has at most one fault, and a legal hand has none.
 use Rattle.std.proofs.Common.{◌≡◌, ◌≢◌, ℕ, ◌-◌, ◌<◌, inl, inr, Option, Some, None, List, length, reverse, slice_get, refl, sym, ap, ◌∙◌, arith}
 use Rattle.std.specs.Option.{option_map}
 use Rattle.std.proofs.lemmas.Bool.{cases_lt, true≢false}
@@ -19,7 +19,7 @@ use Rattle.replay_core.specs.Events.{IsIllegalAt, said_by}
 use Rattle.replay_core.specs.Faults.{IsFaultOf, IsWant}
 use Rattle.list_laws.proofs.Options.{some_is_none}
 
--- where an event is there, its index is within the script
+-- if an event is there, its index is within the script
 is_there : (script : List Event) (index at : ℕ) (found : Option Event) → slice_get script index ≡ found → option_map (λ (e : Event). e.at) found ≡ Some at → index < length script
 is_there script index at None is action = absurd (some_is_none (sym action))
 is_there script index at (Some event) is action = slice_get_within script index event is

@@ -1,4 +1,5 @@
--- At the end of a hand each shown seat has cards that the game's pick can use, and the rows show what the trace shows.
+-- At the end of a hand each shown seat has cards that the game's pick can use, and the rows show
+-- what the trace shows.
 use Rattle.std.proofs.Common.{◌≡◌, ℕ, ◌+◌, ◌≤◌, true, false, ◌&&◌, ◌==◌, not, nat_le, Some, None, List, ◌++◌, filter, length, sym, ap, subst, ◌∙◌, arith}
 use Rattle.std.specs.List.{list_any}
 use Rattle.std.proofs.lemmas.List.{length-map}
@@ -49,7 +50,7 @@ use Rattle.replay_core.specs.EndRows.{flag_count, is_mucked_by, is_shown_by}
 use Rattle.replay_core.specs.Showdowns.{ShowTheSame}
 use Rattle.card_set.proofs.KnownCards.{all_known, all_known_length}
 
--- a hand is played to its end, and the rows have what they say of it
+-- a hand is played to its end, and the rows agree with it
 pub record IsEnd (setup : Setup) (rules : Rules) (events : List Said) (live mucked unknown shown : LiveRow) (hands : HandRow) (board : CardRow) : Type 0 where
   pub legal : AreLegal setup rules events
   pub finished : is_unfinished (turn setup (past_of setup events)).1 ≡ false

@@ -1,4 +1,4 @@
--- Where the play of a script stands after so many events, and after one more.
+-- The state of the play of a script after some events, and after one more.
 use Rattle.std.proofs.Common.{◌≡◌, ℕ, ◌+◌, ◌-◌, ◌<◌, inl, inr, Option, Some, None, List, slice_get, option_and_then, sym, subst, ◌∙◌, ap, arith}
 use Rattle.std.specs.Option.{option_map}
 use Rattle.std.proofs.lemmas.Bool.{cases_lt}
@@ -19,7 +19,7 @@ use Rattle.replay_core.specs.declared.fault.ReplayFault.TheVariants as faults
 use Rattle.replay_core.specs.Events.{AreMovesOf, AreRefused, IsRefusedEvent, said_by}
 use Rattle.play_event.proofs.SaidSoFar.{IsNext, said_next, so_far}
 
--- where the play of a script stands after so many events
+-- the state of the play of a script after this many events
 pub record IsPlayedTo (setup : Setup) (rules : Rules) (script : List Event) (count : ℕ) (b : RunningNumbers) (t : CardState) (told : List rows.Move) : Type 0 where
   pub earlier : (index : ℕ) → index < count → why_at setup rules (said_by script) index ≡ None
   pub legal : AreLegal setup rules (so_far script count)

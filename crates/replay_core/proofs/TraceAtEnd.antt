@@ -43,7 +43,7 @@ module _ (setup : Setup) (past : Past) (hand : HandAtEnd) (pots : PotRow) (is : 
       sym (ap (first_unshown (showdown_in setup (core_of setup past))) are.pots)
       ∙ sym (same_first (showdown_of hand.hands hand.board hand.shown) (showdown_in setup (core_of setup past)) (plain_pots pots) is.shows inside)
 
-  -- the first rake above its pot
+  -- the first rake that is more than its pot
   pub rake_is : first_rake_above setup.rakes (core_of setup past).pots ≡ first_rake_above setup.rakes (plain_pots pots)
   rake_is = ap (first_rake_above setup.rakes) (sym are.pots)
 

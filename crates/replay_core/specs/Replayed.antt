@@ -21,5 +21,5 @@ pub record IsReplayOf (setup : Setup) (rules : Rules) (script : List Said) (repl
   pub conserved : IsConserved setup (past_at_end setup script) replayed
   -- its canonical script can be written
   pub tidy : IsTidy (core_said replayed)
-  -- no pot is above what a row may hold
+  -- no pot is more than a row can hold
   pub bounded : HasBoundedPots replayed

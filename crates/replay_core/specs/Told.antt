@@ -1,4 +1,4 @@
--- What one event more adds to the moves of the trace.
+-- What one more event adds to the moves of the trace.
 use Rattle.std.specs.Prelude.{◌≡◌, ℕ, List, [], ◌∷◌, ◌++◌, Option, Some, None}
 use Rattle.betting_numbers.specs.declared.running.RunningNumbers.{RunningNumbers}
 use Rattle.betting_numbers.specs.LegalMoves.{past_with}
@@ -11,25 +11,25 @@ use Rattle.play_event.specs.Said.{Said}
 use Rattle.play_event.specs.Trace.{TracedMove, traced_moves}
 use Rattle.chip_ledger.specs.Seat.{IsSeatOf}
 
--- after each past for which both stand
+-- after each past that both betting and cards describe
 abbrev pub WhereTogether : RunningNumbers → CardState → (Past → Type 0) → Type 0
 WhereTogether b t P = (past : Past) → StandTogether b t past → P past
 
--- a row of so many seats has those of the hand, and this is so of each of them after each past
--- for which both stand
+-- a row of this many seats has those of the hand, and this holds for each of them after each past
+-- that both describe
 pub record TellsOfHand (count : ℕ) (b : RunningNumbers) (t : CardState) (P : Past → ℕ → Type 0)
     : Type 0 where
   pub seats : count ≡ b.setup.stacks.seats
   pub each : WhereTogether b t (λ past.
       (seat : ℕ) → IsSeatOf b.setup.stacks.seats seat → P past seat)
 
--- a move that is told, if one is
+-- the move that is returned, if one is
 abbrev pub moves_told : Option rows.Move → List TracedMove
 moves_told None = []
 moves_told (Some move) = move_said move ∷ []
 
--- the moves of the trace after an event are those before it and the one that is told; of an event
--- of cards none is told
+-- the moves of the trace after an event are those before it and the one that is returned; for an
+-- event of cards none is returned
 abbrev pub IsToldOf : RunningNumbers → Said → Past → Option rows.Move → Type 0
 IsToldOf b event past told =
     traced_moves b.setup (moves_of (past_with b past event))

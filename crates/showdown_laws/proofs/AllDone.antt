@@ -1,4 +1,4 @@
--- Where a contested hand ends, no street has a deal or a draw that is due.
+-- When a contested hand ends, no street has a deal or a draw that is due.
 use Rattle.std.proofs.Common.{◌≡◌, ℕ, ◌+◌, ◌-◌, ◌≤◌, Bool, true, false, inl, inr, nat_le, if◌then◌else◌, Option, Some, None, unwrap_or, List, refl, sym, ap, ◌∙◌, arith}
 use Rattle.std.proofs.lemmas.Bool.{true≢false, cases_lt}
 use Rattle.play_event.specs.declared.reason.Due.{Due}
@@ -21,7 +21,7 @@ use Rattle.showdown_laws.specs.ContestedEnd.{EndContested}
 use Rattle.play_event.proofs.DueStreets.{none_found}
 use Rattle.play_laws.proofs.PlayedStreets.{IsDone}
 
--- what is due on a street may not stay undone at the end
+-- what is due on a street cannot stay undone at the end
 unfinished_by : (street : ℕ) (deal draw bring_in move : Bool) (due : Due) → due_by street deal draw bring_in move ≡ Some due → is_unfinished due ≡ false → ⊥
 unfinished_by street deal draw bring_in move dues.Show is finished = never_show deal draw bring_in move is
   where

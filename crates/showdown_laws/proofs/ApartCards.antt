@@ -1,4 +1,4 @@
--- Places that bear no one card have different cards: the known ones are all different.
+-- Places that do not share a card have different cards: the known ones are all different.
 use Rattle.std.proofs.Common.{◌≡◌, ◌≢◌, ℕ, Bool, true, false, ◌||◌, ◌&&◌, not, inl, inr, Some, None, List, [], ◌∷◌, ◌++◌, map, filter, refl, sym, ap, subst, ◌∙◌, arith}
 use Rattle.std.proofs.lemmas.List.{map-append}
 use Rattle.card_set.specs.declared.card.Card.{Card}
@@ -18,16 +18,16 @@ use Rattle.play_event.proofs.ClashLaws.{among_append}
 use Rattle.play_event.proofs.OwnerLaws.{is_same_owner-true}
 use Rattle.play_laws.proofs.PlaceGroups.{AreRising, one_number, passed, rising_filter}
 
--- no two of the places have one number
+-- no two of the places have the same number
 abbrev AreApart : List Place → Type 0
 AreApart [] = Unit {0}
 AreApart (first ∷ rest) = ((later : Place) → IsAmong rest later → first.number ≢ later.number) × AreApart rest
 
--- no two of the places bear one card
+-- no two of the places have the same card
 abbrev pub BearNoOneCard : List Place → Type 0
 BearNoOneCard held = (a b : Place) → IsAmong held a → IsAmong held b → a.number ≢ b.number → is_one_card a.slot b.slot ≡ false
 
--- of two places neither of which may repeat the other, none bears the other's card
+-- if neither of two places may repeat the other, neither has the other's card
 pub unclashed : (x y one : Bool) → x ≡ false → y ≡ false → (not (x || y) && one) ≡ false → one ≡ false
 unclashed false false one p q is = is
 unclashed false true one p q is = false_true (sym q)

@@ -1,4 +1,4 @@
--- In a game that never draws no card is dealt twice, also not after its seat folded.
+-- In a game without draws no card is dealt twice, not even after its seat folded.
 use Rattle.std.proofs.Common.{◌≡◌, ◌≢◌, ℕ, Bool, true, false, ◌&&◌, List, refl, sym, ap, ◌∙◌}
 use Rattle.play_event.specs.declared.setup.Rules.{Rules}
 use Rattle.play_event.specs.declared.setup.Setup.{Setup}
@@ -13,14 +13,14 @@ use Rattle.play_event.proofs.SafePlaces.{none_clash}
 use Rattle.play_laws.proofs.InDeck.{lawful}
 use Rattle.showdown_laws.proofs.ApartCards.{unclashed}
 
--- nothing is dealt past the deck
+-- nothing is dealt past the end of the deck
 within_deck : (setup : Setup) (rules : Rules) (events : List Said) (place : Place) → AreLegal setup rules events → ((street : ℕ) → has_draw setup.code street ≡ false) → IsAmong (places_of setup.code (past_of setup events)) place → (b : Bool) → place.past_deck ≡ b → place.past_deck ≡ false
 within_deck setup rules events place legal no_draw among false is = is
 within_deck setup rules events place legal no_draw among true is =
     let late = (lawful setup rules events legal).late place among is in
     is ∙ sym late.0 ∙ no_draw place.street
 
--- so two places bear no one card
+-- so no two places have the same card
 pub dealt_once : (setup : Setup) (rules : Rules) (events : List Said) (a b : Place) → AreLegal setup rules events → ((street : ℕ) → has_draw setup.code street ≡ false) → IsAmong (places_of setup.code (past_of setup events)) a → IsAmong (places_of setup.code (past_of setup events)) b → a.number ≢ b.number → is_one_card a.slot b.slot ≡ false
 dealt_once setup rules events a b legal no_draw in_a in_b apart =
     unclashed (may_repeat a b) (may_repeat b a) (is_one_card a.slot b.slot)

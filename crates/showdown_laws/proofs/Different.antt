@@ -28,7 +28,7 @@ record IsOnTable (placed : List Place) (place : Place) : Type 0 where
 AreOnTable : List Place → List Place → Type 0
 AreOnTable placed held = (place : Place) → IsAmong held place → IsOnTable placed place
 
--- two of them bear no one card
+-- no two of them have the same card
 one_card : (placed : List Place) (a b : Place) → NoneClash placed → IsOnTable placed a → IsOnTable placed b → a.number ≢ b.number → is_one_card a.slot b.slot ≡ false
 one_card placed a b none on_a on_b differ =
     unclashed (may_repeat a b) (may_repeat b a) (is_one_card a.slot b.slot)

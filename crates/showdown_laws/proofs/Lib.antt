@@ -1,4 +1,4 @@
--- What lies on the table where a contested hand ends.
+-- What is on the table when a contested hand ends.
 pub mod AllDone
 pub mod StreetSplits
 pub mod WholeHands

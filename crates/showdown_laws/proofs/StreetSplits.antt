@@ -1,4 +1,4 @@
--- In the order of dealing the cards of an owner stand street by street.
+-- In the order of dealing the cards of an owner come street by street.
 use Rattle.std.proofs.Common.{◌≡◌, ℕ, zero, suc, ◌+◌, ◌≤◌, Bool, true, false, ◌&&◌, ◌==◌, nat_lt, inl, inr, Option, List, [], ◌∷◌, ◌++◌, filter, refl, sym, ap, ◌∙◌, arith, if◌then◌else◌}
 use Rattle.std.specs.List.{flat_map, range_with_len}
 use Rattle.std.proofs.lemmas.Bool.{and_right, and_left, cases_lt, eq-eqb, ne_eqb, le-ltb, lt-ltb}
@@ -53,7 +53,7 @@ split owner street (first ∷ rest) sorted = by_owner (is_same_owner first.owner
       ]
     ]
 
--- the cards of an owner before the first street are none
+-- an owner has no cards before the first street
 pub none_before : (owner : Option ℕ) (placed : List Place) → ((place : Place) → IsAmong placed place → 1 ≤ place.street) → filter (is_before owner (0 + 1)) placed ≡ []
 none_before owner placed since =
     none_pass (is_before owner (0 + 1)) placed (λ place among. and_right (is_same_owner place.owner owner) (nat_lt place.street (0 + 1)) (le-ltb place.street (0 + 1) (omega (arith, since place among))))

@@ -1,4 +1,4 @@
--- Where a contested hand ends, the board is full.
+-- When a contested hand ends, the board is full.
 use Rattle.std.proofs.Common.{◌≡◌, ℕ, zero, suc, ◌+◌, ◌-◌, ◌≤◌, Bool, true, false, ◌&&◌, nat_lt, inl, inr, Option, Some, None, is_none, List, [], ◌∷◌, ◌++◌, filter, length, count_by, slice_get, refl, sym, ap, ◌∙◌, arith, if◌then◌else◌}
 use Rattle.std.specs.Option.{option_map_or}
 use Rattle.std.specs.List.{list_any}

@@ -1,2 +1,2 @@
--- What lies on the table where a contested hand ends.
+-- What is on the table when a contested hand ends.
 pub mod ContestedEnd

@@ -1,5 +1,5 @@
-//! What lies on the table where a contested hand ends, and that no card lies there twice. The
-//! functions do nothing: each contract is a law.
+//! What is on the table when a contested hand ends: whole hands, a full board, and no card twice.
+//! The functions do nothing: each contract is a law.
 ghost use Rattle.std.specs.Prelude.{◌≡◌, ◌≢◌, ◌≤◌, ℕ, ◌++◌, true, false, List, Some, None, length};
 ghost use Rattle.play_event.specs.Held.{held_slots};
 ghost use Rattle.card_set.specs.Different.{AllDifferent};
@@ -16,8 +16,7 @@ ghost use Rattle.play_event.specs.declared.setup.Setup.{Setup};
 ghost use Rattle.play_laws.specs.LegalPlaces.{places_by};
 ghost use Rattle.showdown_laws.specs.ContestedEnd.{EndContested};
 
-/// Where a contested hand ends, each live seat has as many cards as a hand has, and the board as
-/// many as a board.
+/// When a contested hand ends, each live seat has the full number of cards, and the board is full.
 pub fn law_of_whole_hands()
     ensures hands { (setup : Setup) (rules : Rules) (events : List Said) (seat : ℕ)
         → EndContested setup rules events → 1 ≤ seat → seat ≤ setup.stacks.seats
@@ -36,8 +35,8 @@ pub fn law_of_different_cards()
         ++ known_cards (held_slots None (places_by setup events))) }
 {}
 
-/// In a game that never draws no known card of a legal hand was dealt to two places, those of seats
-/// that folded among them.
+/// In a game without draws, no known card of a legal hand was dealt to two places, including the
+/// cards of seats that folded.
 pub fn law_of_cards_dealt_once()
     ensures { (setup : Setup) (rules : Rules) (events : List Said) (a b : Place)
         → AreLegal setup rules events

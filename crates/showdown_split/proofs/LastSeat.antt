@@ -1,4 +1,4 @@
--- Where one seat is live, the net of each pot goes to this seat.
+-- If one seat is live, the net of each pot goes to this seat.
 use Rattle.std.proofs.Common.{◌≡◌, ◌&&◌, ℕ, Bool, true, false, cond, List, [], ◌∷◌, length, map, filter, nat_le, nat_lt, refl, sym, ◌∙◌, ap, subst, arith, inl}
 use Rattle.std.proofs.lemmas.Bool.{le-leb}
 use Rattle.std.proofs.lemmas.List.{length-map}
@@ -20,7 +20,7 @@ live_anyway : (live : Bool) (n : ℕ) → (live && nat_le 0 n) ≡ live
 live_anyway true n = le-leb 0 n (omega arith)
 live_anyway false n = refl
 
--- as many seats may win the one pot as are live
+-- as many seats may win the only pot as are live
 winners_of_one_pot : (stakes : List Stake) → length (reaching (after_return stakes) 0) ≡ live_stakes stakes
 unfolding after_return
 winners_of_one_pot stakes =

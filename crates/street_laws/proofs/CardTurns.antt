@@ -54,7 +54,7 @@ board_less on before after more none = none_by (nat_lt 0 (on - after)) refl
     none_by false is = is
     none_by true is = absurd (true≢false (sym (lt-ltb 0 (on - before) (let some : 0 < on - after = ltb-true 0 (on - after) is in omega (arith, some, more))) ∙ none))
 
--- no deal comes to be due by cards
+-- events of cards do not make a deal due
 pub dealt_more : (setup : Setup) (event : Resolved) (past : Past) (street : ℕ) → is_card_event event ≡ true → is_deal_due setup past street ≡ false → is_deal_due setup (event ∷ past) street ≡ false
 dealt_more setup event past street card none =
     let owes : ℕ → Bool = λ seat. nat_lt 0 (hole_cards_owed setup past street seat) in
@@ -66,7 +66,7 @@ dealt_more setup event past street card none =
     (sym (ap (λ (ms : List Move). nat_lt 0 (if is_live ms seat then hole_cards_on setup.code street - hole_cards_dealt (event ∷ past) street seat else 0)) (moves_kept event past card)) ∙ is)) (all_seats setup) parts.0)
     (board_less (board_cards_on setup.code street) (board_cards_dealt past street) (board_cards_dealt (event ∷ past) street) (more_boarded event past street) parts.1)
 
--- the streets are quiet where the walk finds nothing
+-- nothing is due on the streets if the walk finds nothing
 none_at : (on : ℕ → Option Due) (rest street : ℕ) (here : Option Due) → on street ≡ here → (first_due on rest (street + 1) ≡ None → (between : ℕ) → street + 1 ≤ between → between < street + 1 + rest → on between ≡ None) → found_or (option_map (λ due. (street, due)) here) (first_due on rest (street + 1)) ≡ None → (between : ℕ) → street ≤ between → between < street + suc rest → on between ≡ None
 none_at on rest street (Some due) is later nothing between low high = absurd (some_is_none nothing)
 none_at on rest street None is later nothing between low high = elim (cases_lt street between) [
@@ -74,7 +74,7 @@ none_at on rest street None is later nothing between low high = elim (cases_lt s
   | inr below ↦ let same : between ≡ street = omega (arith, below, low) in ap on same ∙ is
 ]
 
--- what is due is no more over
+-- unless the hand is over, two or more seats are live
 pub several_live : (setup : Setup) (past : Past) (street : ℕ) (due : Due) → turn setup past ≡ (street, due) → (due ≡ dues.Over → ⊥) → nat_le (live_count setup (moves_of past)) 1 ≡ false
 several_live setup past street due is other = several_by (nat_le (live_count setup (moves_of past)) 1) refl
   where

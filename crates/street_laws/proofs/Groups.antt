@@ -1,4 +1,5 @@
--- A group is as long as the deals to its owner: what folds, discards and shows leave of a place is its owner and its street.
+-- A group is as long as the deals to its owner: folds, discards and shows keep the owner and the
+-- street of a place.
 use Rattle.std.proofs.Common.{◌≡◌, ℕ, zero, suc, ◌+◌, Bool, true, false, ◌&&◌, ◌==◌, Option, Some, None, List, [], ◌∷◌, ◌++◌, map, filter, length, count_by, refl, sym, ◌∙◌, ap, arith, length-append, if◌then◌else◌}
 use Rattle.std.proofs.lemmas.List.Elements.{filter-append}
 use Rattle.std.proofs.lemmas.List.Sums.{length-filter}

@@ -13,7 +13,7 @@ other_street on street later early less = ne_eqb on later (λ same. omega (arith
 pub newest_early : (event : Resolved) (before : Past) (street : ℕ) → has_nothing_later (event ∷ before) street ≡ true → (nat_le (street_of event) street ≡ true) × (has_nothing_later before street ≡ true)
 newest_early event before street early = and_parts (nat_le (street_of event) street) (has_nothing_later before street) early
 
--- so it is with a later bound
+-- the same holds with a later bound
 pub early_up : (past : Past) (street later : ℕ) → street ≤ later → has_nothing_later past street ≡ true → has_nothing_later past later ≡ true
 early_up [] street later up early = refl
 early_up (event ∷ before) street later up early =

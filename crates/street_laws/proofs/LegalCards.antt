@@ -38,7 +38,7 @@ card_resolved setup past street (said.Discard seat cards) is = refl
 card_resolved setup past street (said.Show seat cards) is = refl
 card_resolved setup past street (said.Muck seat) is = refl
 
--- an event that is no show leaves who has to show
+-- an event that is not a show leaves the same seats to show
 pub shows_kept : (setup : Setup) (past : Past) (street : ℕ) (event : Said) (seat : ℕ) → is_card_said event ≡ true → is_showing event ≡ false → has_to_show (resolved_on setup past street event ∷ past) seat ≡ has_to_show past seat
 shows_kept setup past street (said.Hole owner cards) seat card unshown = refl
 shows_kept setup past street (said.Board cards) seat card unshown = refl
@@ -74,7 +74,7 @@ module _ (setup : Setup) (past : Past) (street : ℕ) (several : nat_le 2 (live_
   settled_at due (said.BringIn named) shows is other = absurd (true≢false (sym shows))
   settled_at due (said.Discard seat cards) shows is other = absurd (true≢false (sym shows))
 
--- where betting is due, no event of cards may come but a show of a settled hand
+-- if betting is due, no event of cards may come except a show of a settled hand
 pub betting_event : (setup : Setup) (past : Past) (street : ℕ) (due : Due) (event : Said) → is_bet_due due ≡ true → is_card_said event ≡ true → may_come setup past (street, due) event ≡ true → is_settled setup (moves_of past) (street, due) ≡ true
 betting_event setup past street dues.BringIn (said.Show seat cards) bets card is = is
 betting_event setup past street dues.Move (said.Show seat cards) bets card is = is

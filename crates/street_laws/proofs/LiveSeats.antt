@@ -18,7 +18,7 @@ live_less setup move moves =
     let folded : ℕ → Bool = λ seat. list_any (λ (other : Move). is_fold other.act && (other.seat == seat)) moves in
     omega (arith, counts_either (is_live moves) (is_live (move ∷ moves)) (λ seat. move.seat == seat) (λ seat is. live_or_folded (is_fold move.act) (move.seat == seat) (folded seat) is) (all_seats setup), count_one move.seat 1 setup.stacks.seats)
 
--- where two are live one is
+-- if two seats are live, one is
 pub one_of_several : (setup : Setup) (moves : List Move) → nat_le (live_count setup moves) 1 ≡ false → 1 ≤ live_count setup moves
 one_of_several setup moves more = let two : 1 < live_count setup moves = leb-false (live_count setup moves) 1 more in omega (arith, two)
 

@@ -1,4 +1,4 @@
--- Where the showdown is due, and where the hand is over.
+-- When the showdown is due, and when the hand is over.
 use Rattle.std.proofs.Common.{◌≡◌, ℕ, ◌+◌, ◌-◌, ◌≤◌, Bool, true, false, nat_le, if◌then◌else◌, Option, Some, None, unwrap_or, refl, sym, ap, ◌∙◌, arith}
 use Rattle.std.proofs.lemmas.Bool.{true≢false, not-false, and_parts, leb-true}
 use Rattle.list_laws.proofs.Options.{some_is_none}
@@ -42,7 +42,7 @@ never_show street false false true move is = cc
 never_show street false false false true is = cc
 never_show street false false false false is = cc
 
--- where the showdown is due, it is the last street, on which nothing else is
+-- if the showdown is due, it is the last street, and nothing else is due on it
 pub record IsLast (setup : Setup) (past : Past) (street : ℕ) : Type 0 where
   pub last : street ≡ street_count setup.code
   pub quiet : newest_street past ≤ street → due_on setup past street ≡ None
@@ -65,7 +65,7 @@ show_is_last setup past street is =
     last_by setup past street (first_due (due_on setup past) (street_count setup.code + 1 - newest_street past) (newest_street past)) refl
     (sym (ap (λ b. if b then (newest_street past, dues.Over) else unwrap_or (first_due (due_on setup past) (street_count setup.code + 1 - newest_street past) (newest_street past)) (street_count setup.code, showdown setup past)) more) ∙ is)
 
--- where several are live and the hand is over, each has shown or mucked
+-- if several seats are live and the hand is over, each has shown or mucked
 never_over : (street : ℕ) (deal draw bring_in move : Bool) → due_by street deal draw bring_in move ≡ Some dues.Over → ⊥
 never_over street true draw bring_in move is = cc
 never_over street false true bring_in move is = cc
@@ -89,7 +89,7 @@ all_shown setup past street is more =
     shown_by setup past street (first_due (due_on setup past) (street_count setup.code + 1 - newest_street past) (newest_street past)) refl
     (sym (ap (λ b. if b then (newest_street past, dues.Over) else unwrap_or (first_due (due_on setup past) (street_count setup.code + 1 - newest_street past) (newest_street past)) (street_count setup.code, showdown setup past)) more) ∙ is)
 
--- and then nobody may show any more
+-- and then no seat may show any more
 none_may : (setup : Setup) (past : Past) (seat : ℕ) → is_show_due setup past ≡ false → may_show setup past seat ≡ true → ⊥
 none_may setup past seat none may =
     let parts = and_parts (is_seat setup seat) (has_to_show past seat) may in
@@ -107,7 +107,7 @@ none_first setup past (said.Raise named amount) none is = true≢false (sym is)
 none_first setup past (said.BringIn named) none is = true≢false (sym is)
 none_first setup past (said.Discard seat cards) none is = true≢false (sym is)
 
--- a legal event where the hand is over is the show or muck of its one live seat
+-- a legal event after the hand is over is the show or muck of its only live seat
 pub one_left : (setup : Setup) (rules : Rules) (past : Past) (event : Said) (street : ℕ) → turn setup past ≡ (street, dues.Over) → why setup rules past event ≡ None → (few : Bool) → nat_le (live_count setup (moves_of past)) 1 ≡ few → nat_le (live_count setup (moves_of past)) 1 ≡ true
 one_left setup rules past event street is legal true few = few
 one_left setup rules past event street is legal false few =

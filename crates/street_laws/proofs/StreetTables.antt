@@ -1,4 +1,4 @@
--- Each street of a game deals or draws, and none does both.
+-- Each street of a game deals or draws, and no street does both.
 use Rattle.std.proofs.Common.{◌≡◌, ℕ, zero, suc, ◌≤◌, if◌then◌else◌, Bool, true, ◌&&◌, ◌||◌, not, nat_lt, refl, arith, false}
 use Rattle.play_event.specs.Games.{hole_cards_on, board_cards_on, street_count}
 use Rattle.play_event.specs.Streets.{has_draw}

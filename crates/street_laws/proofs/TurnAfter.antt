@@ -1,4 +1,4 @@
--- What is due after a move, and what is due where the next street begins.
+-- What is due after a move, and what is due when the next street begins.
 use Rattle.std.proofs.Common.{◌≡◌, ℕ, ◌+◌, ◌-◌, ◌<◌, ◌≤◌, Bool, true, false, ◌&&◌, ◌||◌, not, nat_lt, nat_le, if◌then◌else◌, List, ◌∷◌, Option, Some, None, is_some, unwrap_or, refl, sym, ap, ◌∙◌, arith}
 use Rattle.std.proofs.lemmas.Bool.{and_parts, or_parts, and_from, or_from, ltb-false, leb-false, true≢false}
 use Rattle.std.proofs.lemmas.Option.{same_Some}
@@ -33,13 +33,13 @@ due_by street deal draw bring_in move =
 bets_differ : {A : Type 0} (due other : Due) → due ≡ other → is_bet_due due ≡ true → is_bet_due other ≡ false → A
 bets_differ due other same is is_not = absurd (true≢false (sym is ∙ ap is_bet_due same ∙ is_not))
 
--- where betting is due, no card is due
+-- if betting is due, no card is due
 dealt_by : (street : ℕ) (deal draw bring_in move : Bool) (due : Due) → due_by street deal draw bring_in move ≡ Some due → is_bet_due due ≡ true → (deal ≡ false) × (draw ≡ false)
 dealt_by street true draw bring_in move due is bets = bets_differ due (dues.Deal street) (sym (same_Some (dues.Deal street) due is)) bets refl
 dealt_by street false true bring_in move due is bets = bets_differ due (dues.Draw street) (sym (same_Some (dues.Draw street) due is)) bets refl
 dealt_by street false false bring_in move due is bets = (refl, refl)
 
--- no card is owed on the street
+-- no card is due on the street
 pub record AreDealt (setup : Setup) (past : Past) (street : ℕ) : Type 0 where
   pub dealt : is_deal_due setup past street ≡ false
   pub drawn : is_draw_due setup past street ≡ false
@@ -70,7 +70,7 @@ drawn_by : (on : Bool) (before after : Option ℕ) (owes : Bool) → (is_some be
 drawn_by false before after owes fewer is = refl
 drawn_by true before after owes fewer is = let parts = or_parts (is_some before) owes is in or_from (is_some after) owes (fewer parts.0) parts.1
 
--- a move brings no card to be owed
+-- a move makes no card due
 pub dealt_still : (setup : Setup) (past : Past) (move : Move) (street : ℕ) → AreDealt setup past street → AreDealt setup (Moved move ∷ past) street
 dealt_still setup past move street are =
     let moves = moves_of past in
@@ -84,7 +84,7 @@ dealt_still setup past move street are =
       drawn = drawn_by (has_draw setup.code street) (next_to_draw setup past street) (next_to_draw setup (Moved move ∷ past) street) (list_any (λ seat. nat_lt 0 (replacements_owed past street seat)) (all_seats setup)) (draws_fewer setup past move street) are.drawn;
     }
 
--- where two seats are live, one is
+-- if two seats are live, one is
 pub one_live : (setup : Setup) (moves : List Move) → nat_le (live_count setup moves) 1 ≡ false → list_any (is_live moves) (all_seats setup) ≡ true
 one_live setup moves more = counted_some (is_live moves) (all_seats setup) (let two : 1 < live_count setup moves = leb-false (live_count setup moves) 1 more in omega (arith, two))
 

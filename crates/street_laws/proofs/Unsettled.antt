@@ -1,4 +1,4 @@
--- Where betting is due the hand is not settled.
+-- If betting is due, the hand is not settled.
 use Rattle.std.proofs.Common.{◌≡◌, ℕ, Bool, true, false, ◌&&◌, ◌||◌, ◌==◌, not, nat_lt, nat_le, if◌then◌else◌, inl, inr, ◌⊎◌, List, refl, sym, ap, ◌∙◌, Some}
 use Rattle.std.proofs.lemmas.Bool.{and_parts, true≢false}
 use Rattle.std.specs.List.{list_any}
@@ -19,7 +19,7 @@ use Rattle.play_event.specs.TurnTargets.{is_bet_due}
 use Rattle.list_laws.proofs.Numbers.{many_not_few}
 use Rattle.play_event.proofs.FloorLaws.{bet_unfinished}
 
--- the hand is not settled where betting is due
+-- the hand is not settled if betting is due
 owes_by : (able since owes : Bool) (many : Bool) → many ≡ false → (able && (if since then false else (owes || many))) ≡ true → (able && owes) ≡ true
 owes_by true true owes many none is = absurd (true≢false (sym is))
 owes_by true false true many none is = refl

@@ -1,4 +1,5 @@
--- What is due where the cards of a street are dealt: its betting, then the next street's cards, then the showdown.
+-- What is due once the cards of a street are dealt: its betting, then the next street's cards, then
+-- the showdown.
 use Rattle.std.proofs.Common.{◌≡◌, ℕ, ◌+◌, ◌<◌, ◌≤◌, Bool, true, false, nat_lt, nat_le, if◌then◌else◌, inl, inr, ◌∷◌, Some, None, refl, ap, ◌∙◌, arith}
 use Rattle.std.proofs.lemmas.Bool.{and_from, cases_lt, ltb-true, ltb-false, le-leb}
 use Rattle.list_laws.proofs.Any.{list_any-weaker}
@@ -49,7 +50,7 @@ module _ (setup : Setup) (past : Past) (street : ℕ) (are : AreDealt setup past
   pub walk_on : turn setup past ≡ walked setup.code street (is_bring_in_due setup (moves_of past) street) (is_move_due setup (moves_of past) street) (showdown setup past)
   walk_on = walk_by (is_bring_in_due setup (moves_of past) street) (is_move_due setup (moves_of past) street) (nat_lt street (street_count setup.code)) refl refl refl
 
--- where each live seat has to show, the showdown is not over
+-- if each live seat has to show, the showdown is not over
 pub shows_come : (setup : Setup) (past : Past) → nat_le (live_count setup (moves_of past)) 1 ≡ false → ((seat : ℕ) → is_live (moves_of past) seat ≡ true → has_to_show past seat ≡ true) → showdown setup past ≡ dues.Show
 shows_come setup past more each =
     ap (λ (b : Bool). if b then dues.Show else dues.Over) (list_any-weaker (is_live (moves_of past)) (has_to_show past) each (all_seats setup) (one_live setup (moves_of past) more))

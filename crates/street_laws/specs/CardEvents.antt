@@ -1,10 +1,10 @@
--- Events of cards: those that are no moves.
+-- Events of cards: those that are not moves.
 use Rattle.std.specs.Prelude.{Bool, true, false}
 use Rattle.play_event.specs.Past.{Resolved, Dealt, Boarded, Moved, Discarded, Shown, Mucked}
 use Rattle.play_event.specs.Said as said
 use Rattle.play_event.specs.Said.{Said}
 
--- an event that took place is no move
+-- an event that took place is not a move
 abbrev pub is_card_event : Resolved → Bool
 is_card_event (Moved move) = false
 is_card_event (Dealt street seat cards) = true

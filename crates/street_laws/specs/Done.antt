@@ -1,4 +1,4 @@
--- When a deal, a draw or a show is complete, and when the walk over the streets has come to it.
+-- When a deal, a draw or a show is complete, and when the walk over the streets has reached it.
 use Rattle.std.specs.Prelude.{◌≡◌, ℕ, Bool, false, not, None}
 use Rattle.play_event.specs.Dealing.{is_deal_due, is_draw_due}
 use Rattle.play_event.specs.Due.{due_on}
@@ -19,7 +19,7 @@ is_done setup past dues.BringIn = false
 is_done setup past dues.Move = false
 is_done setup past dues.Over = false
 
--- the walk over the streets has come to this due
+-- the walk over the streets has reached this due
 abbrev pub HasCome : Setup → Past → ℕ → Due → Type 0
 HasCome setup past street (dues.Deal on) = (on ≡ street) × (has_draw setup.code street ≡ false)
 HasCome setup past street (dues.Draw on) = (on ≡ street) × (is_deal_due setup past street ≡ false)

@@ -21,7 +21,7 @@ is_cards_due dues.BringIn = false
 is_cards_due dues.Move = false
 is_cards_due dues.Over = false
 
--- the street of a deal or a draw is one of so many
+-- the street of a deal or a draw is from 1 to this number
 abbrev pub IsDueWithin : ℕ → Due → Type 0
 IsDueWithin most (dues.Deal on) = (1 ≤ on) × (on ≤ most)
 IsDueWithin most (dues.Draw on) = (1 ≤ on) × (on ≤ most)
@@ -39,7 +39,7 @@ is_of_street street dues.Move = true
 is_of_street street dues.Show = true
 is_of_street street dues.Over = true
 
--- nobody has moved on the street where its cards or its bring-in is due
+-- nobody has moved on the street while its cards or its bring-in is due
 abbrev pub is_before_moves : Due → Bool
 is_before_moves (dues.Deal street) = true
 is_before_moves (dues.Draw street) = true

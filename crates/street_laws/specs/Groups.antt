@@ -1,15 +1,15 @@
--- What an owner was dealt, and what leaves a place with its owner and its street.
+-- What an owner was dealt, and changes of a place that keep its owner and its street.
 use Rattle.std.specs.Prelude.{◌≡◌, ℕ, Option, Some, None, List, [], ◌∷◌}
 use Rattle.play_event.specs.Dealing.{hole_cards_dealt, board_cards_dealt}
 use Rattle.play_event.specs.Past.{Past}
 use Rattle.play_event.specs.Places.{Place}
 
--- a place has still its owner and its street
+-- a place still has its owner and its street
 pub record IsStill (old new : Place) : Type 0 where
   pub owner : new.owner ≡ old.owner
   pub street : new.street ≡ old.street
 
--- and so have all places, in order
+-- all places still have theirs, in order
 abbrev pub AreStill : List Place → List Place → Type 0
 AreStill [] [] = Unit {0}
 AreStill [] (new ∷ news) = ⊥

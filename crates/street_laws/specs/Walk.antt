@@ -28,7 +28,8 @@ turn_behind code street =
     then (street + 1, street_cards code (street + 1))
     else (street, dues.Show)
 
--- what is due on a street whose cards are dealt: a bring-in, a move, or what comes behind it
+-- what is due on a street whose cards are dealt: a bring-in, a move, or what comes after the
+-- betting
 abbrev pub betting_turn : Code → ℕ → (bring_in move : Bool) → ℕ × Due
 betting_turn code street bring_in move =
     if bring_in
@@ -42,7 +43,7 @@ abbrev pub turn_after : Code → ℕ → (few bring_in move : Bool) → ℕ × D
 turn_after code street few bring_in move =
     if few then (street, dues.Over) else betting_turn code street bring_in move
 
--- what is due on this street and behind it, the showdown being this
+-- what is due on this street and after it; the given due is that of the showdown
 abbrev pub walked : Code → ℕ → (bring_in move : Bool) → Due → ℕ × Due
 walked code street bring_in move last =
     if bring_in then (street, dues.BringIn)

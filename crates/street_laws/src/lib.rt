@@ -1,2 +1,2 @@
-//! What is due in a hand, street by street: laws that both machines and the canonical script cite.
+//! What is due in a hand, street by street: laws that betting, cards and the canonical script use.
 #![tactic(auto)]

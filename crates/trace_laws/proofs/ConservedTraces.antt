@@ -1,4 +1,4 @@
--- Where the shares of each pot and its rake are its chips, no chip of a whole trace is made or lost.
+-- If the shares of each pot and its rake are its chips, no chip of a whole trace is made or lost.
 use Rattle.std.proofs.Common.{◌≡◌, ℕ, zero, suc, ◌+◌, ◌-◌, List, [], ◌∷◌, length, reverse, sum_by, ap, arith}
 use Rattle.std.specs.List.{range_with_len}
 use Rattle.std.proofs.lemmas.List.{length-map}
@@ -64,7 +64,7 @@ whole_sums rakes first (pot ∷ pots) (row ∷ rows) each =
           omega (arith, each (suc k), ap (rake_of rakes) later)),
     )
 
--- where the shares of each pot and its rake are its chips, the chips of a trace are those of its past
+-- if the shares of each pot and its rake are its chips, the chips of a trace are those of its past
 pub conserved : (setup : Setup) (rules : Rules) (script : List Said) (trace : Trace) → IsValid setup → IsPlayed setup rules script → IsTraceOf setup (past_at_end setup script) trace
     → ((number : ℕ) → shared_in trace.shares number + rake_of setup.rakes number ≡ chips_in (plain_pots trace.pots) number)
     → IsConserved setup (past_at_end setup script) trace

@@ -1,4 +1,4 @@
--- Rows of one number of seats that say the same are one.
+-- Rows with the same number of seats are equal if the definitions see them as equal.
 use Rattle.std.proofs.Common.{◌≡◌, ℕ, zero, suc, ◌≤◌, ◌==◌, true, List, [], ◌∷◌, All, map, refl, sym, ap, ◌∙◌, arith}
 use Rattle.std.specs.List.{list_any}
 use Rattle.list_laws.proofs.Tests.{same_test}

@@ -1,4 +1,4 @@
--- The pots of a whole trace and what is returned are all chips that were put.
+-- The pots of a whole trace and what is returned are all chips that were put in.
 use Rattle.std.proofs.Common.{◌≡◌, ◌+◌, List, map, sum, sum_by, sym, ap, ◌∙◌, arith}
 use Rattle.std.proofs.lemmas.List.Sums.{sum-map}
 use Rattle.list_laws.proofs.Sums.{sum_by-map}
@@ -27,7 +27,7 @@ rules_keep setup moves =
       sum_by-map (returned (stakes_after setup moves)) (stake_after setup moves) (all_seats setup),
     )
 
--- what the trace says is returned
+-- what the trace has as returned
 pub returned_total : (setup : Setup) (past : Past) (trace : Trace) → IsTraceOf setup past trace → total_of trace.pots.returned ≡ sum_by (returned_after setup (moves_of past)) (all_seats setup)
 returned_total setup past trace is =
     let seats : map (amount_of trace.pots.returned) (all_seats setup) ≡ map (returned_after setup (moves_of past)) (all_seats setup) =

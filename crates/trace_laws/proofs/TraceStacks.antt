@@ -44,7 +44,7 @@ shares_total (row ∷ rows) seats same =
       shares_total rows seats (λ k d within. same (suc k) d (omega (arith, within))),
     )
 
--- what the seats end with
+-- what the players finish with
 finish_total : (setup : Setup) (past : Past) (trace : Trace) → IsTraceOf setup past trace
     → total_of trace.finish ≡ sum_by (chips_left setup (moves_of past)) (all_seats setup) + (total_of trace.pots.returned + sum_by total_of (shares_in trace.shares))
 finish_total setup past trace is =
@@ -65,7 +65,7 @@ finish_total setup past trace is =
       shares_total (shares_in trace.shares) setup.stacks.seats is.seats.shares,
     )
 
--- what is put and what is left are the stacks
+-- what is put in and what is left are the stacks
 stacks_total : (setup : Setup) (rules : Rules) (events : List Said) → IsValid setup → AreLegal setup rules events
     → all_chips_put setup (moves_of (past_of setup events)) + sum_by (chips_left setup (moves_of (past_of setup events))) (all_seats setup) ≡ total_of setup.stacks
 stacks_total setup rules events valid legal =

@@ -14,15 +14,15 @@ use Rattle.worked_plays.specs.Plays.{play_of}
 use Rattle.worked_plays.specs.Traces.{dealt_to, on_board, p1, p2, p3, placed, steal_trace}
 use Rattle.worked_plays.specs.WrittenNotes.{no_notes}
 
--- what differs first of two traces, whatever the record says
+-- the first difference of two traces, whatever the record is
 abbrev pub between : Record → Trace → Trace → Option PlainDifference
 between hand trace other = play_difference (play_of hand trace) (play_of hand other)
 
--- the hand that p3 steals, under another setup
+-- the hand in which p3 steals the blinds, under another setup
 abbrev pub under : Setup → Trace
 under setup = record steal_trace { setup = setup }
 
--- p3 has a chip more
+-- p3 has one chip more
 abbrev pub more_chips : Setup
 more_chips = record no_limit { stacks = row_of (100 ∷ 100 ∷ 101 ∷ []) refl }
 
@@ -34,7 +34,7 @@ greater_least_bet = record no_limit { min_bet = 4 }
 abbrev pub with_antes : Setup
 with_antes = record no_limit { antes = row_of (1 ∷ 1 ∷ 1 ∷ []) refl }
 
--- the same, where antes are dead
+-- the same, but the antes are dead
 abbrev pub with_dead_antes : Setup
 with_dead_antes = record with_antes { dead_antes = true }
 
@@ -52,7 +52,7 @@ other_card = record steal_trace {
   places = dealt_to p1 (codes "????") ++ (dealt_to p2 (codes "Ks7d") ++ dealt_to p3 (codes "AcAs"));
 }
 
--- a flop behind the cards of the seats
+-- a flop after the cards of the seats
 abbrev pub with_flop : List ℕ → Trace
 with_flop cards = record steal_trace { places = steal_trace.places ++ on_board 2 cards }
 

@@ -1,5 +1,5 @@
-//! Plays that differ, each with its first difference, computed from the definitions, and what is
-//! told of it.
+//! Plays that differ, each with its first difference, computed from the definitions, and how it is
+//! reported.
 #![tactic(auto)]
 
 mod notes;

@@ -6,7 +6,7 @@ ghost use Rattle.hand_records.specs.declared.notes.NoteName.TheVariants as names
 ghost use Rattle.worked_differences.specs.OtherTraces.{hand_named, three_noted};
 ghost use Rattle.worked_plays.specs.WrittenNotes.{at_table, dated, named, no_notes, numbered, seated, timed};
 
-/// The first note that differs is told, in the order in which notes are named.
+/// The first note that differs is reported, in the order in which notes are named.
 pub fn differing_notes()
     ensures a_name { note_difference (three_noted 0 no_notes)
         (three_noted 0 (named None (Some (codes "Ann")) None)) ≡ Some (Note names.Players) }
@@ -25,8 +25,8 @@ pub fn differing_notes()
         ≡ Some (Note names.Time) }
 {}
 
-/// The name of a hand that is its place is none, the usual numbers of seats are none, and names of
-/// seats past the last are not looked at.
+/// A name of a hand that is its number counts as none, so do the usual numbers of seats, and names
+/// of seats past the last are not looked at.
 pub fn notes_that_are_no_other()
     ensures its_place { note_difference (three_noted 1 (hand_named (codes "1")))
         (three_noted 1 no_notes) ≡ None }

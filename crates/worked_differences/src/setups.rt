@@ -7,7 +7,7 @@ ghost use Rattle.worked_differences.specs.OtherTraces.{between, greater_blind, g
 ghost use Rattle.worked_hands.specs.Setups.{heads_up, no_limit, raked};
 ghost use Rattle.worked_plays.specs.Traces.{steal_trace};
 
-/// Each part of a setup alone, and the first of two.
+/// Each part of a setup that differs alone, and the first of two that differ.
 pub fn differing_setups()
     ensures the_same { (hand : Record) → between hand steal_trace (under no_limit) ≡ None }
     ensures a_variant_before_antes { (hand : Record)

@@ -1,4 +1,4 @@
-//! What is told of differences.
+//! How differences are reported.
 ghost use Rattle.std.specs.Prelude.{◌≡◌, None, Some, codes};
 ghost use Rattle.hand_differences.specs.DifferenceText.{difference_text};
 ghost use Rattle.hand_differences.specs.FirstDifference.{Antes, BetSizes, Blinds, Card, Move, Note, Rake, SeatCount, Shown, Stacks, Variant};

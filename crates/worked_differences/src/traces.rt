@@ -8,7 +8,7 @@ ghost use Rattle.worked_differences.specs.OtherTraces.{between, one_discard, oth
 ghost use Rattle.worked_plays.specs.Traces.{checked_trace, steal_trace};
 
 /// Moves, cards and shown seats; the seat of a move is the one of the first play. Finishing stacks
-/// alone are no difference: no two legal hands differ in them alone.
+/// alone are not a difference: no two legal hands differ in nothing else.
 pub fn differing_traces()
     ensures a_move { (hand : Record) → between hand steal_trace fold_forgotten ≡ Some (Move 2 1 1) }
     ensures the_other_way_round { (hand : Record)

@@ -22,7 +22,7 @@ size_where : (used : Bool) (chips : ℕ) → is_size_where used chips ≡ true �
 size_where true chips passes = size_is chips passes
 size_where false chips passes = eqb-true chips 0 passes
 
--- the first so many amounts are sizes
+-- the first amounts, this many, are sizes
 abbrev are_sizes : ℕ → List ℕ → Bool
 are_sizes zero amounts = true
 are_sizes (suc n) [] = false

@@ -1,4 +1,4 @@
-//! What a trace keeps: who is shown, closed raises, units, and the cards in their order. Each
+//! What a trace records: who is shown, closed raises, raise units, and the cards in order. Each
 //! function does nothing: its contract is computed from the rules.
 ghost use Rattle.std.specs.Prelude.{[], codes, ◌∷◌, ◌≡◌};
 ghost use Rattle.worked_hands.specs.Words.{slots_named};
@@ -16,7 +16,7 @@ pub fn shown_and_mucked()
     ensures and_so_is_a_known_hand_that_mucks { mucked_after no_limit known_mucked ≡ 2 ∷ [] }
 {}
 
-/// Raises that are closed, and where a raise by the unit would have gone.
+/// Closed raises, and how far a raise by the unit would have gone.
 pub fn traced_bets()
     ensures a_closed_raise { closed_after first_short raised_and_won ≡ 40 ∷ [] }
     ensures a_target_that_is_closed { closed_after first_short (over_short 18) ≡ 18 ∷ [] }

@@ -1,4 +1,4 @@
--- Notes that name nobody are allowed where each of their parts is.
+-- Notes that name nobody are allowed if each of their parts is.
 use Rattle.std.specs.Prelude.{ℕ, ◌-◌, List, Option, None, replicate, slice_index_or, IfSome}
 use Rattle.std.proofs.Common.{subst, sym}
 use Rattle.chip_ledger.specs.Fillers.{index-replicate}

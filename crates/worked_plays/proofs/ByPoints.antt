@@ -1,4 +1,5 @@
--- Who wins a pot is told by the points of the hands of those who contend for it, or by there being one of them alone.
+-- Who wins a pot is determined by the points of those who contend for it, or by there being only
+-- one of them.
 use Rattle.std.proofs.Common.{◌≡◌, ◌↔◌, ◌≤◌, ◌==◌, ◌&&◌, ℕ, Bool, true, false, ◌++◌, subst, List, [], ◌∷◌, length, Option, None, not, refl, sym, ◌∙◌, ap, inl, inr}
 use Rattle.std.specs.List.{AllByRecursion, list_any}
 use Rattle.std.proofs.lemmas.Bool.{and_parts, eqb-true, eq-eqb, or_cases}
@@ -103,7 +104,7 @@ module _ (code : Code) (showdown : Showdown) (held : ℕ) (points : List Card �
         );
       }))
 
--- a pot for which one seat alone contends
+-- a pot that only one seat contends for
 pub by_one : (code : Code) (showdown : Showdown) (pot : PlainPot) (share : ℕ → ℕ) (first : ℕ) → (game_of code).split ≡ false → 2 ≤ length pot.eligible → is_contender showdown pot first ≡ true
     → ((seat : ℕ) → is_contender showdown pot seat ≡ true → seat ≡ first)
     → ((seat : ℕ) → 1 ≤ seat → seat ≤ showdown.seats → share seat ≡ divided showdown.seats (λ seat. seat == first) pot.chips seat)

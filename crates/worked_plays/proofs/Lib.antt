@@ -1,5 +1,5 @@
--- What holds for each of six seats, of the one seat that contends, of traces as numbers, of hands that share by points, of
--- notes that name nobody, and of plays that say a hand.
+-- What holds for each of six seats, the only seat that contends, traces as numbers, hands that
+-- share by points, notes that name nobody, and plays of a hand that is written out.
 pub mod FewSeats
 pub mod OneContends
 pub mod SameNumbers

@@ -1,4 +1,5 @@
--- The one seat that contends for a pot wins it, and a seat that does not contend gets nothing of it.
+-- The only seat that contends for a pot wins it, and a seat that does not contend gets nothing of
+-- it.
 use Rattle.std.specs.Prelude.{◌≡◌, ◌≤◌, ◌==◌, ℕ, ◌+◌, ◌-◌, ◌/◌, ◌%◌, Bool, true, false, List, IsTrue, nat_lt, if◌then◌else◌}
 use Rattle.std.proofs.Common.{inl, inr, sym, subst, ap, ◌∙◌}
 use Rattle.std.proofs.lemmas.Bool.{cases_Bool, eqb-true, eq-eqb}
@@ -14,7 +15,7 @@ never_itself is_hand is_weaker options beats = elim beats.over [
   | inr other ↦ other.1.unbeaten beats.best beats.is_best.among beats.is_best.hand other.2
 ]
 
--- the one seat that contends is the winner
+-- the only seat that contends is the winner
 pub one_contends : (contends : ℕ → Bool) (beats : ℕ → ℕ → Type 0) (first : ℕ) → contends first ≡ true → ((seat : ℕ) → contends seat ≡ true → seat ≡ first) → ¬ (beats first first) → TellsWinners contends beats (λ seat. seat == first)
 one_contends contends beats first is alone never seat = (
   (λ wins.

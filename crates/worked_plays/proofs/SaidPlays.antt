@@ -1,4 +1,5 @@
--- A play is sound where the hand that its record says is legal and within the limits, and its notes are allowed.
+-- A play is sound if the hand in its record is legal and within the limits, and its notes are
+-- allowed.
 use Rattle.std.specs.Prelude.{List}
 use Rattle.std.proofs.Common.{subst, sym}
 use Rattle.play_event.specs.declared.setup.Rules.{Rules}
@@ -16,7 +17,7 @@ use Rattle.hand_records.specs.SoundRecord.{script_said}
 use Rattle.worked_plays.specs.Outcomes.{HasTrace}
 use Rattle.worked_plays.specs.Plays.{SaysHand, play_of}
 
--- what a sound play asks of a hand
+-- what a sound play requires of a hand
 record IsSoundHand (setup : Setup) (rules : Rules) (script : List Said) (notes : Notes) (trace : Trace) : Type 0 where
   pub valid : IsValid setup
   pub within : IsWithinLimits script
@@ -24,7 +25,7 @@ record IsSoundHand (setup : Setup) (rules : Rules) (script : List Said) (notes :
   pub traced : HasTrace setup script trace
   pub allowed : AreAllowed setup.stacks.seats notes
 
--- it is asked of what the record says
+-- it is required of the record
 pub sound_by : (setup : Setup) (rules : Rules) (script : List Said) (notes : Notes) (hand : Record) (trace : Trace) → SaysHand setup rules script notes hand
     → IsValid setup → IsWithinLimits script → IsLegalHand setup rules script → HasTrace setup script trace → AreAllowed setup.stacks.seats notes → IsSound (play_of hand trace)
 sound_by setup rules script notes hand trace says valid within legal traced allowed =
@@ -35,7 +36,7 @@ sound_by setup rules script notes hand trace says valid within legal traced allo
     let all : IsSoundHand hand.setup hand.rules (script_said hand) hand.notes trace = let P : Notes → Type 0 = λ n. IsSoundHand hand.setup hand.rules (script_said hand) n trace in subst P (sym says.same_notes) third in
     record { valid = all.valid; within = all.within; legal = all.legal; trace = all.traced; notes = all.allowed }
 
--- a sound play that says a hand has its trace
+-- a sound play of a hand has the trace of the hand
 pub trace_said : (setup : Setup) (rules : Rules) (script : List Said) (notes : Notes) (hand : Record) (trace : Trace) → SaysHand setup rules script notes hand → IsSound (play_of hand trace) → HasTrace setup script trace
 trace_said setup rules script notes hand trace says sound =
     let first : HasTrace setup (script_said hand) trace = let P : Setup → Type 0 = λ s. HasTrace s (script_said hand) trace in subst P says.same_setup sound.trace in

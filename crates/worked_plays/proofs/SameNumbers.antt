@@ -1,4 +1,4 @@
--- Traces that have the same numbers are one trace.
+-- Traces that have the same numbers are the same.
 use Rattle.std.proofs.Common.{◌≡◌, ℕ, Bool, true, false, ◌==◌, if◌then◌else◌, List, [], ◌∷◌, ◌++◌, flat_map, length, Option, Some, None, refl, sym, ap, ◌∙◌}
 use Rattle.std.proofs.lemmas.Bool.{eqb-true}
 use Rattle.std.proofs.lemmas.List.{append_assoc}
@@ -62,7 +62,7 @@ same_flag true false is = cc (is)
 same_flag false true is = cc (is)
 same_flag false false is = refl
 
--- numbers tell what they are the front of, and what is behind them
+-- numbers determine what they are the front of, and what comes after them
 abbrev TellsFront : {X : Type 0} → (X → List ℕ) → Type 0
 TellsFront {X} numbers = (x y : X) (r s : List ℕ) → numbers x ++ r ≡ numbers y ++ s → (x ≡ y) × (r ≡ s)
 
@@ -127,7 +127,7 @@ pot_front x y r s is =
     let eligible = numbers_front x.eligible y.eligible (cc (is)) r s (cc (is)) in
     (ap (λ n. pot n x.eligible) chips ∙ ap (pot y.chips) eligible.0, eligible.1)
 
--- what stands behind the places, the moves, the shown seats and the mucked ones
+-- what comes after the places, the moves, the shown seats and the mucked ones
 abbrev behind_mucked : TraceCore → List ℕ
 behind_mucked trace = length trace.pots ∷ flat_map pot_numbers trace.pots ++ trace.returned
 

@@ -1,4 +1,4 @@
--- The hand that p3 steals is legal, and has its trace.
+-- The hand in which p3 steals the blinds is legal, and has its trace.
 use Rattle.std.proofs.Common.{◌≡◌, inl, refl}
 use Rattle.card_set.specs.Spelling.{slot_spelled, rank_lettered, suit_lettered}
 use Rattle.chip_ledger.specs.Pots.{after_return, levels, layers, pots_at, pots_of}

@@ -1,5 +1,5 @@
--- A trace that is written out is that of a hand where their numbers are the same, and where its pots are shared as the rules
--- share them.
+-- A trace that is written out is that of a hand if their numbers are the same, and if its pots are
+-- shared by the rules.
 use Rattle.std.proofs.Common.{◌≡◌, true, List, subst}
 use Rattle.chip_ledger.specs.PotRow.{plain_shares}
 use Rattle.chip_ledger.specs.SeatRow.{amount_of}

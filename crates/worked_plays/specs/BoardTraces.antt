@@ -1,5 +1,5 @@
 -- Whole traces of hold'em and Omaha: an early show, a card that becomes known by a show, a pot that
--- is divided, and a muck.
+-- is split, and a muck.
 use Rattle.std.proofs.Common.{refl}
 use Rattle.std.specs.Prelude.{true, false, [], ◌∷◌, ◌++◌, codes}
 use Rattle.play_event.specs.declared.played.Act.TheVariants as acts
@@ -36,8 +36,8 @@ early_trace =
       finish = row_of (572100 ∷ 1997500 ∷ 1109500 ∷ []) refl;
     }
 
--- checked down: p2 shows a card that was not known, its hand is as good as p3's, and the odd chip
--- of the pot is p2's
+-- checked down: p2 shows a card that was not known, its hand is as good as p3's, and p2 gets the
+-- odd chip of the pot
 abbrev pub divided_trace : Trace
 divided_trace =
     record {

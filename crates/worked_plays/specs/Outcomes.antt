@@ -1,5 +1,5 @@
--- What is computed of a written hand: its canonical script, whether that is legal, complete, and
--- leaves the same trace, and whether a trace is that of the hand.
+-- What is computed of a hand that is written out: its canonical script, whether that is legal,
+-- complete, and leads to the same trace, and whether a trace is that of the hand.
 use Rattle.std.specs.Prelude.{◌≡◌, true, false, List}
 use Rattle.play_event.specs.declared.setup.Rules.{Rules}
 use Rattle.play_event.specs.declared.setup.Setup.{Setup}
@@ -16,7 +16,7 @@ use Rattle.worked_plays.specs.TraceNumbers.{is_same_list, trace_numbers}
 abbrev pub HasLegalCanon : Setup → List Said → Type 0
 HasLegalCanon setup script = AllLegal setup (canon_of setup script)
 
--- they are under these rules
+-- they are legal under these rules
 abbrev pub HasLegalCanonBy : Rules → Setup → List Said → Type 0
 HasLegalCanonBy rules setup script = AllLegalBy rules setup (canon_of setup script)
 
@@ -24,7 +24,7 @@ HasLegalCanonBy rules setup script = AllLegalBy rules setup (canon_of setup scri
 abbrev pub HasCompleteCanon : Setup → List Said → Type 0
 HasCompleteCanon setup script = has_early_end setup (canon_of setup script) ≡ false
 
--- the canonical script leaves the trace of the script
+-- the canonical script leads to the trace of the script
 abbrev pub HasSameTrace : Setup → List Said → Type 0
 HasSameTrace setup script =
     is_same_list

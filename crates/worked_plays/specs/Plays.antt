@@ -1,4 +1,4 @@
--- Records and plays of the hand that p3 steals.
+-- Records and plays of the hand in which p3 steals the blinds.
 use Rattle.std.specs.Prelude.{◌≡◌, List, [], ◌∷◌, codes}
 use Rattle.play_event.specs.declared.setup.Rules.{Rules}
 use Rattle.play_event.specs.declared.setup.Setup.{Setup}
@@ -10,7 +10,7 @@ use Rattle.hand_records.specs.declared.trace.Trace.{Trace}
 use Rattle.hand_records.specs.SoundRecord.{script_said}
 use Rattle.worked_hands.specs.Words.{deal, fold, raise}
 
--- a record says a hand
+-- a record is that of a hand
 pub record SaysHand (setup : Setup) (rules : Rules) (script : List Said) (notes : Notes)
     (hand : Record) : Type 0 where
   pub same_setup : hand.setup ≡ setup

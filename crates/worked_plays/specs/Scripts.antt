@@ -46,7 +46,8 @@ folded_draw =
     ∷ discard 1 (codes "7c") ∷ deal 1 (codes "8d") ∷ discard 3 (codes "????")
     ∷ deal 3 (codes "????") ∷ raise 1 10 ∷ fold 3 ∷ []
 
--- triple draw to its end: the two of clubs, which p1 discarded, is dealt to p2 past the deck
+-- triple draw to its end: the two of clubs, which p1 discarded, is dealt to p2 once the deck has
+-- run out
 abbrev pub past_the_deck : List Said
 past_the_deck =
     thirty_cards ++ (first_draw ++ (
@@ -77,8 +78,8 @@ short_deck_hand =
     ∷ board (codes "KhKdQs") ∷ show 2 (codes "AsKs") ∷ board (codes "Qc") ∷ board (codes "Js")
     ∷ show 1 (codes "JhJd") ∷ []
 
--- a match: after a short all-in p3 raises again, which only rules allow by which betting always
--- reopens
+-- a match: after a short all-in p3 raises again, which is legal only under rules by which every
+-- raise reopens the betting
 abbrev pub reopened_hand : List Said
 reopened_hand =
     deal 1 (codes "????") ∷ deal 2 (codes "????") ∷ deal 3 (codes "????")

@@ -1,5 +1,5 @@
 -- Whole traces of stud and draw: up-cards, cards that become known by discards and shows, a card
--- dealt past the deck, and folds.
+-- that is dealt once the deck has run out, and folds.
 use Rattle.std.proofs.Common.{refl}
 use Rattle.std.specs.Prelude.{true, false, [], ◌∷◌, ◌++◌, codes, Some}
 use Rattle.play_event.specs.declared.played.Act.TheVariants as acts
@@ -38,8 +38,8 @@ stud_trace =
       finish = row_of (93 ∷ 107 ∷ []) refl;
     }
 
--- single draw: all are all-in, p1 and p3 are shown, and p2, which was dealt an unknown card after
--- it showed, mucks; p1's eight-low beats a pair
+-- single draw: all players are all-in, p1 and p3 are shown, and p2, who was dealt an unknown card
+-- after the show, mucks; p1's eight-low beats a pair
 abbrev pub mixed_trace : Trace
 mixed_trace =
     record {
@@ -88,8 +88,8 @@ folded_trace =
       finish = row_of (46 ∷ 38 ∷ 36 ∷ []) refl;
     }
 
--- triple draw of six seats: p2 is dealt the two of clubs, which p1 discarded, past the deck; p1
--- alone is shown
+-- triple draw with six seats: the two of clubs, which p1 discarded, is dealt to p2 once the deck
+-- has run out; only p1 is shown
 abbrev pub past_deck_trace : Trace
 past_deck_trace =
     record {

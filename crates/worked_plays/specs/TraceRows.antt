@@ -12,14 +12,14 @@ use Rattle.chip_ledger.specs.declared.seat_row.SeatRow.{SeatRow}
 use Rattle.chip_ledger.specs.Fillers.{index-replicate, no_amounts, no_pot}
 use Rattle.hand_records.specs.declared.record.NetRow.{NetRow}
 
--- an entry behind a list is the filler
+-- an entry past the end of a list is the filler
 pub behind : {X : Type 0} (xs : List X) (n : ℕ) (x : X) (k : ℕ)
     → length xs ≤ k → slice_index_or (xs ++ replicate n x) k x ≡ x
 behind [] n x k late = index-replicate n x k
 behind (y ∷ xs) n x zero late = absurd (omega (arith, late))
 behind (y ∷ xs) n x (suc k) late = behind xs n x k (omega (arith, late))
 
--- as long as fillers reach
+-- this holds as far as the fillers go
 pub filler_at : {X : Type 0} (xs : List X) (n : ℕ) (x : X) (k : ℕ)
     → length xs ≤ k → k < length xs + n → slice_get (xs ++ replicate n x) k ≡ Some x
 filler_at [] zero x k late early = absurd (omega (arith, early))
@@ -29,7 +29,7 @@ filler_at (y ∷ xs) n x zero late early = absurd (omega (arith, late))
 filler_at (y ∷ xs) n x (suc k) late early =
     filler_at xs n x k (omega (arith, late)) (omega (arith, early))
 
--- a list and its fillers are so many
+-- a list and its fillers have this length
 pub filled_to : {X : Type 0} (xs : List X) (most : ℕ) (x : X)
     → length xs ≤ most → length (xs ++ replicate (most - length xs) x) ≡ most
 filled_to xs most x few =
@@ -57,7 +57,7 @@ flags_of flags fits =
       filler = behind flags (10 - length flags) false;
     }
 
--- a pot of so many chips, with a flag for each seat that may win it
+-- a pot with this many chips, with a flag for each seat that may win it
 abbrev pub pot_of : ℕ → (flags : List Bool) → IsTrue (is_flags flags) → Pot
 pot_of chips flags fits = record { chips = chips; eligible = flags_of flags fits }
 

@@ -1,4 +1,4 @@
--- The words in which traces are written out, and hands with their whole traces: one that is won by
+-- The words for traces that are written out, and hands with their whole traces: one that is won by
 -- folds and one that is won by the only shown hand.
 use Rattle.std.proofs.Common.{refl}
 use Rattle.std.specs.Prelude.{ℕ, true, false, List, [], ◌∷◌, ◌++◌, codes, map, Option, Some, None}
@@ -38,8 +38,8 @@ p5 = seat_of 5 refl
 abbrev pub p6 : Seat
 p6 = seat_of 6 refl
 
--- the cards of a text, dealt on a street to a seat, or to the board where none is said, and
--- discarded in the draw of the last street, or kept where it is 0
+-- the cards of a text, dealt on a street to a seat, or to the board if there is none; the last
+-- number is the street in whose draw they were discarded, 0 if they were kept
 abbrev pub placed : Option Seat → ℕ → List ℕ → ℕ → List Place
 placed owner street cards gone =
     map (λ slot. record { owner = owner; street = street; slot = slot; gone = gone })
@@ -57,8 +57,8 @@ on_board street cards = placed None street cards 0
 abbrev pub dealt_to : Seat → List ℕ → List Place
 dealt_to seat cards = kept_by seat 1 cards
 
--- what a seat did on a street of fixed limit: the chips of the street that it had put before and
--- after, the price before, and where a raise by the unit would have gone
+-- what a seat did on a street of fixed limit: its bet on the street before and after, the current
+-- bet before, and the target of a raise by the raise unit
 abbrev pub moved_fixed : ℕ → Seat → Act → (from to price unit_to : ℕ) → Move
 moved_fixed street seat act from to price unit_to =
     record {
@@ -72,11 +72,11 @@ moved_fixed street seat act from to price unit_to =
       unit_to = unit_to;
     }
 
--- the same in another limit, where no unit is kept
+-- the same in another limit, which has no raise unit
 abbrev pub moved : ℕ → Seat → Act → (from to price : ℕ) → Move
 moved street seat act from to price = moved_fixed street seat act from to price 0
 
--- what a seat checks
+-- a check of a seat
 abbrev pub checked : ℕ → Seat → Move
 checked street seat = moved street seat acts.Call 0 0 0
 

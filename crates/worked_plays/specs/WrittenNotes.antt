@@ -34,15 +34,15 @@ abbrev pub numbered : (first second third : ℕ) → Notes
 numbered first second third =
     record no_notes { seats = Some (first ∷ second ∷ third ∷ replicate 7 0) }
 
--- the table has so many seats
+-- the table has this number of seats
 abbrev pub seated : ℕ → Notes
 seated count = record no_notes { seat_count = Some count }
 
--- a date, each part of which may be left out
+-- a date; each part may be missing
 abbrev pub dated : (year month day : Option ℕ) → Notes
 dated year month day = record no_notes { year = year; month = month; day = day }
 
--- a time of the day
+-- a time of day
 abbrev pub timed : (hour minute second nano : ℕ) → Notes
 timed hour minute second nano =
     record no_notes

@@ -1,4 +1,4 @@
--- Traces that the written hands do not have.
+-- Traces that the hands written out do not have.
 use Rattle.std.proofs.Common.{refl}
 use Rattle.std.specs.Prelude.{false, true, [], ◌∷◌, ◌++◌, codes}
 use Rattle.play_event.specs.declared.played.Act.TheVariants as acts
@@ -7,11 +7,11 @@ use Rattle.hand_records.specs.declared.trace.Trace.{Trace}
 use Rattle.worked_plays.specs.TraceRows.{flags_of, pot_of, pots_of, shares_of}
 use Rattle.worked_plays.specs.Traces.{checked_trace, dealt_to, moved, p1, p2, p3, steal_trace}
 
--- p3 ends with a chip of p2
+-- p3 finishes with one chip of p2
 abbrev pub chip_from_p2 : Trace
 chip_from_p2 = record steal_trace { finish = row_of (99 ∷ 97 ∷ 104 ∷ []) refl }
 
--- the four chips that nobody called are in the pot, and p3 wins them
+-- the four uncalled chips are in the pot, and p3 wins them
 abbrev pub returned_in_pot : Trace
 returned_in_pot = record steal_trace {
   pots =

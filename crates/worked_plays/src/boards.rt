@@ -9,7 +9,7 @@ ghost use Rattle.canon_script.specs.CanonScript.{canon_of};
 ghost use Rattle.worked_plays.specs.Outcomes.{HasCompleteCanon, HasLegalCanon, HasSameTrace};
 ghost use Rattle.worked_plays.specs.Scripts.{omaha_hand, stud_hand};
 
-/// Shows before the river come last, and a card that became known by a show is dealt so.
+/// Shows before the river come last, and a card that became known by a show is dealt as known.
 pub fn holdem_hands()
     ensures early_shows_come_last { canon_of antes_and_blinds early_shows
         ≡ deal 1 (codes "Ac2d") ∷ deal 2 (codes "????") ∷ deal 3 (codes "7h6h")
@@ -43,7 +43,7 @@ pub fn omaha_hands()
     ensures it_has_the_trace { HasSameTrace pot_limit omaha_hand }
 {}
 
-/// Each street is dealt from p1 upward, and all cards are shown where the down-cards were.
+/// Each street is dealt from p1 upward, and a show of the down-cards becomes a show of all cards.
 pub fn stud_hands()
     ensures the_hand_is_legal { AllLegal stud stud_hand }
     ensures its_canon { canon_of stud stud_hand

@@ -8,7 +8,7 @@ ghost use Rattle.worked_plays.specs.Outcomes.{HasCompleteCanon, HasLegalCanon, H
 ghost use Rattle.worked_plays.specs.Scripts.{badugi_hand, folded_draw, mixed_draw, past_the_deck};
 ghost use Rattle.worked_plays.specs.Setups.{badugi, three_in_single_draw};
 
-/// All discards come before the deals, and a seat that showed and then was dealt an unknown card
+/// All discards come before the deals, and a seat that showed and was then dealt an unknown card
 /// mucks.
 pub fn single_draws()
     ensures the_hand_is_legal { AllLegal three_in_single_draw mixed_draw }
@@ -23,7 +23,7 @@ pub fn single_draws()
     ensures it_has_the_trace { HasSameTrace three_in_single_draw mixed_draw }
 {}
 
-/// The seats that are live when the draw begins discard, also one that folds after it; a hand won
+/// The seats that are live when the draw begins discard, even one that folds after it; a hand won
 /// by folds has no showdown.
 pub fn folded_draws()
     ensures the_hand_is_legal { AllLegal three_in_single_draw folded_draw }
@@ -37,7 +37,7 @@ pub fn folded_draws()
     ensures it_has_the_trace { HasSameTrace three_in_single_draw folded_draw }
 {}
 
-/// A card that was discarded is dealt again past the deck.
+/// A discarded card is dealt again once the deck has run out.
 pub fn draws_past_the_deck()
     ensures the_hand_is_legal { AllLegal triple_draw past_the_deck }
     ensures its_canon_is_legal { HasLegalCanon triple_draw past_the_deck }

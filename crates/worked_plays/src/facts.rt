@@ -1,12 +1,12 @@
-//! Stated facts beside the trace of a written hand: the first that differs is found, in the order
-//! finishing stacks, wins, pots, values. Each function does nothing: its contract is computed from
-//! the rules.
+//! Stated facts compared with the trace of a hand that is written out: the first that differs is
+//! found, in the order finishing stacks, wins, pots, values. Each function does nothing: its
+//! contract is computed from the rules.
 ghost use Rattle.std.specs.Prelude.{◌≡◌, None, Some, negsuc, pos};
 ghost use Rattle.hand_canon.specs.Agreement.{Finish, Pots, Value, Win, comparison, first_difference};
 ghost use Rattle.worked_plays.specs.StatedFacts.{all_states, finish_states, nothing_stated, pot_states, value_states, win_states};
 ghost use Rattle.worked_plays.specs.Traces.{steal_trace};
 
-/// What is not stated does not differ, and what is stated as it is does not.
+/// A fact that is not stated does not differ, nor does one that is stated rightly.
 pub fn agreeing_facts()
     ensures nothing { first_difference steal_trace nothing_stated ≡ None }
     ensures everything { first_difference steal_trace all_states ≡ None }

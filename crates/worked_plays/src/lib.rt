@@ -1,5 +1,5 @@
 //! Hands that are written out, with what is computed of each from the definitions: its whole trace,
-//! its canonical script, that this is legal and leaves the same trace, stated facts that differ,
+//! its canonical script, that this is legal and leads to the same trace, stated facts that differ,
 //! notes that are not allowed, and sound plays.
 #![tactic(auto)]
 

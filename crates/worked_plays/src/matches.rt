@@ -10,8 +10,8 @@ ghost use Rattle.worked_plays.specs.Outcomes.{HasCompleteCanon, HasLegalCanon, H
 ghost use Rattle.worked_plays.specs.Scripts.{capped_hand, reopened_hand, short_deck_hand};
 ghost use Rattle.worked_plays.specs.Setups.{four_raises, short_deck};
 
-/// After an all-in before the flop the board is dealt street by street, and both seats show at the
-/// end.
+/// After an all-in before the flop the board is dealt street by street, and both players show at
+/// the end.
 pub fn short_deck_hands()
     ensures the_hand_is_legal { AllLegal short_deck short_deck_hand }
     ensures its_canon { canon_of short_deck short_deck_hand
@@ -24,7 +24,7 @@ pub fn short_deck_hands()
     ensures it_has_the_trace { HasSameTrace short_deck short_deck_hand }
 {}
 
-/// A raise that is closed by the rules of hand histories stays so, and is legal in a match.
+/// A raise that is closed under the rules of hand histories stays closed, and is legal in a match.
 pub fn reopened_hands()
     ensures the_hand_is_legal { AllLegalBy uncapped first_short reopened_hand }
     ensures a_raise_is_closed { closed_after first_short reopened_hand ≡ 50 ∷ [] }
@@ -34,7 +34,7 @@ pub fn reopened_hands()
     ensures it_has_the_trace { HasSameTrace first_short reopened_hand }
 {}
 
-/// As many raises as the caps of a match allow.
+/// The number of raises that the caps of a match allow.
 pub fn capped_hands()
     ensures the_hand_is_legal { AllLegalBy four_raises fixed_limit capped_hand }
     ensures its_canon_is_legal { HasLegalCanonBy four_raises fixed_limit capped_hand }

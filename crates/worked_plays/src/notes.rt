@@ -14,7 +14,7 @@ pub fn texts()
 {}
 
 /// No note equals its default: the second seat is `p2`, seats are numbered from 1, and a table has
-/// as many seats as the hand. Seats that the hand has not are not named.
+/// as many seats as the hand. Seats past those of the hand have no names.
 pub fn players()
     ensures two_names { AreAllowed 3 (named (Some (codes "p2")) (Some (codes "P2")) None) }
     ensures the_default_name { ¬ (AreAllowed 3 (named None (Some (codes "p2")) None)) }
@@ -28,7 +28,7 @@ pub fn players()
     ensures a_table_for_none { ¬ (AreAllowed 3 (seated 0)) }
 {}
 
-/// A whole date is one of the calendar; a part of one is in its range.
+/// A complete date is one of the calendar; a part of a date is within its range.
 pub fn dates()
     ensures leap_day_of_2024 { AreAllowed 3 (dated (Some 2024) (Some 2) (Some 29)) }
     ensures leap_day_of_2000 { AreAllowed 3 (dated (Some 2000) (Some 2) (Some 29)) }

@@ -1,5 +1,5 @@
-//! Plays of the hand that p3 steals, a sound one and others. Each function does nothing: its
-//! contract is computed from the definition of sound plays.
+//! Plays of the hand in which p3 steals the blinds, a sound one and others. Each function does
+//! nothing: its contract is computed from the definition of sound plays.
 ghost use Rattle.std.specs.Prelude.{◌≡◌, codes, None, Some, replicate};
 ghost use Rattle.play_event.specs.HistoryRules.{history_rules};
 ghost use Rattle.hand_canon.specs.Sound.{IsSound};
@@ -21,7 +21,7 @@ pub fn sound_plays()
         → IsSound (play_of hand steal_trace) }
 {}
 
-/// Each breaks one condition.
+/// Plays that each break one condition.
 pub fn unsound_plays()
     ensures another_trace { (hand : Record) → SaysHand no_limit history_rules steal no_notes hand
         → ¬ (IsSound (play_of hand chip_from_p2)) }

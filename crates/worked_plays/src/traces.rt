@@ -12,7 +12,7 @@ ghost use Rattle.worked_plays.specs.StreetTraces.{badugi_trace, folded_trace, mi
 ghost use Rattle.worked_plays.specs.Traces.{checked_draw, checked_trace, steal, steal_trace};
 ghost use Rattle.worked_plays.specs.WrongTraces.{muck_shown, muck_paid, returned_in_pot, chip_from_p2, cards_named, fold_forgotten};
 
-/// A hand that is won by folds: the raise that nobody calls is returned, and is in no pot.
+/// A hand that is won by folds: the uncalled raise is returned, and is in no pot.
 pub fn traces_of_folds()
     ensures the_hand_is_legal { IsLegalHand no_limit history_rules steal }
     ensures its_trace { HasTrace no_limit steal steal_trace }
@@ -22,7 +22,7 @@ pub fn traces_of_folds()
     ensures a_fold_left_out { ¬ (HasTrace no_limit steal fold_forgotten) }
 {}
 
-/// A contested hand that the one shown hand wins.
+/// A contested hand that the only shown hand wins.
 pub fn traces_of_showdowns()
     ensures the_hand_is_legal { IsLegalHand single_draw history_rules checked_draw }
     ensures its_trace { HasTrace single_draw checked_draw checked_trace }
@@ -31,7 +31,7 @@ pub fn traces_of_showdowns()
 {}
 
 /// Hold'em: shows before the river, with chips that are returned; and a card that becomes known by
-/// a show, in a pot that two equal hands divide, whose odd chip goes to the lower seat.
+/// a show, in a pot that two equal hands split, with the odd chip to the lower seat.
 pub fn traces_of_holdem()
     ensures early_shows { HasTrace antes_and_blinds early_shows early_trace }
     ensures a_divided_pot { HasTrace no_limit named_at_showdown divided_trace }
@@ -43,14 +43,15 @@ pub fn traces_of_omaha_and_stud()
     ensures stud { HasTrace stud stud_hand stud_trace }
 {}
 
-/// Single draw: cards that become known by discards and shows, a seat that showed and mucks, and a
-/// hand that is won by folds.
+/// Single draw: cards that become known by discards and shows, a seat that showed and then mucks,
+/// and a hand that is won by folds.
 pub fn traces_of_single_draws()
     ensures mixed { HasTrace three_in_single_draw mixed_draw mixed_trace }
     ensures folded { HasTrace three_in_single_draw folded_draw folded_trace }
 {}
 
-/// Three draws: a discarded card that is dealt again past the deck, and two hands of badugi.
+/// Three draws: a discarded card that is dealt again once the deck has run out, and two hands of
+/// badugi.
 pub fn traces_of_triple_draws()
     ensures past_the_deck { HasTrace triple_draw past_the_deck past_deck_trace }
     ensures badugi { HasTrace badugi badugi_hand badugi_trace }

@@ -4,7 +4,7 @@ use Rattle.ohh_members.specs.Front.{stacks_of}
 use Rattle.ohh_members.specs.Players.{plain_player}
 use Rattle.ohh_members.proofs.rows.stack_row.Given as goal
 
--- the stacks so far are those of the players so far, and behind them stand zeros
+-- the stacks so far are those of the players so far, and after them come zeros
 abbrev pub invariant-loop-index : goal.invariant-loop-index
 invariant-loop-index l = record {
   ten : length l.amounts ≡ 10;

@@ -7,7 +7,8 @@ use Rattle.phh_fields.specs.Fields.{at_item}
 use Rattle.phh_fields.specs.Rows.{ante_said, antes_from}
 use Rattle.phh_fields.proofs.rows.fill_antes.Given as goal
 
--- the antes so far and those of the values that are left are all of them, and behind those so far stand zeros
+-- the antes so far and those of the values that are left are all of them, and after those so far
+-- come zeros
 abbrev pub invariant-loop-index : goal.invariant-loop-index
 invariant-loop-index l = record {
   ten : length l.amounts ≡ 10;

@@ -6,7 +6,8 @@ use Rattle.phh_fields.specs.Fields.{at_item, amount_said}
 use Rattle.phh_fields.specs.Rows.{amounts_said}
 use Rattle.phh_fields.proofs.rows.read_amounts.Given as goal
 
--- the amounts so far and those of the values that are left are all of them, and behind those so far stand zeros
+-- the amounts so far and those of the values that are left are all of them, and after those so far
+-- come zeros
 abbrev pub invariant-loop-index : goal.invariant-loop-index
 invariant-loop-index l = record {
   ten : length l.amounts ≡ 10;

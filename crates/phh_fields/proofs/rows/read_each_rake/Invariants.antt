@@ -8,7 +8,8 @@ use Rattle.phh_fields.specs.Fields.{at_item, amount_said}
 use Rattle.phh_fields.specs.Rows.{amounts_said}
 use Rattle.phh_fields.proofs.rows.read_each_rake.Given as goal
 
--- the rakes so far and those of the values that are left are all of them, and behind those so far stand zeros
+-- the rakes so far and those of the values that are left are all of them, and after those so far
+-- come zeros
 abbrev pub invariant-loop-index : goal.invariant-loop-index
 invariant-loop-index l = record {
   eleven : length l.rakes ≡ 11;

@@ -9,7 +9,8 @@ use Rattle.phh_fields.specs.NoteFields.{names_from, text_note_said}
 use Rattle.phh_fields.proofs.seating.fill_names.Given as goal
 use Rattle.chip_ledger.specs.SeatsSaid.{default_name}
 
--- the names so far and those of the values that are left are all of them, and behind those so far stand none
+-- the names so far and those of the values that are left are all of them, and there are none after
+-- those so far
 abbrev pub invariant-loop-index : goal.invariant-loop-index
 invariant-loop-index l = record {
   ten : length l.names ≡ 10;

@@ -8,7 +8,8 @@ use Rattle.phh_fields.specs.Fields.{at_item, number_said}
 use Rattle.phh_fields.specs.NoteFields.{numbers_from}
 use Rattle.phh_fields.proofs.seating.fill_numbers.Given as goal
 
--- the numbers so far and those of the values that are left are all of them, and behind those so far stand zeros
+-- the numbers so far and those of the values that are left are all of them, and after those so far
+-- come zeros
 abbrev pub invariant-loop-index : goal.invariant-loop-index
 invariant-loop-index l = record {
   ten : length l.numbers ≡ 10;

@@ -3,7 +3,7 @@ use Rattle.toml.specs.View.{members_view}
 use Rattle.phh_reading.specs.Order.{are_hands}
 use Rattle.phh_reading.proofs.order.are_hands.Given as goal
 
--- all members are hands where those that are left are
+-- all members are hands if those that are left are
 abbrev pub invariant-loop-key : goal.invariant-loop-key
 invariant-loop-key l = record {
   can_next : (goal.iterator-loop-key).can_next l.key-iterator;

@@ -4,7 +4,8 @@ use Rattle.phh_reading.specs.Order.{are_hands, placed_all}
 use Rattle.phh_reading.proofs.Placing.{AreKeyed, entries_view}
 use Rattle.phh_reading.proofs.order.values_in_order.Given as goal
 
--- the entries so far, and those of the members that are left placed among them, are all of them in order
+-- the entries so far, and those of the members that are left placed among them, are all of them in
+-- order
 abbrev pub invariant-loop-key : goal.invariant-loop-key
 invariant-loop-key l = record {
   can_next : (goal.iterator-loop-key).can_next l.key-iterator;

@@ -1,4 +1,4 @@
--- The answer is by the bytes of the file, or says that they are too many.
+-- The answer follows from the bytes of the file, or says that they exceed the limit.
 use Rattle.std.proofs.Common.{IfOk, IfSome, List, ℕ, subst}
 use Rattle.poker_cli.specs.Answer.{Files, IsComparison}
 use Rattle.poker_cli.specs.Lacking.{HasNoFile}

@@ -1,4 +1,4 @@
--- More bytes than are read are answered as such.
+-- More bytes than the limit are answered as such.
 use Rattle.std.proofs.Common.{◌∙◌, ℕ, List, ap, subst, Err}
 use Rattle.poker_cli.specs.Answer.{IsComparison}
 use Rattle.poker_cli.specs.Told.{answer_told}

@@ -1,4 +1,4 @@
--- The answer is by the two files, or tells what that of the game lacks.
+-- The answer follows from the two files, or reports what is wrong with the game file.
 use Rattle.std.proofs.Common.{◌≡◌, IfOk, IfSome, Option, None, subst}
 use Rattle.command_words.specs.Requests.{sides_in}
 use Rattle.poker_cli.specs.Answer.{Files, IsComparedTo}

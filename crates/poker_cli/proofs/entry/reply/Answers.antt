@@ -1,4 +1,4 @@
--- Made hands are answered by their summary, and other requests by what is read.
+-- Generated hands are answered by their summary, and other requests by what is read.
 use Rattle.std.proofs.Common.{IfErr, IfOk, subst, sym}
 use Rattle.std.proofs.lemmas.Result.{IfErr-weaker}
 use Rattle.command_words.specs.Requests.{request_in}

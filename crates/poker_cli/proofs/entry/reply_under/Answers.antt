@@ -1,4 +1,5 @@
--- Where logs are under a game, the answer is by the game of its file, or what the file lacks is told.
+-- If logs are under a game, the answer is by the game in its file, or what is wrong with the file
+-- is reported.
 use Rattle.std.proofs.Common.{subst, IfOk, IfSome}
 use Rattle.std.proofs.lemmas.Result.{IfErr-weaker}
 use Rattle.poker_cli.specs.Answer.{Files, IsAnswerBy}

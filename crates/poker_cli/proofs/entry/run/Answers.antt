@@ -1,4 +1,4 @@
--- Want of memory is told before anything is read.
+-- Out of memory for the words is reported before anything is read.
 use Rattle.std.proofs.Common.{ap, map, refl, string_bytes, sym, ◌∙◌}
 use Rattle.std.specs.Option.{option_map}
 use Rattle.command_words.specs.Requests.{request_in}
@@ -29,7 +29,7 @@ returns-in-Err-clause-headline g c =
     headline_told said left told _ _ statuses.Memory (Unit {0}) (ends_unread said left told _ _ _)
     (record { unwritten = λ nothing. refl; failed = λ is. cc; quiet = λ is. cc; fixed = c.tell-in-Err.ensures })
 
--- The headline follows from how the request ends that the words are read as.
+-- The headline follows from how the request in the words ends.
 pub returns-in-Ok-Some-clause-headline : goal.returns-in-Ok-Some-clause-headline
 returns-in-Ok-Some-clause-headline g c =
     let ends = c.run_request.ensures in

@@ -1,4 +1,4 @@
--- Each row is within what a line can say, and adds its line.
+-- Each row is within the limits of a line, and adds its line.
 use Rattle.std.proofs.Common.{◌≡◌, ℕ, ◌+◌, ◌++◌, ◌∙◌, List, Some, ap, append_assoc, drop, flat_map, rules, slice_get, string_bytes, sym}
 use Rattle.std.specs.Option.{option_to_list}
 use Rattle.list_laws.proofs.FlatMaps.{next_part}

@@ -1,4 +1,4 @@
--- Each fact is one of what a replay is.
+-- Each fact is one of those of a replay.
 use Rattle.std.proofs.lemmas.Result.{IfOk-weaker}
 use Rattle.hand_canon.specs.Agreement.{HasBoundedPots}
 use Rattle.hand_canon.specs.LegalHand.{IsLegalHand}

@@ -1,4 +1,4 @@
--- Without draws nothing is dealt past the deck.
+-- Without draws nothing is dealt past the end of the deck.
 use Rattle.showdown_laws.proofs.DealtOnce.{dealt_once}
 use Rattle.showdown_laws.proofs.laws.law_of_cards_dealt_once.Goals as goal
 

@@ -1,4 +1,4 @@
--- No legal event lets two cards on the table clash.
+-- No legal event makes two cards on the table clash.
 use Rattle.showdown_laws.proofs.Different.{cards_differ}
 use Rattle.showdown_laws.proofs.laws.law_of_different_cards.Goals as goal
 

@@ -1,4 +1,5 @@
--- A pot of one seat is all its own, and one of several goes to those that are shown.
+-- A pot that one seat may win is all its own, and one that several may win goes to those that are
+-- shown.
 use Rattle.std.proofs.Common.{◌≡◌, ◌≤◌, ◌*◌, ◌&&◌, ℕ, Bool, not, nat_le, length, if◌then◌else◌, sum_by, sym, ◌∙◌, ap, subst, arith, inl, inr}
 use Rattle.std.specs.List.{list_any}
 use Rattle.std.proofs.lemmas.Bool.{and_from, le-leb, true≢false}

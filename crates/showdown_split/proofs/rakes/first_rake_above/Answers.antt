@@ -1,4 +1,4 @@
--- Each turn looks at one pot more.
+-- Each turn looks at one more pot.
 use Rattle.std.proofs.Common.{◌≡◌, ◌+◌, ◌-◌, true, false, find, slice_index, sym, ap, ◌∙◌, arith}
 use Rattle.std.specs.List.{range_with_len}
 use Rattle.std.proofs.lemmas.Bool.{le-ltb, lt-ltb}

@@ -1,4 +1,4 @@
--- The traces are computed; one seat alone is shown.
+-- The traces are computed; only one seat is shown.
 use Rattle.std.proofs.Common.{◌≡◌, lit≤, refl}
 use Rattle.card_set.specs.Ranks.{falling_heights, occurring, ranks_of, times}
 use Rattle.card_set.specs.Spelling.{rank_lettered, slot_spelled, suit_lettered}

@@ -1,5 +1,5 @@
--- The traces are computed; past the deck one seat alone is shown, and of the hands of badugi the one with the most points
--- wins.
+-- The traces are computed; in the hand past the end of the deck only one seat is shown, and of the
+-- hands of badugi the one with the most points wins.
 use Rattle.std.proofs.Common.{◌≡◌, lit≤, refl}
 use Rattle.card_set.specs.Ranks.{falling_heights, occurring, ranks_of, times}
 use Rattle.card_set.specs.Spelling.{rank_lettered, slot_spelled, suit_lettered}

@@ -37,7 +37,7 @@ returns-clause-said c =
     ∙ ap (λ some. some && not (has_all_antes (plain_named_blinds table) posts)) (any_seats (λ seat. nat_lt 0 (amount_of c.antes_of-antes.result seat)) (λ seat. nat_lt 0 (held_ante (plain_named_blinds table) posts seat)) (seat_count (plain_named_blinds table)) (λ seat from to. ap (λ n. nat_lt 0 n) (antes.antes posts first seat from (omega (arith, to, count))))))
     (row_listed (named_blind (plain_named_blinds table) posts) c.blinds_of.result (seat_count (plain_named_blinds table)) (blinds.seats ∙ sym count) (λ seat from to. blinds.blinds posts first seat from (omega (arith, to, count))))
 
--- of two seats the second has the small blind, and the first the big one
+-- with two seats the second has the small blind, and the first the big one
 small_of_two : (table : PlainNamedBlinds) (posts : List PlainPost) → seat_count table ≡ 2 → named_blind table posts 2 ≡ table.small_blind
 small_of_two table posts two = rw two refl
 

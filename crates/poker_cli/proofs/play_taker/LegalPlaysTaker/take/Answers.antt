@@ -1,4 +1,4 @@
--- The play of one more legal hand is taken behind those of the hands before it.
+-- The play of one more legal hand is taken after those of the hands before it.
 use Rattle.std.proofs.Common.{List, arith, refl, subst, sym, ◌∙◌}
 use Rattle.convert_core.proofs.Taken.{all_counted, legal_more}
 use Rattle.convert_core.specs.Verdicts.{legal_plays}

@@ -1,4 +1,4 @@
--- The lines of one more hand are put behind the others, or none is kept.
+-- The lines of one more hand are appended, or none is kept.
 use Rattle.std.proofs.Common.{◌≡◌, true, length, ap, arith, rules}
 use Rattle.std.proofs.lemmas.Result.{on_ok_weaker}
 use Rattle.poker_cli.proofs.SeenViews.{dropped_more, kept_more, not_kept_more}

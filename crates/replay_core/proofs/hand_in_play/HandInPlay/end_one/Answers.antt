@@ -1,4 +1,4 @@
--- What is due is ended where it is complete.
+-- What is due is ended if it is complete.
 use Rattle.std.proofs.Common.{◌≡◌, true, false, sym, ap, ◌∙◌}
 use Rattle.play_event.specs.declared.setup.Setup.{Setup}
 use Rattle.play_event.specs.Due.{turn}

@@ -1,4 +1,5 @@
--- Before the first move of a street the row has the up-cards of the past: where blinds decide who opens, there are none.
+-- Before the first move of a street the row has the up-cards of the past: if blinds decide who
+-- opens, there are none.
 use Rattle.std.proofs.Common.{sym, ap, is_none, ◌∙◌}
 use Rattle.std.proofs.lemmas.Bool.{true≢false}
 use Rattle.replay_core.proofs.Joined.{ups_of_past}
