@@ -3,7 +3,7 @@ ghost use Rattle.std.specs.Prelude.{◌≡◌, IfOk};
 ghost use Rattle.acpc_reading.specs.Betting.{no_bets};
 ghost use Rattle.acpc_reading.specs.Views.{bets_in};
 
-use card_set::Memory;
+use card_set::{Memory, list_with_room};
 use crate::step::BettingStep;
 use std::alloc::Global;
 
@@ -29,7 +29,7 @@ impl ReadBetting {
         ensures { IfOk result (λ betting. bets_in betting ≡ no_bets 0) }
     {
         Ok(ReadBetting {
-            steps: Vec::with_capacity(alloc, USUAL_LETTERS)?,
+            steps: list_with_room(alloc, USUAL_LETTERS)?,
             round: 1,
             moves: 0,
             file_moves: 0,

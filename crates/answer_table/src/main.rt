@@ -43,7 +43,7 @@ fn print_answers(rt: &HostRuntime) -> io::Result<()> {
         match answer_to(alloc, &mut pieces, line.as_str()) {
             Ok(Some(answer)) => println!(rt; "    {answer}")?,
             Ok(None) => {}
-            Err(Memory) => return Err(io::Error::from(io::ErrorKind::OutOfMemory)),
+            Err(_) => return Err(io::Error::from(io::ErrorKind::OutOfMemory)),
         }
     }
     Ok(())

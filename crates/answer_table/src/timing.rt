@@ -41,7 +41,7 @@ fn print_file(rt: &HostRuntime, seed: u64, hands: u32) -> io::Result<()>
         Ok(file) => rt.stdout().write_all(&file.bytes),
         Err(why) => match why.text(rt.alloc()) {
             Ok(text) => rt.println(text.as_str()),
-            Err(Memory) => Err(io::Error::from(io::ErrorKind::OutOfMemory)),
+            Err(_) => Err(io::Error::from(io::ErrorKind::OutOfMemory)),
         },
     }
 }

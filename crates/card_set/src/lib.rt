@@ -6,6 +6,7 @@ mod deck;
 mod known;
 mod memory;
 mod pick;
+mod room;
 mod row;
 mod set;
 mod spelling;
@@ -15,6 +16,7 @@ pub use deck::{card_at, card_placed, place_in_deck, place_of_rank, place_of_suit
 pub use known::known_row;
 pub use memory::Memory;
 pub use pick::Pick;
+pub use room::{MOST_ROOM, list_with_room};
 pub use row::{CardRow, ROW_ENTRIES, SlotRow};
 pub use set::CardSet;
 pub use spelling::{CardFault, read_slots, slot_text};

@@ -1,5 +1,6 @@
 //! The one loop over the records of a file.
 ghost use Rattle.std.specs.Prelude.{◌≡◌, ◌<◌, ◌≤◌, ◌+◌, ◌++◌, ◌⊎◌, [], ◌∷◌, true, false, All, List, length, IfErr, IfOk, OnOk};
+ghost use Rattle.card_set.specs.declared.room.TheConstants.{MOST_ROOM};
 ghost use Rattle.convert_core.specs.Judged.{IsFaultAt, IsPlaysFaultOf, IsPlaysWant, IsRefusedFor};
 ghost use Rattle.convert_core.specs.declared.refusal.PlaysFault.TheVariants as plays_faults;
 ghost use Rattle.first_fault.specs.declared.limits.TheConstants.{MOST_HANDS};
@@ -11,6 +12,7 @@ ghost use Rattle.convert_core.specs.Taking.{AreTaken, HasTaken};
 use crate::judging::push_play;
 use crate::refusal::{PlaysFault, Refusal};
 use crate::taker::Taker;
+use card_set::list_with_room;
 use hand_records::{Play, Record, Records};
 use std::alloc::Global;
 
@@ -36,7 +38,7 @@ pub fn take_each<T: Taker>(
     ensures refused { IfErr result (IsPlaysFaultOf records) }
     ensures goes_on { T.GOES_ON ≡ true → IfErr result IsPlaysWant }
 {
-    let mut kept = Vec::with_capacity(alloc, room(taker, records.len()))?;
+    let mut kept = list_with_room(alloc, room(taker, records.len()))?;
     let mut place = 0;
     for hand in records.into_vec() {
         match take_hand(alloc, taker, &mut kept, place, hand) {

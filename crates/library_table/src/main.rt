@@ -25,7 +25,7 @@ fn main(rt: HostRuntime) -> io::Result<()> {
     for line in rt.lines(rt.alloc()) {
         match answered(&rt, line?.as_str()) {
             Ok(row) => println!(rt; "{row}")?,
-            Err(Memory) => return Err(Error::from(ErrorKind::OutOfMemory)),
+            Err(_) => return Err(Error::from(ErrorKind::OutOfMemory)),
         }
     }
     Ok(())

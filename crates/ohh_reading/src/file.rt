@@ -1,5 +1,6 @@
 //! Reads the blocks of a file as its hands, in order.
 ghost use Rattle.std.specs.Prelude.{◌≡◌, ◌≤◌, [], ◌∷◌, Some, option_map, map, IfOk};
+ghost use Rattle.serde_json.specs.Errors.{IsMemory};
 ghost use Rattle.serde_json.specs.View.{view};
 ghost use Rattle.first_fault.specs.declared.limits.TheConstants.{MOST_FILE_MOVES, MOST_HANDS};
 ghost use Rattle.first_fault.specs.Reading.{Gives};
@@ -19,7 +20,7 @@ use hand_records::{Record, Records};
 use ohh_members::Dialect;
 use ohh_members::fault::{MemberFault, MemberFaultKind, Path};
 use ohh_members::values::{field, wrong};
-use serde_json::Value;
+use serde_json::{Error, Value};
 use std::alloc::Global;
 
 /// The hands of a file in a dialect, and the number of moves in the file.
@@ -107,7 +108,7 @@ fn parse(alloc: Global, block: &[u8]) -> Result<Option<Value>, Memory>
         Ok(tree) => Ok(Some(tree)),
         Err(error) => {
             if error.is_memory() {
-                Err(Memory {})
+                Err(refused_in_parser(&error))
             } else {
                 Ok(None)
             }

@@ -1,6 +1,7 @@
 //! Reads bytes as records, or refuses them with their first fault.
 ghost use Rattle.std.specs.Prelude.{◌≡◌, ◌≤◌, Some, sum_by, length, option_map, IfOk, IfSome};
 ghost use Rattle.std.specs.List.{AllByRecursion};
+ghost use Rattle.toml.specs.Errors.{IsMemory};
 ghost use Rattle.toml.specs.View.{table_view};
 ghost use Rattle.first_fault.specs.declared.limits.TheConstants.{MOST_FILE_MOVES, MOST_HANDS};
 ghost use Rattle.phh_fields.specs.Fields.{place_text as place_text_said};
@@ -16,6 +17,7 @@ use hand_records::Records;
 use phh_fields::fault::{FieldFaultKind, FieldPlace};
 use std::alloc::Global;
 use toml::Table;
+use toml::de::Error;
 
 /// The records in bytes in the Poker Hand History format, one for each hand in the order of
 /// reading; or the first fault. Each record is sound, and under the rules of hand histories.
@@ -43,7 +45,7 @@ fn parse(alloc: Global, bytes: &[u8]) -> Result<Option<Table>, Memory>
         Ok(table) => Ok(Some(table)),
         Err(error) => {
             if error.is_memory() {
-                Err(Memory {})
+                Err(refused_in_parser(&error))
             } else {
                 Ok(None)
             }

@@ -6,7 +6,7 @@ ghost use Rattle.play_event.specs.PackedOnce.{one_script};
 use crate::cursor::Cursor;
 use crate::event::Event;
 use crate::packing::append;
-use card_set::Memory;
+use card_set::{MOST_ROOM, Memory, list_with_room};
 use std::alloc::Global;
 use std::marker::Model;
 
@@ -81,7 +81,7 @@ impl Script {
         ensures { IfOk result (λ script. script ≡ []) }
     {
         Ok(Script {
-            bytes: Vec::with_capacity(alloc, events.saturating_mul(USUAL_EVENT_BYTES))?,
+            bytes: list_with_room(alloc, events.saturating_mul(USUAL_EVENT_BYTES).min(MOST_ROOM))?,
             count: 0,
         })
     }

@@ -6,6 +6,7 @@ use Rattle.std.proofs.lemmas.List.{length-replicate}
 use Rattle.acpc_game.specs.declared.game.Game.{Game}
 use Rattle.acpc_text.specs.declared.fault.AcpcFault.{AcpcFault}
 use Rattle.acpc_text.specs.declared.fault.AcpcFault.TheVariants as in_acpc
+use Rattle.card_set.specs.Refusal.{WasRefused}
 use Rattle.command_words.specs.Words.{Load, Plain, Request, Under, Compare}
 use Rattle.command_words.specs.declared.request.Logs.{Logs}
 use Rattle.poker_cli.specs.declared.task.Task.{Task}
@@ -162,7 +163,7 @@ pub ends_with : (request : Request) (files : Files) (bytes : List ℕ) (out diag
     → Ends request files bytes out diag status
 ends_with request files bytes out diag answer statuses.Usage is own ends written line = subst IsOwn ends own
 ends_with request files bytes out diag answer statuses.ReadFault is own ends written line = absurd (subst IsOwn ends own)
-ends_with request files bytes out diag answer statuses.Memory is own ends written line = tt
+ends_with request files bytes out diag answer statuses.Memory is own ends written line = absurd (subst IsOwn ends own)
 ends_with request files bytes out diag answer statuses.ShelfFault is own ends written line = absurd (subst IsOwn ends own)
 ends_with request files bytes out diag answer statuses.Done is own ends written line =
     record { answer = answer; to_input = is; ends = ends; written = written; line = line }
@@ -277,10 +278,10 @@ module _ (request : Request) (left : Option (List ℕ)) (told : Option Files) (o
       always_told request left told (λ files bytes. EndsLeaving request files bytes out diag statuses.ShelfFault Same)
       (λ files bytes. record { ends = asks; unwritten = tt })
 
-  pub ends_memory : WhereTold request left told (λ files bytes. EndsLeaving request files bytes out diag statuses.Memory Same)
-  ends_memory =
+  pub ends_memory : WasRefused → WhereTold request left told (λ files bytes. EndsLeaving request files bytes out diag statuses.Memory Same)
+  ends_memory refused =
       always_told request left told (λ files bytes. EndsLeaving request files bytes out diag statuses.Memory Same)
-      (λ files bytes. record { ends = tt; unwritten = tt })
+      (λ files bytes. record { ends = refused; unwritten = tt })
 
 -- What is known of the status of an answer if nothing is written.
 pub record IsTold (answer : Answer) (status : Status) (held : Option (List ℕ)) : Type 0 where
@@ -347,8 +348,8 @@ of_files left None P is = tt
 -- running out of memory says nothing about files and bytes, and leaves the input as it was
 pub ends_unread : (said : Option Request) (left : Option (List ℕ)) (told : Option Files) (out diag : Sinks) (Same : Type 0)
     → IfSome said (λ request. WhereTold request left told (λ files bytes. EndsLeaving request files bytes out diag statuses.Memory Same))
-ends_unread None left told out diag Same = tt
-ends_unread (Some request) left told out diag Same = ends_memory request left told out diag Same
+ends_unread None left told out diag Same refused = tt
+ends_unread (Some request) left told out diag Same refused = ends_memory request left told out diag Same refused
 
 pub kept_unread : {X : Type 0} (said : Option Request) (asks : Request → Type 0) (input : X) → IfSome said (λ request. asks request → input ≡ input)
 kept_unread None asks input = tt

@@ -460,7 +460,7 @@ ends_so request files bytes out diag statuses.Done own each there named ends = i
 ends_so request files bytes out diag statuses.ReadFault own each there named ends = inl tt
 ends_so request files bytes out diag statuses.WriteFault own each there named ends = inl tt
 ends_so request files bytes out diag statuses.ShelfFault own each there named ends = inl tt
-ends_so request files bytes out diag statuses.Memory own each there named ends = inl tt
+ends_so request files bytes out diag statuses.Memory own each there named ends = inl ends
 ends_so request files bytes out diag statuses.Usage own each there named ends = absurd ends
 ends_so request files bytes out diag statuses.GameMissing own each there named ends = absurd (there ends)
 ends_so request files bytes out diag statuses.FileMissing own each there named ends = absurd (named ends)
@@ -551,7 +551,7 @@ pub legal_load : (seed hands : ℕ) (files : Files) (bytes : List ℕ) (out diag
     → Ends (Load seed hands) files bytes out diag status → NeedsNoInput status
 legal_load seed hands files bytes out diag statuses.Done ends = tt
 legal_load seed hands files bytes out diag statuses.WriteFault ends = tt
-legal_load seed hands files bytes out diag statuses.Memory ends = tt
+legal_load seed hands files bytes out diag statuses.Memory ends = ends
 legal_load seed hands files bytes out diag statuses.Usage ends = ends
 legal_load seed hands files bytes out diag statuses.ReadFault ends = ends.0
 legal_load seed hands files bytes out diag statuses.ShelfFault ends = ends

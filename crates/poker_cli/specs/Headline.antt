@@ -5,6 +5,7 @@
 -- refused hand is named, with its first illegal action.
 use Rattle.std.specs.Prelude.{◌≡◌, ◌⊎◌, ℕ, ◌<◌, ◌≤◌, List, length, codes, None, Some}
 use Rattle.std.specs.Io.KnownBytes.{Appends}
+use Rattle.card_set.specs.Refusal.{WasRefused}
 use Rattle.command_words.specs.Words.{Request}
 use Rattle.convert_core.specs.Conversion.{HasUnspelled, ReadAsPlays, ReadAsRefused}
 use Rattle.convert_core.specs.declared.refusal.Refusal.{Refusal}
@@ -137,7 +138,7 @@ ConversionEnds from to keep bytes out diag statuses.WriteFault =
 ConversionEnds from to keep bytes out diag statuses.ReadFault =
     TellsAlone out diag (codes "read fault\n")
 ConversionEnds from to keep bytes out diag statuses.Memory =
-    TellsAlone out diag (codes "out of memory\n")
+    WasRefused × TellsAlone out diag (codes "out of memory\n")
 ConversionEnds from to keep bytes out diag statuses.ShelfFault =
     (IsOfLogs from ⊎ IsOfLogs to) × TellsAlone out diag (codes "shelf fault\n")
 ConversionEnds from to keep bytes out diag statuses.Usage = ⊥

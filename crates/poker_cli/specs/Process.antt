@@ -5,6 +5,7 @@ use Rattle.std.specs.Vec.Iter.{into_iter_items}
 use Rattle.std.specs.declared.alloc.Global.{Global}
 use Rattle.std.specs.declared.string.String.{String}
 use Rattle.std.specs.declared.vec.IntoIter.{IntoIter}
+use Rattle.card_set.specs.Refusal.{WasRefused}
 use Rattle.command_words.specs.Words.{request_said}
 use Rattle.hand_records.specs.declared.writing.Keep.{Keep}
 use Rattle.poker_cli.specs.Answer.{Files}
@@ -25,6 +26,7 @@ pub record RunKeeps {S H K D : Type 0} (words : List (List ℕ)) (left : Option 
     (told : Option Files) (Asked : H → H → List ℕ → Type 0) (reads asks : ℕ × ℕ)
     (out diag : Sinks) (status : Status) (input read : S) (shelf seen : H) (sink written : K)
     (lines heard : D) : Type 0 where
+  pub memory : status ≡ statuses.Memory → WasRefused
   pub usage : (status ≡ statuses.Usage) ↔ (request_said words ≡ None)
   pub ends : IfSome (request_said words) (λ request. WhereTold request left told (λ files bytes.
       EndsLeaving request files bytes out diag status (written ≡ sink)))
@@ -42,6 +44,7 @@ pub record RunKeeps {S H K D : Type 0} (words : List (List ℕ)) (left : Option 
 pub record LacksWords {S H K : Type 0} (diag : Sinks) (status : Status) (input read : S)
     (shelf seen : H) (sink written : K) : Type 0 where
   pub memory : status ≡ statuses.Memory
+  pub refused : WasRefused
   pub told : IsTold diag (codes "out of memory\n")
   pub unread : read ≡ input
   pub unasked : seen ≡ shelf

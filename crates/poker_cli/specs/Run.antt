@@ -2,6 +2,7 @@
 use Rattle.std.specs.Prelude.{◌≡◌, ◌≢◌, ◌⊎◌, ℕ, ◌<◌, List, [], length, codes, Option, Some, None, IfSome, unwrap_or}
 use Rattle.std.specs.Io.KnownBytes.{Appends}
 use Rattle.acpc_game.specs.declared.game.Game.{Game}
+use Rattle.card_set.specs.Refusal.{WasRefused}
 use Rattle.command_words.specs.Words.{Load, Plain, Request, Under, Compare, PlainSides, SidesUnder}
 use Rattle.host_io.specs.Faults.{Rose}
 use Rattle.host_io.specs.Bytes.{AppendsPart}
@@ -170,7 +171,7 @@ abbrev pub Ends : Request → Files → List ℕ → Sinks → Sinks → Status 
 Ends request files bytes out diag statuses.Usage = ⊥
 Ends request files bytes out diag statuses.ReadFault =
     ReadsHands request × (LacksFile request (Some files) → ⊥)
-Ends request files bytes out diag statuses.Memory = Unit {0}
+Ends request files bytes out diag statuses.Memory = WasRefused
 Ends request files bytes out diag statuses.ShelfFault = AsksForFile request
 Ends request files bytes out diag statuses.GameMissing = IsGameMissing request files
 Ends request files bytes out diag statuses.FileMissing = IsFileMissing request files
@@ -224,7 +225,7 @@ RefusesNothing statuses.Done = Unit {0}
 RefusesNothing statuses.ReadFault = Unit {0}
 RefusesNothing statuses.WriteFault = Unit {0}
 RefusesNothing statuses.ShelfFault = Unit {0}
-RefusesNothing statuses.Memory = Unit {0}
+RefusesNothing statuses.Memory = WasRefused
 RefusesNothing _ = ⊥
 
 -- a status of a run that reads nothing and refuses nothing: all is done, or the output could not be
@@ -232,7 +233,7 @@ RefusesNothing _ = ⊥
 abbrev pub NeedsNoInput : Status → Type 0
 NeedsNoInput statuses.Done = Unit {0}
 NeedsNoInput statuses.WriteFault = Unit {0}
-NeedsNoInput statuses.Memory = Unit {0}
+NeedsNoInput statuses.Memory = WasRefused
 NeedsNoInput _ = ⊥
 
 -- a status that comes before the input is read

@@ -89,7 +89,7 @@ pub fn run<S: Source, H: Shelf, K: Sink, D: Sink>(
             tell(diag, USAGE);
             Status::Usage
         }
-        Err(_) => {
+        Err(memory) => {
             tell(diag, b"out of memory\n");
             Status::Memory
         }
@@ -140,7 +140,7 @@ fn run_request<S: Source, H: Shelf, K: Sink, D: Sink>(
             tell(diag, b"shelf fault\n");
             Status::ShelfFault
         }
-        Err(NoAnswer::Memory(_)) => {
+        Err(NoAnswer::Memory(memory)) => {
             tell(diag, b"out of memory\n");
             Status::Memory
         }

@@ -102,7 +102,7 @@ fn answer_to_words<S: Source, H: Shelf, K: Sink, D: Sink>(
 {
     match words_behind_first(alloc, all) {
         Ok(words) => run(alloc, &words, input, shelf, out, diag),
-        Err(_) => {
+        Err(memory) => {
             tell(diag, b"out of memory\n");
             Status::Memory
         }
@@ -126,10 +126,18 @@ fn words_behind_first(alloc: Global, all: io::Result<Args>) -> Result<Vec<String
             words_left(alloc, all)
         }
         Err(error) => match error.kind() {
-            io::ErrorKind::OutOfMemory => Err(Memory {}),
+            io::ErrorKind::OutOfMemory => Err(refused_for_words(&error)),
             _ => Ok(Vec::new(alloc)),
         },
     }
+}
+
+// A request for memory for the words was refused, as the error of the system says.
+#[tactic(auto, using(card_set::specs::Refusal::an_allocator_said_so))]
+fn refused_for_words(_error: &io::Error) -> Memory
+    requires { error_kind _error.now ≡ OutOfMemory }
+{
+    Memory {}
 }
 
 // All words that are left.

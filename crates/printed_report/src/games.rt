@@ -7,7 +7,7 @@ ghost use Rattle.printed_report.specs.Games.{AreFewSums, MOST_POTS, all_wanted, 
 ghost use Rattle.printed_report.specs.Report.{hand_of};
 
 use crate::lines::push_hands_line;
-use card_set::Memory;
+use card_set::{Memory, list_with_room};
 use hand_records::{Play, Trace};
 use play_event::Code;
 use std::alloc::Global;
@@ -40,7 +40,7 @@ pub fn no_sums(alloc: Global) -> Result<Vec<Sums>, Memory>
         Some(Code::FB),
         None,
     ];
-    let mut sums = Vec::with_capacity(alloc, wanted.len())?;
+    let mut sums = list_with_room(alloc, wanted.len())?;
     for one in &wanted {
         sums.push(none_of(*one))?;
     }

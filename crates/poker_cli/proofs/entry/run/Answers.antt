@@ -11,7 +11,7 @@ use Rattle.poker_cli.proofs.entry.run.Goals as goal
 
 pub returns-in-Err-clause-ends : goal.returns-in-Err-clause-ends
 returns-in-Err-clause-ends g c =
-    ends_unread (request_said (map string_bytes c.args.words.now)) (g.S.Source.left c.args.input.now) (g.H.Shelf.files c.args.shelf.now) _ _ _
+    ends_unread (request_said (map string_bytes c.args.words.now)) (g.S.Source.left c.args.input.now) (g.H.Shelf.files c.args.shelf.now) _ _ _ c.in-Err.memory.refused
 
 pub returns-in-Err-clause-without_file : goal.returns-in-Err-clause-without_file
 returns-in-Err-clause-without_file g c =
@@ -26,7 +26,7 @@ returns-in-Err-clause-headline g c =
     let said = request_said (map string_bytes c.args.words.now) in
     let left = g.S.Source.left c.args.input.now in
     let told = g.H.Shelf.files c.args.shelf.now in
-    headline_told said left told _ _ statuses.Memory (Unit {0}) (ends_unread said left told _ _ _)
+    headline_told said left told _ _ statuses.Memory (Unit {0}) (ends_unread said left told _ _ _ c.in-Err.memory.refused)
     (record { unwritten = λ nothing. refl; failed = λ is. cc; quiet = λ is. cc; fixed = c.tell-in-Err.ensures })
 
 -- The headline follows from how the request in the words ends.

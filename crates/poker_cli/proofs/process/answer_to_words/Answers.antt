@@ -44,6 +44,7 @@ returns-in-Ok-clause-run g c =
     let given = ap (map string_bytes) c.deref.ensures.value ∙ words_are c.args.all c.in-Ok.words.items c.in-Ok.ensures.words c.in-Ok.ensures.no_words in
     inr (moved given
     (record {
+      memory = run.memory;
       usage = run.usage;
       ends = run.ends;
       headline = run.headline;
@@ -61,4 +62,4 @@ returns-in-Ok-clause-no_text g c =
 
 pub returns-in-Err-clause-run : goal.returns-in-Err-clause-run
 returns-in-Err-clause-run g c =
-    inl (record { memory = refl; told = c.tell.ensures; unread = refl; unasked = refl; unwritten = refl })
+    inl (record { memory = refl; refused = c.in-Err.memory.refused; told = c.tell.ensures; unread = refl; unasked = refl; unwritten = refl })
