@@ -15,11 +15,11 @@ use crate::form::{is_passed_over, read_form};
 use crate::found::has_key;
 use crate::key::{GameKey, is_word};
 use acpc_text::{AcpcFault, LineFault, LineFaultKind, fault_in_line, next_line};
-use first_fault::{Stop, next_word, read_digits};
+use first_fault::{ReadError, next_word, read_digits};
 use std::alloc::Global;
 
 /// The entries of a file, and its number of lines.
-pub fn read_entries(alloc: Global, bytes: &[u8]) -> Result<(Vec<Entry>, u64), Stop<AcpcFault>>
+pub fn read_entries(alloc: Global, bytes: &[u8]) -> Result<(Vec<Entry>, u64), ReadError<AcpcFault>>
     ensures { Gives (λ found. (map entry_said found.0.items, found.1)) result
         (entries_said bytes.now) }
 {
@@ -31,7 +31,7 @@ fn read_lines(
     alloc: Global,
     no_limit: bool,
     bytes: &[u8],
-) -> Result<(Vec<Entry>, u64), Stop<AcpcFault>>
+) -> Result<(Vec<Entry>, u64), ReadError<AcpcFault>>
     ensures { Gives (λ found. (map entry_said found.0.items, found.1)) result
         (entries_in no_limit (lines_of bytes.now)) }
 {
@@ -68,7 +68,7 @@ fn take_line(
     entries: &mut Vec<Entry>,
     line: u64,
     text: &[u8],
-) -> Result<(), Stop<AcpcFault>>
+) -> Result<(), ReadError<AcpcFault>>
     ensures ok { OnOk result
         (entries_after_line no_limit (map entry_said entries.old.items) line text.now
         ≡ Ok (map entry_said entries.new.items)) }
@@ -79,10 +79,10 @@ fn take_line(
         return Ok(());
     }
     let Some(form) = read_form(no_limit, text) else {
-        return Err(wrong(LineFaultKind::GameShape, line));
+        return Err(fault_at(LineFaultKind::GameShape, line));
     };
     if !may_stand(entries.as_slice(), form.key) {
-        return Err(wrong(LineFaultKind::GameShape, line));
+        return Err(fault_at(LineFaultKind::GameShape, line));
     }
     let numbers = read_numbers(alloc, line, form.key, form.numbers)?;
     entries.push(Entry {
@@ -109,7 +109,7 @@ fn read_numbers(
     line: u64,
     key: GameKey,
     text: &[u8],
-) -> Result<Vec<u64>, Stop<AcpcFault>>
+) -> Result<Vec<u64>, ReadError<AcpcFault>>
     requires { list_all are_digits (words_of text.now) ≡ true }
     ensures said { Gives (λ numbers. numbers.items) result
         (numbers_after line (most_of key) [] (words_of text.now)) }
@@ -129,20 +129,21 @@ fn read_numbers(
 
 // The number that a word says, or a fault if it is too great for its key.
 #[tactic(auto, unfolding(crate::specs::GameFile::number_said))]
-fn read_number(line: u64, key: GameKey, word: &[u8]) -> Result<u64, Stop<AcpcFault>>
+fn read_number(line: u64, key: GameKey, word: &[u8]) -> Result<u64, ReadError<AcpcFault>>
     requires { IsTrue (are_digits word.now) }
     ensures said { Gives (λ number. number) result (number_said line (most_of key) word.now) }
     ensures bounded { IfOk result (λ number. number ≤ most_of key) }
 {
     match read_digits(word, key.most()) {
         Some(number) => Ok(number),
-        None => Err(wrong(LineFaultKind::AmountLimit, line)),
+        None => Err(fault_at(LineFaultKind::AmountLimit, line)),
     }
 }
 
 /// A fault of this kind at a line.
-pub fn wrong(what: LineFaultKind, line: u64) -> Stop<AcpcFault>
-    ensures { result ≡ Stop.At (fault_in_line_said line (record { what = what; byte = 1 })) }
+pub fn fault_at(what: LineFaultKind, line: u64) -> ReadError<AcpcFault>
+    ensures { result ≡ ReadError.Fault
+        (fault_in_line_said line (record { what = what; byte = 1 })) }
 {
-    Stop::At(fault_in_line(line, LineFault { what, byte: 1 }))
+    ReadError::Fault(fault_in_line(line, LineFault { what, byte: 1 }))
 }

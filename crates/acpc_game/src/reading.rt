@@ -1,7 +1,7 @@
 //! Reads a game file as the one game that it says, or names its first fault.
 ghost use Rattle.std.specs.Prelude.{◌≡◌, ◌≤◌, if◌then◌else◌, true, nat_le, None, length, map, option_map, slice_index, IfOk, IfErr};
 ghost use Rattle.std.specs.List.{list_all};
-ghost use Rattle.first_fault.specs.Reading.{Gives, IsWant};
+ghost use Rattle.first_fault.specs.Reading.{Gives, IsOutOfMemory};
 ghost use Rattle.acpc_text.specs.Faults.{Answers};
 ghost use Rattle.acpc_game.specs.declared.key.GameKey.TheVariants as keys;
 ghost use Rattle.acpc_game.specs.Entries.{entry_said};
@@ -15,11 +15,11 @@ use crate::entry::Entry;
 use crate::found::{find_entry, has_key, line_at, numbers_at};
 use crate::game::Game;
 use crate::key::GameKey;
-use crate::lines::{read_entries, wrong};
+use crate::lines::{fault_at, read_entries};
 use crate::supported::{end_line, first_unsupported, has_no_limit, is_whole};
 use acpc_text::{AcpcFault, LineFaultKind};
 use chip_ledger::SeatRow;
-use first_fault::Stop;
+use first_fault::ReadError;
 use std::alloc::Global;
 
 /// The stack of each player of a limit game whose file says none, in chips.
@@ -33,14 +33,14 @@ pub fn read_game(alloc: Global, bytes: &[u8]) -> Result<Game, AcpcFault>
 {
     match read(alloc, bytes) {
         Ok(game) => Ok(game),
-        Err(Stop::Memory(memory)) => Err(AcpcFault::Memory(memory)),
-        Err(Stop::At(fault)) => Err(fault),
+        Err(ReadError::Memory(memory)) => Err(AcpcFault::Memory(memory)),
+        Err(ReadError::Fault(fault)) => Err(fault),
     }
 }
 
 // The game of a file.
 #[tactic(auto, unfolding(crate::specs::GameFile::game_said))]
-fn read(alloc: Global, bytes: &[u8]) -> Result<Game, Stop<AcpcFault>>
+fn read(alloc: Global, bytes: &[u8]) -> Result<Game, ReadError<AcpcFault>>
     ensures { Gives game_in result (game_said bytes.now) }
 {
     let (entries, count) = read_entries(alloc, bytes)?;
@@ -49,25 +49,25 @@ fn read(alloc: Global, bytes: &[u8]) -> Result<Game, Stop<AcpcFault>>
 
 // The game that the entries of a file of `count` lines make.
 #[tactic(auto, unfolding(crate::specs::GameFile::game_at_end))]
-fn game_by_end(alloc: Global, entries: &[Entry], count: u64) -> Result<Game, Stop<AcpcFault>>
+fn game_by_end(alloc: Global, entries: &[Entry], count: u64) -> Result<Game, ReadError<AcpcFault>>
     ensures { Gives game_in result (game_at_end count (map entry_said entries.now)) }
 {
     if !is_whole(entries) {
-        return Err(wrong(LineFaultKind::GameShape, end_line(entries, count)));
+        return Err(fault_at(LineFaultKind::GameShape, end_line(entries, count)));
     }
     let stacks = stacks_of(alloc, entries)?;
     match first_unsupported(entries, stacks.as_slice()) {
-        Some(key) => Err(wrong(LineFaultKind::UnsupportedGame, line_at(entries, key))),
+        Some(key) => Err(fault_at(LineFaultKind::UnsupportedGame, line_at(entries, key))),
         None => Ok(build(entries, stacks.as_slice())),
     }
 }
 
 // The stacks of the players.
 #[tactic(auto, using(crate::proofs::Bounds::same_stacks))]
-fn stacks_of(alloc: Global, entries: &[Entry]) -> Result<Vec<u64>, Stop<AcpcFault>>
+fn stacks_of(alloc: Global, entries: &[Entry]) -> Result<Vec<u64>, ReadError<AcpcFault>>
     ensures stacks { IfOk result (λ stacks. stacks.items ≡ stacks_at (map entry_said entries.now)) }
     ensures few { IfOk result (λ stacks. are_chips stacks.items ≡ true) }
-    ensures memory { IfErr result IsWant }
+    ensures memory { IfErr result IsOutOfMemory }
 {
     if has_key(entries, GameKey::Stack) {
         Ok(Vec::from_slice(alloc, numbers_at(entries, GameKey::Stack))?)

@@ -63,12 +63,7 @@ fn push_counts(alloc: Global, out: &mut Vec<u8>, players: u64) -> Result<(), Mem
 
 // The lines with the stacks and the blinds.
 #[tactic(auto, unfolding(crate::specs::GameText::rows_text))]
-fn push_rows(
-    alloc: Global,
-    out: &mut Vec<u8>,
-    stacks: &[u64],
-    blinds: &[u64],
-) -> Result<(), Memory>
+fn push_rows(alloc: Global, out: &mut Vec<u8>, stacks: &[u64], blinds: &[u64]) -> Result<(), Memory>
     ensures { OnOk result (out.new.items ≡ out.old.items ++ rows_text stacks.now blinds.now) }
 {
     push_line(alloc, out, "stack", stacks)?;
@@ -145,12 +140,7 @@ fn wide_caps(caps: [u32; 4]) -> [u64; 4]
 
 // A key, `=`, and numbers.
 #[tactic(auto, unfolding(crate::specs::GameText::key_line))]
-fn push_line(
-    alloc: Global,
-    out: &mut Vec<u8>,
-    word: &str,
-    numbers: &[u64],
-) -> Result<(), Memory>
+fn push_line(alloc: Global, out: &mut Vec<u8>, word: &str, numbers: &[u64]) -> Result<(), Memory>
     ensures { OnOk result (out.new.items ≡ out.old.items ++ key_line word.now numbers.now) }
 {
     out.extend_from_slice(word.as_bytes())?;

@@ -3,7 +3,7 @@ use Rattle.std.proofs.Common.{◌≡◌, ℕ, ◌+◌, eqb, false, List, [], ◌
 use Rattle.std.proofs.lemmas.Bool.Decides.{nat_tests}
 use Rattle.std.proofs.lemmas.List.Splits.{length-slice_split}
 use Rattle.play_event.specs.Said.{Numbered}
-use Rattle.first_fault.specs.declared.stop.Stop.{Stop}
+use Rattle.first_fault.specs.declared.stop.ReadError.{ReadError}
 use Rattle.first_fault.specs.Reading.{Fails}
 use Rattle.acpc_text.specs.declared.fault.LineFault.{LineFault}
 use Rattle.acpc_text.specs.Parts.{parts_of}
@@ -21,7 +21,7 @@ module _ (at : ℕ) (events : List Numbered) (seat : ℕ) (all : List (List ℕ)
       sym one ∙ so_far
 
   -- hole cards were refused
-  pub hole_fails : (stop : Stop LineFault) (part : List ℕ) (parts : List (List ℕ)) → all ≡ part ∷ parts → Fails stop (hole_after at events seat part)
+  pub hole_fails : (stop : ReadError LineFault) (part : List ℕ) (parts : List (List ℕ)) → all ≡ part ∷ parts → Fails stop (hole_after at events seat part)
       → holes_after at events seat all ≡ whole → Fails stop whole
   unfolding holes_after
   hole_fails stop part parts cut fails so_far =
@@ -43,7 +43,7 @@ module _ (at : ℕ) (so_far : Written) (all : List BettingStep) (whole : Result 
       sym one ∙ before
 
   -- a step was refused
-  pub step_fails : (stop : Stop LineFault) (step : BettingStep) (steps : List BettingStep) → all ≡ step ∷ steps → Fails stop (step_after at so_far step)
+  pub step_fails : (stop : ReadError LineFault) (step : BettingStep) (steps : List BettingStep) → all ≡ step ∷ steps → Fails stop (step_after at so_far step)
       → steps_after at so_far all ≡ whole → Fails stop whole
   unfolding steps_after
   step_fails stop step steps cut fails before =

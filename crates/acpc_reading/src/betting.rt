@@ -3,8 +3,8 @@ ghost use Rattle.std.specs.Prelude.{◌≡◌, IfOk};
 ghost use Rattle.acpc_reading.specs.Betting.{no_bets};
 ghost use Rattle.acpc_reading.specs.Views.{bets_in};
 
-use card_set::{Memory, list_with_room};
 use crate::step::BettingStep;
+use card_set::{Memory, list_with_room};
 use std::alloc::Global;
 
 // Room for this number of letters is made at the start of a hand, and more as they come.
@@ -37,7 +37,7 @@ impl ReadBetting {
     }
 
     /// Starts the next hand, without betting yet; the moves of the file are kept.
-    pub fn begin(&mut self)
+    pub fn clear(&mut self)
         ensures { bets_in self.new ≡ no_bets self.old.file_moves }
     {
         self.steps.clear();

@@ -6,11 +6,11 @@ ghost use Rattle.hand_records.specs.AllowedNotes.{IsName, IsNoteText};
 ghost use Rattle.acpc_reading.specs.Names.{hand_said, name_said, names_said};
 ghost use Rattle.chip_ledger.specs.SeatsSaid.{default_name};
 
-use crate::letters::wrong;
+use crate::letters::fault_at;
 use crate::parts::next_part;
 use acpc_text::{LineFault, LineFaultKind, count_parts};
 use chip_ledger::Seat;
-use first_fault::{MOST_TEXT_BYTES, Quantity, Stop, Text, are_digits, read_digits};
+use first_fault::{MOST_TEXT_BYTES, Quantity, ReadError, Text, are_digits, read_digits};
 use std::alloc::Global;
 
 // The most digits of a hand's number, and the greatest such number.
@@ -25,12 +25,12 @@ pub fn read_hand(
     place: usize,
     at: u64,
     text: &[u8],
-) -> Result<Option<Text>, Stop<LineFault>>
+) -> Result<Option<Text>, ReadError<LineFault>>
     ensures said { Gives (λ note. note) result (hand_said place at text.now) }
     ensures allowed { IfOk result (λ note. IfSome note IsNoteText) }
 {
     if !are_digits(text) || text.len() > MOST_HAND_DIGITS {
-        return Err(wrong(LineFaultKind::LineShape, at));
+        return Err(fault_at(LineFaultKind::LineShape, at));
     }
     match read_digits(text, MOST_HAND) {
         Some(number) => {
@@ -41,7 +41,7 @@ pub fn read_hand(
             let note = Text::new(alloc, digits.as_str())?;
             Ok(Some(note))
         }
-        None => Err(wrong(LineFaultKind::LineShape, at)),
+        None => Err(fault_at(LineFaultKind::LineShape, at)),
     }
 }
 
@@ -53,7 +53,7 @@ pub fn read_names(
     players: u8,
     at: u64,
     text: &[u8],
-) -> Result<[Option<Text>; 10], Stop<LineFault>>
+) -> Result<[Option<Text>; 10], ReadError<LineFault>>
     requires few { players ≤ 10 }
     requires near { at + length text.now < 2 ^ 64 - 1 }
     ensures said { Gives (take players) result (names_said players at text.now) }
@@ -63,7 +63,7 @@ pub fn read_names(
         → slice_index_or names index None ≡ None) }
 {
     if count_parts(text, b'|') != players as usize {
-        return Err(wrong(LineFaultKind::SeatCount, at));
+        return Err(fault_at(LineFaultKind::SeatCount, at));
     }
     let mut names = [None, None, None, None, None, None, None, None, None, None];
     let mut index = 0;
@@ -89,7 +89,7 @@ fn read_name(
     seat: Seat,
     at: u64,
     name: &[u8],
-) -> Result<Option<Text>, Stop<LineFault>>
+) -> Result<Option<Text>, ReadError<LineFault>>
     ensures said { Gives (λ name. name) result (name_said seat.number at name.now) }
     ensures allowed { IfOk result (λ name. IfSome name (IsName seat.number)) }
 {
@@ -97,10 +97,10 @@ fn read_name(
         return Ok(None);
     }
     let Some(text) = text_of(name) else {
-        return Err(wrong(LineFaultKind::LineShape, at));
+        return Err(fault_at(LineFaultKind::LineShape, at));
     };
     if name.len() > MOST_TEXT_BYTES {
-        return Err(wrong(LineFaultKind::TooMany(Quantity::TextBytes), at));
+        return Err(fault_at(LineFaultKind::TooMany(Quantity::TextBytes), at));
     }
     let text = Text::new(alloc, text)?;
     Ok(Some(text))

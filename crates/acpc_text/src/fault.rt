@@ -81,8 +81,8 @@ pub enum AcpcFault {
 pub fn fault_in_line(line: u64, fault: LineFault) -> AcpcFault
     ensures { result ≡ fault_in_line_said line fault }
 {
-    let byte = kept(fault.byte);
-    let line = kept(line);
+    let byte = saturating_u32(fault.byte);
+    let line = saturating_u32(line);
     match fault.what {
         LineFaultKind::LineShape => AcpcFault::LineShape { line, byte },
         LineFaultKind::BadBetting => AcpcFault::BadBetting { line, byte },
@@ -101,7 +101,7 @@ pub fn fault_in_line(line: u64, fault: LineFault) -> AcpcFault
 }
 
 /// The number, or the greatest that a fault reports.
-pub fn kept(number: u64) -> u32
+pub fn saturating_u32(number: u64) -> u32
     ensures { result ≡ kept_said number }
 {
     if number > 4_294_967_295 {

@@ -6,6 +6,6 @@ mod fault;
 mod letters;
 mod parts;
 
-pub use fault::{AcpcFault, LineFault, LineFaultKind, fault_in_line, kept};
+pub use fault::{AcpcFault, LineFault, LineFaultKind, fault_in_line, saturating_u32};
 pub use letters::{cut_digits, cut_first};
 pub use parts::{count_parts, cut_at, has_prefix, next_line};

@@ -7,9 +7,9 @@ ghost use Rattle.hand_records.specs.TraceRows.{place_said};
 ghost use Rattle.acpc_writing.specs.Betting.{betting_text, letter, letter_on, letters_on, round_text};
 ghost use Rattle.acpc_writing.specs.Puts.{HaveFewChips};
 
-use card_set::Memory;
 use crate::cards::has_board;
 use crate::puts::{add, posted_chips};
+use card_set::Memory;
 use play_event::{Act, Move, Place, Setup};
 use std::alloc::Global;
 
@@ -123,12 +123,7 @@ fn push_letter(
 }
 
 // `r`, followed in a no-limit game by the chips that the seat has put in the whole hand.
-fn push_raise(
-    alloc: Global,
-    out: &mut Vec<u8>,
-    no_limit: bool,
-    total: u64,
-) -> Result<(), Memory>
+fn push_raise(alloc: Global, out: &mut Vec<u8>, no_limit: bool, total: u64) -> Result<(), Memory>
     ensures { OnOk result (out.new.items
         ≡ out.old.items ++ letter no_limit Raised total) }
 {

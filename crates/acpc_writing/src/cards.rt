@@ -11,8 +11,7 @@ ghost use Rattle.acpc_writing.specs.Cards.{board_text, boards_text, cards_text, 
 ghost use Rattle.acpc_writing.specs.Rounds.{has_board as has_board_said};
 ghost use Rattle.acpc_writing.specs.Seats.{bar_before};
 
-use card_set::Memory;
-use card_set::{Slot, slot_text};
+use card_set::{Memory, Slot, slot_text};
 use chip_ledger::Seat;
 use play_event::Place;
 

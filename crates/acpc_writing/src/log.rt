@@ -6,7 +6,7 @@ ghost use Rattle.first_fault.specs.declared.limits.TheConstants.{MOST_HANDS};
 ghost use Rattle.acpc_writing.specs.Line.{log_text};
 ghost use Rattle.acpc_writing.specs.Spelled.{unspelled};
 ghost use Rattle.acpc_writing.specs.Texts.{HasTexts};
-ghost use Rattle.hand_records.specs.WriteRefusals.{IsWant, first_refusal};
+ghost use Rattle.hand_records.specs.WriteRefusals.{IsOutOfMemory, first_refusal};
 
 use crate::line::push_line;
 use crate::spelled::find_refusal;
@@ -31,7 +31,7 @@ pub fn write(
     ensures written { IfOk result (λ bytes. bytes.items ≡ log_text game.now.no_limit plays.now) }
     ensures texts { OnOk result (AllByRecursion HasTexts plays.now) }
     ensures spelled { OnOk result (first_refusal (unspelled game.now keep) plays.now ≡ None) }
-    ensures refused { IfErr result (λ refusal. IsWant refusal
+    ensures refused { IfErr result (λ refusal. IsOutOfMemory refusal
         ⊎ (first_refusal (unspelled game.now keep) plays.now ≡ Some refusal)) }
 {
     if let Some(refusal) = find_refusal(game, plays, keep) {

@@ -4,8 +4,8 @@ ghost use Rattle.acpc_writing.specs.Names.{hand_text, is_spelled_hand as is_spel
 ghost use Rattle.acpc_writing.specs.Texts.{AreTexts};
 ghost use Rattle.chip_ledger.specs.SeatsSaid.{default_name};
 
-use card_set::Memory;
 use crate::cards::push_bar;
+use card_set::Memory;
 use chip_ledger::Seat;
 use first_fault::{Text, are_digits};
 use hand_records::Notes;
@@ -13,12 +13,7 @@ use std::alloc::Global;
 
 /// The names of `count` players, separated by bars.
 #[tactic(auto, unfolding(crate::specs::Names::names_text))]
-pub fn push_names(
-    alloc: Global,
-    out: &mut Vec<u8>,
-    notes: &Notes,
-    seats: u8,
-) -> Result<(), Memory>
+pub fn push_names(alloc: Global, out: &mut Vec<u8>, notes: &Notes, seats: u8) -> Result<(), Memory>
     requires { seats ≤ 10 }
     ensures written { OnOk result (out.new.items ≡ out.old.items ++ names_text notes.now seats) }
     ensures texts { OnOk result (AreTexts seats notes.now) }

@@ -2,8 +2,8 @@
 ghost use Rattle.std.specs.Prelude.{◌≡◌, ◌≤◌, ◌++◌, OnOk};
 ghost use Rattle.acpc_writing.specs.Values.{value_text, values_text};
 
-use card_set::Memory;
 use crate::cards::push_bar;
+use card_set::Memory;
 use chip_ledger::{Seat, SeatRow};
 use std::alloc::Global;
 

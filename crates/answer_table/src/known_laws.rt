@@ -20,7 +20,7 @@ ghost use Rattle.hand_records.specs.declared.writing.Unspelled.{Unspelled};
 ghost use Rattle.play_event.specs.Laws.{AreLegal};
 ghost use Rattle.play_event.specs.Past.{Past, moves_of};
 ghost use Rattle.play_event.specs.Played.{IsPlace};
-ghost use Rattle.play_event.specs.Price.{all_chips_put};
+ghost use Rattle.play_event.specs.CurrentBet.{all_chips_put};
 ghost use Rattle.play_event.specs.Said.{Said};
 ghost use Rattle.play_event.specs.Scripts.{past_of, past_at_end};
 ghost use Rattle.play_event.specs.Trace.{TracedPlace};

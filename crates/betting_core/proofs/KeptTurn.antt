@@ -13,7 +13,7 @@ use Rattle.play_event.specs.Streets.{is_stud, is_opened_by_up_cards, opener_of}
 use Rattle.play_event.specs.TurnTargets.{is_bet_due}
 use Rattle.street_laws.specs.Dues.{is_move, is_before_moves}
 use Rattle.street_laws.proofs.Unsettled.{bring_in_is_due}
-use Rattle.betting_numbers.specs.declared.running.RunningNumbers.{RunningNumbers}
+use Rattle.betting_numbers.specs.declared.betting_state.BettingState.{BettingState}
 use Rattle.betting_numbers.specs.LegalMoves.{IsTurn}
 use Rattle.chip_ledger.specs.SeatsSaid.{seat_said}
 use Rattle.betting_numbers.specs.TurnSaid.{turn_of}
@@ -38,13 +38,13 @@ some_is_none : (seat : Seat) → Some seat ≡ None → ⊥
 some_is_none seat is = cc
 
 -- if up-cards open, and no seat has moved on the street
-pub by_cards : (b : RunningNumbers) (past : Past) → StandsFor b past → is_bet_due b.due ≡ true → (up : UpRow) → b.last ≡ None → HoldsUps b.setup up past
+pub by_cards : (b : BettingState) (past : Past) → StandsFor b past → is_bet_due b.due ≡ true → (up : UpRow) → b.last ≡ None → HoldsUps b.setup up past
     → (opener : Opener) → opener_of b.setup.code ≡ opener → is_opened_by_up_cards opener ≡ true
     → (found : Option Seat) → IfSome found (λ seat. seat.number ≤ b.setup.stacks.seats) → seat_said found ≡ known_opener_seen opener b up → IsTurn b past (turn_of (seat_said found))
 by_cards b past stands bets up none holds opener game cards =
     turn_first b past stands up holds opener game cards none (bets_move b past stands b.due refl bets (λ due_is. none))
 
-module _ (b : RunningNumbers) (past : Past) (stands : StandsFor b past) (keeps : KeepsTurn b) (bets : is_bet_due b.due ≡ true) where
+module _ (b : BettingState) (past : Past) (stands : StandsFor b past) (keeps : KeepsTurn b) (bets : is_bet_due b.due ≡ true) where
   -- in a game with blinds
   pub kept_blinds : opener_of b.setup.code ≡ openers.Blinds → IsTurn b past (turn_of (seat_said b.next))
   kept_blinds game =
@@ -67,7 +67,7 @@ none_behind None P = tt
 none_behind (Some seat) P = tt
 
 -- the seat after the one that opens by up-cards
-pub opened_behind : (b : RunningNumbers) → b.last ≡ None → (opens behind : Option Seat)
+pub opened_behind : (b : BettingState) → b.last ≡ None → (opens behind : Option Seat)
     → IfSome opens (λ seat. in_turn (seat_said behind) ≡ first_behind_seen b seat.number)
     → IfSome behind (λ seat. seat.number ≤ b.setup.stacks.seats) → IfSome opens (λ seat. IfSome behind (IsFirstBehind b seat.number))
 opened_behind b none None behind first in_hand = tt
@@ -79,7 +79,7 @@ some_seat : (goes : Bool) (seat : ℕ) → goes ≡ is_some (if goes then Some s
 some_seat true seat = refl
 some_seat false seat = refl
 
-pub next_due : (b : RunningNumbers) (behind : Option Seat) (seat : Seat) → behind ≡ Some seat → IfSome behind (IsNextUp b) → (goes : Bool) → has_to_move_seen b seat.number ≡ goes → goes ≡ is_move_due_seen b
+pub next_due : (b : BettingState) (behind : Option Seat) (seat : Seat) → behind ≡ Some seat → IfSome behind (IsNextUp b) → (goes : Bool) → has_to_move_seen b seat.number ≡ goes → goes ≡ is_move_due_seen b
 next_due b behind seat is next_up goes goes_is =
     let next : IsNextUp b seat = subst (λ (o : Option Seat). IfSome o (IsNextUp b)) is next_up in
     some_seat goes seat.number

@@ -1,13 +1,13 @@
 -- What the running numbers of a hand keep from call to call.
 use Rattle.std.specs.Prelude.{◌≡◌, ◌≤◌, ℕ, true, Option, None, IfSome}
 use Rattle.chip_ledger.specs.declared.numbers.Seat.{Seat}
-use Rattle.betting_numbers.specs.declared.running.RunningNumbers.{RunningNumbers}
+use Rattle.betting_numbers.specs.declared.betting_state.BettingState.{BettingState}
 use Rattle.betting_numbers.specs.Turn.{IsNextUp, KeepsSeat, KeepsTurn, StartsFresh}
 use Rattle.play_event.specs.declared.code.Code.{Code}
 use Rattle.street_laws.specs.Dues.{is_before_moves, is_of_street}
 
 -- the numbers of a hand of a game with this number of streets
-pub record AreKept (streets : ℕ) (b : RunningNumbers) : Type 0 where
+pub record AreKept (streets : ℕ) (b : BettingState) : Type 0 where
   pub first : 1 ≤ b.street
   pub last : b.street ≤ streets
   -- what is due is due on this street
@@ -20,30 +20,30 @@ pub record AreKept (streets : ℕ) (b : RunningNumbers) : Type 0 where
   pub seat : KeepsSeat b
 
 -- the numbers are those of a hand of this variant, which has this number of streets
-pub record AreOfGame (game : Code) (streets : ℕ) (b : RunningNumbers) : Type 0 where
+pub record AreOfGame (game : Code) (streets : ℕ) (b : BettingState) : Type 0 where
   pub code : b.setup.code ≡ game
   pub kept : AreKept streets b
 
 -- the numbers are on a street of the game, and if no seat has moved on it, none has since the
 -- current bet rose
-pub record IsOnStreet (streets : ℕ) (b : RunningNumbers) : Type 0 where
+pub record IsOnStreet (streets : ℕ) (b : BettingState) : Type 0 where
   pub first : 1 ≤ b.street
   pub last : b.street ≤ streets
   pub fresh : StartsFresh b
 
 -- the turn may be passed on: the numbers are of this game and on one of its streets, and `next`, if
 -- known, is the only seat that can be next to act
-pub record IsReadyToPass (game : Code) (streets : ℕ) (b : RunningNumbers) (next : Option Seat)
+pub record IsReadyToPass (game : Code) (streets : ℕ) (b : BettingState) (next : Option Seat)
     : Type 0 where
   pub code : b.setup.code ≡ game
   pub on : IsOnStreet streets b
   pub behind : IfSome next (IsNextUp b)
 
 -- the hand is the same: what was set before its first card
-pub record IsSameHand (old new : RunningNumbers) : Type 0 where
+pub record IsSameHand (old new : BettingState) : Type 0 where
   pub setup : new.setup ≡ old.setup
   pub rules : new.rules ≡ old.rules
 
 -- the seat, if it is known, is a seat of the hand
-abbrev pub IsOfTable : RunningNumbers → Option Seat → Type 0
+abbrev pub IsOfTable : BettingState → Option Seat → Type 0
 IsOfTable b turn = IfSome turn (λ seat. seat.number ≤ b.setup.stacks.seats)

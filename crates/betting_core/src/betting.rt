@@ -21,7 +21,7 @@ ghost use Rattle.play_event.specs.ValidSetup.{IsValid};
 ghost use Rattle.betting_numbers.specs.Targeted.{AreEndsFor};
 ghost use Rattle.chip_ledger.specs.SeatsSaid.{seat_said};
 
-use betting_numbers::{RunningNumbers, SeatInTurn, Targets, start};
+use betting_numbers::{BettingState, Targets, ToAct, start};
 use chip_ledger::{LiveRow, Seat, SeatRow};
 use play_event::{Due, Rules, Setup, UpRow};
 use std::marker::{Model, PhantomData};
@@ -36,15 +36,15 @@ use variant_table::{Opener, Size, Variant};
 /// [`dealt`](Betting::dealt) has not been called yet.
 #[derive(Drop)]
 pub struct Betting<V: Variant> {
-    pub(crate) numbers: RunningNumbers,
+    pub(crate) numbers: BettingState,
     game: PhantomData<V>,
 }
 
 impl<V: Variant> Model for Betting<V> {
-    ghost use Rattle.betting_numbers.specs.declared.running.RunningNumbers.{RunningNumbers};
+    ghost use Rattle.betting_numbers.specs.declared.betting_state.BettingState.{BettingState};
     ghost use Rattle.betting_core.specs.Kept.{AreOfGame};
 
-    ghost Value = { RunningNumbers };
+    ghost Value = { BettingState };
 
     ghost view = { λ b. b.numbers };
 
@@ -86,7 +86,7 @@ impl<V: Variant> Betting<V> {
 
     /// Whether no seat has moved on the street yet.
     #[tactic(auto, using(crate::proofs::ToCall::unmoved_after))]
-    pub fn is_unmoved(&self) -> bool
+    pub fn nobody_acted(&self) -> bool
         ensures value { result ≡ is_none self.now.last }
         ensures past { (past : Past) → StandsFor self.now past
             → result ≡ is_none (moved_last (moves_of past) self.now.street) }
@@ -143,7 +143,7 @@ impl<V: Variant> Betting<V> {
             → AreEndsFor self.now (moves_of past) seat targets)) }
     {
         if betting_due(self.numbers.due) {
-            let turn = self.turn_now(up);
+            let turn = self.to_act(up);
             let size = self.unit();
             self.numbers.targets_of(turn, V::LIMIT, size)
         } else {
@@ -153,7 +153,7 @@ impl<V: Variant> Betting<V> {
 
     /// Whose turn it is, if known, when a bring-in or a move is due. The row of up-cards is read
     /// only in stud, before the first move of a street.
-    pub fn turn_now(&self, up: &UpRow) -> Option<Seat>
+    pub fn to_act(&self, up: &UpRow) -> Option<Seat>
         requires { is_bet_due self.now.due ≡ true }
         ensures turn { WhereUps self.now up.now
             (λ past. IsTurn self.now past (turn_of (seat_said result))) }
@@ -164,7 +164,7 @@ impl<V: Variant> Betting<V> {
 
     // Whose turn it is, if known, and the seat after it if the row was read. Nobody if neither a
     // bring-in nor a move is due.
-    pub(crate) fn turn_found(&self, up: &UpRow) -> SeatInTurn
+    pub(crate) fn turn_found(&self, up: &UpRow) -> ToAct
         ensures turn { WhereUps self.now up.now
             (λ past. is_bet_due self.now.due ≡ true
             → IsTurn self.now past (turn_of (seat_said result.seat))) }
@@ -173,12 +173,12 @@ impl<V: Variant> Betting<V> {
             (λ seat. IfSome result.behind (IsFirstBehind self.now seat.number)) }
     {
         if !betting_due(self.numbers.due) {
-            return SeatInTurn {
+            return ToAct {
                 seat: None,
                 behind: None,
             };
         }
-        let kept = SeatInTurn {
+        let kept = ToAct {
             seat: self.numbers.next,
             behind: None,
         };

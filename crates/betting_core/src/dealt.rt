@@ -4,7 +4,7 @@ ghost use Rattle.play_event.specs.declared.reason.Due.TheVariants as dues;
 ghost use Rattle.play_event.specs.Past.{Past};
 ghost use Rattle.play_event.specs.Openers.{TheSeat, blinds_opener, in_turn};
 ghost use Rattle.play_event.specs.Streets.{is_stud};
-ghost use Rattle.betting_numbers.specs.Seen.{is_move_due_seen, mover_seen};
+ghost use Rattle.betting_numbers.specs.Seen.{is_move_due_seen, player_to_act_seen};
 ghost use Rattle.betting_core.specs.Kept.{AreKept, IsOfTable, IsReadyToPass, IsSameHand};
 ghost use Rattle.betting_numbers.specs.Standing.{StandsFor};
 ghost use Rattle.betting_numbers.specs.UpTo.{StandsUpTo};
@@ -15,7 +15,7 @@ ghost use Rattle.street_laws.specs.Walk.{street_cards};
 ghost use Rattle.chip_ledger.specs.SeatsSaid.{seat_said};
 
 use crate::betting::Betting;
-use betting_numbers::RunningNumbers;
+use betting_numbers::BettingState;
 use chip_ledger::Seat;
 use play_event::Due;
 use variant_table::{Opener, Variant};
@@ -69,7 +69,7 @@ fn stud<V: Variant>() -> bool
 
 // What comes if no bring-in is due: nothing if the hand is over, else a move of the player to act,
 // the next street, or the showdown. `behind`, if known, is the only seat that can be next to act.
-pub(crate) fn pass<V: Variant>(table: &mut RunningNumbers, over: bool, behind: Option<Seat>)
+pub(crate) fn pass<V: Variant>(table: &mut BettingState, over: bool, behind: Option<Seat>)
     requires { IsReadyToPass V.CODE V.STREETS table.old behind }
     ensures passed { IsPassedTo over table.old table.new }
     ensures kept { AreKept V.STREETS table.new }
@@ -79,7 +79,7 @@ pub(crate) fn pass<V: Variant>(table: &mut RunningNumbers, over: bool, behind: O
         return;
     }
     let street = table.street;
-    let next = mover(table, behind);
+    let next = player_to_act(table, behind);
     if next.is_some() {
         table.set_turn(Due::Move, next);
     } else if street < V::STREETS {
@@ -91,16 +91,16 @@ pub(crate) fn pass<V: Variant>(table: &mut RunningNumbers, over: bool, behind: O
 
 // Whose turn it is in a game with blinds: nobody's if no move is due. `behind`, if known, is the
 // only seat that is looked at.
-fn mover(table: &RunningNumbers, behind: Option<Seat>) -> Option<Seat>
+fn player_to_act(table: &BettingState, behind: Option<Seat>) -> Option<Seat>
     requires behind { IfSome behind (IsNextUp table.now) }
     ensures turn { in_turn (seat_said result)
-        ≡ mover_seen table.now
+        ≡ player_to_act_seen table.now
         (TheSeat (blinds_opener table.now.setup table.now.street)) }
     ensures due { is_some result ≡ is_move_due_seen table.now }
     ensures in_hand { IsOfTable table.now result }
 {
     match behind {
-        None => table.mover(),
+        None => table.player_to_act(),
         Some(seat) if table.to_move(seat) => behind,
         Some(_) => None,
     }

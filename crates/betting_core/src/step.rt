@@ -99,7 +99,8 @@ impl<V: Variant> Betting<V> {
         let moved = self
             .numbers
             .traced(V::LIMIT, size, legal.seat, legal.act, legal.target);
-        self.numbers.make(legal.seat, legal.act, legal.target, size);
+        self.numbers
+            .apply_move(legal.seat, legal.act, legal.target, size);
         let over = self.numbers.live_count() <= 1;
         pass::<V>(&mut self.numbers, over, behind);
         moved

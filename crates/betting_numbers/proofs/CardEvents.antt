@@ -9,7 +9,7 @@ use Rattle.play_event.specs.Seats.{is_live, live_count}
 use Rattle.play_event.specs.Showing.{has_to_show}
 use Rattle.play_event.specs.Due.{due_on, is_settled}
 use Rattle.play_event.proofs.StreetLaws.{first_is_due}
-use Rattle.betting_numbers.specs.declared.running.RunningNumbers.{RunningNumbers}
+use Rattle.betting_numbers.specs.declared.betting_state.BettingState.{BettingState}
 use Rattle.betting_numbers.specs.Standing.{Standing, StandsFor}
 use Rattle.street_laws.specs.Walk.{has_nothing_later}
 use Rattle.betting_numbers.specs.UpTo.{StandsUpTo}
@@ -18,7 +18,7 @@ use Rattle.street_laws.specs.CardEvents.{is_card_event}
 use Rattle.street_laws.proofs.CardTurns.{moves_kept, several_live}
 
 -- an event of cards on the street of the state
-module _ (b : RunningNumbers) (past : Past) (event : Resolved) (stands : StandsFor b past) (card : is_card_event event ≡ true) (at : street_of event ≡ b.street) (from_one : 1 ≤ b.street) (within : b.street ≤ street_count b.setup.code)
+module _ (b : BettingState) (past : Past) (event : Resolved) (stands : StandsFor b past) (card : is_card_event event ≡ true) (at : street_of event ≡ b.street) (from_one : 1 ≤ b.street) (within : b.street ≤ street_count b.setup.code)
     (still : is_settled b.setup (moves_of past) (b.street, b.due) ≡ false → (seat : ℕ) → is_live (moves_of past) seat ≡ true → has_to_show (event ∷ past) seat ≡ true) where
   pub standing_now : Standing b.setup b.street b (moves_of (event ∷ past))
   standing_now = subst (λ (ms : List Move). Standing b.setup b.street b ms) (sym (moves_kept event past card)) stands.standing

@@ -11,7 +11,7 @@ use Rattle.play_event.specs.Dealing.{is_deal_due, is_draw_due}
 use Rattle.play_event.specs.Showing.{is_show_due, has_to_show}
 use Rattle.play_event.specs.Due.{turn, due_on, is_bring_in_due, is_move_due, is_settled}
 use Rattle.play_event.proofs.StreetLaws.{due_is_first}
-use Rattle.betting_numbers.specs.declared.running.RunningNumbers.{RunningNumbers}
+use Rattle.betting_numbers.specs.declared.betting_state.BettingState.{BettingState}
 use Rattle.betting_numbers.specs.Standing.{StandsFor}
 use Rattle.betting_numbers.specs.UpTo.{StandsUpTo}
 use Rattle.street_laws.specs.Done.{HasCome, is_done}
@@ -21,7 +21,7 @@ use Rattle.street_laws.proofs.CardTurns.{moves_kept, dealt_more, deal_by, draw_b
 use Rattle.betting_numbers.proofs.CardEvents.{stands_still, stands_up_to, standing_now, early_now, more_now, unshown_now, someone_now}
 use Rattle.street_laws.proofs.Showdown.{nothing_by, show_over, show_is_last}
 
-module _ (b : RunningNumbers) (past : Past) (event : Resolved) (stands : StandsFor b past) (card : is_card_event event ≡ true) (at : street_of event ≡ b.street) (from_one : 1 ≤ b.street) (within : b.street ≤ street_count b.setup.code)
+module _ (b : BettingState) (past : Past) (event : Resolved) (stands : StandsFor b past) (card : is_card_event event ≡ true) (at : street_of event ≡ b.street) (from_one : 1 ≤ b.street) (within : b.street ≤ street_count b.setup.code)
     (still : is_settled b.setup (moves_of past) (b.street, b.due) ≡ false → (seat : ℕ) → is_live (moves_of past) seat ≡ true → has_to_show (event ∷ past) seat ≡ true) where
   turn_at : (due : Due) → b.due ≡ due → turn b.setup past ≡ (b.street, due)
   turn_at due is = stands.turn_is ∙ ap (λ (d : Due). (b.street, d)) is

@@ -11,13 +11,13 @@ use Rattle.play_event.specs.Games.{street_count}
 use Rattle.play_event.specs.Streets.{has_draw}
 use Rattle.play_event.specs.Past.{Past, Move, moves_of, moves_on, newest_street}
 use Rattle.play_event.specs.Chips.{street_chips, chips_added, brought, blind_posted}
-use Rattle.play_event.specs.Seats.{is_live, is_able, live_count, able_count, all_seats}
-use Rattle.play_event.specs.Price.{price, owed}
+use Rattle.play_event.specs.Seats.{is_live, can_act, live_count, able_count, all_seats}
+use Rattle.play_event.specs.CurrentBet.{current_bet, to_call}
 use Rattle.play_event.specs.Dealing.{is_deal_due, is_draw_due, next_to_draw, replacements_owed}
 use Rattle.play_event.specs.Showing.{is_show_due, has_to_show}
 use Rattle.play_event.specs.Due.{turn, due_on, showdown, is_bring_in_due, is_move_due, is_settled, has_able_seat_to_call, is_after_betting}
 use Rattle.play_event.specs.ValidSetup.{IsValid}
-use Rattle.betting_numbers.specs.declared.running.RunningNumbers.{RunningNumbers}
+use Rattle.betting_numbers.specs.declared.betting_state.BettingState.{BettingState}
 use Rattle.betting_numbers.specs.Seen.{is_move_due_seen}
 use Rattle.betting_numbers.specs.Standing.{Standing, StandsFor}
 use Rattle.street_laws.specs.Walk.{street_cards, betting_turn, has_no_move_later, walked}
@@ -56,10 +56,10 @@ no_chips setup moves street seat early low =
 
 pub nobody_owes : (setup : Setup) (moves : List Move) (street : ℕ) → has_no_move_later moves street ≡ true → 1 ≤ street → has_able_seat_to_call setup moves (street + 1) ≡ false
 nobody_owes setup moves street early low =
-    let free : price setup moves (street + 1) ≡ 0 = zero_greatest (street_chips setup moves (street + 1)) 1 setup.stacks.seats (λ k. no_chips setup moves street k early low) in
-    none_passes (λ seat. is_able setup moves seat && nat_lt 0 (owed setup moves (street + 1) seat)) (all_seats setup) (λ seat.
-    let nothing : owed setup moves (street + 1) seat ≡ 0 = omega (arith, free) in
-    ap (λ (n : ℕ). is_able setup moves seat && nat_lt 0 n) nothing ∙ and_nothing (is_able setup moves seat))
+    let free : current_bet setup moves (street + 1) ≡ 0 = zero_greatest (street_chips setup moves (street + 1)) 1 setup.stacks.seats (λ k. no_chips setup moves street k early low) in
+    none_passes (λ seat. can_act setup moves seat && nat_lt 0 (to_call setup moves (street + 1) seat)) (all_seats setup) (λ seat.
+    let nothing : to_call setup moves (street + 1) seat ≡ 0 = omega (arith, free) in
+    ap (λ (n : ℕ). can_act setup moves seat && nat_lt 0 n) nothing ∙ and_nothing (can_act setup moves seat))
   where
     and_nothing : (b : Bool) → (b && false) ≡ false
     and_nothing true = refl
@@ -113,13 +113,13 @@ cards_before setup past street dues.BringIn other come = refl
 cards_before setup past street dues.Move other come = refl
 cards_before setup past street dues.Over other come = absurd come
 
-pub record IsShowdown (b next : RunningNumbers) (past : Past) : Type 0 where
+pub record IsShowdown (b next : BettingState) (past : Past) : Type 0 where
   pub same : next.street ≡ b.street
   pub show : next.due ≡ dues.Show
   pub last : b.street ≡ street_count b.setup.code
   pub quiet : due_on b.setup past b.street ≡ None
 
-module _ (b next : RunningNumbers) (past : Past) (up : StandsUpTo b past) (other : b.due ≡ dues.Show → ⊥) (from_one : 1 ≤ b.street) (within : b.street ≤ street_count b.setup.code) (to : IsDealtTo b next) where
+module _ (b next : BettingState) (past : Past) (up : StandsUpTo b past) (other : b.due ≡ dues.Show → ⊥) (from_one : 1 ≤ b.street) (within : b.street ≤ street_count b.setup.code) (to : IsDealtTo b next) where
   are : AreDealt b.setup past b.street
   are = are_dealt b.setup past b.street b.due other up.come up.done
 
@@ -131,8 +131,8 @@ module _ (b next : RunningNumbers) (past : Past) (up : StandsUpTo b past) (other
   comes : Comes
   comes = elim (cases_eq next.street b.street) [
     | inl same ↦ record {
-      setup = ap (λ (t : RunningNumbers). t.setup) (to.stays same);
-      standing = subst (λ (t : RunningNumbers). Standing t.setup t.street t (moves_of past)) (sym (to.stays same)) (standing_with_turn b.setup b.street b next.due next.next (moves_of past) up.standing);
+      setup = ap (λ (t : BettingState). t.setup) (to.stays same);
+      standing = subst (λ (t : BettingState). Standing t.setup t.street t (moves_of past)) (sym (to.stays same)) (standing_with_turn b.setup b.street b next.due next.next (moves_of past) up.standing);
       street = inl same;
     }
     | inr new ↦ record {
@@ -237,7 +237,7 @@ module _ (b next : RunningNumbers) (past : Past) (up : StandsUpTo b past) (other
   showdown_dealt done = (showdown_by (is_bring_in_due b.setup (moves_of past) b.street) (is_move_due b.setup (moves_of past) b.street) (nat_lt b.street (street_count b.setup.code)) refl refl refl to_is done).show
 
 -- the showdown is ended: the hand is over
-pub show_ended : (b : RunningNumbers) (past : Past) → StandsUpTo b past → b.due ≡ dues.Show → StandsFor (with_due b dues.Over) past
+pub show_ended : (b : BettingState) (past : Past) → StandsUpTo b past → b.due ≡ dues.Show → StandsFor (with_due b dues.Over) past
 show_ended b past up due_is =
     let come : HasCome b.setup past b.street dues.Show = subst (HasCome b.setup past b.street) due_is up.come in
     let shown : is_show_due b.setup past ≡ false = not-true (is_show_due b.setup past) (sym (ap (is_done b.setup past) due_is) ∙ up.done) in

@@ -14,10 +14,10 @@ use Rattle.chip_ledger.proofs.SeatLists.{any_seats}
 use Rattle.play_event.specs.declared.setup.Setup.{Setup}
 use Rattle.play_event.specs.Past.{Act}
 use Rattle.play_event.specs.Seats.{all_seats}
-use Rattle.play_event.specs.Mover.{first_in_turn, seats_from}
+use Rattle.play_event.specs.PlayerToAct.{first_in_turn, seats_from}
 use Rattle.play_event.specs.Openers.{InTurn, TheSeat, in_turn, seat_after}
-use Rattle.betting_numbers.specs.declared.running.RunningNumbers.{RunningNumbers}
-use Rattle.betting_numbers.specs.Seen.{is_able_seen, owed_seen, price_seen, able_count_seen, has_to_move_seen, after_last, mover_seen, first_behind_seen}
+use Rattle.betting_numbers.specs.declared.betting_state.BettingState.{BettingState}
+use Rattle.betting_numbers.specs.Seen.{can_act_seen, to_call_seen, current_bet_seen, able_count_seen, has_to_move_seen, after_last, player_to_act_seen, first_behind_seen}
 use Rattle.betting_numbers.specs.Moving.{IsMoved}
 use Rattle.betting_numbers.specs.Turn.{IsFirstBehind, IsNextUp, StartsFresh}
 use Rattle.betting_numbers.proofs.FirstMoves.{only_able}
@@ -114,13 +114,13 @@ flagged_by able false more flag is = true≢false (sym flag)
 flagged_by true true more flag is = true≢false (sym is)
 flagged_by false true more flag is = true≢false (sym is)
 
-module _ (b next : RunningNumbers) (seat : ℕ) (act : Act) (target unit : ℕ) (moved : IsMoved b next seat act target unit) (in_hand : IsSeatOf b.setup.stacks.seats seat)
-    (fresh : (k : ℕ) → IsSeatOf b.setup.stacks.seats k → flag_of b.since_rise k ≡ false) (behind : ℕ) (in_behind : IsSeatOf b.setup.stacks.seats behind) (first : TheSeat behind ≡ first_behind_seen b seat) where
+module _ (b next : BettingState) (seat : ℕ) (act : Act) (target unit : ℕ) (moved : IsMoved b next seat act target unit) (in_hand : IsSeatOf b.setup.stacks.seats seat)
+    (fresh : (k : ℕ) → IsSeatOf b.setup.stacks.seats k → flag_of b.acted_since_raise k ≡ false) (behind : ℕ) (in_behind : IsSeatOf b.setup.stacks.seats behind) (first : TheSeat behind ≡ first_behind_seen b seat) where
   abbrev moves : ℕ → Bool
   moves = has_to_move_seen next
 
   abbrev able : ℕ → Bool
-  able = is_able_seen b
+  able = can_act_seen b
 
   -- where the search for the next seat starts
   abbrev start : ℕ
@@ -133,7 +133,7 @@ module _ (b next : RunningNumbers) (seat : ℕ) (act : Act) (target unit : ℕ) 
   found = the_same (find able (seats_from b.setup start)) behind first
 
   -- the other seats can act if they could before
-  able_still : (k : ℕ) → IsSeatOf b.setup.stacks.seats k → k ≢ seat → is_able_seen next k ≡ able k
+  able_still : (k : ℕ) → IsSeatOf b.setup.stacks.seats k → k ≢ seat → can_act_seen next k ≡ able k
   able_still k in_k other =
       ap (λ live. live && nat_lt 0 (amount_of next.setup.stacks k - amount_of next.puts k)) (moved.other_live k in_k.first other)
       ∙ ap (λ put. flag_of b.live k && nat_lt 0 (amount_of next.setup.stacks k - put)) (moved.other_puts k in_k.first other)
@@ -141,13 +141,13 @@ module _ (b next : RunningNumbers) (seat : ℕ) (act : Act) (target unit : ℕ) 
 
   -- the seat that moved has no move to make
   not_again : moves seat ≡ true → ⊥
-  not_again again = flagged_by (is_able_seen next seat) (flag_of next.since_rise seat) (nat_lt 0 (owed_seen next seat) || nat_le 2 (able_count_seen next)) moved.since_rise again
+  not_again again = flagged_by (can_act_seen next seat) (flag_of next.acted_since_raise seat) (nat_lt 0 (to_call_seen next seat) || nat_le 2 (able_count_seen next)) moved.acted_since_raise again
 
   another : (k : ℕ) → moves k ≡ true → k ≢ seat
   another k moves_k same = not_again (ap moves (sym same) ∙ moves_k)
 
-  able_then : (k : ℕ) → moves k ≡ true → is_able_seen next k ≡ true
-  able_then k moves_k = (and_parts (is_able_seen next k) (if flag_of next.since_rise k then false else (nat_lt 0 (owed_seen next k) || nat_le 2 (able_count_seen next))) moves_k).0
+  able_then : (k : ℕ) → moves k ≡ true → can_act_seen next k ≡ true
+  able_then k moves_k = (and_parts (can_act_seen next k) (if flag_of next.acted_since_raise k then false else (nat_lt 0 (to_call_seen next k) || nat_le 2 (able_count_seen next))) moves_k).0
 
   was_able : (k : ℕ) → IsSeatOf b.setup.stacks.seats k → moves k ≡ true → able k ≡ true
   was_able k in_k moves_k = sym (able_still k in_k (another k moves_k)) ∙ able_then k moves_k
@@ -160,10 +160,10 @@ module _ (b next : RunningNumbers) (seat : ℕ) (act : Act) (target unit : ℕ) 
   none_by stays k in_k moves_k (inl same) =
       alone_by b.setup able seat k (seat == b.setup.stacks.seats) refl in_hand in_k (another k moves_k) (was_able k in_k moves_k) (found ∙ ap Some same)
   none_by stays k in_k moves_k (inr other) =
-      let able_behind : is_able_seen next behind ≡ true = able_still behind in_behind other ∙ found_passes able (seats_from b.setup start) behind found in
-      let unflagged : flag_of next.since_rise behind ≡ false =
-      moved.other_since behind in_behind.first other ∙ and_right (nat_le target (price_seen b)) (flag_of b.since_rise behind) (fresh behind in_behind) in
-      let few : nat_le 2 (able_count_seen next) ≡ false = few_by (is_able_seen next behind) (flag_of next.since_rise behind) (nat_lt 0 (owed_seen next behind)) (nat_le 2 (able_count_seen next)) able_behind unflagged stays in
+      let able_behind : can_act_seen next behind ≡ true = able_still behind in_behind other ∙ found_passes able (seats_from b.setup start) behind found in
+      let unflagged : flag_of next.acted_since_raise behind ≡ false =
+      moved.other_since behind in_behind.first other ∙ and_right (nat_le target (current_bet_seen b)) (flag_of b.acted_since_raise behind) (fresh behind in_behind) in
+      let few : nat_le 2 (able_count_seen next) ≡ false = few_by (can_act_seen next behind) (flag_of next.acted_since_raise behind) (nat_lt 0 (to_call_seen next behind)) (nat_le 2 (able_count_seen next)) able_behind unflagged stays in
       let at = in_next k in_k in
       let same : k ≡ behind = only_able next behind (in_next behind in_behind) able_behind few k at.first at.last (able_then k moves_k) in
       true≢false (sym moves_k ∙ ap moves same ∙ stays)
@@ -180,14 +180,14 @@ module _ (b next : RunningNumbers) (seat : ℕ) (act : Act) (target unit : ℕ) 
   found_by true goes = sym (round_still b.setup able moves start behind start_in was_able goes found)
   found_by false stays = sym (nobody stays)
 
-  turn_next : (opener : InTurn) → in_turn (if moves behind then Some behind else None) ≡ mover_seen next opener
+  turn_next : (opener : InTurn) → in_turn (if moves behind then Some behind else None) ≡ player_to_act_seen next opener
   turn_next opener =
       ap in_turn (found_by (moves behind) refl)
       ∙ ap (λ (setup : Setup). in_turn (find moves (seats_from setup (seat_after setup seat)))) (sym moved.setup)
       ∙ ap (λ (o : Option ℕ). first_in_turn next.setup moves (after_last o (seat_after next.setup) opener)) (sym moved.last)
 
 -- after the first move of the street
-pub next_up : (b next : RunningNumbers) (seat : ℕ) (act : Act) (target unit : ℕ) → IsMoved b next seat act target unit → IsSeatOf b.setup.stacks.seats seat → StartsFresh b → (behind : Seat) → IsFirstBehind b seat behind → IsNextUp next behind
+pub next_up : (b next : BettingState) (seat : ℕ) (act : Act) (target unit : ℕ) → IsMoved b next seat act target unit → IsSeatOf b.setup.stacks.seats seat → StartsFresh b → (behind : Seat) → IsFirstBehind b seat behind → IsNextUp next behind
 next_up b next seat act target unit moved in_hand fresh behind is = record {
   turn = turn_next b next seat act target unit moved in_hand (fresh is.before_moves) behind.number (record { first = behind.first; last = is.in_hand }) is.first;
   in_hand = subst (λ (setup : Setup). behind.number ≤ setup.stacks.seats) (sym moved.setup) is.in_hand;

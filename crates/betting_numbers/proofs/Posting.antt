@@ -9,7 +9,7 @@ use Rattle.chip_ledger.specs.Greatest.{greatest}
 use Rattle.chip_ledger.proofs.Seats.{map-seats, sum_of_seats_more}
 use Rattle.chip_ledger.proofs.SeatLists.{greatest_more, last_more}
 use Rattle.play_event.specs.Chips.{blind_posted, street_chips}
-use Rattle.play_event.specs.Price.{starting_price}
+use Rattle.play_event.specs.CurrentBet.{starting_bet}
 use Rattle.play_event.specs.declared.setup.Setup.{Setup}
 use Rattle.betting_numbers.specs.Posting.{HasPosted, big_of, last_of}
 use Rattle.betting_numbers.specs.declared.starting.Posted.{Posted}
@@ -57,8 +57,8 @@ sum_seats f g (suc n) h =
 
 module _ (setup : Setup) (p : Posted) (has : HasPosted setup setup.stacks.seats p) where
   -- the first street starts with the blinds
-  pub price_at_start : p.price ≡ starting_price setup 1
-  price_at_start = has.price ∙ ap greatest (map-seats (blind_posted setup) (street_chips setup [] 1) setup.stacks.seats (λ k low high. omega arith))
+  pub blind_bet_at_start : p.current_bet ≡ starting_bet setup 1
+  blind_bet_at_start = has.current_bet ∙ ap greatest (map-seats (blind_posted setup) (street_chips setup [] 1) setup.stacks.seats (λ k low high. omega arith))
 
   -- after the last seat nothing is put
   none_behind : (row : SeatRow) → row.seats ≡ setup.stacks.seats → (k : ℕ) → setup.stacks.seats + 1 ≤ k → amount_of row k ≡ 0

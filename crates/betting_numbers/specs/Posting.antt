@@ -42,8 +42,8 @@ pub record HasPosted (setup : Setup) (count : ℕ) (p : Posted) : Type 0 where
   pub pot : p.pot ≡ sum_by (posted setup) (seats_of count)
   pub pot_bounded : p.pot ≤ count * MOST_AMOUNT
   -- the greatest of the posted blinds, which is not more than a stack
-  pub price : p.price ≡ greatest (map (blind_posted setup) (seats_of count))
-  pub price_bounded : p.price ≤ MOST_AMOUNT
+  pub current_bet : p.current_bet ≡ greatest (map (blind_posted setup) (seats_of count))
+  pub current_bet_bounded : p.current_bet ≤ MOST_AMOUNT
   -- the number of seats so far with chips left
   pub able :
       p.able_count

@@ -7,16 +7,16 @@ use Rattle.chip_ledger.specs.SeatRow.{amount_of}
 use Rattle.play_event.specs.declared.reason.Due.TheVariants as dues
 use Rattle.play_event.specs.declared.setup.Setup.{Setup}
 use Rattle.play_event.specs.Chips.{chips_put, street_chips}
-use Rattle.play_event.specs.Due.{turn, has_moved_since_rise, has_opened_betting, is_settled}
+use Rattle.play_event.specs.Due.{turn, has_acted_since_raise, has_opened_betting, is_settled}
 use Rattle.play_event.specs.Past.{Past, Move, moves_of, moves_on}
-use Rattle.play_event.specs.Price as prices
-use Rattle.play_event.specs.Price.{doubled_raises}
+use Rattle.play_event.specs.CurrentBet as prices
+use Rattle.play_event.specs.CurrentBet.{doubled_raises}
 use Rattle.play_event.specs.Raising.{has_moved, raises_on}
 use Rattle.play_event.specs.Seats.{is_live, live_count}
 use Rattle.play_event.specs.Showing.{has_to_show}
 use Rattle.play_event.specs.ValidSetup.{IsValid}
 use Rattle.street_laws.specs.Walk.{has_nothing_later}
-use Rattle.betting_numbers.specs.declared.running.RunningNumbers.{RunningNumbers}
+use Rattle.betting_numbers.specs.declared.betting_state.BettingState.{BettingState}
 use Rattle.betting_numbers.specs.Moving.{most_raises}
 use Rattle.betting_numbers.specs.Seen.{last_seen}
 use Rattle.chip_ledger.specs.Seat.{IsSeatOf}
@@ -27,7 +27,7 @@ newest_seat [] = None
 newest_seat (move ∷ before) = Some move.seat
 
 -- The running numbers are what the rules say of these moves, on this street.
-pub record Standing (setup : Setup) (street : ℕ) (b : RunningNumbers) (moves : List Move) : Type 0
+pub record Standing (setup : Setup) (street : ℕ) (b : BettingState) (moves : List Move) : Type 0
   where
     -- the chips that each seat put in this hand
     pub puts : (seat : ℕ) → IsSeatOf setup.stacks.seats seat
@@ -42,8 +42,8 @@ pub record Standing (setup : Setup) (street : ℕ) (b : RunningNumbers) (moves :
     pub moved : (seat : ℕ) → IsSeatOf setup.stacks.seats seat
         → flag_of b.moved seat ≡ has_moved moves street seat
     -- the seats that moved since the current bet last rose
-    pub since_rise : (seat : ℕ) → IsSeatOf setup.stacks.seats seat
-        → flag_of b.since_rise seat ≡ has_moved_since_rise setup moves street seat
+    pub acted_since_raise : (seat : ℕ) → IsSeatOf setup.stacks.seats seat
+        → flag_of b.acted_since_raise seat ≡ has_acted_since_raise setup moves street seat
     -- the seat that moved last on this street
     pub last : last_seen b ≡ newest_seat (moves_on street moves)
     -- the number of raises on this street, up to the most that is counted
@@ -54,15 +54,16 @@ pub record Standing (setup : Setup) (street : ℕ) (b : RunningNumbers) (moves :
     pub full_bet : b.full_bet ≡ prices.full_bet setup moves street
     -- the greatest, over the raises of this street, of twice the target minus the current bet
     -- before it
-    pub doubled : b.doubled ≡ greatest (doubled_raises setup moves street)
+    pub always_floor : b.always_floor ≡ greatest (doubled_raises setup moves street)
     -- whether a raise or a bring-in opened the betting of this street
-    pub opened : b.opened ≡ list_any (λ move. has_opened_betting move.act) (moves_on street moves)
+    pub bet_or_bring_in_made : b.bet_or_bring_in_made
+        ≡ list_any (λ move. has_opened_betting move.act) (moves_on street moves)
 
 -- The state stands for a past: each of its numbers and flags is what the rules say of the moves of
 -- the past, and what is due is due by the rules. No state stands for a past in which a card was
 -- dealt on a later street, or a hand was shown before the betting was over; no legal past is like
 -- that.
-pub record StandsFor (b : RunningNumbers) (past : Past) : Type 0 where
+pub record StandsFor (b : BettingState) (past : Past) : Type 0 where
   -- the setup is valid
   pub valid : IsValid b.setup
   -- the running numbers are those of the moves of the past

@@ -6,14 +6,14 @@ use Rattle.play_event.specs.Seats.{is_live, live_count}
 use Rattle.play_event.specs.Showing.{has_to_show}
 use Rattle.play_event.specs.Due.{due_on, is_settled}
 use Rattle.play_event.specs.ValidSetup.{IsValid}
-use Rattle.betting_numbers.specs.declared.running.RunningNumbers.{RunningNumbers}
+use Rattle.betting_numbers.specs.declared.betting_state.BettingState.{BettingState}
 use Rattle.betting_numbers.specs.Standing.{Standing}
 use Rattle.street_laws.specs.Walk.{has_nothing_later}
 use Rattle.street_laws.specs.Done.{is_done, HasCome}
 
 -- The deal, the draw or the show that is due is complete in the past, but not yet ended in the
 -- state.
-pub record StandsUpTo (b : RunningNumbers) (past : Past) : Type 0 where
+pub record StandsUpTo (b : BettingState) (past : Past) : Type 0 where
   -- the setup is valid
   pub valid : IsValid b.setup
   -- the running numbers are those of the moves of the past

@@ -2,9 +2,9 @@
 ghost use Rattle.std.specs.Prelude.{◌≡◌, ◌≤◌};
 ghost use Rattle.chip_ledger.specs.declared.seat_row.TheConstants.{MOST_AMOUNT};
 ghost use Rattle.play_event.specs.Openers as openers;
-ghost use Rattle.play_event.specs.Price.{starting_price};
+ghost use Rattle.play_event.specs.CurrentBet.{starting_bet};
 
-use crate::running::RunningNumbers;
+use crate::betting_state::BettingState;
 use chip_ledger::Seat;
 use play_event::Setup;
 
@@ -25,7 +25,7 @@ pub fn first_opener(setup: &Setup, last: u8) -> Seat
     }
 }
 
-impl RunningNumbers {
+impl BettingState {
     /// Who opens the street in a game with blinds.
     pub fn blinds_opener(&self) -> Seat
         ensures value { result.number ≡ openers.blinds_opener self.now.setup self.now.street }
@@ -40,14 +40,10 @@ impl RunningNumbers {
 
     /// The current bet at the start of the street.
     #[tactic(auto, using(crate::proofs::NextStreet::starts_at_zero))]
-    pub fn start_price(&self) -> u64
-        ensures value { result ≡ starting_price self.now.setup self.now.street }
+    pub fn start_bet(&self) -> u64
+        ensures value { result ≡ starting_bet self.now.setup self.now.street }
         ensures bounded { result ≤ MOST_AMOUNT }
     {
-        if self.street == 1 {
-            self.first_price
-        } else {
-            0
-        }
+        if self.street == 1 { self.blind_bet } else { 0 }
     }
 }

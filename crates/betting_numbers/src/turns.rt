@@ -3,17 +3,17 @@ ghost use Rattle.std.specs.Prelude.{◌≡◌, ◌≤◌, ◌+◌, find, IfSome,
 ghost use Rattle.std.specs.List.{range_with_len};
 ghost use Rattle.play_event.specs.Openers as openers;
 ghost use Rattle.play_event.specs.Openers.{TheSeat, in_turn};
-ghost use Rattle.betting_numbers.specs.Seen.{after_last, last_seen, mover_seen, has_to_move_seen, is_move_due_seen};
+ghost use Rattle.betting_numbers.specs.Seen.{after_last, last_seen, player_to_act_seen, has_to_move_seen, is_move_due_seen};
 ghost use Rattle.chip_ledger.specs.SeatsSaid.{seat_said};
 
-use crate::running::RunningNumbers;
+use crate::betting_state::BettingState;
 use chip_ledger::Seat;
 
-impl RunningNumbers {
+impl BettingState {
     /// Whose turn it is in a game with blinds: nobody's if no move is due.
-    pub fn mover(&self) -> Option<Seat>
+    pub fn player_to_act(&self) -> Option<Seat>
         ensures turn { in_turn (seat_said result)
-            ≡ mover_seen self.now
+            ≡ player_to_act_seen self.now
             (TheSeat (openers.blinds_opener self.now.setup self.now.street)) }
         ensures due { is_some result ≡ is_move_due_seen self.now }
         ensures in_hand { IfSome result (λ seat. seat.number ≤ self.now.setup.stacks.seats) }

@@ -5,11 +5,11 @@ ghost use Rattle.chip_ledger.specs.SeatRow.{amount_of};
 ghost use Rattle.betting_numbers.specs.Seen.{has_able_seat_to_call_seen, left_seen, is_settled_seen};
 ghost use Rattle.play_event.specs.Due.{is_after_betting};
 
-use crate::running::RunningNumbers;
+use crate::betting_state::BettingState;
 use chip_ledger::{Seat, SeatRow};
 use play_event::Due;
 
-impl RunningNumbers {
+impl BettingState {
     /// The chips that each seat has left.
     pub fn stacks_left(&self) -> SeatRow
         ensures seats { result.seats ≡ self.now.setup.stacks.seats }
@@ -39,7 +39,7 @@ impl RunningNumbers {
     {
         for index in 0..self.setup.stacks.seats {
             let seat = Seat { number: index + 1 };
-            if self.able(seat) && 0 < self.owed(seat) {
+            if self.can_act(seat) && 0 < self.to_call(seat) {
                 return true;
             }
         }

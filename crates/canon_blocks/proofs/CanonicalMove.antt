@@ -11,24 +11,24 @@ use Rattle.play_event.specs.Past.{Past, Resolved, Move, Dealt, Boarded, Moved, D
 use Rattle.play_event.specs.Dealing.{is_deal_due, is_draw_due}
 use Rattle.play_event.specs.Due.{turn, due_on, is_bring_in_due, is_move_due}
 use Rattle.play_event.specs.Openers.{TheSeat, UpCards}
-use Rattle.play_event.specs.Mover.{mover}
+use Rattle.play_event.specs.PlayerToAct.{player_to_act}
 use Rattle.play_event.specs.Places.{Place}
 use Rattle.play_event.specs.Table.{up_cards}
 use Rattle.play_event.specs.Reasons.{why, first_reason}
 use Rattle.play_event.specs.Scripts.{with_event, resolved_on, resolved_by}
 use Rattle.canon_script.specs.CanonScript.{move_named}
-use Rattle.play_laws.proofs.MoverUps.{SameUps, mover_same}
+use Rattle.play_laws.proofs.PlayerToActUps.{SameUps, player_to_act_same}
 use Rattle.play_event.proofs.ReasonLaws.{none_found}
 use Rattle.play_laws.proofs.MoveKinds.{IsMoveSaid, fold_said, call_said, raise_said, bring_said}
 use Rattle.play_laws.proofs.NamedMoves.{move_reasons, why_move, named_move, named_none, named_place}
-use Rattle.play_laws.proofs.MovesLaw.{ups_by, IsMover, free, shown, IsBetDue, bring_first, move_now, FitsMove}
+use Rattle.play_laws.proofs.MovesLaw.{ups_by, IsPlayerToAct, free, shown, IsBetDue, bring_first, move_now, FitsMove}
 use Rattle.canon_blocks.proofs.CardEvents.{HasCome, due_there}
 
 -- whose turn it is by the places at the script's end is whose turn it is by up-cards that are the
 -- same
-pub told_mover : (setup : Setup) (placed : List Place) (older : List Move) (street seat : ℕ) (ups : UpCards) → IsMover setup placed older street seat → SameUps setup older ups (ups_by setup.code placed street) → mover setup ups older street ≡ TheSeat seat
-told_mover setup placed older street seat ups (free by) same = by ups
-told_mover setup placed older street seat ups (shown known by) same = mover_same setup older street ups (ups_by setup.code placed street) same ∙ by
+pub told_player_to_act : (setup : Setup) (placed : List Place) (older : List Move) (street seat : ℕ) (ups : UpCards) → IsPlayerToAct setup placed older street seat → SameUps setup older ups (ups_by setup.code placed street) → player_to_act setup ups older street ≡ TheSeat seat
+told_player_to_act setup placed older street seat ups (free by) same = by ups
+told_player_to_act setup placed older street seat ups (shown known by) same = player_to_act_same setup older street ups (ups_by setup.code placed street) same ∙ by
 
 -- what is due there
 pub bet_due : (setup : Setup) (before : Past) (street : ℕ) (due : Due) → is_deal_due setup before street ≡ false → is_draw_due setup before street ≡ false → IsBetDue setup (moves_of before) street due → due_on setup before street ≡ Some due
@@ -86,9 +86,9 @@ move_again setup rules placed before older move fits ready =
     let word : Said = named_move setup older street seat fits.event in
     let M : List Move → Type 0 = λ l. IsBetDue setup l street fits.due in
     let turned : turn setup before ≡ (street, fits.due) = due_there setup before street fits.due ready.come (bet_due setup before street fits.due ready.no_deal ready.no_draw (subst M (sym ready.moves) fits.is_due)) in
-    let who : mover setup (up_cards setup.code before) older street ≡ TheSeat seat = told_mover setup placed older street seat (up_cards setup.code before) fits.in_turn ready.ups in
-    let in_turn : mover setup (up_cards setup.code before) (moves_of before) (turn setup before).0 ≡ TheSeat seat =
-    ap (λ l. mover setup (up_cards setup.code before) l (turn setup before).0) ready.moves ∙ (ap (λ (t : ℕ × Due). mover setup (up_cards setup.code before) older t.0) turned ∙ who) in
+    let who : player_to_act setup (up_cards setup.code before) older street ≡ TheSeat seat = told_player_to_act setup placed older street seat (up_cards setup.code before) fits.in_turn ready.ups in
+    let in_turn : player_to_act setup (up_cards setup.code before) (moves_of before) (turn setup before).0 ≡ TheSeat seat =
+    ap (λ l. player_to_act setup (up_cards setup.code before) l (turn setup before).0) ready.moves ∙ (ap (λ (t : ℕ × Due). player_to_act setup (up_cards setup.code before) older t.0) turned ∙ who) in
     let none = named_none setup rules older (street, fits.due) seat fits.event fits.is_move fits.none in
     let same_seat = named_place setup older street seat fits.event fits.is_move fits.none.1.1.0 in
     let spelled_so : move_named move ≡ word = word_of setup older move fits.event fits.is_move (same_seat ∙ fits.place) in

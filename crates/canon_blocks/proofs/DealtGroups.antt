@@ -10,7 +10,7 @@ use Rattle.play_event.specs.declared.code.Code.{Code}
 use Rattle.play_event.specs.Past.{Past, Move, moves_before}
 use Rattle.play_event.specs.Places.{Place, is_same_owner, is_in_group, is_past_deck, places_dealt, after_deal, group_of}
 use Rattle.play_event.specs.Table.{places_of}
-use Rattle.play_event.specs.Taken.{is_foreign}
+use Rattle.play_event.specs.Taken.{is_not_in_deck}
 use Rattle.play_event.specs.Laws.{IsAmong}
 use Rattle.play_event.proofs.ClashLaws.{among_append}
 use Rattle.play_laws.specs.LegalPlaces.{has_owner_folded, is_gone_by, AreLawful}
@@ -102,7 +102,7 @@ pub record AreDealtOut (code : Code) (moves : List Move) (placed : List Place) (
   pub dealt : AreDealt code moves placed street (places_of code (with_deals street (λ seat. group_slots placed street (Some seat)) (range_with_len first count) before)) (finals ++ flat_map (λ seat. group_of placed street (Some seat)) (range_with_len first count))
 
 -- the deals to a range of seats make the groups of the script, and no card of theirs is taken
-pub dealt_out : (code : Code) (moves : List Move) (placed : List Place) (street first count : ℕ) (before : Past) (finals : List Place) → AreLawful code moves placed → AreRising placed → ((place : Place) → IsAmong placed place → is_foreign code place.slot ≡ false) → ((owner : Option ℕ) → AreIndexed 0 (group_of placed street owner)) → AreDealt code moves placed street (places_of code before) finals → ((final : Place) (seat : ℕ) → IsAmong finals final → first ≤ seat → IsBefore placed street (Some seat) final) → AreDealtOut code moves placed street first count before finals
+pub dealt_out : (code : Code) (moves : List Move) (placed : List Place) (street first count : ℕ) (before : Past) (finals : List Place) → AreLawful code moves placed → AreRising placed → ((place : Place) → IsAmong placed place → is_not_in_deck code place.slot ≡ false) → ((owner : Option ℕ) → AreIndexed 0 (group_of placed street owner)) → AreDealt code moves placed street (places_of code before) finals → ((final : Place) (seat : ℕ) → IsAmong finals final → first ≤ seat → IsBefore placed street (Some seat) final) → AreDealtOut code moves placed street first count before finals
 dealt_out code moves placed street first zero before finals law rising deck indexed so_far before_them =
     let P : List Place → Type 0 = λ all. AreDealt code moves placed street (places_of code before) all in
     record { free = tt; dealt = subst P (sym (append-nil finals)) so_far }

@@ -9,7 +9,7 @@ use Rattle.card_set.specs.declared.card.Slot.TheVariants as slots
 use Rattle.play_event.specs.declared.code.Code.{Code}
 use Rattle.play_event.specs.Past.{Move}
 use Rattle.play_event.specs.Places.{Place}
-use Rattle.play_event.specs.Taken.{is_clash, may_repeat, is_gone_before, is_one_card, is_borne_by, is_in_deck, is_foreign, is_taken}
+use Rattle.play_event.specs.Taken.{is_clash, may_repeat, is_gone_before, is_one_card, slot_is_card, is_in_deck, is_not_in_deck, is_taken}
 use Rattle.play_event.specs.Laws.{IsAmong}
 use Rattle.list_laws.proofs.Tests.{false_true}
 use Rattle.play_laws.specs.LegalPlaces.{has_owner_folded, is_gone_by, AreLawful}
@@ -49,22 +49,22 @@ free_here : (late gone one : Bool) → (one ≡ true → (late ≡ true) × (gon
 free_here late gone false when = and_right (not (late && gone)) false refl
 free_here late gone true when = let both = when refl in ap (λ b. not b && true) (and_from late gone both.0 both.1)
 
-free_mirror : (moves : List Move) (out : Place → Bool) (late : Bool) (card : Card) (mine final : Place) → Mirrors moves out mine final → IsFreeOver out moves late (slots.Known card) final → (not (late && is_some mine.gone_after) && is_borne_by card mine.slot) ≡ false
+free_mirror : (moves : List Move) (out : Place → Bool) (late : Bool) (card : Card) (mine final : Place) → Mirrors moves out mine final → IsFreeOver out moves late (slots.Known card) final → (not (late && is_some mine.gone_after) && slot_is_card card mine.slot) ≡ false
 free_mirror moves out late card mine final mirror free =
-    free_here late (is_some mine.gone_after) (is_borne_by card mine.slot) (λ one.
-    let both = free.when (sym (ap (is_borne_by card) mirror.slot) ∙ one) in (both.0, mirror.gone_after ∙ both.1))
+    free_here late (is_some mine.gone_after) (slot_is_card card mine.slot) (λ one.
+    let both = free.when (sym (ap (slot_is_card card) mirror.slot) ∙ one) in (both.0, mirror.gone_after ∙ both.1))
 
-free_all : (moves : List Move) (out : Place → Bool) (late : Bool) (card : Card) (mines finals : List Place) → AreMirrored moves out mines finals → ((final : Place) → IsAmong finals final → IsFreeOver out moves late (slots.Known card) final) → list_any (λ place. not (late && is_some place.gone_after) && is_borne_by card place.slot) mines ≡ false
+free_all : (moves : List Move) (out : Place → Bool) (late : Bool) (card : Card) (mines finals : List Place) → AreMirrored moves out mines finals → ((final : Place) → IsAmong finals final → IsFreeOver out moves late (slots.Known card) final) → list_any (λ place. not (late && is_some place.gone_after) && slot_is_card card place.slot) mines ≡ false
 free_all moves out late card [] [] mirrored free = refl
 free_all moves out late card [] (final ∷ finals) mirrored free = refl
 free_all moves out late card (mine ∷ mines) [] mirrored free = absurd mirrored
 free_all moves out late card (mine ∷ mines) (final ∷ finals) mirrored free =
-    or_from (not (late && is_some mine.gone_after) && is_borne_by card mine.slot) (list_any (λ place. not (late && is_some place.gone_after) && is_borne_by card place.slot) mines)
+    or_from (not (late && is_some mine.gone_after) && slot_is_card card mine.slot) (list_any (λ place. not (late && is_some place.gone_after) && slot_is_card card place.slot) mines)
     (free_mirror moves out late card mine final mirrored.0 (free final (inl refl)))
     (free_all moves out late card mines finals mirrored.1 (λ other among. free other (inr among)))
 
 -- a slot that is in the deck and free over the places is not taken
-pub not_taken : (code : Code) (moves : List Move) (out : Place → Bool) (late : Bool) (slot : Slot) (mines finals : List Place) → AreMirrored moves out mines finals → is_foreign code slot ≡ false → ((final : Place) → IsAmong finals final → IsFreeOver out moves late slot final) → is_taken code mines late slot ≡ false
+pub not_taken : (code : Code) (moves : List Move) (out : Place → Bool) (late : Bool) (slot : Slot) (mines finals : List Place) → AreMirrored moves out mines finals → is_not_in_deck code slot ≡ false → ((final : Place) → IsAmong finals final → IsFreeOver out moves late slot final) → is_taken code mines late slot ≡ false
 not_taken code moves out late slots.Unknown mines finals mirrored deck free = refl
 not_taken code moves out late (slots.Known card) mines finals mirrored deck free =
-    or_from (not (is_in_deck code card)) (list_any (λ place. not (late && is_some place.gone_after) && is_borne_by card place.slot) mines) deck (free_all moves out late card mines finals mirrored free)
+    or_from (not (is_in_deck code card)) (list_any (λ place. not (late && is_some place.gone_after) && slot_is_card card place.slot) mines) deck (free_all moves out late card mines finals mirrored free)

@@ -10,7 +10,7 @@ use Rattle.play_event.specs.declared.code.Code.{Code}
 use Rattle.play_event.specs.Streets.{deck_of, has_draw}
 use Rattle.play_event.specs.Past.{Move, moves_before}
 use Rattle.play_event.specs.Places.{Place, is_same_owner, is_in_group, is_past_deck, group_of}
-use Rattle.play_event.specs.Taken.{is_one_card, is_borne_by, is_foreign, is_taken, has_repeat, is_repeated, has_taken_card}
+use Rattle.play_event.specs.Taken.{is_one_card, slot_is_card, is_not_in_deck, is_taken, has_repeat, is_repeated, has_taken_card}
 use Rattle.play_event.specs.Laws.{IsAmong}
 use Rattle.play_laws.specs.LegalPlaces.{is_gone_by, AreLawful}
 use Rattle.canon_blocks.proofs.Mirrors.{AreMirrored}
@@ -55,7 +55,7 @@ group_free code moves placed mines street owner card final law rising as_late in
     }
 
 -- none of the group's cards is taken
-none_taken : (code : Code) (moves : List Move) (placed mines finals : List Place) (street : ℕ) (owner : Option ℕ) (cards : List Place) → AreLawful code moves placed → AreRising placed → ((place : Place) → IsAmong placed place → is_foreign code place.slot ≡ false) → IsAsLate code placed mines street → AreMirrored (moves_before street moves) (is_out_by street) mines finals → ((final : Place) → IsAmong finals final → IsBefore placed street owner final) → ((card : Place) → IsAmong cards card → Passed (is_in_group owner street) placed card) → list_any (is_taken code mines (is_past_deck code mines street)) (map (λ (place : Place). place.slot) cards) ≡ false
+none_taken : (code : Code) (moves : List Move) (placed mines finals : List Place) (street : ℕ) (owner : Option ℕ) (cards : List Place) → AreLawful code moves placed → AreRising placed → ((place : Place) → IsAmong placed place → is_not_in_deck code place.slot ≡ false) → IsAsLate code placed mines street → AreMirrored (moves_before street moves) (is_out_by street) mines finals → ((final : Place) → IsAmong finals final → IsBefore placed street owner final) → ((card : Place) → IsAmong cards card → Passed (is_in_group owner street) placed card) → list_any (is_taken code mines (is_past_deck code mines street)) (map (λ (place : Place). place.slot) cards) ≡ false
 none_taken code moves placed mines finals street owner [] law rising deck as_late mirrored before group = refl
 none_taken code moves placed mines finals street owner (card ∷ cards) law rising deck as_late mirrored before group =
     or_from (is_taken code mines (is_past_deck code mines street) card.slot) (list_any (is_taken code mines (is_past_deck code mines street)) (map (λ (place : Place). place.slot) cards))
@@ -67,7 +67,7 @@ again_free : (slot : Slot) (cards : List Place) → ((card : Place) → IsAmong 
 again_free slots.Unknown cards apart = refl
 again_free (slots.Known card) [] apart = refl
 again_free (slots.Known card) (first ∷ rest) apart =
-    or_from (is_borne_by card first.slot) (list_any (is_borne_by card) (map (λ (place : Place). place.slot) rest)) (apart first (inl refl)) (again_free (slots.Known card) rest (λ other among. apart other (inr among)))
+    or_from (slot_is_card card first.slot) (list_any (slot_is_card card) (map (λ (place : Place). place.slot) rest)) (apart first (inl refl)) (again_free (slots.Known card) rest (λ other among. apart other (inr among)))
 
 none_again : (code : Code) (moves : List Move) (placed : List Place) (street : ℕ) (owner : Option ℕ) (cards : List Place) → AreLawful code moves placed → AreRising cards → ((card : Place) → IsAmong cards card → Passed (is_in_group owner street) placed card) → has_repeat (map (λ (place : Place). place.slot) cards) ≡ false
 none_again code moves placed street owner [] law rising group = refl
@@ -81,7 +81,7 @@ none_again code moves placed street owner (first ∷ rest) law rising group =
     on_street card in_group = eqb-true card.street street (and_parts (is_same_owner card.owner owner) (card.street == street) in_group.passes).1
 
 -- no card of an owner's group is taken when the group is dealt
-pub group_not_taken : (code : Code) (moves : List Move) (placed mines finals : List Place) (street : ℕ) (owner : Option ℕ) → AreLawful code moves placed → AreRising placed → ((place : Place) → IsAmong placed place → is_foreign code place.slot ≡ false) → IsAsLate code placed mines street → AreMirrored (moves_before street moves) (is_out_by street) mines finals → ((final : Place) → IsAmong finals final → IsBefore placed street owner final) → has_taken_card code mines street (group_slots placed street owner) ≡ false
+pub group_not_taken : (code : Code) (moves : List Move) (placed mines finals : List Place) (street : ℕ) (owner : Option ℕ) → AreLawful code moves placed → AreRising placed → ((place : Place) → IsAmong placed place → is_not_in_deck code place.slot ≡ false) → IsAsLate code placed mines street → AreMirrored (moves_before street moves) (is_out_by street) mines finals → ((final : Place) → IsAmong finals final → IsBefore placed street owner final) → has_taken_card code mines street (group_slots placed street owner) ≡ false
 group_not_taken code moves placed mines finals street owner law rising deck as_late mirrored before =
     or_from (list_any (is_taken code mines (is_past_deck code mines street)) (group_slots placed street owner)) (has_repeat (group_slots placed street owner))
     (none_taken code moves placed mines finals street owner (group_of placed street owner) law rising deck as_late mirrored before (λ card among. passed (is_in_group owner street) placed card among))

@@ -75,13 +75,13 @@ pub record BearsName (taken : Place → Bool) (card : Card) (placed : List Place
   pub place : Place
   pub among : IsAmong placed place
   pub is_taken : taken place ≡ true
-  pub is_borne_by : is_one_card (slots.Known card) place.slot ≡ true
+  pub slot_is_card : is_one_card (slots.Known card) place.slot ≡ true
 
 bears_later : (taken : Place → Bool) (card : Card) (first : Place) (rest : List Place) → BearsName taken card rest → BearsName taken card (first ∷ rest)
-bears_later taken card first rest it = record { place = it.place; among = inr it.among; is_taken = it.is_taken; is_borne_by = it.is_borne_by }
+bears_later taken card first rest it = record { place = it.place; among = inr it.among; is_taken = it.is_taken; slot_is_card = it.slot_is_card }
 
 bears_one : (taken : Place → Bool) (card : Card) (first : Place) (rest : List Place) (slot : Slot) (b : Bool) → first.slot ≡ slot → taken first ≡ true → is_one_card (slots.Known card) slot ≡ b → b ≡ true → BearsName taken card (first ∷ rest)
-bears_one taken card first rest slot b here is same one = record { place = first; among = inl refl; is_taken = is; is_borne_by = ap (is_one_card (slots.Known card)) here ∙ same ∙ one }
+bears_one taken card first rest slot b here is same one = record { place = first; among = inl refl; is_taken = is; slot_is_card = ap (is_one_card (slots.Known card)) here ∙ same ∙ one }
 
 named_at : (taken : Place → Bool) (card : Card) (first : Place) (rest : List Place) (slot : Slot) (t : Bool) → first.slot ≡ slot → taken first ≡ t → (is_named card (names_taken taken rest) ≡ true → BearsName taken card rest) → is_named card (known_cards (map (λ (place : Place). place.slot) (if t then (first ∷ filter taken rest) else filter taken rest))) ≡ true → BearsName taken card (first ∷ rest)
 named_at taken card first rest slot false here is later named = bears_later taken card first rest (later named)
@@ -125,7 +125,7 @@ named_or_not taken card placed place false true n t there back = false_true (sym
 named_is_taken : (covers taken : Place → Bool) (card : Card) (placed : List Place) (place : Place) → ((other : Place) → taken other ≡ true → covers other ≡ true) → TakenTogether covers taken placed → IsAmong placed place → place.slot ≡ slots.Known card → covers place ≡ true → is_named card (names_taken taken placed) ≡ true → taken place ≡ true
 named_is_taken covers taken card placed place sub together among here covered named =
     let it = is_named_by taken card placed named in
-    together place it.place among it.among covered (sub it.place it.is_taken) (ap (λ s. is_one_card s it.place.slot) here ∙ it.is_borne_by) ∙ it.is_taken
+    together place it.place among it.among covered (sub it.place it.is_taken) (ap (λ s. is_one_card s it.place.slot) here ∙ it.slot_is_card) ∙ it.is_taken
 
 -- of covered places just those that are taken are named
 pub named_where_taken : (covers taken : Place → Bool) (placed : List Place) → ((other : Place) → taken other ≡ true → covers other ≡ true) → TakenTogether covers taken placed → NamedWhereTaken covers taken (names_taken taken placed) placed
@@ -142,7 +142,7 @@ apart covers taken [] sub together = tt
 apart covers taken (place ∷ rest) sub together = (
   λ card here covered not_taken. false_from_ne_true (is_named card (names_taken taken rest)) (λ named.
       let it = is_named_by taken card rest named in
-      false_true (sym not_taken ∙ (together place it.place (inl refl) (inr it.among) covered (sub it.place it.is_taken) (ap (λ s. is_one_card s it.place.slot) here ∙ it.is_borne_by) ∙ it.is_taken))),
+      false_true (sym not_taken ∙ (together place it.place (inl refl) (inr it.among) covered (sub it.place it.is_taken) (ap (λ s. is_one_card s it.place.slot) here ∙ it.slot_is_card) ∙ it.is_taken))),
   apart covers taken rest sub (λ a b in_a in_b. together a b (inr in_a) (inr in_b)),
 )
 

@@ -5,7 +5,7 @@ use Rattle.std.proofs.lemmas.Bool.{cases_lt, eq-eqb, lt-ltb, or_left, or_parts, 
 use Rattle.list_laws.proofs.Counting.{count_by-cons}
 use Rattle.list_laws.proofs.Finding.{list_any-push}
 use Rattle.play_event.specs.Past.{Move, is_raise, moves_of, moves_on}
-use Rattle.play_event.specs.Price.{price}
+use Rattle.play_event.specs.CurrentBet.{current_bet}
 use Rattle.play_event.specs.Raising.{is_closed, is_within_cap, raises_on}
 use Rattle.play_event.specs.Said.{Said}
 use Rattle.play_event.specs.Scripts.{past_at_end}
@@ -63,7 +63,7 @@ suited : (others : Rules) (setup : Setup) (moves : List Move)
 suited others setup [] unclosed pays within = tt
 suited others setup (move ∷ older) unclosed pays within = (
   record {
-    folds = λ is free. sym (ap (λ b. b && nat_le (price setup older move.street) move.from) is) ∙ (newest_not is_free_fold setup move older (pays free)).1;
+    folds = λ is free. sym (ap (λ b. b && nat_le (current_bet setup older move.street) move.from) is) ∙ (newest_not is_free_fold setup move older (pays free)).1;
     caps = λ is. within_raise others.caps move older is within;
     reopens = λ is full. sym (ap (λ b. b && is_closed setup older move.street move.seat move.to) is) ∙ (newest_not (λ m. m.closed) setup move older (unclosed full)).1;
   },

@@ -1,6 +1,6 @@
 -- The moves, cards and counts of a canonical script, what a hand has of each street, and the script
 -- in other words.
-pub mod MoverSeats
+pub mod PlayerToActSeats
 pub mod MoveRanges
 pub mod GameSizes
 pub mod CardRanges

@@ -11,7 +11,7 @@ use Rattle.play_event.specs.Laws.{AreLegal, NoneHold}
 use Rattle.play_event.specs.MoveReasons.{actor_of}
 use Rattle.play_event.specs.Openers.{TheSeat}
 use Rattle.play_event.specs.Past.{Move, Moved, moves_of, moves_on}
-use Rattle.play_event.specs.Price.{price}
+use Rattle.play_event.specs.CurrentBet.{current_bet}
 use Rattle.play_event.specs.Said.{Said}
 use Rattle.play_event.specs.Scripts.{past_of, resolved_by}
 use Rattle.play_event.specs.Streets.{limit_of}
@@ -24,9 +24,9 @@ use Rattle.play_event.proofs.ChipLaws.{WithinStacks, greatest_within, puts_withi
 use Rattle.play_event.specs.Places.{Place}
 use Rattle.play_laws.proofs.FittingPasts.{legal_moves}
 use Rattle.play_laws.proofs.MoveKinds.{IsMoveSaid, bring_said, call_said, fold_said, raise_said}
-use Rattle.play_laws.proofs.MovesLaw.{IsMover, MovesLaw, free, shown}
+use Rattle.play_laws.proofs.MovesLaw.{IsPlayerToAct, MovesLaw, free, shown}
 use Rattle.play_laws.proofs.NamedMoves.{move_reasons, same_actor}
-use Rattle.canon_ranges.proofs.MoverSeats.{mover_in_hand}
+use Rattle.canon_ranges.proofs.PlayerToActSeats.{player_to_act_in_hand}
 use Rattle.chip_ledger.specs.Seat.{IsSeatOf}
 use Rattle.play_laws.proofs.ResolvedMoves.{target_of}
 
@@ -61,9 +61,9 @@ all_in_within setup moves street seat within =
 within_before : (setup : Setup) (move : Move) (older : List Move) → WithinStacks setup (move ∷ older) → WithinStacks setup older
 within_before setup move older within seat = omega (arith, within seat)
 
-in_turn_in_hand : (setup : Setup) (placed : List Place) (older : List Move) (street seat : ℕ) → IsMover setup placed older street seat → IsSeatOf setup.stacks.seats seat
-in_turn_in_hand setup placed older street seat (free by) = mover_in_hand setup (λ _. []) older street seat (by (λ _. []))
-in_turn_in_hand setup placed older street seat (shown known by) = mover_in_hand setup _ older street seat by
+in_turn_in_hand : (setup : Setup) (placed : List Place) (older : List Move) (street seat : ℕ) → IsPlayerToAct setup placed older street seat → IsSeatOf setup.stacks.seats seat
+in_turn_in_hand setup placed older street seat (free by) = player_to_act_in_hand setup (λ _. []) older street seat (by (λ _. []))
+in_turn_in_hand setup placed older street seat (shown known by) = player_to_act_in_hand setup _ older street seat by
 
 module _ (setup : Setup) (rules : Rules) (older : List Move) (street seat : ℕ) where
   abbrev most : ℕ
@@ -79,7 +79,7 @@ module _ (setup : Setup) (rules : Rules) (older : List Move) (street seat : ℕ)
   reaches _ move due (call_said named stated) none is =
       let same = same_actor setup older named seat none.1.1.0 in
       let to = ap target_of is in
-      omega (arith, to, min-le_right (price setup older street) (all_in setup older street (actor_of named (TheSeat seat))), ap (all_in setup older street) same)
+      omega (arith, to, min-le_right (current_bet setup older street) (all_in setup older street (actor_of named (TheSeat seat))), ap (all_in setup older street) same)
   reaches _ move due (raise_said named amount) none is =
       let actor = actor_of named (TheSeat seat) in
       let same = same_actor setup older named seat none.1.1.0 in

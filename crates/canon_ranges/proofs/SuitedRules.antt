@@ -13,7 +13,7 @@ use Rattle.play_event.specs.MoveReasons.{actor_of}
 use Rattle.play_event.specs.Openers.{TheSeat}
 use Rattle.play_event.specs.Past.{Folded, Move, Moved, Resolved, is_raise, moves_of}
 use Rattle.play_event.specs.Places.{Place}
-use Rattle.play_event.specs.Price.{price}
+use Rattle.play_event.specs.CurrentBet.{current_bet}
 use Rattle.play_event.specs.Raising.{has_able_opponent, is_closed, is_reopened, is_within_cap, raises_on}
 use Rattle.play_event.specs.Said.{Said}
 use Rattle.play_event.specs.Scripts.{past_at_end, past_of, resolved_by}
@@ -37,10 +37,10 @@ use Rattle.canon_laws.proofs.SuitedMoves.{AreWithin, one_more}
 use Rattle.play_event.proofs.FloorLaws.{fits_target}
 
 -- if a fold needs a bet to fold to, each fold has one
-pays : (free : Bool) (the_price from : ℕ) → (not free && (the_price - from == 0)) ≡ false → free ≡ false → nat_le the_price from ≡ false
-pays true the_price from none is = false_true (sym is)
-pays false the_price from none is =
-    false_from_ne_true (nat_le the_price from) (λ less. false_true (sym none ∙ eq-eqb (the_price - from) 0 (omega (arith, leb-true the_price from less))))
+pays : (free : Bool) (the_current_bet from : ℕ) → (not free && (the_current_bet - from == 0)) ≡ false → free ≡ false → nat_le the_current_bet from ≡ false
+pays true the_current_bet from none is = false_true (sym is)
+pays false the_current_bet from none is =
+    false_from_ne_true (nat_le the_current_bet from) (λ less. false_true (sym none ∙ eq-eqb (the_current_bet - from) 0 (omega (arith, leb-true the_current_bet from less))))
 
 -- a seat that may raise is within the cap, and the betting is open to it
 may_parts : (opponent above cap free : Bool) → not (opponent && above && cap && free) ≡ false → (cap ≡ true) × (free ≡ true)
@@ -69,7 +69,7 @@ module _ (setup : Setup) (rules : Rules) (older : List Move) (street seat : ℕ)
   suits_by _ move due (fold_said named) none is =
       subst (IsSuited rules setup older) (ap moved_of is)
       (record {
-        folds = λ fold free. pays rules.free_fold (price setup older street) (street_chips setup older street (actor_of named (TheSeat seat))) none.1.1.1.1.1.1.1.0 free;
+        folds = λ fold free. pays rules.free_fold (current_bet setup older street) (street_chips setup older street (actor_of named (TheSeat seat))) none.1.1.1.1.1.1.1.0 free;
         caps = λ raise. false_true raise;
         reopens = λ raise full. false_true raise;
       })
@@ -83,7 +83,7 @@ module _ (setup : Setup) (rules : Rules) (older : List Move) (street seat : ℕ)
       let actor = actor_of named (TheSeat seat) in
       let target = raise_target setup older street actor amount in
       let late = none.1.1.1.1.1.1.1.1 in
-      let may = may_parts (has_able_opponent setup older actor) (nat_lt (price setup older street) (all_in setup older street actor)) (is_within_cap rules.caps older street) (is_reopened rules.reopen setup older street actor) late.0 in
+      let may = may_parts (has_able_opponent setup older actor) (nat_lt (current_bet setup older street) (all_in setup older street actor)) (is_within_cap rules.caps older street) (is_reopened rules.reopen setup older street actor) late.0 in
       let legal = holds_by_both (is_legal_target rules.reopen setup older street actor target) (nat_lt target (greatest_target setup older street actor)) (nat_lt (greatest_target setup older street actor) target) late.1.0 (fits_target rules.reopen setup older street actor target) late.1.1.0 in
       let reopened : rules.reopen ≡ reopens.Full → is_closed setup older street actor target ≡ false =
       λ full.
@@ -142,7 +142,7 @@ none_free : (rules : Rules) (setup : Setup) → rules.free_fold ≡ false → (m
 none_free rules setup paid [] suits = refl
 none_free rules setup paid (move ∷ older) suits =
     none_more is_free_fold setup move older (none_free rules setup paid older suits.1)
-    (both_not (Rattle.play_event.specs.Past.is_fold move.act) (nat_le (price setup older move.street) move.from) (λ fold. suits.0.folds fold paid))
+    (both_not (Rattle.play_event.specs.Past.is_fold move.act) (nat_le (current_bet setup older move.street) move.from) (λ fold. suits.0.folds fold paid))
 
 -- a play that is legal under rules suits them
 pub suits_own : (setup : Setup) (rules : Rules) (script : List Said) → IsPlayed setup rules script → SuitsRules rules (core_after setup script)

@@ -58,43 +58,43 @@ deal_chain wrong_seat owed count taken =
     else None
 
 -- why hole cards of the street may not be dealt to a seat
-abbrev pub hole_why_on : CardState → LiveRow → ℕ → ℕ → List Slot → Option Illegal
-hole_why_on t live on seat cards =
+abbrev pub illegal_hole_deal_on : CardState → LiveRow → ℕ → ℕ → List Slot → Option Illegal
+illegal_hole_deal_on t live on seat cards =
     let owed = owed_in t live on seat in
     deal_chain (not (is_seat_of t.seats seat) || (owed == 0)) owed (length cards)
     (has_taken_card t.table.code (placed t.places) on cards)
 
 -- why cards of the street may not be dealt to the board
-abbrev pub board_why_on : CardState → ℕ → List Slot → Option Illegal
-board_why_on t on cards =
+abbrev pub illegal_board_deal_on : CardState → ℕ → List Slot → Option Illegal
+illegal_board_deal_on t on cards =
     let owed = board_owed_in t on in
     if is_wrong_deal owed (length cards) then Some reasons.WrongCount
     else if has_taken_card t.table.code (placed t.places) on cards then Some reasons.CardTaken
     else None
 
 -- why hole cards may not be dealt now
-abbrev pub hole_why : CardState → LiveRow → Due → ℕ → List Slot → Option Illegal
-hole_why t live dues.Over seat cards = Some reasons.HandOver
-hole_why t live (dues.Deal on) seat cards =
+abbrev pub illegal_hole_deal : CardState → LiveRow → Due → ℕ → List Slot → Option Illegal
+illegal_hole_deal t live dues.Over seat cards = Some reasons.HandOver
+illegal_hole_deal t live (dues.Deal on) seat cards =
     if nat_lt 0 (hole_cards_on t.table.code on)
-    then hole_why_on t live on seat cards
+    then illegal_hole_deal_on t live on seat cards
     else Some reasons.WrongKind
-hole_why t live (dues.Draw on) seat cards = hole_why_on t live on seat cards
-hole_why t live dues.BringIn seat cards = Some reasons.WrongKind
-hole_why t live dues.Move seat cards = Some reasons.WrongKind
-hole_why t live dues.Show seat cards = Some reasons.WrongKind
+illegal_hole_deal t live (dues.Draw on) seat cards = illegal_hole_deal_on t live on seat cards
+illegal_hole_deal t live dues.BringIn seat cards = Some reasons.WrongKind
+illegal_hole_deal t live dues.Move seat cards = Some reasons.WrongKind
+illegal_hole_deal t live dues.Show seat cards = Some reasons.WrongKind
 
 -- why board cards may not be dealt now
-abbrev pub board_why : CardState → Due → List Slot → Option Illegal
-board_why t dues.Over cards = Some reasons.HandOver
-board_why t (dues.Deal on) cards =
+abbrev pub illegal_board_deal : CardState → Due → List Slot → Option Illegal
+illegal_board_deal t dues.Over cards = Some reasons.HandOver
+illegal_board_deal t (dues.Deal on) cards =
     if nat_lt 0 (board_cards_on t.table.code on)
-    then board_why_on t on cards
+    then illegal_board_deal_on t on cards
     else Some reasons.WrongKind
-board_why t (dues.Draw on) cards = Some reasons.WrongKind
-board_why t dues.BringIn cards = Some reasons.WrongKind
-board_why t dues.Move cards = Some reasons.WrongKind
-board_why t dues.Show cards = Some reasons.WrongKind
+illegal_board_deal t (dues.Draw on) cards = Some reasons.WrongKind
+illegal_board_deal t dues.BringIn cards = Some reasons.WrongKind
+illegal_board_deal t dues.Move cards = Some reasons.WrongKind
+illegal_board_deal t dues.Show cards = Some reasons.WrongKind
 
 -- a live seat has not drawn on the street
 abbrev pub has_to_draw : CardState → LiveRow → ℕ → ℕ → Bool
@@ -118,8 +118,8 @@ discard_chain next held count taken lacking =
     else None
 
 -- why a seat may not discard these cards on the street
-abbrev pub discard_why_on : CardState → LiveRow → ℕ → ℕ → List Slot → Option Illegal
-discard_why_on t live on seat cards =
+abbrev pub illegal_discard_on : CardState → LiveRow → ℕ → ℕ → List Slot → Option Illegal
+illegal_discard_on t live on seat cards =
     discard_chain (is_next_in t live on seat) (held_count (placed t.places) seat) (length cards)
     (has_misplaced_card t.table.code (placed t.places)
     (after_discard on seat cards (placed t.places)))
@@ -127,13 +127,13 @@ discard_why_on t live on seat cards =
     (blanks_in cards))
 
 -- why a seat may not discard these cards now
-abbrev pub discard_why : CardState → LiveRow → Due → ℕ → List Slot → Option Illegal
-discard_why t live dues.Over seat cards = Some reasons.HandOver
-discard_why t live (dues.Draw on) seat cards = discard_why_on t live on seat cards
-discard_why t live (dues.Deal on) seat cards = Some reasons.WrongKind
-discard_why t live dues.BringIn seat cards = Some reasons.WrongKind
-discard_why t live dues.Move seat cards = Some reasons.WrongKind
-discard_why t live dues.Show seat cards = Some reasons.WrongKind
+abbrev pub illegal_discard : CardState → LiveRow → Due → ℕ → List Slot → Option Illegal
+illegal_discard t live dues.Over seat cards = Some reasons.HandOver
+illegal_discard t live (dues.Draw on) seat cards = illegal_discard_on t live on seat cards
+illegal_discard t live (dues.Deal on) seat cards = Some reasons.WrongKind
+illegal_discard t live dues.BringIn seat cards = Some reasons.WrongKind
+illegal_discard t live dues.Move seat cards = Some reasons.WrongKind
+illegal_discard t live dues.Show seat cards = Some reasons.WrongKind
 
 -- a seat may show or muck: it is live, and has done neither
 abbrev pub may_show_in : CardState → LiveRow → ℕ → Bool
@@ -159,8 +159,8 @@ show_chain may many taken others =
     else None
 
 -- why a seat may not show these cards, when a show is due
-abbrev pub show_why_on : CardState → LiveRow → ℕ → List Card → Option Illegal
-show_why_on t live seat cards =
+abbrev pub illegal_show_on : CardState → LiveRow → ℕ → List Card → Option Illegal
+illegal_show_on t live seat cards =
     show_chain (may_show_in t live seat)
     (may_show_many t.table.code (placed t.places) seat (length cards))
     (has_misplaced_card t.table.code (placed t.places)
@@ -171,27 +171,28 @@ show_why_on t live seat cards =
     cards)
 
 -- why a seat may not show these cards now; `settled` says whether no more betting is possible
-abbrev pub show_why : CardState → LiveRow → Due → Bool → ℕ → List Card → Option Illegal
-show_why t live dues.Over settled seat cards =
-    if may_show_in t live seat then show_why_on t live seat cards else Some reasons.HandOver
-show_why t live dues.Show settled seat cards = show_why_on t live seat cards
-show_why t live (dues.Deal on) settled seat cards =
-    if settled then show_why_on t live seat cards else Some reasons.WrongKind
-show_why t live (dues.Draw on) settled seat cards =
-    if settled then show_why_on t live seat cards else Some reasons.WrongKind
-show_why t live dues.BringIn settled seat cards =
-    if settled then show_why_on t live seat cards else Some reasons.WrongKind
-show_why t live dues.Move settled seat cards =
-    if settled then show_why_on t live seat cards else Some reasons.WrongKind
+abbrev pub illegal_show : CardState → LiveRow → Due → Bool → ℕ → List Card → Option Illegal
+illegal_show t live dues.Over settled seat cards =
+    if may_show_in t live seat then illegal_show_on t live seat cards else Some reasons.HandOver
+illegal_show t live dues.Show settled seat cards = illegal_show_on t live seat cards
+illegal_show t live (dues.Deal on) settled seat cards =
+    if settled then illegal_show_on t live seat cards else Some reasons.WrongKind
+illegal_show t live (dues.Draw on) settled seat cards =
+    if settled then illegal_show_on t live seat cards else Some reasons.WrongKind
+illegal_show t live dues.BringIn settled seat cards =
+    if settled then illegal_show_on t live seat cards else Some reasons.WrongKind
+illegal_show t live dues.Move settled seat cards =
+    if settled then illegal_show_on t live seat cards else Some reasons.WrongKind
 
 -- why a seat may not muck now
-abbrev pub muck_why : CardState → LiveRow → Due → ℕ → Option Illegal
-muck_why t live dues.Over seat = if may_show_in t live seat then None else Some reasons.HandOver
-muck_why t live dues.Show seat = if may_show_in t live seat then None else Some reasons.WrongSeat
-muck_why t live (dues.Deal on) seat = Some reasons.WrongKind
-muck_why t live (dues.Draw on) seat = Some reasons.WrongKind
-muck_why t live dues.BringIn seat = Some reasons.WrongKind
-muck_why t live dues.Move seat = Some reasons.WrongKind
+abbrev pub illegal_muck : CardState → LiveRow → Due → ℕ → Option Illegal
+illegal_muck t live dues.Over seat = if may_show_in t live seat then None else Some reasons.HandOver
+illegal_muck t live dues.Show seat = if may_show_in t live seat then None
+    else Some reasons.WrongSeat
+illegal_muck t live (dues.Deal on) seat = Some reasons.WrongKind
+illegal_muck t live (dues.Draw on) seat = Some reasons.WrongKind
+illegal_muck t live dues.BringIn seat = Some reasons.WrongKind
+illegal_muck t live dues.Move seat = Some reasons.WrongKind
 
 -- a live seat is owed hole cards of the street
 abbrev pub is_owed_deal_in : CardState → LiveRow → ℕ → ℕ → Bool

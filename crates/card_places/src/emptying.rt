@@ -15,7 +15,7 @@ use chip_ledger::LiveRow;
 use play_event::Code;
 
 /// No cards yet, for this number of seats of the game.
-pub fn empty(code: Code, seats: u8) -> CardState
+pub fn new_card_state(code: Code, seats: u8) -> CardState
     requires least { 2 ≤ seats }
     requires most { seats ≤ (game_of code).seats }
     ensures code { result.table.code ≡ code }

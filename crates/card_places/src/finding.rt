@@ -22,7 +22,7 @@ pub struct FoundPlace {
 /// Matches a place that the event applies to with the names. A known card is marked if it is named;
 /// an unknown one takes the next of the other names, `taken` of which are used up, or else one of
 /// the blanks.
-pub fn find(
+pub fn match_name(
     card: DealtCard,
     street: Option<u8>,
     count: u8,

@@ -16,7 +16,7 @@ pub fn is_one_card(a: Slot, b: Slot) -> bool
     ensures { result ≡ taken.is_one_card a b }
 {
     match a {
-        Slot::Known(card) => is_borne_by(card, b),
+        Slot::Known(card) => slot_is_card(card, b),
         Slot::Unknown => false,
     }
 }
@@ -56,24 +56,24 @@ fn is_repeated(slot: Slot, others: &[Slot]) -> bool
     ensures { result ≡ taken.is_repeated slot others.now }
 {
     match slot {
-        Slot::Known(card) => any_bears(card, others),
+        Slot::Known(card) => any_slot_is_card(card, others),
         Slot::Unknown => false,
     }
 }
 
 // One of the slots has the card.
-fn any_bears(card: Card, slots: &[Slot]) -> bool
-    ensures { result ≡ list_any (taken.is_borne_by card) slots.now }
+fn any_slot_is_card(card: Card, slots: &[Slot]) -> bool
+    ensures { result ≡ list_any (taken.slot_is_card card) slots.now }
 {
     match slots {
         [] => false,
-        [slot, rest @ ..] => is_borne_by(card, *slot) || any_bears(card, rest),
+        [slot, rest @ ..] => slot_is_card(card, *slot) || any_slot_is_card(card, rest),
     }
 }
 
 /// Whether the slot is known to have the card.
-pub fn is_borne_by(card: Card, slot: Slot) -> bool
-    ensures { result ≡ taken.is_borne_by card slot }
+pub fn slot_is_card(card: Card, slot: Slot) -> bool
+    ensures { result ≡ taken.slot_is_card card slot }
 {
     match slot {
         Slot::Known(other) => is_same_card(card, other),

@@ -9,10 +9,10 @@ ghost use Rattle.card_places.specs.Searches as searches;
 use crate::deal_table::DealTable;
 use crate::dealt_card::DealtCard;
 use crate::names::{is_unknown, left_out};
-use crate::search::{Search, covers};
+use crate::search::{NamedCards, covers};
 
 /// Whether a known card that the event applies to is not named.
-pub fn has_left_out_card(table: &DealTable, rows: &[DealtCard], search: &Search) -> bool
+pub fn has_left_out_card(table: &DealTable, rows: &[DealtCard], search: &NamedCards) -> bool
     ensures { result
         ≡ searches.has_left_out_card table.now.code search.now (map place_of rows.now) }
 {
@@ -27,7 +27,7 @@ pub fn has_left_out_card(table: &DealTable, rows: &[DealtCard], search: &Search)
 }
 
 /// Whether more names and blanks need an unknown place than there are.
-pub fn has_unplaced_name(table: &DealTable, rows: &[DealtCard], search: &Search) -> bool
+pub fn has_unplaced_name(table: &DealTable, rows: &[DealtCard], search: &NamedCards) -> bool
     ensures { result
         ≡ searches.has_unplaced_name table.now.code search.now (map place_of rows.now) }
 {
@@ -36,7 +36,7 @@ pub fn has_unplaced_name(table: &DealTable, rows: &[DealtCard], search: &Search)
 
 // The number of unknown places that the event applies to.
 #[tactic(auto, using(crate::proofs::Covered::free_more))]
-fn free_count(table: &DealTable, rows: &[DealtCard], search: &Search) -> usize
+fn free_count(table: &DealTable, rows: &[DealtCard], search: &NamedCards) -> usize
     ensures value { result ≡ count_by (λ place. known.is_unknown place.slot)
         (covered table.now.code search.now.seat.number search.now.all (map place_of rows.now)) }
     ensures most { result ≤ length rows.now }
@@ -51,7 +51,7 @@ fn free_count(table: &DealTable, rows: &[DealtCard], search: &Search) -> usize
 }
 
 // The event applies to the place, and its card is unknown.
-fn is_free(table: &DealTable, card: &DealtCard, search: &Search) -> bool
+fn is_free(table: &DealTable, card: &DealtCard, search: &NamedCards) -> bool
     ensures { result ≡ (naming.is_covered table.now.code search.now.seat.number search.now.all
         (place_of card.now) && known.is_unknown card.now.slot) }
 {

@@ -15,7 +15,7 @@ ghost use Rattle.card_places.specs.Searches.{search_from};
 use crate::deal_table::DealTable;
 use crate::dealt_card::DealtCard;
 use crate::dealt_cards::DealtCards;
-use crate::finding::{FoundPlace, find};
+use crate::finding::{FoundPlace, match_name};
 use crate::names::without;
 use card_set::CardRow;
 use chip_ledger::Seat;
@@ -24,7 +24,7 @@ use chip_ledger::Seat;
 /// are discarded, if they are, and after how many dealt cards; the names, which of them no known
 /// card has, and the number of blanks that come with them.
 #[derive(Clone, Copy)]
-pub struct Search {
+pub struct NamedCards {
     pub seat: Seat,
     pub all: bool,
     pub street: Option<u8>,
@@ -36,7 +36,7 @@ pub struct Search {
 
 /// Looks for the names and `blanks` blanks among the places that the event applies to. With a
 /// street, the cards found are discarded on it; without one they stay.
-pub fn search_of(
+pub fn named_cards(
     table: &DealTable,
     places: &DealtCards,
     seat: Seat,
@@ -44,7 +44,7 @@ pub fn search_of(
     street: Option<u8>,
     names: &CardRow,
     blanks: u8,
-) -> Search
+) -> NamedCards
     ensures after { searches.searched table.now.code result (placed places.now)
         ≡ after_named table.now.code seat.number all
         (mark_by street (length (placed places.now))) (cards_of names.now) blanks
@@ -56,7 +56,7 @@ pub fn search_of(
         ≡ list_any (λ place. reasons.is_left_out (cards_of names.now) place.slot)
         (covered table.now.code seat.number all (placed places.now)) }
 {
-    Search {
+    NamedCards {
         seat,
         all,
         street,
@@ -89,14 +89,14 @@ fn other_names(
 }
 
 /// Matches the names with places, in the order of dealing.
-pub fn run(table: &DealTable, places: &mut DealtCards, search: &Search)
+pub fn apply_names(table: &DealTable, places: &mut DealtCards, search: &NamedCards)
     ensures { placed places.new
         ≡ searches.searched table.now.code search.now (placed places.old) }
 {
     let mut taken = 0;
     let mut blanks = search.blanks;
     for index in 0..places.count as usize {
-        let found = look(table, search, places.rows[index], taken, blanks);
+        let found = peek(table, search, places.rows[index], taken, blanks);
         places.rows[index] = found.card;
         taken = found.taken;
         blanks = found.blanks;
@@ -104,9 +104,9 @@ pub fn run(table: &DealTable, places: &mut DealtCards, search: &Search)
 }
 
 /// Matches the next place with the names; `taken` and `blanks` say how far earlier places got.
-pub fn look(
+pub fn peek(
     table: &DealTable,
-    search: &Search,
+    search: &NamedCards,
     card: DealtCard,
     taken: u8,
     blanks: u8,
@@ -117,7 +117,7 @@ pub fn look(
         ∷ search_from table.now.code search.now result.taken result.blanks rest }
 {
     if covers(table, &card, search.seat, search.all) {
-        find(
+        match_name(
             card,
             search.street,
             search.count,

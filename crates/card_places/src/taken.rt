@@ -7,7 +7,7 @@ ghost use Rattle.card_places.specs.Plain.{place_of};
 
 use crate::deal_table::DealTable;
 use crate::dealt_card::DealtCard;
-use crate::names::{has_repeat, is_borne_by, is_one_card};
+use crate::names::{has_repeat, is_one_card, slot_is_card};
 use card_set::{Card, Slot};
 
 /// Whether one of the slots may not be dealt on this street: its card is not in the deck, a place
@@ -44,12 +44,12 @@ fn is_taken(table: &DealTable, rows: &[DealtCard], past_deck: bool, slot: Slot) 
 // A place has the card; if the deck has run out, gone places do not count.
 fn lies(rows: &[DealtCard], past_deck: bool, card: Card) -> bool
     ensures { result ≡ list_any (λ place. not (past_deck && is_some place.gone_after)
-        && taken.is_borne_by card place.slot) (map place_of rows.now) }
+        && taken.slot_is_card card place.slot) (map place_of rows.now) }
 {
     match rows {
         [] => false,
         [row, rest @ ..] => {
-            !(past_deck && row.gone_after.is_some()) && is_borne_by(card, row.slot)
+            !(past_deck && row.gone_after.is_some()) && slot_is_card(card, row.slot)
                 || lies(rest, past_deck, card)
         }
     }
@@ -81,8 +81,8 @@ fn count_drawn(rows: &[DealtCard], street: u8) -> usize
 }
 
 /// Whether the card of a slot is not in the deck.
-pub fn is_foreign(table: &DealTable, slot: Slot) -> bool
-    ensures { result ≡ taken.is_foreign table.now.code slot }
+pub fn is_not_in_deck(table: &DealTable, slot: Slot) -> bool
+    ensures { result ≡ taken.is_not_in_deck table.now.code slot }
 {
     match slot {
         Slot::Known(card) => !table.in_deck(card),

@@ -6,7 +6,7 @@ use Rattle.first_fault.specs.declared.limits.TheConstants.{MOST_HANDS}
 use Rattle.hand_canon.specs.Judged.{IsJudged}
 use Rattle.hand_canon.specs.ReadAgain.{AreAgain}
 use Rattle.hand_canon.specs.Sound.{IsSound}
-use Rattle.hand_records.specs.AllowedNotes.{unless_usual}
+use Rattle.hand_records.specs.AllowedNotes.{non_default_seats}
 use Rattle.hand_records.specs.Plays.{hands_of}
 use Rattle.hand_records.specs.WriteRefusals.{first_refusal}
 use Rattle.hand_records.specs.declared.notes.Notes.{Notes}
@@ -92,7 +92,7 @@ read_few n bytes plays read =
 -- ---- plays of one reading
 
 numbers_alike : (count : ℕ) (x y : Option (List ℕ)) → option_map (take count) x ≡ option_map (take count) y → numbers_said count x ≡ numbers_said count y
-numbers_alike count x y same = said_taken count x ∙ ap (option_and_then (unless_usual count)) same ∙ sym (said_taken count y)
+numbers_alike count x y same = said_taken count x ∙ ap (option_and_then (non_default_seats count)) same ∙ sym (said_taken count y)
 
 -- notes that are the same say the same
 note_said : (place count : ℕ) (a b : Notes) → NoteTheSame count a b → said_notes place count a ≡ said_notes place count b

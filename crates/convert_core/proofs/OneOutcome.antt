@@ -21,7 +21,7 @@ use Rattle.trace_laws.proofs.OneTrace.{one_past}
 use Rattle.replay_core.specs.declared.fault.ReplayFault.{ReplayFault}
 use Rattle.replay_core.specs.declared.fault.ReplayFault.TheVariants as faults
 use Rattle.replay_core.specs.Events.{said_by}
-use Rattle.replay_core.specs.Faults.{IsFaultOf, IsWant}
+use Rattle.replay_core.specs.Faults.{IsFaultOf, IsOutOfMemory}
 use Rattle.replay_core.proofs.OneFault.{no_fault, one_fault}
 use Rattle.convert_core.specs.declared.refusal.Refusal.{Refusal}
 use Rattle.convert_core.specs.declared.refusal.Refusal.TheVariants as refusals
@@ -91,7 +91,7 @@ one_difference a b told other same is it =
     (sym is.differs ∙ ap₂ first_difference (one_trace a b is.trace it.trace same is.traced it.traced) same.stated ∙ it.differs))
 
 -- a fault that is not that memory ran out
-is_fault : (a : Record) (fault : ReplayFault) → IsReplayFaultOf a fault → (¬ IsWant fault) × IsFaultOf a.setup a.rules a.script fault
+is_fault : (a : Record) (fault : ReplayFault) → IsReplayFaultOf a fault → (¬ IsOutOfMemory fault) × IsFaultOf a.setup a.rules a.script fault
 is_fault a (faults.Illegal event at reason) is = ((λ want. want), is)
 is_fault a (faults.EndsEarly events) is = ((λ want. want), is)
 is_fault a (faults.RakeTooBig pot) is = ((λ want. want), is)

@@ -9,7 +9,7 @@ use Rattle.hand_records.specs.Plays.{hands_of}
 use Rattle.hand_records.specs.declared.record.Record.{Record}
 use Rattle.hand_records.specs.declared.trace.Play.{Play}
 use Rattle.convert_core.proofs.JudgedPlays.{first_refused, plays_sound}
-use Rattle.convert_core.specs.Judged.{ArePlaysOf, IsFaultAt, IsPlaysFaultOf, IsPlaysWant, IsRefusedFor}
+use Rattle.convert_core.specs.Judged.{ArePlaysOf, IsFaultAt, IsPlaysFaultOf, IsPlaysOutOfMemory, IsRefusedFor}
 use Rattle.convert_core.specs.declared.refusal.PlaysFault.{PlaysFault}
 use Rattle.convert_core.specs.declared.refusal.PlaysFault.TheVariants as plays_faults
 use Rattle.convert_core.specs.declared.refusal.Refusal.{Refusal}
@@ -80,11 +80,11 @@ last_is before after play found at behind here is =
     ∙ last_at before play found
 
 -- a legal hand was visited
-pub now_taken : (goes_on keeps : Bool) (Took Takes : List Verdict → Type 0) (hands : List Record) (place : ℕ) (old new : List Play) (play : Play) (hand : Record)
-    → (before : AreTaken goes_on keeps Took hands place old) → play.hand ≡ hand → IsJudged play
+pub now_taken : (continues keeps : Bool) (Took Takes : List Verdict → Type 0) (hands : List Record) (place : ℕ) (old new : List Play) (play : Play) (hand : Record)
+    → (before : AreTaken continues keeps Took hands place old) → play.hand ≡ hand → IsJudged play
     → (keeps ≡ true → new ≡ old ++ play ∷ []) → (keeps ≡ false → length new ≤ 1) → Takes (before.verdicts ++ Legal play ∷ [])
-    → AreTaken goes_on keeps Takes (hands ++ hand ∷ []) (place + 1) new
-now_taken goes_on keeps Took Takes hands place old new play hand before same judged kept few takes =
+    → AreTaken continues keeps Takes (hands ++ hand ∷ []) (place + 1) new
+now_taken continues keeps Took Takes hands place old new play hand before same judged kept few takes =
     let verdicts = before.verdicts in
     record {
       verdicts = verdicts ++ Legal play ∷ [];
@@ -97,11 +97,11 @@ now_taken goes_on keeps Took Takes hands place old new play hand before same jud
     }
 
 -- a refused hand was visited with its first fault
-pub now_passed : (goes_on keeps : Bool) (Took Takes : List Verdict → Type 0) (hands : List Record) (place : ℕ) (kept : List Play) (hand : Record) (why : Refusal)
-    → (before : AreTaken goes_on keeps Took hands place kept) → goes_on ≡ true → IsRefusedFor hand why
+pub now_passed : (continues keeps : Bool) (Took Takes : List Verdict → Type 0) (hands : List Record) (place : ℕ) (kept : List Play) (hand : Record) (why : Refusal)
+    → (before : AreTaken continues keeps Took hands place kept) → continues ≡ true → IsRefusedFor hand why
     → Takes (before.verdicts ++ Refused hand why ∷ [])
-    → AreTaken goes_on keeps Takes (hands ++ hand ∷ []) (place + 1) kept
-now_passed goes_on keeps Took Takes hands place kept hand why before on refused takes =
+    → AreTaken continues keeps Takes (hands ++ hand ∷ []) (place + 1) kept
+now_passed continues keeps Took Takes hands place kept hand why before on refused takes =
     let verdicts = before.verdicts in
     record {
       verdicts = verdicts ++ Refused hand why ∷ [];
@@ -114,16 +114,16 @@ now_passed goes_on keeps Took Takes hands place kept hand why before on refused 
     }
 
 -- what was visited of the records so far, and the records that are left
-pub record AreOnTheWay (goes_on keeps : Bool) (Took : List Verdict → Type 0) (records left : List Record) (place : ℕ) (kept : List Play) : Type 0 where
+pub record AreOnTheWay (continues keeps : Bool) (Took : List Verdict → Type 0) (records left : List Record) (place : ℕ) (kept : List Play) : Type 0 where
   pub hands : List Record
-  pub taken : AreTaken goes_on keeps Took hands place kept
+  pub taken : AreTaken continues keeps Took hands place kept
   pub stands : hands ++ left ≡ records
 
 -- before the first hand
-pub none_taken : (goes_on keeps : Bool) (Took : List Verdict → Type 0) (records : List Record) (kept : List Play) → Took [] → kept ≡ []
-    → AreOnTheWay goes_on keeps Took records records 0 kept
+pub none_taken : (continues keeps : Bool) (Took : List Verdict → Type 0) (records : List Record) (kept : List Play) → Took [] → kept ≡ []
+    → AreOnTheWay continues keeps Took records records 0 kept
 unfolding legal_plays
-none_taken goes_on keeps Took records kept took empty =
+none_taken continues keeps Took records kept took empty =
     record {
       hands = [];
       taken = record {
@@ -139,11 +139,11 @@ none_taken goes_on keeps Took records kept took empty =
     }
 
 -- the next of these records was visited
-pub one_on : (goes_on keeps : Bool) (Took Takes : List Verdict → Type 0) (records left : List Record) (hand : Record) (place : ℕ) (old new : List Play)
-    → (way : AreOnTheWay goes_on keeps Took records (hand ∷ left) place old)
-    → ((hands : List Record) → AreTaken goes_on keeps Took hands place old → AreTaken goes_on keeps Takes (hands ++ hand ∷ []) (place + 1) new)
-    → AreOnTheWay goes_on keeps Takes records left (place + 1) new
-one_on goes_on keeps Took Takes records left hand place old new way more =
+pub one_on : (continues keeps : Bool) (Took Takes : List Verdict → Type 0) (records left : List Record) (hand : Record) (place : ℕ) (old new : List Play)
+    → (way : AreOnTheWay continues keeps Took records (hand ∷ left) place old)
+    → ((hands : List Record) → AreTaken continues keeps Took hands place old → AreTaken continues keeps Takes (hands ++ hand ∷ []) (place + 1) new)
+    → AreOnTheWay continues keeps Takes records left (place + 1) new
+one_on continues keeps Took Takes records left hand place old new way more =
     record {
       hands = way.hands ++ hand ∷ [];
       taken = more way.hands way.taken;
@@ -151,18 +151,18 @@ one_on goes_on keeps Took Takes records left hand place old new way more =
     }
 
 -- and there are at most as many as a file may have
-pub has_room : (goes_on keeps : Bool) (Took : List Verdict → Type 0) (records left : List Record) (hand : Record) (place most : ℕ) (kept : List Play)
-    → AreOnTheWay goes_on keeps Took records (hand ∷ left) place kept → length records ≤ most → place < most
-has_room goes_on keeps Took records left hand place most kept way few =
+pub has_room : (continues keeps : Bool) (Took : List Verdict → Type 0) (records left : List Record) (hand : Record) (place most : ℕ) (kept : List Play)
+    → AreOnTheWay continues keeps Took records (hand ∷ left) place kept → length records ≤ most → place < most
+has_room continues keeps Took records left hand place most kept way few =
     let taken = way.taken in
     omega (arith, few, ap length way.stands, length-append way.hands (hand ∷ left), taken.counted, ap length taken.are.same, length-map taken.verdicts hand_in)
 
 -- a hand that ends the loop is the first refused one
-pub refused_on : (goes_on keeps : Bool) (Took : List Verdict → Type 0) (records left : List Record) (hand : Record) (place : ℕ) (kept : List Play) (fault : PlaysFault)
-    → AreOnTheWay goes_on keeps Took records (hand ∷ left) place kept → (goes_on ≡ true → IsPlaysWant fault)
+pub refused_on : (continues keeps : Bool) (Took : List Verdict → Type 0) (records left : List Record) (hand : Record) (place : ℕ) (kept : List Play) (fault : PlaysFault)
+    → AreOnTheWay continues keeps Took records (hand ∷ left) place kept → (continues ≡ true → IsPlaysOutOfMemory fault)
     → IsFaultAt hand (place + 1) fault → IsPlaysFaultOf records fault
 refused_on true keeps Took records left hand place kept (plays_faults.Refused number why) way memory refused = absurd (memory refl)
-refused_on goes_on keeps Took records left hand place kept (plays_faults.Memory memory) way memory refused = tt
+refused_on continues keeps Took records left hand place kept (plays_faults.Memory memory) way memory refused = tt
 refused_on false keeps Took records left hand place kept (plays_faults.Refused number why) way memory refused =
     let taken = way.taken in
     let verdicts = taken.verdicts in
@@ -172,9 +172,9 @@ refused_on false keeps Took records left hand place kept (plays_faults.Refused n
     (ap (λ (n : ℕ). n + 1) (taken.counted ∙ all_counted verdicts legal)) refused
 
 -- at the end all records were visited
-pub at_end : (goes_on keeps : Bool) (Took : List Verdict → Type 0) (records left : List Record) (place : ℕ) (kept : List Play)
-    → AreOnTheWay goes_on keeps Took records left place kept → left ≡ [] → AreTaken goes_on keeps Took records (length records) kept
-at_end goes_on keeps Took records left place kept way none =
+pub at_end : (continues keeps : Bool) (Took : List Verdict → Type 0) (records left : List Record) (place : ℕ) (kept : List Play)
+    → AreOnTheWay continues keeps Took records left place kept → left ≡ [] → AreTaken continues keeps Took records (length records) kept
+at_end continues keeps Took records left place kept way none =
     let taken = way.taken in
     let all : way.hands ≡ records = sym (append-nil way.hands) ∙ ap (λ (l : List Record). way.hands ++ l) (sym none) ∙ way.stands in
     record {

@@ -11,7 +11,7 @@ use Rattle.acpc_text.specs.declared.fault.AcpcFault.{AcpcFault}
 use Rattle.first_fault.specs.declared.limits.TheConstants.{MOST_FILE_MOVES, MOST_HANDS}
 use Rattle.hand_records.specs.declared.record.Record.{Record}
 use Rattle.hand_records.specs.declared.trace.Play.{Play}
-use Rattle.convert_core.specs.Faults.{is_want_in_acpc}
+use Rattle.convert_core.specs.Faults.{is_out_of_memory_in_acpc}
 use Rattle.convert_core.specs.Readings.{GivesHands}
 use Rattle.convert_core.specs.declared.format_fault.FormatFault.{FormatFault}
 use Rattle.convert_core.specs.declared.format_fault.FormatFault.TheVariants as formats
@@ -31,7 +31,7 @@ ReadAsHands game bytes count = GivesHands (reading game bytes) count
 
 -- bytes have this first fault, which is not that memory ran out
 pub record Have (game : Game) (bytes : List ℕ) (fault : AcpcFault) : Type 0 where
-  pub told : is_want_in_acpc fault ≡ false
+  pub told : is_out_of_memory_in_acpc fault ≡ false
   pub reads : reading game bytes ≡ Err fault
 
 -- a fault of this notation

@@ -11,7 +11,7 @@ use Rattle.acpc_text.specs.declared.fault.AcpcFault.{AcpcFault}
 use Rattle.hand_records.specs.declared.record.Record.{Record}
 use Rattle.hand_records.specs.declared.trace.Play.{Play}
 use Rattle.convert_core.specs.Acpc.{HaveFault, ReadAsHands, Say}
-use Rattle.convert_core.specs.Faults.{is_want_in_acpc}
+use Rattle.convert_core.specs.Faults.{is_out_of_memory_in_acpc}
 use Rattle.convert_core.specs.OneReading.{HasFaultsOf}
 use Rattle.convert_core.specs.OneReading as readings
 use Rattle.convert_core.specs.ReadOrFail.{ReadOrFail}
@@ -45,8 +45,9 @@ read_again game bytes plays read =
     }
 
 -- a fault that is another one is not that memory ran out
-no_want : (fault : AcpcFault) → is_want_in_acpc fault ≡ false → is_want_in_acpc fault ≡ false
-no_want fault told = told
+not_out_of_memory : (fault : AcpcFault) → is_out_of_memory_in_acpc fault ≡ false
+    → is_out_of_memory_in_acpc fault ≡ false
+not_out_of_memory fault told = told
 
 module _ (game : Game) (bytes : List ℕ) where
   -- a fault of bytes is the one that is read
@@ -59,7 +60,7 @@ module _ (game : Game) (bytes : List ℕ) where
   faults_of : HasFaultsOf (reading game bytes) formats.Acpc (HaveFault game bytes)
   faults_of =
       record {
-        told = λ fault read. no_want fault (reading_told game bytes fault read);
+        told = λ fault read. not_out_of_memory fault (reading_told game bytes fault read);
         have = λ fault read. record { told = reading_told game bytes fault read; reads = read };
         one = one_fault;
       }

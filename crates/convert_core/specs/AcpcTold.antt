@@ -9,7 +9,7 @@ use Rattle.acpc_text.specs.declared.fault.AcpcFault.{AcpcFault}
 use Rattle.acpc_text.specs.declared.fault.LineFault.{LineFault}
 use Rattle.acpc_text.specs.declared.fault.LineFaultKind.{LineFaultKind}
 use Rattle.acpc_text.specs.declared.fault.LineFaultKind.TheVariants as whats
-use Rattle.convert_core.specs.Faults.{is_want_in_acpc}
+use Rattle.convert_core.specs.Faults.{is_out_of_memory_in_acpc}
 use Rattle.first_fault.specs.Numbers.{kept_number}
 use Rattle.first_fault.specs.Reading.{◌>>=◌}
 use Rattle.first_fault.specs.declared.limits.Quantity.TheVariants as quantities
@@ -17,9 +17,10 @@ use Rattle.first_fault.specs.declared.limits.TheConstants.{MOST_HANDS}
 
 -- the fault, if there is one, is not that memory ran out
 abbrev IsTold : {A : Type 0} → Result A AcpcFault → Type 0
-IsTold result = IfErr result (λ fault. is_want_in_acpc fault ≡ false)
+IsTold result = IfErr result (λ fault. is_out_of_memory_in_acpc fault ≡ false)
 
-at_line : (what : LineFaultKind) (line byte : ℕ) → is_want_in_acpc (fault_of what line byte) ≡ false
+at_line : (what : LineFaultKind) (line byte : ℕ)
+    → is_out_of_memory_in_acpc (fault_of what line byte) ≡ false
 at_line whats.LineShape line byte = refl
 at_line whats.BadBetting line byte = refl
 at_line whats.BadCards line byte = refl
@@ -69,7 +70,7 @@ all_lines game hands line (text ∷ texts) =
 
 -- a log that has a fault has one other than that memory ran out
 pub reading_told : (game : Game) (bytes : List ℕ) (fault : AcpcFault)
-    → reading game bytes ≡ Err fault → is_want_in_acpc fault ≡ false
+    → reading game bytes ≡ Err fault → is_out_of_memory_in_acpc fault ≡ false
 unfolding reading
 reading_told game bytes fault read =
     let lines = hands_after game ([], 0) 1 (lines_of bytes) in

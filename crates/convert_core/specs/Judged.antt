@@ -65,6 +65,6 @@ IsFaultAt hand number (plays_faults.Refused told why) = (told ≡ number) × IsR
 IsFaultAt hand number (plays_faults.Memory memory) = Unit {0}
 
 -- there are no plays because memory ran out
-abbrev pub IsPlaysWant : PlaysFault → Type 0
-IsPlaysWant (plays_faults.Refused number why) = ⊥
-IsPlaysWant (plays_faults.Memory memory) = Unit {0}
+abbrev pub IsPlaysOutOfMemory : PlaysFault → Type 0
+IsPlaysOutOfMemory (plays_faults.Refused number why) = ⊥
+IsPlaysOutOfMemory (plays_faults.Memory memory) = Unit {0}

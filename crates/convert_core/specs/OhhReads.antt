@@ -12,7 +12,7 @@ use Rattle.ohh_members.specs.declared.fault.MemberFaultKind.TheVariants as whats
 use Rattle.ohh_reading.specs.Reading.{InHand, NoText, Wrong, reading, wrong_of}
 use Rattle.ohh_reading.specs.declared.fault.OhhFault.{OhhFault}
 use Rattle.ohh_reading.specs.declared.fault.OhhFault.TheVariants as faults
-use Rattle.convert_core.specs.Faults.{is_want_in_ohh}
+use Rattle.convert_core.specs.Faults.{is_out_of_memory_in_ohh}
 use Rattle.convert_core.specs.Ohh.{HaveFault, ReadAsHands, Say}
 use Rattle.convert_core.specs.OneReading.{HasFaultsOf}
 use Rattle.convert_core.specs.OneReading as readings
@@ -82,10 +82,10 @@ told_fault (faults.Memory memory) wrong told = absurd (cc (told))
 told_fault fault wrong told = ap fault_of (same_Some _ wrong told)
 
 -- the fault for a mistake is not that memory ran out
-no_want : (wrong : Wrong) → is_want_in_ohh (fault_of wrong) ≡ false
-no_want (NoText hand) = refl
-no_want (InHand hand path (whats.TooMany quantity)) = refl
-no_want (InHand hand path what) = refl
+not_out_of_memory : (wrong : Wrong) → is_out_of_memory_in_ohh (fault_of wrong) ≡ false
+not_out_of_memory (NoText hand) = refl
+not_out_of_memory (InHand hand path (whats.TooMany quantity)) = refl
+not_out_of_memory (InHand hand path what) = refl
 
 module _ (dialect : Dialect) (bytes : List ℕ) where
   -- a fault of bytes is the one for their mistake
@@ -101,7 +101,7 @@ module _ (dialect : Dialect) (bytes : List ℕ) where
       (HaveFault dialect bytes)
   faults_of =
       record {
-        told = λ wrong read. no_want wrong;
+        told = λ wrong read. not_out_of_memory wrong;
         have = λ wrong read. record { wrong = wrong; told = fault_told wrong; reads = read };
         one = one_fault;
       }

@@ -1,7 +1,7 @@
 -- A reading gives hands, or it has one fault, and not both.
 -- This is a proof: no reader needs it.
 use Rattle.std.proofs.Common.{◌≡◌, false, List, length, Result, Ok, Err, inl, inr, refl, sym, ap, ◌∙◌}
-use Rattle.convert_core.specs.Faults.{is_want_of_memory}
+use Rattle.convert_core.specs.Faults.{is_out_of_memory}
 use Rattle.convert_core.specs.ReadOrFail.{ReadOrFail}
 use Rattle.convert_core.specs.Readings.{GivesHands}
 use Rattle.convert_core.specs.declared.format_fault.FormatFault.{FormatFault}
@@ -10,7 +10,7 @@ use Rattle.convert_core.specs.declared.format_fault.FormatFault.{FormatFault}
 -- memory ran out.
 pub record HasFaultsOf {Hand Wrong : Type 0} (found : Result (List Hand) Wrong)
     (fault_of : Wrong → FormatFault) (HaveFault : FormatFault → Type 0) : Type 0 where
-  pub told : (wrong : Wrong) → found ≡ Err wrong → is_want_of_memory (fault_of wrong) ≡ false
+  pub told : (wrong : Wrong) → found ≡ Err wrong → is_out_of_memory (fault_of wrong) ≡ false
   pub have : (wrong : Wrong) → found ≡ Err wrong → HaveFault (fault_of wrong)
   pub one : (fault : FormatFault) → HaveFault fault
       → (wrong : Wrong) × ((found ≡ Err wrong) × (fault ≡ fault_of wrong))

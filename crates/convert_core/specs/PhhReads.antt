@@ -11,7 +11,7 @@ use Rattle.phh_format.specs.Again.{hands_again}
 use Rattle.phh_reading.specs.Reading.{InHand, NoDocument, Wrong, reading, wrong_of}
 use Rattle.phh_reading.specs.declared.fault.PhhFault.{PhhFault}
 use Rattle.phh_reading.specs.declared.fault.PhhFault.TheVariants as faults
-use Rattle.convert_core.specs.Faults.{is_want_in_phh}
+use Rattle.convert_core.specs.Faults.{is_out_of_memory_in_phh}
 use Rattle.convert_core.specs.Phh.{HaveFault, ReadAsHands, Say}
 use Rattle.convert_core.specs.OneReading.{HasFaultsOf}
 use Rattle.convert_core.specs.OneReading as readings
@@ -74,10 +74,10 @@ told_fault (faults.Memory memory) wrong told = absurd (cc (told))
 told_fault fault wrong told = ap fault_of (same_Some _ wrong told)
 
 -- the fault for a mistake is not that memory ran out
-no_want : (wrong : Wrong) → is_want_in_phh (fault_of wrong) ≡ false
-no_want NoDocument = refl
-no_want (InHand hand key (whats.TooMany quantity)) = refl
-no_want (InHand hand key what) = refl
+not_out_of_memory : (wrong : Wrong) → is_out_of_memory_in_phh (fault_of wrong) ≡ false
+not_out_of_memory NoDocument = refl
+not_out_of_memory (InHand hand key (whats.TooMany quantity)) = refl
+not_out_of_memory (InHand hand key what) = refl
 
 -- a fault of bytes is the one for their mistake
 one_fault : (bytes : List ℕ) (fault : FormatFault) → HaveFault bytes fault
@@ -91,7 +91,7 @@ faults_of : (bytes : List ℕ)
     → HasFaultsOf (reading bytes) (λ wrong. formats.Phh (fault_of wrong)) (HaveFault bytes)
 faults_of bytes =
     record {
-      told = λ wrong read. no_want wrong;
+      told = λ wrong read. not_out_of_memory wrong;
       have = λ wrong read. record { wrong = wrong; told = fault_told wrong; reads = read };
       one = one_fault bytes;
     }

@@ -29,7 +29,7 @@ legal_plays (Refused hand why ∷ rest) = legal_plays rest
 
 -- all verdicts are on legal hands, unless the visitor continues after refused ones
 abbrev pub AreLegalUnless : Bool → List Verdict → Type 0
-AreLegalUnless goes_on verdicts = goes_on ≡ false → verdicts ≡ map Legal (legal_plays verdicts)
+AreLegalUnless continues verdicts = continues ≡ false → verdicts ≡ map Legal (legal_plays verdicts)
 
 -- these are the verdicts on the records: the same number, in their order, and each is right
 pub record AreVerdictsOn (records : List Record) (verdicts : List Verdict) : Type 0 where

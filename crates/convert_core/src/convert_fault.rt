@@ -1,8 +1,8 @@
 //! Why nothing is converted.
 
-use card_set::Memory;
 use crate::format_fault::FormatFault;
 use crate::refusal::Refusal;
+use card_set::Memory;
 use hand_records::Unspelled;
 
 /// Why bytes are not converted. Hands are counted from 1, in the order of reading.

@@ -18,7 +18,7 @@ use std::alloc::Global;
 /// # Errors
 ///
 /// The hand's first fault; or out of memory.
-pub fn push_play(
+pub fn replay_and_check(
     alloc: Global,
     plays: &mut Vec<Play>,
     before: usize,

@@ -5,10 +5,10 @@ ghost use Rattle.first_fault.specs.declared.limits.TheConstants.{MOST_HANDS};
 ghost use Rattle.hand_canon.specs.Sound.{IsSound};
 ghost use Rattle.hand_records.specs.SoundRecord.{IsSoundRecord};
 
-use card_set::Memory;
 use crate::refusal::{PlaysFault, Refusal};
-use crate::taker::Taker;
-use crate::taking::take_each;
+use crate::taking::judge_all;
+use crate::visitor::VerdictVisitor;
+use card_set::Memory;
 use hand_records::{Play, Records};
 use std::alloc::Global;
 
@@ -16,14 +16,14 @@ use std::alloc::Global;
 #[derive(Drop)]
 struct Keeper;
 
-impl Taker for Keeper {
-    ghost GOES_ON = { false };
+impl VerdictVisitor for Keeper {
+    ghost CONTINUES = { false };
 
     ghost KEEPS = { true };
 
     ghost Took = { λ _ _ _. ⊤ };
 
-    fn goes_on(&self) -> bool {
+    fn continues(&self) -> bool {
         false
     }
 
@@ -54,7 +54,7 @@ pub fn plays_of(alloc: Global, records: Records) -> Result<Vec<Play>, PlaysFault
     ensures sound { IfOk result (λ plays. All IsSound plays.items) }
     ensures refused { IfErr result (IsPlaysFaultOf records) }
 {
-    match take_each(alloc, &mut Keeper, records) {
+    match judge_all(alloc, &mut Keeper, records) {
         Ok(plays) => Ok(plays),
         Err(fault) => Err(fault),
     }

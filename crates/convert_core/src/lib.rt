@@ -15,8 +15,8 @@ mod notation;
 mod ohh;
 mod phh;
 mod refusal;
-mod taker;
 mod taking;
+mod visitor;
 
 pub use acpc::Acpc;
 pub use convert_fault::ConvertFault;
@@ -32,5 +32,5 @@ pub use notation::Notation;
 pub use ohh::Ohh;
 pub use phh::Phh;
 pub use refusal::{PlaysFault, Refusal};
-pub use taker::Taker;
-pub use taking::take_each;
+pub use taking::judge_all;
+pub use visitor::VerdictVisitor;

@@ -6,12 +6,12 @@ ghost use Rattle.hand_canon.specs.Sound.{IsSound};
 ghost use Rattle.hand_records.specs.SoundRecord.{IsSoundRecord};
 ghost use Rattle.convert_core.specs.Lines.{IsWritten};
 
-use card_set::Memory;
 use crate::convert_fault::ConvertFault;
 use crate::notation::Notation;
 use crate::refusal::{PlaysFault, Refusal};
-use crate::taker::Taker;
-use crate::taking::take_each;
+use crate::taking::judge_all;
+use crate::visitor::VerdictVisitor;
+use card_set::Memory;
 use hand_records::{Keep, Play, Records, WriteRefusal};
 use std::alloc::Global;
 
@@ -26,8 +26,8 @@ struct Writer<'a, N> {
     refusal: Option<WriteRefusal>,
 }
 
-impl<'a, N: Notation> Taker for Writer<'a, N> {
-    ghost GOES_ON = { false };
+impl<'a, N: Notation> VerdictVisitor for Writer<'a, N> {
+    ghost CONTINUES = { false };
 
     ghost KEEPS = { false };
 
@@ -35,7 +35,7 @@ impl<'a, N: Notation> Taker for Writer<'a, N> {
         × IsWritten (N.is_lined it.to.now) (N.unspelled it.to.now it.keep) (N.Spell it.to.now)
         it.refusal it.out.items verdicts };
 
-    fn goes_on(&self) -> bool {
+    fn continues(&self) -> bool {
         false
     }
 
@@ -87,7 +87,7 @@ pub fn write_records<N: Notation>(
         out: Vec::new(alloc),
         refusal: None,
     };
-    match take_each(alloc, &mut writer, records) {
+    match judge_all(alloc, &mut writer, records) {
         Ok(_) => {}
         Err(PlaysFault::Refused { hand, why }) => {
             return Err(ConvertFault::Refused { hand, why });

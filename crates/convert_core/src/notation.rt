@@ -12,7 +12,7 @@ ghost use Rattle.hand_records.specs.declared.writing.Keep.{Keep as AnyKeep};
 ghost use Rattle.hand_records.specs.declared.writing.Keep.TheVariants as keeps;
 ghost use Rattle.hand_records.specs.declared.writing.Unspelled.{Unspelled as Fact};
 ghost use Rattle.play_event.specs.declared.setup.Rules.{Rules as AnyRules};
-ghost use Rattle.convert_core.specs.Faults.{is_want_of_memory};
+ghost use Rattle.convert_core.specs.Faults.{is_out_of_memory};
 ghost use Rattle.convert_core.specs.NoteParts.{ArePartOf};
 ghost use Rattle.convert_core.specs.ReadBack.{ReadBack};
 ghost use Rattle.convert_core.specs.ReadOrFail.{ReadOrFail};
@@ -20,10 +20,10 @@ ghost use Rattle.convert_core.specs.Records.{AreFew, AreOfFile};
 ghost use Rattle.convert_core.specs.SameRecords.{AllAlike};
 ghost use Rattle.hand_canon.specs.Sharp.{IsOther, is_sharp};
 ghost use Rattle.convert_core.specs.declared.format_fault.FormatFault.{FormatFault as AnyFault};
-ghost use Rattle.hand_records.specs.WriteRefusals.{IsWant, first_refusal};
+ghost use Rattle.hand_records.specs.WriteRefusals.{IsOutOfMemory, first_refusal};
 
-use card_set::Memory;
 use crate::format_fault::FormatFault;
+use card_set::Memory;
 use hand_records::{Keep, Play, Records, Unspelled, WriteRefusal};
 use play_event::Rules;
 use std::alloc::Global;
@@ -69,7 +69,7 @@ pub trait Notation {
     fn read(&self, alloc: Global, bytes: &[u8]) -> Result<Records, FormatFault>
         ensures say { IfOk result (Say self.now bytes.now) }
         ensures fault { IfErr result (λ fault.
-            (is_want_of_memory fault ≡ true) ⊎ HaveFault self.now bytes.now fault) };
+            (is_out_of_memory fault ≡ true) ⊎ HaveFault self.now bytes.now fault) };
 
     /// The first fact of a play, among those to be kept, that it cannot express, or `None` if it
     /// can express all.
@@ -87,7 +87,7 @@ pub trait Notation {
         requires sound { AllByRecursion IsSound plays.now }
         ensures spell { IfOk result (λ bytes. Spell self.now plays.now bytes.items) }
         ensures spelled { OnOk result (first_refusal (unspelled self.now keep) plays.now ≡ None) }
-        ensures refused { IfErr result (λ refusal. IsWant refusal
+        ensures refused { IfErr result (λ refusal. IsOutOfMemory refusal
             ⊎ (first_refusal (unspelled self.now keep) plays.now ≡ Some refusal)) };
 
     /// Whether a file has one line per play.

@@ -9,17 +9,17 @@ ghost use Rattle.ohh_format.proofs.OneForm as forms;
 ghost use Rattle.ohh_format.specs.KeptNotes.{kept_in_ohh};
 ghost use Rattle.ohh_writing.specs.Spelled as facts;
 ghost use Rattle.play_event.specs.HistoryRules.{history_rules as rules_of_histories};
-ghost use Rattle.convert_core.specs.Faults.{is_want_of_memory};
+ghost use Rattle.convert_core.specs.Faults.{is_out_of_memory};
 ghost use Rattle.convert_core.specs.KeptParts as parts;
 ghost use Rattle.convert_core.specs.OhhAlike as alike;
 ghost use Rattle.convert_core.specs.OhhLaws as laws;
 ghost use Rattle.convert_core.specs.OhhReads as reads;
 ghost use Rattle.convert_core.specs.Ohh as in_ohh;
-ghost use Rattle.hand_records.specs.WriteRefusals.{IsWant, first_refusal};
+ghost use Rattle.hand_records.specs.WriteRefusals.{IsOutOfMemory, first_refusal};
 
-use card_set::Memory;
 use crate::format_fault::FormatFault;
 use crate::notation::Notation;
+use card_set::Memory;
 use hand_records::{Keep, Play, Records, Unspelled, WriteRefusal};
 use ohh_format::Dialect;
 use play_event::{Reopen, Rules};
@@ -35,7 +35,7 @@ pub struct Ohh {
 fn read_ohh(alloc: Global, dialect: Dialect, bytes: &[u8]) -> Result<Records, FormatFault>
     ensures say { IfOk result (in_ohh.Say dialect bytes.now) }
     ensures fault { IfErr result (λ fault.
-        (is_want_of_memory fault ≡ true) ⊎ in_ohh.HaveFault dialect bytes.now fault) }
+        (is_out_of_memory fault ≡ true) ⊎ in_ohh.HaveFault dialect bytes.now fault) }
 {
     match ohh_format::read(alloc, dialect, bytes) {
         Ok(records) => Ok(records),
@@ -54,7 +54,7 @@ fn write_ohh(
     requires sound { AllByRecursion IsSound plays.now }
     ensures spell { IfOk result (λ bytes. in_ohh.Spell dialect plays.now bytes.items) }
     ensures spelled { OnOk result (first_refusal (facts.unspelled keep) plays.now ≡ None) }
-    ensures refused { IfErr result (λ refusal. IsWant refusal
+    ensures refused { IfErr result (λ refusal. IsOutOfMemory refusal
         ⊎ (first_refusal (facts.unspelled keep) plays.now ≡ Some refusal)) }
 {
     ohh_format::write(alloc, dialect, plays, keep)

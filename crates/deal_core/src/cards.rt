@@ -29,9 +29,9 @@ ghost use Rattle.deal_core.specs.NextDeal.{IsNextDeal};
 ghost use Rattle.deal_core.specs.Standing.{StandsFor};
 
 use card_places::{
-    CardState, DealtCard, NextDeal, board, board_why, discard_on, done, empty, fold, hands,
-    hole_why, lay, muck_why, next_deal, next_to_draw, place, set_muck, show_on, shut, slots,
-    street_due, unknown, up,
+    CardState, DealtCard, NextDeal, board, deal_cards, discard_cards, done, fold, hands,
+    illegal_board_deal, illegal_hole_deal, illegal_muck, muck_cards, new_card_state, next_deal,
+    next_to_draw, place, show_cards, show_not_due, slots, street_due, unknown, up,
 };
 use card_set::{CardRow, Slot};
 use chip_ledger::{LiveRow, Seat};
@@ -68,7 +68,7 @@ impl<V: Variant> Cards<V> {
         ensures seats { result.seats ≡ seats }
     {
         Cards {
-            state: empty(V::CODE, seats),
+            state: new_card_state(V::CODE, seats),
             game: PhantomData,
         }
     }
@@ -82,7 +82,7 @@ impl<V: Variant> Cards<V> {
         match event.kind {
             Kind::Hole { seat, cards } => {
                 let known = cards.as_slice();
-                match hole_why(&self.state, live, due, seat, known) {
+                match illegal_hole_deal(&self.state, live, due, seat, known) {
                     Some(reason) => Err(reason),
                     None => {
                         self.put(due, Some(seat), known);
@@ -92,7 +92,7 @@ impl<V: Variant> Cards<V> {
             }
             Kind::Board { cards } => {
                 let known = slots(&cards);
-                match board_why(&self.state, due, known.as_slice()) {
+                match illegal_board_deal(&self.state, due, known.as_slice()) {
                     Some(reason) => Err(reason),
                     None => {
                         self.put(due, None, known.as_slice());
@@ -115,7 +115,7 @@ impl<V: Variant> Cards<V> {
         ensures hand { AreOfOneHand self.old self.new }
     {
         if let Some(on) = street_due(due) {
-            lay(&mut self.state, owner, on, cards);
+            deal_cards(&mut self.state, owner, on, cards);
         }
     }
 
@@ -129,7 +129,7 @@ impl<V: Variant> Cards<V> {
         match event.kind {
             Kind::Discard { seat, cards } => match due {
                 Due::Over => Err(Illegal::HandOver),
-                Due::Draw(on) => discard_on(&mut self.state, live, on, seat, &cards),
+                Due::Draw(on) => discard_cards(&mut self.state, live, on, seat, &cards),
                 Due::Deal(_) | Due::BringIn | Due::Move | Due::Show => Err(Illegal::WrongKind),
             },
             // The precondition excludes other kinds.
@@ -150,14 +150,20 @@ impl<V: Variant> Cards<V> {
             (said_of event.now) result }
     {
         match event.kind {
-            Kind::Show { seat, cards } => match shut(&self.state, live, due, settled, seat) {
+            Kind::Show { seat, cards } => match show_not_due(
+                &self.state,
+                live,
+                due,
+                settled,
+                seat,
+            ) {
                 Some(reason) => Err(reason),
-                None => show_on(&mut self.state, live, seat, &cards),
+                None => show_cards(&mut self.state, live, seat, &cards),
             },
-            Kind::Muck { seat } => match muck_why(&self.state, live, due, seat) {
+            Kind::Muck { seat } => match illegal_muck(&self.state, live, due, seat) {
                 Some(reason) => Err(reason),
                 None => {
-                    set_muck(&mut self.state, seat);
+                    muck_cards(&mut self.state, seat);
                     Ok(())
                 }
             },

@@ -1,7 +1,7 @@
 -- Reading in a fixed order: a value, or the first fault.
 use Rattle.std.specs.Prelude.{◌≡◌, ℕ, ◌+◌, List, [], ◌∷◌, ◌++◌, Option, Some, None, Result, Ok, Err}
-use Rattle.first_fault.specs.declared.stop.Stop.{Stop}
-use Rattle.first_fault.specs.declared.stop.Stop.TheVariants as stops
+use Rattle.first_fault.specs.declared.stop.ReadError.{ReadError}
+use Rattle.first_fault.specs.declared.stop.ReadError.TheVariants as read_errors
 
 -- reads one thing and then the next; the first fault stops
 infixl 10 ◌>>=◌
@@ -10,12 +10,12 @@ abbrev pub ◌>>=◌ : {A B F : Type 0} → Result A F → (A → Result B F) �
 (Err fault) >>= next = Err fault
 
 -- a reader that stopped reports the fault of the definition, unless memory ran out
-abbrev pub Fails : {F Y : Type 0} → Stop F → Result Y F → Type 0
-Fails (stops.Memory memory) reading = Unit {0}
-Fails (stops.At fault) reading = reading ≡ Err fault
+abbrev pub Fails : {F Y : Type 0} → ReadError F → Result Y F → Type 0
+Fails (read_errors.Memory memory) reading = Unit {0}
+Fails (read_errors.Fault fault) reading = reading ≡ Err fault
 
 -- the result of a reader, seen by a view, is what the definition says, unless memory ran out
-abbrev pub Gives : {F X Y : Type 0} → (X → Y) → Result X (Stop F) → Result Y F → Type 0
+abbrev pub Gives : {F X Y : Type 0} → (X → Y) → Result X (ReadError F) → Result Y F → Type 0
 Gives view (Ok x) reading = reading ≡ Ok (view x)
 Gives view (Err stop) reading = Fails stop reading
 
@@ -53,6 +53,6 @@ added_from form before index (item ∷ rest) =
     form before index item >>= λ after. added_from form after (index + 1) rest
 
 -- a reader stopped because memory was refused
-abbrev pub IsWant : {F : Type 0} → Stop F → Type 0
-IsWant (stops.Memory memory) = Unit {0}
-IsWant (stops.At fault) = ⊥
+abbrev pub IsOutOfMemory : {F : Type 0} → ReadError F → Type 0
+IsOutOfMemory (read_errors.Memory memory) = Unit {0}
+IsOutOfMemory (read_errors.Fault fault) = ⊥

@@ -3,17 +3,17 @@ ghost use Rattle.std.specs.Prelude.{◌≡◌, ◌≤◌, ◌&&◌, length, nat_
 ghost use Rattle.first_fault.specs.Forms.{within};
 ghost use Rattle.first_fault.specs.Reading.{Gives};
 
-use crate::stop::Stop;
+use crate::stop::ReadError;
 
 /// The number if it is from `least` to `most`, or else the fault.
-pub fn keep_within<F: Copy>(number: u64, least: u64, most: u64, fault: F) -> Result<u64, Stop<F>>
+pub fn in_range<F: Copy>(number: u64, least: u64, most: u64, fault: F) -> Result<u64, ReadError<F>>
     ensures within { IfOk result (λ number. (least ≤ number) × (number ≤ most)) }
     ensures said { Gives (λ number. number) result (within least most fault number) }
 {
     if least <= number && number <= most {
         Ok(number)
     } else {
-        Err(Stop::At(fault))
+        Err(ReadError::Fault(fault))
     }
 }
 

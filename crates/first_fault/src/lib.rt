@@ -9,9 +9,9 @@ mod stop;
 mod text;
 mod words;
 
-pub use bounds::{has_count, keep_within};
+pub use bounds::{has_count, in_range};
 pub use digits::{are_digits, read_digits};
 pub use limits::{MOST_FILE_MOVES, MOST_HANDS, MOST_TEXT_BYTES, Quantity};
-pub use stop::Stop;
+pub use stop::ReadError;
 pub use text::Text;
 pub use words::{next_word, place_of};

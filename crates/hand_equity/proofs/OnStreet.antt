@@ -24,7 +24,7 @@ use Rattle.play_event.specs.declared.played.Place as places
 use Rattle.play_event.specs.SeatSlots.{slots_of_hand}
 use Rattle.showdown_split.specs.Hands.{holding}
 use Rattle.hand_equity.specs.Equity.{plays_board}
-use Rattle.hand_equity.specs.Rest.{standing_of}
+use Rattle.hand_equity.specs.Undealt.{standing_of}
 use Rattle.hand_equity.specs.Street.{board_slots, cards_of_seat, deals_board, first_unknown, is_live_on, is_unknown_seat, standing_on, traced}
 use Rattle.hand_equity.proofs.SameTable.{AreSame}
 

@@ -6,7 +6,7 @@ use Rattle.card_set.specs.Different.{AllDifferent, Every}
 use Rattle.hand_order.specs.Choices.{IsAmong}
 use Rattle.play_event.specs.declared.code.Code.{Code}
 use Rattle.hand_equity.specs.Equity.{lacking}
-use Rattle.hand_equity.specs.Rest.{Standing, rest_of}
+use Rattle.hand_equity.specs.Undealt.{Standing, rest_of}
 
 -- different cards of the rest, as many as the board is missing
 pub record IsCompletion (code : Code) (standing : Standing) (cards : List Card) : Type 0 where

@@ -11,7 +11,7 @@ use Rattle.hand_equity.specs.Boards.{boards_with}
 use Rattle.hand_equity.specs.Contest.{Contest, HasNobody, IsShared, Ties, Wins}
 use Rattle.hand_equity.specs.Counting.{IsCountOf}
 use Rattle.hand_equity.specs.LiveHands.{IsLive, contest_of_hands, contest_of_live}
-use Rattle.hand_equity.specs.Rest.{Standing, rest_of}
+use Rattle.hand_equity.specs.Undealt.{Standing, rest_of}
 use Rattle.hand_equity.specs.Tallies.{count_for}
 
 -- a game with a board of five cards: hold'em, short-deck hold'em or Omaha

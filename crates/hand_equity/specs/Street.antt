@@ -16,7 +16,7 @@ use Rattle.hand_equity.specs.declared.refusal.NoEquity.TheVariants as refusals
 use Rattle.hand_equity.specs.declared.row.EquityRow.{EquityRow}
 use Rattle.hand_equity.specs.Equity.{CanComplete, IsEquity, plays_board}
 use Rattle.hand_equity.specs.LiveHands.{IsLive}
-use Rattle.hand_equity.specs.Rest.{Standing}
+use Rattle.hand_equity.specs.Undealt.{Standing}
 
 -- the dealt cards of a trace, with plain numbers for seats
 abbrev pub traced : Trace → List TracedPlace

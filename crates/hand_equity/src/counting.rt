@@ -7,14 +7,14 @@ ghost use Rattle.hand_order.specs.Choices.{IsAmong, choices};
 ghost use Rattle.hand_equity.specs.Boards.{boards_with};
 ghost use Rattle.hand_equity.specs.Equity.{CanComplete, IsEquity, plays_board};
 ghost use Rattle.hand_equity.specs.LiveHands.{CanPlay, IsLive, contest_of_hands, live_hands, order_of};
-ghost use Rattle.hand_equity.specs.Rest.{rest_cards, standing_of};
+ghost use Rattle.hand_equity.specs.Undealt.{rest_cards, standing_of};
 ghost use Rattle.hand_equity.specs.Tallies.{IsEmptyTally, IsTallyOf};
 
 use crate::boards::{Contenders, count_boards};
-use crate::rest::Rest;
 use crate::row::{EquityRow, row_of};
 use crate::table::rest_beside;
 use crate::tally::BoardTally;
+use crate::undealt::Undealt;
 use card_set::{CardRow, CardSet};
 use chip_ledger::LiveRow;
 use hand_order::HandOrder;
@@ -59,7 +59,7 @@ pub fn equity<V: Variant>(
 }
 
 // The tally of the low order if the game pays low hands, and otherwise an empty one.
-fn low_tally<V: Variant>(contenders: &Contenders, rest: &Rest, board: &CardRow) -> BoardTally
+fn low_tally<V: Variant>(contenders: &Contenders, rest: &Undealt, board: &CardRow) -> BoardTally
     requires room { length (cards_of board.now) ≤ 5 }
     requires playable { (more : List Card)
         → IsAmong more (choices (5 - length (cards_of board.now)) (rest_cards rest.now))
@@ -80,7 +80,7 @@ fn low_tally<V: Variant>(contenders: &Contenders, rest: &Rest, board: &CardRow) 
 }
 
 // The tally of an order over all completions of a board.
-fn tally_of<O: HandOrder>(contenders: &Contenders, rest: &Rest, board: &CardRow) -> BoardTally
+fn tally_of<O: HandOrder>(contenders: &Contenders, rest: &Undealt, board: &CardRow) -> BoardTally
     requires room { length (cards_of board.now) ≤ 5 }
     requires playable { (more : List Card)
         → IsAmong more (choices (5 - length (cards_of board.now)) (rest_cards rest.now))

@@ -9,7 +9,7 @@ ghost use Rattle.hand_equity.specs.declared.row.EquityRow.{EquityRow};
 ghost use Rattle.hand_equity.specs.Completions.{AreApart, IsCompletion};
 ghost use Rattle.hand_equity.specs.Equity.{HasNothing, IsEquity, completions, lacking};
 ghost use Rattle.hand_equity.specs.LiveHands.{IsLive};
-ghost use Rattle.hand_equity.specs.Rest.{Standing, rest_of};
+ghost use Rattle.hand_equity.specs.Undealt.{Standing, rest_of};
 
 /// The same cards on the table have one equity.
 #[tactic(auto, using(crate::proofs::OneEquity::one_equity))]

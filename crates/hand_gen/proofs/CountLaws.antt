@@ -5,7 +5,7 @@ use Rattle.hand_records.specs.declared.writing.WriteRefusal.{WriteRefusal}
 use Rattle.hand_records.specs.declared.writing.WriteRefusal.TheVariants as refusals
 use Rattle.hand_gen.specs.declared.summary.SpelledSize.{SpelledSize}
 use Rattle.hand_gen.specs.Load.{IsSpelled, bytes_spelled, hands_spelled}
-use Rattle.hand_records.specs.WriteRefusals.{IsWant, refused_at}
+use Rattle.hand_records.specs.WriteRefusals.{IsOutOfMemory, refused_at}
 
 -- a hand that is not refused has no fact that cannot be expressed
 none_refused : (fact : Option Unspelled) → refused_at 1 fact None ≡ None → fact ≡ None
@@ -22,7 +22,7 @@ written_is fact bytes spelled unrefused hands size =
     }
 
 -- and what is refused is not
-pub refused_is : (fact : Option Unspelled) (bytes : ℕ) (spelled : SpelledSize) (refusal : WriteRefusal) (hand : ℕ) (told : Unspelled) → refusal ≡ refusals.Unspelled hand told → IsWant refusal ⊎ (refused_at 1 fact None ≡ Some refusal) → spelled.hands ≡ 0 → spelled.bytes ≡ 0 → IsSpelled fact bytes spelled
-refused_is fact bytes spelled refusal hand told is (inl memory) none nothing = absurd (subst IsWant is memory)
+pub refused_is : (fact : Option Unspelled) (bytes : ℕ) (spelled : SpelledSize) (refusal : WriteRefusal) (hand : ℕ) (told : Unspelled) → refusal ≡ refusals.Unspelled hand told → IsOutOfMemory refusal ⊎ (refused_at 1 fact None ≡ Some refusal) → spelled.hands ≡ 0 → spelled.bytes ≡ 0 → IsSpelled fact bytes spelled
+refused_is fact bytes spelled refusal hand told is (inl memory) none nothing = absurd (subst IsOutOfMemory is memory)
 refused_is None bytes spelled refusal hand told is (inr some) none nothing = absurd cc
 refused_is (Some first) bytes spelled refusal hand told is (inr some) none nothing = record { hands_are = none; bytes_are = nothing }

@@ -9,7 +9,7 @@ pub mod RecordLaws
 pub mod LoadLaws
 pub mod CountLaws
 pub mod FewMoves
-pub mod PriceRisen
+pub mod BetRaised
 pub mod RaisesAbove
 pub mod MovesTake
 pub mod StockCounts

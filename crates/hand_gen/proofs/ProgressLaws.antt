@@ -30,8 +30,8 @@ use Rattle.street_laws.proofs.DueStreets.{deal_street, draw_street}
 use Rattle.deal_core.specs.NextDeal.{first_owed}
 use Rattle.betting_numbers.specs.TurnSaid.{in_turn_on}
 use Rattle.hand_gen.specs.Coming.{Coming, bring_in_comes, coming, comes_at, deal_comes, deal_of, discard_or, draw_comes, held_by, move_by, move_comes, nothing_comes}
-use Rattle.hand_gen.specs.Stock.{Stock, after_cards, after_draw, draw_of, next_cards}
-use Rattle.hand_gen.proofs.ComesNext.{bring_in_good, move_good, the_mover}
+use Rattle.hand_gen.specs.HandSource.{HandSource, after_cards, after_draw, draw_of, next_cards}
+use Rattle.hand_gen.proofs.ComesNext.{bring_in_good, move_good, the_player_to_act}
 use Rattle.hand_gen.proofs.GoingHands.{IsGoing, board_goes, discard_goes, hole_goes, on_street}
 use Rattle.chip_ledger.specs.Seat.{IsSeatOf}
 
@@ -42,7 +42,7 @@ live_some : (live : Bool) (n m : ℕ) → 0 < (if live then n - m else 0) → na
 live_some true n m some = some_of n m some
 live_some false n m some = absurd (omega (arith, some))
 
-module _ (setup : Setup) (valid : IsValid setup) (four : setup.stacks.seats ≤ 4) (events : List Said) (stock : Stock) (going : IsGoing setup events stock.deck) where
+module _ (setup : Setup) (valid : IsValid setup) (four : setup.stacks.seats ≤ 4) (events : List Said) (stock : HandSource) (going : IsGoing setup events stock.deck) where
   abbrev now : Past
   now = past_of setup events
 
@@ -50,7 +50,7 @@ module _ (setup : Setup) (valid : IsValid setup) (four : setup.stacks.seats ≤ 
   abbrev pub Goes : Coming → Type 0
   Goes c = (event : Said) → c.event ≡ Some event → IsGoing setup (event ∷ events) c.left.deck
 
-  goes_with : (first : Said) (left : Stock) → IsGoing setup (first ∷ events) left.deck → Goes (record { event = Some first; left = left })
+  goes_with : (first : Said) (left : HandSource) → IsGoing setup (first ∷ events) left.deck → Goes (record { event = Some first; left = left })
   goes_with first left it event is = subst (λ (e : Said). IsGoing setup (e ∷ events) left.deck) (same_Some first event is) it
 
   goes_nowhere : Goes (nothing_comes stock)
@@ -157,10 +157,10 @@ module _ (setup : Setup) (valid : IsValid setup) (four : setup.stacks.seats ≤ 
       drawn None (Some seat) none = some_is_none none
       drawn None None none = some_is_none none
   never_none street dues.BringIn turned unfinished is =
-      let it = the_mover setup valid four events stock going street dues.BringIn turned refl in
+      let it = the_player_to_act setup valid four events stock going street dues.BringIn turned refl in
       some_is_none (sym (ap (λ t. (bring_in_comes stock t).event) it.1) ∙ is)
   never_none street dues.Move turned unfinished is =
-      let it = the_mover setup valid four events stock going street dues.Move turned refl in
+      let it = the_player_to_act setup valid four events stock going street dues.Move turned refl in
       some_is_none (sym (ap (λ t. (move_comes setup history_rules (moves_of now) street stock t).event) it.1) ∙ is)
   never_none street dues.Show turned unfinished is = false_true unfinished
   never_none street dues.Over turned unfinished is = false_true unfinished

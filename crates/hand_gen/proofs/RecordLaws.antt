@@ -13,7 +13,7 @@ use Rattle.hand_canon.specs.Agreement.{finish_compared, first_difference, is_dif
 use Rattle.hand_canon.specs.Sound.{IsSound}
 use Rattle.hand_records.specs.StatedFacts.{IsNothingStated}
 use Rattle.hand_gen.specs.Sound.{IsSoundHand}
-use Rattle.hand_gen.specs.Stock.{Stock}
+use Rattle.hand_gen.specs.HandSource.{HandSource}
 use Rattle.list_laws.proofs.Options.{for_none, if_none}
 
 -- if nothing is stated, it fits
@@ -47,8 +47,8 @@ none_allowed seats notes none =
     }
 
 -- a stock is its number and its deck
-pub same_stock : (stock : Stock) (number : ℕ) (deck : List Card) → stock.number ≡ number → stock.deck ≡ deck → stock ≡ record { number = number; deck = deck }
-same_stock stock number deck number_is deck_is =
+pub same_source : (stock : HandSource) (number : ℕ) (deck : List Card) → stock.number ≡ number → stock.deck ≡ deck → stock ≡ record { number = number; deck = deck }
+same_source stock number deck number_is deck_is =
     ap (λ n. record { number = n; deck = stock.deck }) number_is ∙ ap (λ d. record { number = number; deck = d }) deck_is
 
 -- if nothing is stated, nothing differs

@@ -14,7 +14,7 @@ use Rattle.play_event.specs.declared.code.Code.TheVariants as games
 use Rattle.play_event.specs.Streets.{deck_of}
 use Rattle.play_event.specs.Taken.{is_in_deck}
 use Rattle.hand_gen.specs.Draws.{drawn, next_number}
-use Rattle.hand_gen.specs.Stock.{Stock, after_card, after_cards, full_deck, next_card, next_cards, next_place}
+use Rattle.hand_gen.specs.HandSource.{HandSource, after_card, after_cards, full_deck, next_card, next_cards, next_place}
 
 -- a card that is taken out at a place is no longer counted among the others
 taken_out : (p : Card → Bool) (cards : List Card) (place : ℕ) (other : Card) → place < length cards → cond (p (unwrap_or (slice_get cards place) other)) 1 0 + count_by p (remove cards place) ≡ count_by p cards
@@ -27,7 +27,7 @@ drawn_within : (count number : ℕ) → 0 < count → drawn count number < count
 drawn_within count number some = mod_below (number / 2 ^ 33) count some
 
 -- what is taken and what is left
-pub taken_counts : (p : Card → Bool) (count : ℕ) (stock : Stock) → count ≤ length stock.deck → count_by p (next_cards count stock) + count_by p (after_cards count stock).deck ≡ count_by p stock.deck
+pub taken_counts : (p : Card → Bool) (count : ℕ) (stock : HandSource) → count ≤ length stock.deck → count_by p (next_cards count stock) + count_by p (after_cards count stock).deck ≡ count_by p stock.deck
 taken_counts p zero stock enough = omega arith
 taken_counts p (suc count) stock enough =
     let place : next_place stock < length stock.deck = drawn_within (length stock.deck) (next_number stock.number) (omega (arith, enough)) in
@@ -40,7 +40,7 @@ taken_counts p (suc count) stock enough =
     )
 
 -- this number of cards is taken
-pub taken_length : (count : ℕ) (stock : Stock) → length (next_cards count stock) ≡ count
+pub taken_length : (count : ℕ) (stock : HandSource) → length (next_cards count stock) ≡ count
 taken_length zero stock = refl
 taken_length (suc count) stock = ap suc (taken_length count (after_card stock))
 

@@ -15,8 +15,8 @@ use Rattle.play_event.specs.Scripts.{past_of}
 use Rattle.play_event.specs.Streets.{deck_of}
 use Rattle.play_event.specs.Table.{places_of}
 use Rattle.play_event.specs.ValidSetup.{IsValid}
-use Rattle.hand_gen.specs.Made.{HaveCome, next_event, stock_behind}
-use Rattle.hand_gen.specs.Stock.{Stock}
+use Rattle.hand_gen.specs.Made.{HaveCome, next_event, source_behind}
+use Rattle.hand_gen.specs.HandSource.{HandSource}
 
 -- a valid setup with few seats, few chips each, and no rakes
 pub record IsSmall (setup : Setup) : Type 0 where
@@ -29,12 +29,12 @@ pub record IsSmall (setup : Setup) : Type 0 where
 -- within the limits of a hand, and fewer than these limits together; the cards that were dealt and
 -- those that are left are together as many as the deck has; the next event is legal; and if there
 -- is none, the script is that of a legal hand.
-pub record MakesProgress (setup : Setup) (start : Stock) (script : List Said) : Type 0 where
+pub record MakesProgress (setup : Setup) (start : HandSource) (script : List Said) : Type 0 where
   pub legal : AreLegal setup history_rules (reverse script)
   pub within : IsWithinLimits script
   pub few : length script < MOST_MOVES + MOST_OTHER_EVENTS
   pub cards : length (places_of setup.code (past_of setup (reverse script)))
-      + length (stock_behind setup history_rules start (reverse script)).deck
+      + length (source_behind setup history_rules start (reverse script)).deck
       ≡ deck_of setup.code
   pub next_legal : IfSome (next_event setup history_rules start (reverse script))
       (λ event. why setup history_rules (past_of setup (reverse script)) event ≡ None)
@@ -43,7 +43,7 @@ pub record MakesProgress (setup : Setup) (start : Stock) (script : List Said) : 
 
 -- a hand ends: there is a script whose events have come from the stock, and after which nothing
 -- comes
-pub record HasEnd (setup : Setup) (start : Stock) : Type 0 where
+pub record HasEnd (setup : Setup) (start : HandSource) : Type 0 where
   pub script : List Said
   pub come : HaveCome setup history_rules start (reverse script)
   pub ended : next_event setup history_rules start (reverse script) ≡ None

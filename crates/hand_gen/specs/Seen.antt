@@ -5,10 +5,10 @@ use Rattle.play_event.specs.declared.event.Kind.{Kind}
 use Rattle.play_event.specs.Said.{Said, kind_said}
 use Rattle.betting_numbers.specs.declared.targeting.Targets.{Targets}
 use Rattle.hand_gen.specs.Coming.{Coming, board_of, hole_of}
-use Rattle.hand_gen.specs.Stock.{Stock}
+use Rattle.hand_gen.specs.HandSource.{HandSource}
 
 -- this number of cards is dealt to an owner: to a seat or to the board
-abbrev pub dealt_to : Option ℕ → ℕ → Stock → Coming
+abbrev pub dealt_to : Option ℕ → ℕ → HandSource → Coming
 dealt_to (Some seat) count stock = hole_of count stock seat
 dealt_to None count stock = board_of count stock
 

@@ -3,7 +3,7 @@ ghost use Rattle.std.specs.Prelude.{ℕ, List, reverse};
 ghost use Rattle.play_event.specs.declared.setup.Setup.{Setup};
 ghost use Rattle.play_event.specs.HistoryRules.{history_rules};
 ghost use Rattle.play_event.specs.Said.{Said};
-ghost use Rattle.hand_gen.specs.Made.{HaveCome, stock_of};
+ghost use Rattle.hand_gen.specs.GeneratedHand.{HaveCome, source_of};
 ghost use Rattle.hand_gen.specs.Progress.{HasEnd, MakesProgress};
 ghost use Rattle.hand_gen.specs.Setups.{IsMadeSetup};
 
@@ -13,8 +13,8 @@ ghost use Rattle.hand_gen.specs.Setups.{IsMadeSetup};
 pub fn law_of_progress()
     ensures progress { (place number : ℕ) (setup : Setup) (script : List Said)
         → IsMadeSetup place number setup
-        → HaveCome setup history_rules (stock_of number setup) (reverse script)
-        → MakesProgress setup (stock_of number setup) script }
+        → HaveCome setup history_rules (source_of number setup) (reverse script)
+        → MakesProgress setup (source_of number setup) script }
     ensures ends { (place number : ℕ) (setup : Setup) → IsMadeSetup place number setup
-        → HasEnd setup (stock_of number setup) }
+        → HasEnd setup (source_of number setup) }
 {}

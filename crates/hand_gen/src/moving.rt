@@ -8,9 +8,9 @@ ghost use Rattle.play_event.specs.Said.{kind_said};
 ghost use Rattle.play_event.specs.TurnTargets.{is_bet_due};
 ghost use Rattle.hand_gen.specs.Coming.{move_by, move_of, raise_of};
 ghost use Rattle.hand_gen.specs.Seen.{ends_said};
-ghost use Rattle.hand_gen.specs.Stock.{after_draw, draw_of};
+ghost use Rattle.hand_gen.specs.HandSource.{after_draw, draw_of};
 
-use crate::stock::Stock;
+use crate::hand_source::HandSource;
 use betting_core::{Betting, Targets};
 use chip_ledger::Seat;
 use play_event::{Kind, Spelled, UpRow};
@@ -21,7 +21,7 @@ pub fn make_move<V: Variant>(
     betting: &Betting<V>,
     up: &UpRow,
     seat: Seat,
-    stock: &mut Stock,
+    stock: &mut HandSource,
 ) -> Kind
     requires row { up.now.seats ≡ betting.now.setup.stacks.seats }
     requires bets { is_bet_due betting.now.due ≡ true }
@@ -33,7 +33,7 @@ pub fn make_move<V: Variant>(
     ensures left { stock.new ≡ after_draw stock.old }
 {
     let number = stock.draw(8);
-    let owes = 0 < betting.owed(seat);
+    let owes = 0 < betting.to_call(seat);
     let ends = betting.targets(up);
     chosen(owes, ends, seat, number)
 }

@@ -24,7 +24,7 @@ pub fn options_now<V: Variant>(hand: &HandInPlay<V>) -> Options
         return no_options(due);
     }
     let up = hand.opening_up_cards();
-    match hand.betting.turn_now(&up) {
+    match hand.betting.to_act(&up) {
         Some(seat) => options_of(&hand.betting, &up, seat),
         None => no_options(due),
     }

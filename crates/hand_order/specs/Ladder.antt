@@ -16,9 +16,9 @@ flush_class flushes.BelowFullHouse = 5
 flush_class flushes.AboveFullHouse = 6
 
 -- the class of a hand without straight and flush, if a full house would be class 6
-abbrev pub leveled : FlushPlace → ℕ → ℕ
-leveled flushes.BelowFullHouse class = class
-leveled flushes.AboveFullHouse class = if class == 6 then 5 else class
+abbrev pub flush_ranked : FlushPlace → ℕ → ℕ
+flush_ranked flushes.BelowFullHouse class = class
+flush_ranked flushes.AboveFullHouse class = if class == 6 then 5 else class
 
 -- the classes by how many ranks occur four times, three times and twice, and whether there is a
 -- straight and a flush

@@ -13,7 +13,7 @@ ghost use Rattle.hand_order.specs.StraightRanks.{topped};
 ghost use Rattle.hand_order.specs.SuitBest.{IsBestOfSuit};
 ghost use Rattle.hand_order.specs.Tops.{Shows};
 
-use crate::ladder::{FlushPlace, flush_class, leveled};
+use crate::ladder::{FlushPlace, flush_class, flush_ranked};
 use crate::levels::levels_of;
 use crate::mask::with_top_digits;
 use crate::pattern::best_pattern;
@@ -45,7 +45,7 @@ pub fn best_high(cards: &CardSet, low: LowStraight, flush: FlushPlace) -> u32
     let spades = cards.rank_mask(Suit::S);
     let levels = levels_of(clubs, diamonds, hearts, spades);
     let pattern = best_pattern(levels.all, levels.two, levels.three, levels.four);
-    let plain = above_number(leveled(flush, pattern.class), pattern.number);
+    let plain = above_number(flush_ranked(flush, pattern.class), pattern.number);
     let straight = straight_points(4, top_straight(levels.all, low));
     plain
         .max(straight)

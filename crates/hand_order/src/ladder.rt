@@ -1,7 +1,7 @@
 //! The classes of hands of the high orders, which differ only in whether a flush beats a full
 //! house.
 ghost use Rattle.std.specs.Prelude.{◌≡◌};
-ghost use Rattle.hand_order.specs.Ladder.{flush_class, leveled};
+ghost use Rattle.hand_order.specs.Ladder.{flush_class, flush_ranked};
 
 /// How a flush ranks beside a full house.
 #[derive(Clone, Copy, Debug, PartialEq, Eq)]
@@ -23,8 +23,8 @@ pub fn flush_class(place: FlushPlace) -> u32
 }
 
 /// The class in this order of a hand whose class was found as if a full house were class 6.
-pub fn leveled(place: FlushPlace, class: u32) -> u32
-    ensures { result ≡ leveled place class }
+pub fn flush_ranked(place: FlushPlace, class: u32) -> u32
+    ensures { result ≡ flush_ranked place class }
 {
     match place {
         FlushPlace::BelowFullHouse => class,

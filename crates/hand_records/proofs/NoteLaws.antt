@@ -6,7 +6,7 @@ use Rattle.std.proofs.lemmas.List.{get_or-take, get_or_past, length-take}
 use Rattle.std.proofs.lemmas.List.FromFn.{get_or-map-range_with_len}
 use Rattle.std.proofs.lemmas.Slice.Eq.{bytes_eq-Decides}
 use Rattle.chip_ledger.specs.Seat.{seats_of}
-use Rattle.hand_records.specs.AllowedNotes.{unless_usual}
+use Rattle.hand_records.specs.AllowedNotes.{non_default_seats}
 use Rattle.hand_records.specs.declared.notes.Clock.{Clock}
 use Rattle.list_laws.proofs.Bytes.{different_bytes}
 use Rattle.list_laws.proofs.NumbersOfRange.{map_agree}
@@ -137,24 +137,24 @@ module _ (count : ℕ) (xs ys : List (Option (List ℕ))) (same : map (name_said
 abbrev pub AreUnusual : ℕ → Option (List ℕ) → Type 0
 AreUnusual count numbers = IfSome numbers (λ said. take count said ≢ range_with_len 1 count)
 
-usual_twice : (count : ℕ) (numbers : List ℕ) → option_and_then (unless_usual count) (unless_usual count numbers) ≡ unless_usual count numbers
+usual_twice : (count : ℕ) (numbers : List ℕ) → option_and_then (non_default_seats count) (non_default_seats count numbers) ≡ non_default_seats count numbers
 usual_twice count numbers = by_test (bytes_eq numbers (range_with_len 1 count)) refl
   where
-    by_test : (usual : Bool) → bytes_eq numbers (range_with_len 1 count) ≡ usual → option_and_then (unless_usual count) (cond usual None (Some numbers)) ≡ cond usual None (Some numbers)
+    by_test : (usual : Bool) → bytes_eq numbers (range_with_len 1 count) ≡ usual → option_and_then (non_default_seats count) (cond usual None (Some numbers)) ≡ cond usual None (Some numbers)
     by_test true is = refl
     by_test false is = ap (λ (b : Bool). cond b None (Some numbers)) is
 
-pub said_taken : (count : ℕ) (x : Option (List ℕ)) → numbers_said count x ≡ option_and_then (unless_usual count) (option_map (take count) x)
+pub said_taken : (count : ℕ) (x : Option (List ℕ)) → numbers_said count x ≡ option_and_then (non_default_seats count) (option_map (take count) x)
 said_taken count None = refl
 said_taken count (Some numbers) = refl
 
-said_twice : (count : ℕ) (x : Option (List ℕ)) → option_and_then (unless_usual count) (numbers_said count x) ≡ numbers_said count x
+said_twice : (count : ℕ) (x : Option (List ℕ)) → option_and_then (non_default_seats count) (numbers_said count x) ≡ numbers_said count x
 said_twice count None = refl
 said_twice count (Some numbers) = usual_twice count (take count numbers)
 
 -- numbers that are read of those that are said
 pub numbers_again : (count : ℕ) (x y : Option (List ℕ)) → option_map (take count) x ≡ numbers_said count y → numbers_said count x ≡ numbers_said count y
-numbers_again count x y same = said_taken count x ∙ ap (option_and_then (unless_usual count)) same ∙ said_twice count y
+numbers_again count x y same = said_taken count x ∙ ap (option_and_then (non_default_seats count)) same ∙ said_twice count y
 
 -- numbers that are not the default are said
 pub unusual_said : (count : ℕ) (x : Option (List ℕ)) → AreUnusual count x → numbers_said count x ≡ option_map (take count) x

@@ -91,8 +91,8 @@ noted_or fault default text =
     if nat_le (length text) MOST_TEXT_BYTES then Ok (noted default text) else Err fault
 
 -- numbers of seats, left out if they are the default ones from 1 on
-abbrev pub unless_usual : ℕ → List ℕ → Option (List ℕ)
-unless_usual count numbers =
+abbrev pub non_default_seats : ℕ → List ℕ → Option (List ℕ)
+non_default_seats count numbers =
     if bytes_eq numbers (range_with_len 1 count) then None else Some numbers
 
 -- there are no notes

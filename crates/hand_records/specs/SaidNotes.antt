@@ -2,7 +2,7 @@
 use Rattle.std.specs.Prelude.{◌≡◌, ℕ, ◌-◌, if◌then◌else◌, bytes_eq, List, map, take, slice_index_or, Option, Some, None, option_and_then, option_map}
 use Rattle.std.specs.Fmt.{decimal}
 use Rattle.chip_ledger.specs.Seat.{seats_of}
-use Rattle.hand_records.specs.AllowedNotes.{unless_usual}
+use Rattle.hand_records.specs.AllowedNotes.{non_default_seats}
 use Rattle.hand_records.specs.declared.notes.Clock.{Clock}
 use Rattle.hand_records.specs.declared.notes.Notes.{Notes}
 use Rattle.hand_records.specs.declared.trace.Play.{Play}
@@ -29,7 +29,8 @@ name_said names seat = slice_index_or names (seat - 1) None
 
 -- the numbers of this number of seats, unless they are the default ones
 abbrev pub numbers_said : ℕ → Option (List ℕ) → Option (List ℕ)
-numbers_said count numbers = option_and_then (λ said. unless_usual count (take count said)) numbers
+numbers_said count numbers = option_and_then (λ said. non_default_seats count (take count said))
+    numbers
 
 -- the name of a hand at a place of its file, from 0; a name that is that place counts as missing
 abbrev pub kept_label : ℕ → Option (List ℕ) → Option (List ℕ)

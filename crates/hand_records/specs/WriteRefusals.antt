@@ -28,6 +28,6 @@ abbrev pub first_refusal : (Play → Option Unspelled) → List Play → Option 
 first_refusal unspelled plays = refusal_from unspelled 1 plays
 
 -- a refusal is that memory ran out
-abbrev pub IsWant : WriteRefusal → Type 0
-IsWant (refusals.Memory memory) = Unit {0}
-IsWant (refusals.Unspelled hand fact) = ⊥
+abbrev pub IsOutOfMemory : WriteRefusal → Type 0
+IsOutOfMemory (refusals.Memory memory) = Unit {0}
+IsOutOfMemory (refusals.Unspelled hand fact) = ⊥

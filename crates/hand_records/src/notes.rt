@@ -2,7 +2,7 @@
 ghost use Rattle.std.specs.Prelude.{◌≡◌, ◌≢◌, ◌≤◌, IfSome, option_map, take};
 ghost use Rattle.std.specs.List.{range_with_len};
 ghost use Rattle.chip_ledger.specs.SeatsSaid.{default_name as default_said};
-ghost use Rattle.hand_records.specs.AllowedNotes.{AreNoNotes, name_written, unless_usual as unless_usual_said};
+ghost use Rattle.hand_records.specs.AllowedNotes.{AreNoNotes, name_written, non_default_seats as unless_usual_said};
 
 use chip_ledger::Seat;
 use first_fault::Text;
@@ -138,7 +138,7 @@ const USUAL: [u8; 10] = [1, 2, 3, 4, 5, 6, 7, 8, 9, 10];
 
 /// The numbers of `seats` seats at the table, the first seat's at index 0, or `None` if they are
 /// the default: 1, 2 and so on.
-pub fn unless_usual(numbers: [u8; 10], seats: usize) -> Option<[u8; 10]>
+pub fn non_default_seats(numbers: [u8; 10], seats: usize) -> Option<[u8; 10]>
     requires { seats ≤ 10 }
     ensures said { option_map (take seats) result
         ≡ unless_usual_said seats (take seats numbers) }

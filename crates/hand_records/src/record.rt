@@ -121,7 +121,7 @@ impl Records {
 
     /// Reserves room for this many more records at once, so that the records need not be moved as
     /// they come. If there is no memory for all of them, room is made as they come.
-    pub fn make_room(&mut self, more: usize)
+    pub fn reserve(&mut self, more: usize)
         ensures { self.new ≡ self.old }
     {
         let _ = self.records.try_reserve_exact(more);

@@ -5,7 +5,7 @@ ghost use Rattle.first_fault.specs.Reading.{Gives};
 ghost use Rattle.hand_records.specs.AllowedNotes.{IsUnusualNote, noted, noted_or};
 
 use card_set::Memory;
-use first_fault::{MOST_TEXT_BYTES, Stop, Text};
+use first_fault::{MOST_TEXT_BYTES, ReadError, Text};
 use std::alloc::Global;
 
 /// A copy of a text of at most 255 bytes, or `None` if it is empty or the default.
@@ -26,12 +26,12 @@ pub fn keep_text<F: Drop>(
     text: &str,
     default: &str,
     fault: F,
-) -> Result<Option<Text>, Stop<F>>
+) -> Result<Option<Text>, ReadError<F>>
     ensures said { Gives (λ note. note) result (noted_or fault default.now text.now) }
     ensures allowed { IfOk result (λ note. IfSome note (IsUnusualNote default.now)) }
 {
     if text.len() > MOST_TEXT_BYTES {
-        return Err(Stop::At(fault));
+        return Err(ReadError::Fault(fault));
     }
     Ok(keep_short(alloc, text, default)?)
 }

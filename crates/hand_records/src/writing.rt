@@ -4,8 +4,8 @@ ghost use Rattle.std.specs.Prelude.{◌≡◌};
 ghost use Rattle.card_set.specs.declared.memory.Memory.{Memory as Refused};
 ghost use Rattle.hand_records.specs.declared.writing.WriteRefusal.TheVariants as refusals;
 
-use card_set::Memory;
 use crate::notes::NoteName;
+use card_set::Memory;
 use std::alloc::{AllocError, AllocFailed};
 
 /// A fact of a play that a notation cannot express, in the order in which facts are checked.

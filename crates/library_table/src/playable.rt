@@ -6,7 +6,7 @@ ghost use Rattle.card_set.specs.Row.{cards_of};
 ghost use Rattle.chip_ledger.specs.declared.seat_row.TheConstants.{MOST_AMOUNT};
 ghost use Rattle.chip_ledger.specs.LiveRow.{flagged};
 ghost use Rattle.hand_equity.specs.Equity.{CanComplete, plays_board};
-ghost use Rattle.hand_equity.specs.Rest.{standing_of};
+ghost use Rattle.hand_equity.specs.Undealt.{standing_of};
 ghost use Rattle.hand_order.specs.Choices.{CanPick};
 ghost use Rattle.play_event.specs.Games.{game_of};
 ghost use Rattle.showdown_split.specs.Playable.{ArePlayable, AreWinnable};

@@ -3,7 +3,7 @@ use Rattle.std.specs.Prelude.{ℕ, ◌+◌, ◌==◌, if◌then◌else◌, List,
 use Rattle.std.specs.Fmt.{decimal, signed_decimal}
 use Rattle.serde_json.specs.Data.{Data, string}
 use Rattle.first_fault.specs.declared.limits.Quantity.TheVariants as quantities
-use Rattle.hand_records.specs.AllowedNotes.{noted, noted_or, unless_usual}
+use Rattle.hand_records.specs.AllowedNotes.{noted, noted_or, non_default_seats}
 use Rattle.hand_records.specs.SaidNotes.{SaidNotes}
 use Rattle.first_fault.specs.Reading.{◌>>=◌, read_if, or_none}
 use Rattle.ohh_members.specs.declared.fault.MemberFaultKind.TheVariants as whats
@@ -67,7 +67,7 @@ abbrev pub notes_of : List PlainPlayer → Labels → SaidNotes
 notes_of players labels =
     record {
       names = names_from 1 players;
-      seats = unless_usual (length players) (map (λ player. player.seat) players);
+      seats = non_default_seats (length players) (map (λ player. player.seat) players);
       seat_count = labels.seat_count;
       hand = labels.hand;
       table = labels.table;

@@ -12,7 +12,7 @@ ghost use Rattle.ohh_members.specs.Values.{field as field_said};
 
 use crate::moment::read_moment;
 use crate::texts::{label_at, text_at};
-use first_fault::{Stop, Text};
+use first_fault::{ReadError, Text};
 use hand_records::Moment;
 use ohh_members::fault::{MemberFault, Path};
 use ohh_members::values::{field, read_number};
@@ -37,7 +37,7 @@ pub fn read_labels(
     ohh: &Value,
     place: u32,
     seats: u8,
-) -> Result<Labels, Stop<MemberFault>>
+) -> Result<Labels, ReadError<MemberFault>>
     ensures said { Gives (λ labels. labels) result (labels_said place seats (view ohh.now)) }
     ensures fit { IfOk result (AreLabels seats) }
 {
@@ -60,7 +60,7 @@ pub fn read_labels(
 
 // The number of seats of the table, if it is there.
 #[tactic(auto, unfolding(crate::specs::Notes::seat_count_said))]
-fn seat_count_at(ohh: &Value, seats: u8) -> Result<Option<u8>, Stop<MemberFault>>
+fn seat_count_at(ohh: &Value, seats: u8) -> Result<Option<u8>, ReadError<MemberFault>>
     ensures said { Gives (λ count. count) result
         (or_none (seat_count_said seats) (field_said paths.TableSize (view ohh.now))) }
     ensures allowed { IfOk result (λ count. IfSome count (IsSeatCount seats)) }
@@ -77,7 +77,7 @@ fn seat_count_at(ohh: &Value, seats: u8) -> Result<Option<u8>, Stop<MemberFault>
 }
 
 // The moment at which the hand began, if it is there.
-fn moment_at(ohh: &Value) -> Result<Option<Moment>, Stop<MemberFault>>
+fn moment_at(ohh: &Value) -> Result<Option<Moment>, ReadError<MemberFault>>
     ensures said { Gives (λ moment. moment) result
         (read_if moment_said (field_said paths.StartDate (view ohh.now))) }
     ensures moment { IfOk result (λ moment. IfSome moment IsMoment) }

@@ -6,15 +6,15 @@ ghost use Rattle.first_fault.specs.Reading.{Gives};
 ghost use Rattle.ohh_facts.specs.MomentRanges.{IsDay, IsMoment};
 ghost use Rattle.ohh_facts.specs.Moments.{clock_said, day_said, digits_in_front as digits_in_front_said, digits_said, fraction_said, has_point as has_point_said, has_signs as has_signs_said, is_universal as is_universal_said, moment_said, nine_of, part as part_said, zoned};
 
-use first_fault::{Stop, are_digits, read_digits};
+use first_fault::{ReadError, are_digits, read_digits};
 use hand_records::{CivilDate, Clock, Moment, has_day};
 use ohh_members::fault::{MemberFault, MemberFaultKind, Path};
-use ohh_members::values::{read_text, wrong};
+use ohh_members::values::{fault_at, read_text};
 use serde_json::Value;
 
 /// The moment at which a hand began.
 #[tactic(auto, unfolding(crate::specs::Moments::moment_in, crate::specs::Moments::parts_said))]
-pub fn read_moment(value: &Value) -> Result<Moment, Stop<MemberFault>>
+pub fn read_moment(value: &Value) -> Result<Moment, ReadError<MemberFault>>
     ensures said { Gives (λ moment. moment) result (moment_said (view value.now)) }
     ensures moment { IfOk result IsMoment }
 {
@@ -40,7 +40,7 @@ fn has_signs(text: &[u8]) -> bool
 
 // The date in a text with these separators.
 #[tactic(auto, unfolding(crate::specs::Moments::day_said))]
-fn read_day(text: &[u8]) -> Result<CivilDate, Stop<MemberFault>>
+fn read_day(text: &[u8]) -> Result<CivilDate, ReadError<MemberFault>>
     ensures said { Gives (λ day. day) result (day_said text.now) }
     ensures day { IfOk result IsDay }
 {
@@ -57,7 +57,7 @@ fn read_day(text: &[u8]) -> Result<CivilDate, Stop<MemberFault>>
 // What comes after the seconds: optionally a point and one to nine digits of a fraction, and then
 // the zone. The fraction is returned in nanoseconds.
 #[tactic(auto, unfolding(crate::specs::Moments::fraction_said, crate::specs::Moments::fraction_of))]
-fn read_fraction(text: &[u8]) -> Result<u32, Stop<MemberFault>>
+fn read_fraction(text: &[u8]) -> Result<u32, ReadError<MemberFault>>
     ensures said { Gives (λ nano. nano) result (fraction_said text.now) }
     ensures most { IfOk result (λ nano. nano ≤ 999999999) }
 {
@@ -96,7 +96,7 @@ fn nine(digits: &[u8]) -> [u8; 9]
 
 // These nanoseconds, if the zone after them is universal time.
 #[tactic(auto, unfolding(crate::specs::Moments::zoned))]
-fn read_zone(nano: u32, zone: &[u8]) -> Result<u32, Stop<MemberFault>>
+fn read_zone(nano: u32, zone: &[u8]) -> Result<u32, ReadError<MemberFault>>
     ensures said { Gives (λ nano. nano) result (zoned nano zone.now) }
     ensures same { IfOk result (λ found. found ≡ nano) }
 {
@@ -128,7 +128,7 @@ fn digits_in_front(text: &[u8]) -> usize
 
 // The time of day in a text with these separators, with these nanoseconds.
 #[tactic(auto, unfolding(crate::specs::Moments::clock_said))]
-fn read_clock(text: &[u8], nano: u32) -> Result<Clock, Stop<MemberFault>>
+fn read_clock(text: &[u8], nano: u32) -> Result<Clock, ReadError<MemberFault>>
     requires { nano ≤ 999999999 }
     ensures said { Gives (λ clock. clock) result (clock_said nano text.now) }
     ensures time { IfOk result IsTime }
@@ -146,7 +146,7 @@ fn read_clock(text: &[u8], nano: u32) -> Result<Clock, Stop<MemberFault>>
 
 // A number from `least` to `most`, in decimal digits.
 #[tactic(auto, unfolding(crate::specs::Moments::digits_said, first_fault::specs::Digits::number_of))]
-fn number_in(digits: &[u8], least: u64, most: u64) -> Result<u64, Stop<MemberFault>>
+fn number_in(digits: &[u8], least: u64, most: u64) -> Result<u64, ReadError<MemberFault>>
     requires { most ≤ 1000000000000000000 }
     ensures said { Gives (λ number. number) result (digits_said least most digits.now) }
     ensures within { IfOk result (IsWithin least most) }
@@ -167,11 +167,11 @@ fn number_in(digits: &[u8], least: u64, most: u64) -> Result<u64, Stop<MemberFau
 }
 
 // The text is not a moment.
-fn no_moment() -> Stop<MemberFault>
+fn no_moment() -> ReadError<MemberFault>
     ensures { result
-        ≡ Stop.At (record { what = MemberFaultKind.WrongType; path = Path.StartDate }) }
+        ≡ ReadError.Fault (record { what = MemberFaultKind.WrongType; path = Path.StartDate }) }
 {
-    wrong(MemberFaultKind::WrongType, Path::StartDate)
+    fault_at(MemberFaultKind::WrongType, Path::StartDate)
 }
 
 // `count` bytes of a text from this place on, or fewer if the text ends.

@@ -6,7 +6,7 @@ ghost use Rattle.first_fault.specs.Reading.{Gives, or_none};
 ghost use Rattle.ohh_facts.specs.Notes.{label_said, text_note_said};
 ghost use Rattle.ohh_members.specs.Values.{field as field_said};
 
-use first_fault::{Quantity, Stop, Text};
+use first_fault::{Quantity, ReadError, Text};
 use hand_records::keep_text;
 use ohh_members::fault::{MemberFault, MemberFaultKind, Path};
 use ohh_members::values::{field, read_integer, read_text};
@@ -15,7 +15,11 @@ use std::alloc::Global;
 
 /// The text of a member, if there is one that is not empty.
 #[tactic(auto, using(crate::proofs::UnusualNotes::unusual_text), unfolding(crate::specs::Notes::text_note_said, crate::specs::Notes::note_said))]
-pub fn text_at(alloc: Global, ohh: &Value, path: Path) -> Result<Option<Text>, Stop<MemberFault>>
+pub fn text_at(
+    alloc: Global,
+    ohh: &Value,
+    path: Path,
+) -> Result<Option<Text>, ReadError<MemberFault>>
     ensures said { Gives (λ note. note) result
         (or_none (text_note_said [] path) (field_said path (view ohh.now))) }
     ensures allowed { IfOk result (λ note. IfSome note IsNoteText) }
@@ -37,7 +41,7 @@ pub fn label_at(
     ohh: &Value,
     path: Path,
     default: &str,
-) -> Result<Option<Text>, Stop<MemberFault>>
+) -> Result<Option<Text>, ReadError<MemberFault>>
     ensures said { Gives (λ note. note) result
         (or_none (label_said default.now path) (field_said path (view ohh.now))) }
     ensures allowed { IfOk result (λ note. IfSome note IsNoteText) }

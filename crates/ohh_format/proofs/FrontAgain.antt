@@ -17,8 +17,8 @@ use Rattle.play_event.specs.declared.setup.Setup.{Setup}
 use Rattle.ohh_members.specs.declared.blinds.Blinds.{Blinds}
 use Rattle.ohh_members.specs.declared.fault.Path.TheVariants as paths
 use Rattle.ohh_members.specs.Blinds.{blinds_said, fitting}
-use Rattle.ohh_members.specs.Front.{ids_of, stacks_of}
-use Rattle.ohh_members.specs.Values.{field, needed, number_said}
+use Rattle.ohh_members.specs.Header.{ids_of, stacks_of}
+use Rattle.ohh_members.specs.Values.{field, number_said, required}
 use Rattle.ohh_writing.specs.Actions.{big_blind_seat, small_blind_seat}
 use Rattle.ohh_writing.specs.Games.{is_spelled_game}
 use Rattle.ohh_writing.specs.Spelled.{big_blind, greatest_ante, has_no_ante, has_spelled_antes, has_spelled_blinds, has_spelled_sizes, has_spelled_straddles, has_two_blinds, is_covered_straddle, is_whole_ante}
@@ -125,7 +125,7 @@ module _ (setup : Setup) (valid : IsValid setup) (is : IsSpelledSetup setup) whe
   -- the blinds
   pub blinds_again : (ohh : Data) → field paths.AnteAmount ohh ≡ Some (whole (greatest_ante setup)) → field paths.SmallBlindAmount ohh ≡ Some (whole (blinds_of setup).small) → field paths.BigBlindAmount ohh ≡ Some (whole (blinds_of setup).big)
       → blinds_said setup.code ohh ≡ Ok (blinds_of setup)
-  unfolding blinds_said needed number_said
+  unfolding blinds_said required number_said
   blinds_again ohh ante small big =
       let ante_few : greatest_ante setup ≤ MOST_CHIPS = greatest_few (amount_of setup.antes) MOST_CHIPS 1 count (λ seat. omega (arith, valid.antes seat, stack_few seat)) in
       rw (

@@ -6,11 +6,11 @@ pub mod SeatingAgain
 pub mod GameAgain
 pub mod PutsAgain
 pub mod PostsAgain
-pub mod Deeds
+pub mod Effects
 pub mod StepsAgain
-pub mod ToldDeeds
+pub mod ToldEffects
 pub mod RoundsAgain
-pub mod DeedRounds
+pub mod EffectRounds
 pub mod EventsAgain
 pub mod MovesAgain
 pub mod PlayAgain

@@ -10,7 +10,7 @@ use Rattle.serde_json.specs.Data.{Data, string}
 use Rattle.chip_ledger.specs.declared.seat_row.SeatRow.{SeatRow}
 use Rattle.first_fault.specs.Reading.{read_if, or_none}
 use Rattle.first_fault.specs.declared.limits.TheConstants.{MOST_HANDS, MOST_TEXT_BYTES}
-use Rattle.hand_records.specs.AllowedNotes.{AreAllowed, IsDayOf, IsName, IsNoteText, IsSeatCount, IsTime, IsWithin, noted, unless_usual}
+use Rattle.hand_records.specs.AllowedNotes.{AreAllowed, IsDayOf, IsName, IsNoteText, IsSeatCount, IsTime, IsWithin, noted, non_default_seats}
 use Rattle.hand_records.specs.declared.notes.Clock.{Clock}
 use Rattle.hand_records.specs.declared.notes.Notes.{Notes}
 use Rattle.ohh_members.specs.declared.fault.MemberFault.{MemberFault}
@@ -168,13 +168,13 @@ module _ (place count : ℕ) (stacks : SeatRow) (notes : Notes) (ohh : Data) (fe
       ap₂ (λ (y : ℕ) (ys : List ℕ). y ∷ ys) (ap (λ k. get_or all k 0) (omega arith) ∙ sym (each 0 (omega arith)))
       (said_numbers all (first + 1) many xs (omega arith) (omega (arith, long)) (λ k within. each (suc k) (omega (arith, within)) ∙ ap (λ j. get_or all j 0) (omega (arith, low))))
 
-  seats_again : (found : Option (List ℕ)) → IfSome found (λ all. count ≤ length all) → unless_usual count (map (λ (player : PlainPlayer). player.seat) (players_from count stacks notes found 1 count)) ≡ option_and_then (λ all. unless_usual count (take count all)) found
+  seats_again : (found : Option (List ℕ)) → IfSome found (λ all. count ≤ length all) → non_default_seats count (map (λ (player : PlainPlayer). player.seat) (players_from count stacks notes found 1 count)) ≡ option_and_then (λ all. non_default_seats count (take count all)) found
   seats_again None long =
       let usual : map (λ (player : PlainPlayer). player.seat) (players_from count stacks notes None 1 count) ≡ range_with_len 1 count = seats_from None 1 count ∙ same_numbers 1 count in
-      ap (unless_usual count) usual
+      ap (non_default_seats count) usual
       ∙ ap (λ (b : Bool). cond b None (Some (range_with_len 1 count))) (same_bytes (range_with_len 1 count))
   seats_again (Some all) long =
-      ap (unless_usual count) (seats_from (Some all) 1 count
+      ap (non_default_seats count) (seats_from (Some all) 1 count
       ∙ said_numbers all 1 count (take count all) (omega arith) (length-take-le count all long) (λ k within. zero_taken_at count all k within ∙ ap (λ j. get_or all j 0) (omega arith)))
 
   -- the notes

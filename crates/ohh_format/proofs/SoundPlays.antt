@@ -48,9 +48,9 @@ use Rattle.ohh_writing.specs.Spelled.{first_unspelled, has_spelled_antes, has_sp
 use Rattle.ohh_posts.proofs.Stacks.{seats_in}
 use Rattle.ohh_posts.specs.declared.post.PostKind.TheVariants as kinds
 use Rattle.ohh_reading.specs.Reading.{reading}
-use Rattle.ohh_rounds.specs.Setting.{PlainSetting}
+use Rattle.ohh_rounds.specs.HandContext.{PlainHandContext}
 use Rattle.ohh_format.specs.Again.{hands_again}
-use Rattle.ohh_format.proofs.Deeds.{Deed, Posts, ante_deed, blind_deed, post_deeds, straddle_deed}
+use Rattle.ohh_format.proofs.Effects.{ActionEffect, Posts, ante_effect, blind_effect, post_effects, straddle_effect}
 use Rattle.ohh_format.proofs.FileAgain.{plays_again}
 use Rattle.ohh_format.proofs.FlopGames.{IsFlopGame, flop_game}
 use Rattle.ohh_format.proofs.FrontAgain as front
@@ -62,7 +62,7 @@ use Rattle.ohh_format.proofs.SoundMoves.{live_folds, no_moves_on, written_moves}
 use Rattle.ohh_format.proofs.SoundPots.{has_pots}
 use Rattle.ohh_format.proofs.SoundShows.{mucked_live, showdown_is}
 use Rattle.canon_ranges.proofs.StreetsPlayed.{HasStreet, board_known, came_before, first_holes, four_streets, is_passed, few_on_board}
-use Rattle.ohh_format.proofs.ToldDeeds.{IsGoodPost}
+use Rattle.ohh_format.proofs.ToldEffects.{IsGoodPost}
 use Rattle.ohh_format.proofs.WinsAgain.{seat_again}
 use Rattle.list_laws.proofs.Lists.{none_from_length}
 use Rattle.list_laws.proofs.Options.{from_some_none}
@@ -91,30 +91,30 @@ spelled_setup keep play none =
 
 -- ---- posts
 
-module _ (setting : PlainSetting) (setup : Setup) (valid : IsValid setup) (few : (seat : ℕ) → amount_of setup.stacks seat ≤ MOST_CHIPS)
+module _ (setting : PlainHandContext) (setup : Setup) (valid : IsValid setup) (few : (seat : ℕ) → amount_of setup.stacks seat ≤ MOST_CHIPS)
     (players : (seat : ℕ) → 1 ≤ seat → seat ≤ setup.stacks.seats → seat_of setting.ids (pos seat) ≡ Some seat) where
-  all_both : (some more : List Deed) → AllByRecursion (IsGoodPost setting 0) some → AllByRecursion (IsGoodPost setting 0) more → AllByRecursion (IsGoodPost setting 0) (some ++ more)
+  all_both : (some more : List ActionEffect) → AllByRecursion (IsGoodPost setting 0) some → AllByRecursion (IsGoodPost setting 0) more → AllByRecursion (IsGoodPost setting 0) (some ++ more)
   all_both [] more one other = other
-  all_both (deed ∷ some) more one other = (one.0, all_both some more one.1 other)
+  all_both (effect ∷ some) more one other = (one.0, all_both some more one.1 other)
 
   blind_few : (seat : ℕ) → blind_posted setup seat ≤ MOST_CHIPS
   blind_few seat = omega (arith, few seat)
 
-  antes_good : (first many : ℕ) → 1 ≤ first → first + many ≤ setup.stacks.seats + 1 → AllByRecursion (IsGoodPost setting 0) (flat_map (ante_deed setup) (range_with_len first many))
+  antes_good : (first many : ℕ) → 1 ≤ first → first + many ≤ setup.stacks.seats + 1 → AllByRecursion (IsGoodPost setting 0) (flat_map (ante_effect setup) (range_with_len first many))
   antes_good first zero low high = tt
   antes_good first (suc many) low high = by_ante (nat_lt 0 (amount_of setup.antes first)) (antes_good (first + 1) many (omega (arith, low)) (omega (arith, high)))
     where
-      by_ante : (some : Bool) → AllByRecursion (IsGoodPost setting 0) (flat_map (ante_deed setup) (range_with_len (first + 1) many))
-          → AllByRecursion (IsGoodPost setting 0) ((if some then Posts kinds.Ante first (amount_of setup.antes first) (amount_of setup.stacks first - amount_of setup.antes first) ∷ [] else []) ++ flat_map (ante_deed setup) (range_with_len (first + 1) many))
+      by_ante : (some : Bool) → AllByRecursion (IsGoodPost setting 0) (flat_map (ante_effect setup) (range_with_len (first + 1) many))
+          → AllByRecursion (IsGoodPost setting 0) ((if some then Posts kinds.Ante first (amount_of setup.antes first) (amount_of setup.stacks first - amount_of setup.antes first) ∷ [] else []) ++ flat_map (ante_effect setup) (range_with_len (first + 1) many))
       by_ante true rest = ((players first low (omega (arith, high)), omega (arith, valid.antes first, few first)), rest)
       by_ante false rest = rest
 
-  straddles_good : (first many : ℕ) → 1 ≤ first → first + many ≤ setup.stacks.seats + 1 → AllByRecursion (IsGoodPost setting 0) (flat_map (straddle_deed setup) (range_with_len first many))
+  straddles_good : (first many : ℕ) → 1 ≤ first → first + many ≤ setup.stacks.seats + 1 → AllByRecursion (IsGoodPost setting 0) (flat_map (straddle_effect setup) (range_with_len first many))
   straddles_good first zero low high = tt
   straddles_good first (suc many) low high = by_blind (nat_lt 2 first && nat_lt 0 (amount_of setup.blinds first)) (straddles_good (first + 1) many (omega (arith, low)) (omega (arith, high)))
     where
-      by_blind : (some : Bool) → AllByRecursion (IsGoodPost setting 0) (flat_map (straddle_deed setup) (range_with_len (first + 1) many))
-          → AllByRecursion (IsGoodPost setting 0) ((if some then blind_deed setup kinds.Straddle first ∷ [] else []) ++ flat_map (straddle_deed setup) (range_with_len (first + 1) many))
+      by_blind : (some : Bool) → AllByRecursion (IsGoodPost setting 0) (flat_map (straddle_effect setup) (range_with_len (first + 1) many))
+          → AllByRecursion (IsGoodPost setting 0) ((if some then blind_effect setup kinds.Straddle first ∷ [] else []) ++ flat_map (straddle_effect setup) (range_with_len (first + 1) many))
       by_blind true rest = ((players first low (omega (arith, high)), blind_few first), rest)
       by_blind false rest = rest
 
@@ -126,11 +126,11 @@ module _ (setting : PlainSetting) (setup : Setup) (valid : IsValid setup) (few :
   big_in true = (omega arith, omega (arith, setup.stacks.least))
   big_in false = (omega arith, omega (arith, setup.stacks.least))
 
-  pub posts_good : AllByRecursion (IsGoodPost setting 0) (post_deeds setup)
+  pub posts_good : AllByRecursion (IsGoodPost setting 0) (post_effects setup)
   posts_good =
       let small = small_in (setup.stacks.seats == 2) in
       let big = big_in (setup.stacks.seats == 2) in
-      all_both (flat_map (ante_deed setup) (all_seats setup)) (blind_deed setup kinds.SmallBlind (small_blind_seat setup) ∷ blind_deed setup kinds.BigBlind (big_blind_seat setup) ∷ flat_map (straddle_deed setup) (all_seats setup))
+      all_both (flat_map (ante_effect setup) (all_seats setup)) (blind_effect setup kinds.SmallBlind (small_blind_seat setup) ∷ blind_effect setup kinds.BigBlind (big_blind_seat setup) ∷ flat_map (straddle_effect setup) (all_seats setup))
       (antes_good 1 setup.stacks.seats (omega arith) (omega arith))
       ((players (small_blind_seat setup) small.0 small.1, blind_few (small_blind_seat setup)), ((players (big_blind_seat setup) big.0 big.1, blind_few (big_blind_seat setup)), straddles_good 1 setup.stacks.seats (omega arith) (omega arith)))
 
@@ -145,8 +145,8 @@ record Reads (setup : Setup) (core : TraceCore) : Type 0 where
   known : (street : ℕ) → list_any is_unknown (dealt_slots core.places None street) ≡ false
   turn_follows : dealt_slots core.places None 2 ≡ [] → dealt_slots core.places None 3 ≡ []
   river_follows : dealt_slots core.places None 3 ≡ [] → dealt_slots core.places None 4 ≡ []
-  quiet : (setting : PlainSetting) (street : ℕ) → 2 ≤ street → street ≤ 4 → dealt_slots core.places None street ≡ [] → AllByRecursion (IsElsewhere setting setup street) core.moves
-  moves : (setting : PlainSetting) → ((seat : ℕ) → 1 ≤ seat → seat ≤ setup.stacks.seats → seat_of setting.ids (pos seat) ≡ Some seat) → AllByRecursion (CanBeWritten setting) core.moves
+  quiet : (setting : PlainHandContext) (street : ℕ) → 2 ≤ street → street ≤ 4 → dealt_slots core.places None street ≡ [] → AllByRecursion (IsElsewhere setting setup street) core.moves
+  moves : (setting : PlainHandContext) → ((seat : ℕ) → 1 ≤ seat → seat ≤ setup.stacks.seats → seat_of setting.ids (pos seat) ≡ Some seat) → AllByRecursion (CanBeWritten setting) core.moves
   few : length core.moves ≤ MOST_MOVES
   held_few : (seat : ℕ) → length (held_slots core.places seat) ≤ 7
   shown_known : (seat : ℕ) → list_any (λ other. other == seat) core.shown ≡ true → list_any is_unknown (held_slots core.places seat) ≡ false
@@ -240,7 +240,7 @@ module _ (keep : Keep) (play : Play) (sound : IsSound play) (spelled : unspelled
       ∙ move_count setup (reverse script)
       ∙ count_reversed is_move script
 
-  mucked_folds : (setting : PlainSetting) (seat : ℕ) → 1 ≤ seat → seat ≤ trace.setup.stacks.seats → flag_of trace.mucked seat ≡ true → AllByRecursion (HasNotFolded setting trace.setup seat) (core_said trace).moves
+  mucked_folds : (setting : PlainHandContext) (seat : ℕ) → 1 ≤ seat → seat ≤ trace.setup.stacks.seats → flag_of trace.mucked seat ≡ true → AllByRecursion (HasNotFolded setting trace.setup seat) (core_said trace).moves
   mucked_folds setting seat low high mucked =
       let within : seat ≤ setup.stacks.seats = subst (λ (s : Setup). seat ≤ s.stacks.seats) same high in
       let live = mucked_live setup past trace sound.trace seat low within mucked in
@@ -249,7 +249,7 @@ module _ (keep : Keep) (play : Play) (sound : IsSound play) (spelled : unspelled
 
   can_be_played : (dialect : Dialect) (file_moves : ℕ) → file_moves + moves_written play ≤ MOST_FILE_MOVES → CanBePlayed (hand_setting dialect file_moves trace.setup) trace
   can_be_played dialect file_moves few =
-      let setting : PlainSetting = hand_setting dialect file_moves trace.setup in
+      let setting : PlainHandContext = hand_setting dialect file_moves trace.setup in
       let count : ℕ = trace.setup.stacks.seats in
       let players : (seat : ℕ) → 1 ≤ seat → seat ≤ count → seat_of setting.ids (pos seat) ≡ Some seat = λ seat low high. seat_again seat count low high in
       let is : IsFlopGame trace.setup.code = flop_game trace.setup.code it.game in

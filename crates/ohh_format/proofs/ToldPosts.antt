@@ -6,11 +6,11 @@ use Rattle.std.specs.List.{AllByRecursion}
 use Rattle.std.specs.Option.{option_map_or}
 use Rattle.std.proofs.lemmas.Bool.{and_parts, eqb-true, ltb-false, not-false}
 use Rattle.first_fault.specs.Reading.{◌>>=◌}
-use Rattle.ohh_posts.specs.Conditions.{at_first, first_breaking, greatest_ante, has_all_antes, has_blinds, holds, is_breaking, left_of, posts_checked}
+use Rattle.ohh_posts.specs.PostRules.{at_first, first_breaking, greatest_ante, has_all_antes, has_blinds, holds, is_breaking, left_of, posts_checked}
 use Rattle.ohh_posts.specs.Posts.{PlainPost, ante_of, first_ante, first_post, first_straddle, is_ante, is_straddle}
 use Rattle.ohh_posts.specs.NamedBlinds.{PlainNamedBlinds, stack_of}
-use Rattle.ohh_posts.specs.declared.checking.Condition.{Condition}
-use Rattle.ohh_posts.specs.declared.checking.Condition.TheVariants as conditions
+use Rattle.ohh_posts.specs.declared.checking.PostRule.{PostRule}
+use Rattle.ohh_posts.specs.declared.checking.PostRule.TheVariants as conditions
 use Rattle.ohh_posts.specs.declared.post.ActionPlace.{ActionPlace}
 use Rattle.ohh_posts.specs.declared.post.PostKind.{PostKind}
 
@@ -58,7 +58,7 @@ first_is is_kind Q (post ∷ rest) each seat amount found = by_test (is_kind pos
 
 module _ (table : PlainNamedBlinds) (posts : List PlainPost) (checked : posts_checked table posts ≡ Ok tt) where
   -- what holds of each post that does not break a condition
-  kept : (condition : Condition) (P : PlainPost → Type 0) → ((before : List PlainPost) (post : PlainPost) → is_breaking condition table posts before post ≡ false → P post)
+  kept : (condition : PostRule) (P : PlainPost → Type 0) → ((before : List PlainPost) (post : PlainPost) → is_breaking condition table posts before post ≡ false → P post)
       → (before rest : List PlainPost) → first_breaking condition table posts before rest ≡ None → AllByRecursion P rest
   kept condition P each before [] none = tt
   kept condition P each before (post ∷ rest) none = by_break (is_breaking condition table posts before post) refl none (kept condition P each (before ++ post ∷ []) rest)

@@ -14,8 +14,8 @@ use Rattle.play_event.specs.ValidSetup.{is_fixed}
 use Rattle.play_event.specs.declared.setup.Setup.{Setup}
 use Rattle.ohh_writing.specs.Spelled.{big_blind, greatest_ante, has_no_ante, has_spelled_antes, has_spelled_blinds, has_spelled_sizes, has_spelled_straddles, has_two_blinds, is_covered_straddle, is_whole_ante}
 use Rattle.ohh_posts.proofs.Stacks.{seats_in}
-use Rattle.ohh_posts.specs.Conditions as conditions_of
-use Rattle.ohh_posts.specs.Conditions.{has_all_antes}
+use Rattle.ohh_posts.specs.PostRules as conditions_of
+use Rattle.ohh_posts.specs.PostRules.{has_all_antes}
 use Rattle.ohh_posts.specs.Posts.{PlainPost, ante_of, first_ante, first_straddle}
 use Rattle.ohh_posts.specs.AntesAndBlinds.{PlainAntesAndBlinds, antes_and_blinds_said, are_dead, held_ante, named_blind}
 use Rattle.ohh_posts.specs.NamedBlinds.{PlainNamedBlinds, seat_count, stack_of}

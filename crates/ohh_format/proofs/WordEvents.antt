@@ -109,12 +109,12 @@ call_goes setup past move older same = sym (goes_to _ move (moves_of past) older
 -- where a raise goes, as its word gives it
 raise_goes : (dialect : Dialect) (setup : Setup) (moves : List Move) (street : ℕ) (move : TracedMove) → move.from ≡ street_chips setup moves street move.seat → move.from ≤ move.to
     → raise_target setup moves street move.seat (raise_again dialect move) ≡ move.to
-raise_goes dialect setup moves street move from up = by_price (move.price == 0) dialect
+raise_goes dialect setup moves street move from up = by_current_bet (move.price == 0) dialect
   where
-    by_price : (bet : Bool) (dialect : Dialect) → raise_target setup moves street move.seat (if bet then spelled.Added (move.to - move.from) else raise_by_dialect dialect move) ≡ move.to
-    by_price true dialect = omega (arith, from, up)
-    by_price false dialects.Added = omega (arith, from, up)
-    by_price false dialects.To = refl
+    by_current_bet : (bet : Bool) (dialect : Dialect) → raise_target setup moves street move.seat (if bet then spelled.Added (move.to - move.from) else raise_by_dialect dialect move) ≡ move.to
+    by_current_bet true dialect = omega (arith, from, up)
+    by_current_bet false dialects.Added = omega (arith, from, up)
+    by_current_bet false dialects.To = refl
 
 -- the word of a move
 word_more : (dialect : Dialect) (setup : Setup) (rules : Rules) (events words : List Said) (move : TracedMove) (older : List Move) → IsValid setup → AreLegal setup rules events

@@ -25,7 +25,7 @@ use Rattle.ohh_writing.specs.Actions.{has_known, posts}
 use Rattle.ohh_writing.specs.Moment.{moment_of}
 use Rattle.ohh_writing.specs.Seating.{numbers_spelled}
 use Rattle.first_fault.specs.Numbers.{kept_number}
-use Rattle.hand_records.specs.AllowedNotes.{unless_usual}
+use Rattle.hand_records.specs.AllowedNotes.{non_default_seats}
 use Rattle.hand_records.specs.PlainHands.{PlainHand, plain_setup}
 use Rattle.hand_records.specs.SaidNotes.{SaidNotes, kept_label}
 
@@ -104,7 +104,7 @@ notes_again place count notes =
     record {
       names = map (λ seat. slice_index_or notes.names (seat - 1) None) (seats_of count);
       seats =
-          option_and_then (λ numbers. unless_usual count (take count numbers))
+          option_and_then (λ numbers. non_default_seats count (take count numbers))
           (numbers_spelled count notes.seats);
       seat_count = notes.seat_count;
       hand = kept_label place notes.hand;

@@ -11,7 +11,7 @@ use Rattle.ohh_members.specs.declared.fault.MemberFaultKind.TheVariants as whats
 use Rattle.ohh_members.specs.declared.fault.Path.{Path}
 use Rattle.ohh_members.specs.declared.fault.Path.TheVariants as paths
 use Rattle.ohh_members.specs.declared.fault.MemberFault.{MemberFault}
-use Rattle.ohh_members.specs.Values.{wrong, field, needed, number_said}
+use Rattle.ohh_members.specs.Values.{wrong, field, required, number_said}
 
 -- the game is played in fixed limit
 abbrev pub is_fixed_game : Code → Bool
@@ -28,7 +28,7 @@ fitting code small big =
 
 -- a blind of at least 1
 abbrev pub blind_said : Path → Data → Result ℕ MemberFault
-blind_said path ohh = needed path ohh >>= number_said 1 MOST_CHIPS path
+blind_said path ohh = required path ohh >>= number_said 1 MOST_CHIPS path
 
 -- the blinds; the ante is only checked for its form
 unfoldable pub blinds_said : Code → Data → Result Blinds MemberFault

@@ -10,7 +10,7 @@ use Rattle.ohh_members.specs.declared.fault.MemberFaultKind.TheVariants as whats
 use Rattle.ohh_members.specs.declared.fault.Path.{Path}
 use Rattle.ohh_members.specs.declared.fault.Path.TheVariants as paths
 use Rattle.ohh_members.specs.declared.fault.MemberFault.{MemberFault}
-use Rattle.ohh_members.specs.Values.{or_wrong, needed, text_said, object_said}
+use Rattle.ohh_members.specs.Values.{or_wrong, required, text_said, object_said}
 
 -- the four supported games: a type and a limit
 abbrev pub game_named : List ℕ → List ℕ → Option Code
@@ -28,11 +28,11 @@ pub record IsReadGame (code : Code) : Type 0 where
 
 -- the text of a required member
 abbrev pub word_said : Path → Data → Result (List ℕ) MemberFault
-word_said path value = needed path value >>= text_said path
+word_said path value = required path value >>= text_said path
 
 -- the object with the limit
 abbrev pub limits_said : Data → Result Data MemberFault
-limits_said ohh = needed paths.BetLimit ohh >>= object_said paths.BetLimit
+limits_said ohh = required paths.BetLimit ohh >>= object_said paths.BetLimit
 
 -- the game
 unfoldable pub game_said : Data → Result Code MemberFault

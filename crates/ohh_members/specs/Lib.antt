@@ -4,6 +4,6 @@ pub mod Values
 pub mod Game
 pub mod Players
 pub mod Blinds
-pub mod Front
+pub mod Header
 pub mod Streets
 pub mod Words

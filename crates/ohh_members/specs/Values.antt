@@ -32,8 +32,8 @@ abbrev pub field : Path → Data → Option Data
 field path value = get (member_name path) value
 
 -- the value of a required member
-unfoldable pub needed : Path → Data → Result Data MemberFault
-needed path value = or_wrong whats.MissingMember path (field path value)
+unfoldable pub required : Path → Data → Result Data MemberFault
+required path value = or_wrong whats.MissingMember path (field path value)
 
 -- the text that a value is
 abbrev pub text_of : Data → Option (List ℕ)

@@ -5,8 +5,8 @@
 pub mod blinds;
 pub mod dialect;
 pub mod fault;
-pub mod front;
 pub mod game;
+pub mod header;
 pub mod player;
 pub mod players;
 pub mod rows;

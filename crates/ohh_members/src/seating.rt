@@ -7,16 +7,19 @@ ghost use Rattle.ohh_members.specs.Players.{PlainPlayer, above, button_said, low
 use crate::fault::{MemberFault, MemberFaultKind, Path};
 use crate::player::Player;
 use crate::players::list_players;
-use crate::values::{needed, read_integer, wrong};
+use crate::values::{fault_at, read_integer, required};
 use card_set::Memory;
-use first_fault::Stop;
+use first_fault::ReadError;
 use serde_json::Value;
 use std::alloc::Global;
 
 /// The players in the order of their seats in the hand: the first sits after the button, and the
 /// last is on it.
 #[tactic(auto, unfolding(crate::specs::Players::seated_said))]
-pub fn read_players<'a>(alloc: Global, ohh: &'a Value) -> Result<Vec<Player<'a>>, Stop<MemberFault>>
+pub fn read_players<'a>(
+    alloc: Global,
+    ohh: &'a Value,
+) -> Result<Vec<Player<'a>>, ReadError<MemberFault>>
     ensures said { Gives (λ found. map plain_player found.items) result
         (seated_said (view ohh.now)) }
     ensures some { IfOk result (λ found. 2 ≤ length found.items) }
@@ -30,14 +33,17 @@ pub fn read_players<'a>(alloc: Global, ohh: &'a Value) -> Result<Vec<Player<'a>>
 
 // The player on the button.
 #[tactic(auto, unfolding(crate::specs::Players::button_said))]
-fn read_button<'a>(players: &[Player<'a>], ohh: &Value) -> Result<Player<'a>, Stop<MemberFault>>
+fn read_button<'a>(
+    players: &[Player<'a>],
+    ohh: &Value,
+) -> Result<Player<'a>, ReadError<MemberFault>>
     ensures { Gives plain_player result
         (button_said (map plain_player players.now) (view ohh.now)) }
 {
-    let seat = read_integer(needed(ohh, Path::DealerSeat)?, Path::DealerSeat)?;
+    let seat = read_integer(required(ohh, Path::DealerSeat)?, Path::DealerSeat)?;
     match player_at(seat, players) {
         Some(player) => Ok(player),
-        None => Err(wrong(MemberFaultKind::BadPlayer, Path::DealerSeat)),
+        None => Err(fault_at(MemberFaultKind::BadPlayer, Path::DealerSeat)),
     }
 }
 

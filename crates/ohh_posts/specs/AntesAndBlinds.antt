@@ -9,7 +9,7 @@ use Rattle.chip_ledger.specs.SeatRow.{amount_of, amounts_in}
 use Rattle.ohh_posts.specs.declared.antes_and_blinds.AntesAndBlinds.{AntesAndBlinds}
 use Rattle.ohh_posts.specs.NamedBlinds.{PlainNamedBlinds, big_blind_seat, seat_count, small_blind_seat, stack_of}
 use Rattle.ohh_posts.specs.Posts.{PlainPost, ante_of, first_straddle}
-use Rattle.ohh_posts.specs.Conditions.{has_all_antes}
+use Rattle.ohh_posts.specs.PostRules.{has_all_antes}
 
 -- the antes, whether they are dead, and the blinds with straddles, p1's first
 pub record PlainAntesAndBlinds : Type 0 where

@@ -2,5 +2,5 @@
 -- they give.
 pub mod Posts
 pub mod NamedBlinds
-pub mod Conditions
+pub mod PostRules
 pub mod AntesAndBlinds

@@ -7,7 +7,7 @@ use Rattle.ohh_posts.specs.declared.post.PostKind.{PostKind}
 use Rattle.ohh_posts.specs.declared.post.PostKind.TheVariants as kinds
 use Rattle.ohh_posts.specs.declared.post.ActionPlace.{ActionPlace}
 use Rattle.ohh_posts.specs.declared.post.Post.{Post}
-use Rattle.ohh_posts.specs.declared.firsts.FirstPosts.{FirstPosts}
+use Rattle.ohh_posts.specs.declared.posts_so_far.PostsSoFar.{PostsSoFar}
 
 -- a post: its kind, its seat, its chips, whether it comes on the first street before any move, and
 -- the place of its action
@@ -87,7 +87,7 @@ abbrev pub chips_in : List (Option Chips) → ℕ → Option ℕ
 chips_in row seat = option_map (λ chips. chips.number) (slice_index_or row (seat - 1) None)
 
 -- what is stored are the first posts of these
-pub record AreFirst (posts : List PlainPost) (firsts : FirstPosts) : Type 0 where
+pub record AreFirst (posts : List PlainPost) (firsts : PostsSoFar) : Type 0 where
   pub antes : (seat : ℕ) → 1 ≤ seat → seat ≤ 10 → chips_in firsts.antes seat ≡ first_ante seat posts
   pub straddles : (seat : ℕ) → 1 ≤ seat → seat ≤ 10
       → chips_in firsts.straddles seat ≡ first_straddle seat posts

@@ -1,15 +1,15 @@
 //! The antes of all seats, from the first ante that each posts.
 ghost use Rattle.std.specs.Prelude.{◌≡◌, List, min};
-ghost use Rattle.ohh_posts.specs.Conditions.{greatest_ante, has_all_antes};
+ghost use Rattle.ohh_posts.specs.PostRules.{greatest_ante, has_all_antes};
 ghost use Rattle.ohh_posts.specs.Posts.{AreFirst, PlainPost, ante_of};
 ghost use Rattle.ohh_posts.specs.NamedBlinds.{plain_named_blinds};
 
-use crate::firsts::FirstPosts;
 use crate::named_blinds::NamedBlinds;
+use crate::posts_so_far::PostsSoFar;
 use chip_ledger::Seat;
 
 /// Whether every seat posts an ante.
-pub fn all_post(table: &NamedBlinds, firsts: &FirstPosts) -> bool
+pub fn all_post(table: &NamedBlinds, firsts: &PostsSoFar) -> bool
     ensures { (posts : List PlainPost) → AreFirst posts firsts.now
         → result ≡ has_all_antes (plain_named_blinds table.now) posts }
 {
@@ -22,7 +22,7 @@ pub fn all_post(table: &NamedBlinds, firsts: &FirstPosts) -> bool
 }
 
 /// The greatest ante of a seat.
-pub fn greatest(table: &NamedBlinds, firsts: &FirstPosts) -> u64
+pub fn greatest(table: &NamedBlinds, firsts: &PostsSoFar) -> u64
     ensures { (posts : List PlainPost) → AreFirst posts firsts.now
         → result ≡ greatest_ante (plain_named_blinds table.now) posts }
 {
@@ -37,7 +37,7 @@ pub fn greatest(table: &NamedBlinds, firsts: &FirstPosts) -> u64
 }
 
 /// The first ante of a seat, or 0 if it has none.
-pub fn ante_or_zero(firsts: &FirstPosts, seat: Seat) -> u64
+pub fn ante_or_zero(firsts: &PostsSoFar, seat: Seat) -> u64
     ensures { (posts : List PlainPost) → AreFirst posts firsts.now
         → result ≡ ante_of posts seat.number }
 {

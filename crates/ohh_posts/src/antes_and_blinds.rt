@@ -2,15 +2,15 @@
 ghost use Rattle.std.specs.Prelude.{◌≡◌, ◌≤◌, ◌&&◌, ℕ, List, map, not};
 ghost use Rattle.chip_ledger.specs.declared.numbers.TheConstants.{MOST_CHIPS};
 ghost use Rattle.chip_ledger.specs.SeatRow.{amount_of};
-ghost use Rattle.ohh_posts.specs.Conditions.{has_all_antes};
+ghost use Rattle.ohh_posts.specs.PostRules.{has_all_antes};
 ghost use Rattle.ohh_posts.specs.Posts.{AreFirst, PlainPost, plain_post};
 ghost use Rattle.ohh_posts.specs.AntesAndBlinds.{AreAntesAndBlindsFor, antes_and_blinds_said, has_amount, held_ante, named_blind, plain_antes_and_blinds};
 ghost use Rattle.ohh_posts.specs.NamedBlinds.{plain_named_blinds};
 
 use crate::antes::{all_post, ante_or_zero, lesser};
-use crate::firsts::FirstPosts;
 use crate::named_blinds::NamedBlinds;
 use crate::post::Post;
+use crate::posts_so_far::PostsSoFar;
 use chip_ledger::{Seat, SeatRow};
 
 /// The antes and blinds of a hand, in chips.
@@ -33,7 +33,7 @@ impl AntesAndBlinds {
             ≡ antes_and_blinds_said (plain_named_blinds table.now) (map plain_post posts.now) }
         ensures fit { AreAntesAndBlindsFor table.now.stacks result }
     {
-        let firsts = FirstPosts::of(posts);
+        let firsts = PostsSoFar::of(posts);
         let antes = antes_of(table, &firsts);
         AntesAndBlinds {
             antes,
@@ -44,7 +44,7 @@ impl AntesAndBlinds {
 }
 
 // The antes of all seats.
-fn antes_of(table: &NamedBlinds, firsts: &FirstPosts) -> SeatRow
+fn antes_of(table: &NamedBlinds, firsts: &PostsSoFar) -> SeatRow
     ensures seats { result.seats ≡ table.now.stacks.seats }
     ensures antes { (posts : List PlainPost) → AreFirst posts firsts.now → (seat : ℕ) → 1 ≤ seat
         → seat ≤ table.now.stacks.seats
@@ -60,7 +60,7 @@ fn antes_of(table: &NamedBlinds, firsts: &FirstPosts) -> SeatRow
 }
 
 // The ante of a seat: the smaller of what it posts and its stack.
-fn held(table: &NamedBlinds, firsts: &FirstPosts, seat: Seat) -> u64
+fn held(table: &NamedBlinds, firsts: &PostsSoFar, seat: Seat) -> u64
     ensures ante { (posts : List PlainPost) → AreFirst posts firsts.now
         → result ≡ held_ante (plain_named_blinds table.now) posts seat.number }
     ensures most { result ≤ amount_of table.now.stacks seat.number }
@@ -69,7 +69,7 @@ fn held(table: &NamedBlinds, firsts: &FirstPosts, seat: Seat) -> u64
 }
 
 // The blinds of all seats.
-fn blinds_of(table: &NamedBlinds, firsts: &FirstPosts) -> SeatRow
+fn blinds_of(table: &NamedBlinds, firsts: &PostsSoFar) -> SeatRow
     ensures seats { result.seats ≡ table.now.stacks.seats }
     ensures blinds { (posts : List PlainPost) → AreFirst posts firsts.now → (seat : ℕ) → 1 ≤ seat
         → seat ≤ table.now.stacks.seats
@@ -85,7 +85,7 @@ fn blinds_of(table: &NamedBlinds, firsts: &FirstPosts) -> SeatRow
 }
 
 // The blind of a seat as it is named: one of the two blinds, or a straddle, or 0.
-fn named(table: &NamedBlinds, firsts: &FirstPosts, seat: Seat) -> u64
+fn named(table: &NamedBlinds, firsts: &PostsSoFar, seat: Seat) -> u64
     ensures blind { (posts : List PlainPost) → AreFirst posts firsts.now
         → result ≡ named_blind (plain_named_blinds table.now) posts seat.number }
     ensures most { result ≤ MOST_CHIPS }
@@ -103,7 +103,7 @@ fn named(table: &NamedBlinds, firsts: &FirstPosts, seat: Seat) -> u64
 }
 
 // Whether some seats post an ante, but not all.
-fn are_dead(table: &NamedBlinds, firsts: &FirstPosts, antes: &SeatRow) -> bool
+fn are_dead(table: &NamedBlinds, firsts: &PostsSoFar, antes: &SeatRow) -> bool
     requires { antes.now.seats ≡ table.now.stacks.seats }
     ensures { (posts : List PlainPost) → AreFirst posts firsts.now
         → result

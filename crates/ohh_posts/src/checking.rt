@@ -1,19 +1,19 @@
 //! Checks the conditions of posts one after the other, each over all posts.
 ghost use Rattle.std.specs.Prelude.{◌≡◌, List, map};
-ghost use Rattle.ohh_posts.specs.Conditions as conditions;
-ghost use Rattle.ohh_posts.specs.Conditions.{AreFacts, has_blinds, holds, left_of, posts_checked};
+ghost use Rattle.ohh_posts.specs.PostRules as conditions;
+ghost use Rattle.ohh_posts.specs.PostRules.{AreFacts, has_blinds, holds, left_of, posts_checked};
 ghost use Rattle.ohh_posts.specs.Posts.{AreFirst, PlainPost, ante_of, plain_post};
 ghost use Rattle.ohh_posts.specs.NamedBlinds.{plain_named_blinds};
 
 use crate::antes::{all_post, ante_or_zero, greatest, lesser};
-use crate::firsts::FirstPosts;
 use crate::named_blinds::NamedBlinds;
 use crate::post::{Post, PostFault, PostKind};
+use crate::posts_so_far::PostsSoFar;
 use chip_ledger::Seat;
 
 /// A condition that each post of a hand meets.
 #[derive(Clone, Copy, Debug, PartialEq, Eq)]
-pub enum Condition {
+pub enum PostRule {
     /// It comes on the first street, before any move.
     Early,
     /// It is not a second small blind and not a second big blind.
@@ -33,15 +33,15 @@ pub enum Condition {
 
 /// What is known of all posts of a hand.
 #[derive(Clone, Copy, Debug, PartialEq, Eq)]
-pub struct Facts {
+pub struct PostFacts {
     pub table: NamedBlinds,
-    pub firsts: FirstPosts,
+    pub firsts: PostsSoFar,
     /// Whether each seat posts an ante.
     pub all_post: bool,
     pub greatest_ante: u64,
 }
 
-impl Facts {
+impl PostFacts {
     // The stack of a seat without its ante.
     fn left(&self, seat: Seat) -> u64
         ensures { (posts : List PlainPost) → AreFacts posts self.now
@@ -61,28 +61,28 @@ impl Facts {
 
 /// Checks the conditions of the posts of a hand, one after the other; for the first broken
 /// condition it names the first post that breaks it.
-#[tactic(auto, unfolding(crate::specs::Conditions::posts_checked))]
+#[tactic(auto, unfolding(crate::specs::PostRules::posts_checked))]
 pub fn check_posts(table: &NamedBlinds, posts: &[Post]) -> Result<(), PostFault>
     ensures { result ≡ posts_checked (plain_named_blinds table.now) (map plain_post posts.now) }
 {
     let facts = facts_of(table, posts);
-    hold(Condition::Early, &facts, posts)?;
+    hold(PostRule::Early, &facts, posts)?;
     have_blinds(&facts.firsts)?;
-    hold(Condition::OneOfEachBlind, &facts, posts)?;
-    hold(Condition::BlindSeats, &facts, posts)?;
-    hold(Condition::BlindAmounts, &facts, posts)?;
-    hold(Condition::Straddles, &facts, posts)?;
-    hold(Condition::Antes, &facts, posts)?;
-    hold(Condition::EvenAntes, &facts, posts)
+    hold(PostRule::OneOfEachBlind, &facts, posts)?;
+    hold(PostRule::BlindSeats, &facts, posts)?;
+    hold(PostRule::BlindAmounts, &facts, posts)?;
+    hold(PostRule::Straddles, &facts, posts)?;
+    hold(PostRule::Antes, &facts, posts)?;
+    hold(PostRule::EvenAntes, &facts, posts)
 }
 
 // What is known of all posts.
-fn facts_of(table: &NamedBlinds, posts: &[Post]) -> Facts
+fn facts_of(table: &NamedBlinds, posts: &[Post]) -> PostFacts
     ensures facts { AreFacts (map plain_post posts.now) result }
     ensures table { result.table ≡ table.now }
 {
-    let firsts = FirstPosts::of(posts);
-    Facts {
+    let firsts = PostsSoFar::of(posts);
+    PostFacts {
         table: *table,
         firsts,
         all_post: all_post(table, &firsts),
@@ -91,12 +91,12 @@ fn facts_of(table: &NamedBlinds, posts: &[Post]) -> Facts
 }
 
 // Checks a condition for all posts, and names the first that breaks it.
-fn hold(condition: Condition, facts: &Facts, posts: &[Post]) -> Result<(), PostFault>
+fn hold(condition: PostRule, facts: &PostFacts, posts: &[Post]) -> Result<(), PostFault>
     requires { AreFacts (map plain_post posts.now) facts.now }
     ensures { result
         ≡ holds condition (plain_named_blinds facts.now.table) (map plain_post posts.now) }
 {
-    let mut before = FirstPosts::none();
+    let mut before = PostsSoFar::none();
     for post in posts {
         if is_breaking(condition, facts, &before, post) {
             return Err(PostFault::At(post.place));
@@ -107,8 +107,8 @@ fn hold(condition: Condition, facts: &Facts, posts: &[Post]) -> Result<(), PostF
 }
 
 // Whether a post breaks a condition, after these posts.
-#[tactic(auto, unfolding(crate::specs::Conditions::is_breaking))]
-fn is_breaking(condition: Condition, facts: &Facts, before: &FirstPosts, post: &Post) -> bool
+#[tactic(auto, unfolding(crate::specs::PostRules::is_breaking))]
+fn is_breaking(condition: PostRule, facts: &PostFacts, before: &PostsSoFar, post: &Post) -> bool
     ensures { (posts earlier : List PlainPost) → AreFacts posts facts.now
         → AreFirst earlier before.now
         → result
@@ -116,18 +116,18 @@ fn is_breaking(condition: Condition, facts: &Facts, before: &FirstPosts, post: &
         (plain_post post.now) }
 {
     match condition {
-        Condition::Early => !post.early,
-        Condition::OneOfEachBlind => is_second_blind(before, post),
-        Condition::BlindSeats => is_misplaced_blind(&facts.table, post),
-        Condition::BlindAmounts => is_wrong_blind(facts, post),
-        Condition::Straddles => is_wrong_straddle(facts, before, post),
-        Condition::Antes => is_wrong_ante(&facts.table, before, post),
-        Condition::EvenAntes => is_uneven_ante(facts, post),
+        PostRule::Early => !post.early,
+        PostRule::OneOfEachBlind => is_second_blind(before, post),
+        PostRule::BlindSeats => is_misplaced_blind(&facts.table, post),
+        PostRule::BlindAmounts => is_wrong_blind(facts, post),
+        PostRule::Straddles => is_wrong_straddle(facts, before, post),
+        PostRule::Antes => is_wrong_ante(&facts.table, before, post),
+        PostRule::EvenAntes => is_uneven_ante(facts, post),
     }
 }
 
 // Whether a post is a second small blind or a second big blind.
-fn is_second_blind(before: &FirstPosts, post: &Post) -> bool
+fn is_second_blind(before: &PostsSoFar, post: &Post) -> bool
     ensures { (earlier : List PlainPost) → AreFirst earlier before.now
         → result ≡ conditions.is_second_blind earlier (plain_post post.now) }
 {
@@ -152,7 +152,7 @@ fn is_misplaced_blind(table: &NamedBlinds, post: &Post) -> bool
 
 // Whether a post is a blind that is not the smaller of its named amount and the stack without the
 // ante.
-fn is_wrong_blind(facts: &Facts, post: &Post) -> bool
+fn is_wrong_blind(facts: &PostFacts, post: &Post) -> bool
     ensures { (posts : List PlainPost) → AreFacts posts facts.now
         → result ≡ conditions.is_wrong_blind (plain_named_blinds facts.now.table) posts
         (plain_post post.now) }
@@ -167,7 +167,7 @@ fn is_wrong_blind(facts: &Facts, post: &Post) -> bool
 
 // Whether a post is a straddle of a seat in the blinds, of no chips, a second one of its seat, or
 // more than the stack has left.
-fn is_wrong_straddle(facts: &Facts, before: &FirstPosts, post: &Post) -> bool
+fn is_wrong_straddle(facts: &PostFacts, before: &PostsSoFar, post: &Post) -> bool
     ensures { (posts earlier : List PlainPost) → AreFacts posts facts.now
         → AreFirst earlier before.now
         → result ≡ conditions.is_wrong_straddle (plain_named_blinds facts.now.table) posts earlier
@@ -185,7 +185,7 @@ fn is_wrong_straddle(facts: &Facts, before: &FirstPosts, post: &Post) -> bool
 }
 
 // Whether a post is an ante above the stack, of no chips, or a second one of its seat.
-fn is_wrong_ante(table: &NamedBlinds, before: &FirstPosts, post: &Post) -> bool
+fn is_wrong_ante(table: &NamedBlinds, before: &PostsSoFar, post: &Post) -> bool
     ensures { (earlier : List PlainPost) → AreFirst earlier before.now
         → result
         ≡ conditions.is_wrong_ante (plain_named_blinds table.now) earlier (plain_post post.now) }
@@ -203,7 +203,7 @@ fn is_wrong_ante(table: &NamedBlinds, before: &FirstPosts, post: &Post) -> bool
 
 // Whether every seat posts an ante, and this one is not the smaller of the greatest ante and the
 // stack.
-fn is_uneven_ante(facts: &Facts, post: &Post) -> bool
+fn is_uneven_ante(facts: &PostFacts, post: &Post) -> bool
     ensures { (posts : List PlainPost) → AreFacts posts facts.now
         → result ≡ conditions.is_uneven_ante (plain_named_blinds facts.now.table) posts
         (plain_post post.now) }
@@ -216,7 +216,7 @@ fn is_uneven_ante(facts: &Facts, post: &Post) -> bool
 }
 
 // Both blinds are posted.
-fn have_blinds(firsts: &FirstPosts) -> Result<(), PostFault>
+fn have_blinds(firsts: &PostsSoFar) -> Result<(), PostFault>
     ensures { (posts : List PlainPost) → AreFirst posts firsts.now → result ≡ has_blinds posts }
 {
     if firsts.small_blind && firsts.big_blind {

@@ -5,9 +5,9 @@
 mod antes;
 mod antes_and_blinds;
 mod checking;
-mod firsts;
 mod named_blinds;
 mod post;
+mod posts_so_far;
 
 pub use antes_and_blinds::AntesAndBlinds;
 pub use checking::check_posts;

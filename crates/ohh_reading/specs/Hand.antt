@@ -8,15 +8,15 @@ use Rattle.play_event.specs.Games.{game_of}
 use Rattle.first_fault.specs.Reading.{◌>>=◌}
 use Rattle.ohh_members.specs.declared.dialect.Dialect.{Dialect}
 use Rattle.ohh_members.specs.declared.fault.MemberFault.{MemberFault}
-use Rattle.ohh_members.specs.Front.{PlainFront, front_said, ids_of, stacks_of}
+use Rattle.ohh_members.specs.Header.{PlainFront, front_said, ids_of, stacks_of}
 use Rattle.ohh_facts.specs.Notes.{notes_said}
 use Rattle.ohh_facts.specs.Pots.{PlainPaid, pots_said}
 use Rattle.ohh_rounds.specs.Play.{PlainPlay, rounds_said}
-use Rattle.ohh_rounds.specs.Setting.{PlainSetting}
+use Rattle.ohh_rounds.specs.HandContext.{PlainHandContext}
 use Rattle.ohh_reading.specs.Sizes.{sizes_of}
 
 -- what is needed to read the rounds of a hand
-abbrev pub setting_of : Dialect → ℕ → PlainFront → PlainSetting
+abbrev pub setting_of : Dialect → ℕ → PlainFront → PlainHandContext
 setting_of dialect file_moves front =
     record {
       ids = ids_of front.players;

@@ -9,7 +9,7 @@ ghost use Rattle.hand_records.specs.Moves.{moves_of};
 
 use crate::fault::{HandFaultKind, OhhFault, OhhHandFault};
 use crate::file::read_file;
-use first_fault::{Stop, Text};
+use first_fault::{ReadError, Text};
 use hand_records::Records;
 use ohh_members::Dialect;
 use ohh_members::fault::{MemberFault, MemberFaultKind};
@@ -26,8 +26,8 @@ pub fn read(alloc: Global, dialect: Dialect, bytes: &[u8]) -> Result<Records, Oh
 {
     match read_file(alloc, dialect, bytes) {
         Ok((records, _moves)) => Ok(records),
-        Err(Stop::Memory(memory)) => Err(OhhFault::Memory(memory)),
-        Err(Stop::At(found)) => Err(spelled(alloc, found)),
+        Err(ReadError::Memory(memory)) => Err(OhhFault::Memory(memory)),
+        Err(ReadError::Fault(found)) => Err(spelled(alloc, found)),
     }
 }
 

@@ -3,7 +3,7 @@
 pub mod Streets
 pub mod Steps
 pub mod Kept
-pub mod Setting
+pub mod HandContext
 pub mod Actions
 pub mod Rounds
 pub mod Play

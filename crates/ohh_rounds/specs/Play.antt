@@ -17,12 +17,12 @@ use Rattle.ohh_members.specs.Values.{wrong}
 use Rattle.ohh_posts.specs.declared.post.PostFault.{PostFault}
 use Rattle.ohh_posts.specs.declared.post.PostFault.TheVariants as post_faults
 use Rattle.ohh_posts.specs.Posts.{PlainPost}
-use Rattle.ohh_posts.specs.Conditions.{posts_checked}
+use Rattle.ohh_posts.specs.PostRules.{posts_checked}
 use Rattle.ohh_posts.specs.AntesAndBlinds.{PlainAntesAndBlinds, antes_and_blinds_said, plain_antes_and_blinds}
 use Rattle.ohh_posts.specs.NamedBlinds.{seat_count}
 use Rattle.ohh_rounds.specs.declared.play.RoundsPlay.{RoundsPlay}
-use Rattle.ohh_rounds.specs.Steps.{PlainDeed, PlainStep, Posted, Dealt, Happened, Passed, dealt_to, first_deal, moves_in}
-use Rattle.ohh_rounds.specs.Setting.{PlainSetting}
+use Rattle.ohh_rounds.specs.Steps.{PlainActionEffect, PlainStep, Posted, Dealt, Happened, Passed, dealt_to, first_deal, moves_in}
+use Rattle.ohh_rounds.specs.HandContext.{PlainHandContext}
 use Rattle.ohh_rounds.specs.Actions.{at_action}
 use Rattle.ohh_rounds.specs.Rounds.{steps_said}
 
@@ -33,7 +33,7 @@ pub record PlainPlay : Type 0 where
   pub file_moves : ℕ
 
 -- the post of a step, if it is one
-abbrev pub post_in : PlainDeed → List PlainPost
+abbrev pub post_in : PlainActionEffect → List PlainPost
 post_in (Posted post) = post ∷ []
 post_in (Dealt seat cards) = []
 post_in (Happened event) = []
@@ -50,10 +50,10 @@ plain_play play =
 
 -- the posts, in order
 abbrev pub posts_in : List PlainStep → List PlainPost
-posts_in steps = flat_map (λ step. post_in step.deed) steps
+posts_in steps = flat_map (λ step. post_in step.effect) steps
 
 -- the event of a step, if it is one
-abbrev pub event_in : PlainStep → PlainDeed → List Numbered
+abbrev pub event_in : PlainStep → PlainActionEffect → List Numbered
 event_in step (Happened event) = (step.number, event) ∷ []
 event_in step (Posted post) = []
 event_in step (Dealt seat cards) = []
@@ -61,7 +61,7 @@ event_in step Passed = []
 
 -- the events, in order
 abbrev pub events_in : List PlainStep → List Numbered
-events_in steps = flat_map (λ step. event_in step step.deed) steps
+events_in steps = flat_map (λ step. event_in step step.effect) steps
 
 -- the hole cards of a seat: those that are dealt to it, filled up to this number with unknown ones
 abbrev pub hole_cards : ℕ → List Slot → List Slot
@@ -88,7 +88,7 @@ at_posts (Err post_faults.MissingBlind) = wrong whats.BadPost paths.Rounds
 at_posts (Err (post_faults.At place)) = wrong whats.BadPost (at_action place members.Itself)
 
 -- what the rounds of the hand `ohh` contain, or their first fault
-unfoldable pub rounds_said : PlainSetting → Data → Result PlainPlay MemberFault
+unfoldable pub rounds_said : PlainHandContext → Data → Result PlainPlay MemberFault
 rounds_said setting ohh = do
   steps ← steps_said setting ohh
   checked ← at_posts (posts_checked setting.table (posts_in steps))

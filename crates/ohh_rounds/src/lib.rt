@@ -4,13 +4,13 @@
 
 mod actions;
 mod cards;
+mod hand_context;
 mod play;
 mod rounds;
-mod seat_told;
-mod setting;
+mod rounds_so_far;
+mod seat_so_far;
 mod step;
 mod street;
-mod told;
 
+pub use hand_context::HandContext;
 pub use play::{RoundsPlay, read_rounds};
-pub use setting::Setting;

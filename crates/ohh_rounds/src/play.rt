@@ -7,24 +7,24 @@ ghost use Rattle.chip_ledger.specs.Seat.{seats_of};
 ghost use Rattle.first_fault.specs.declared.limits.TheConstants.{MOST_FILE_MOVES};
 ghost use Rattle.play_event.specs.Said.{numbered, said_of};
 ghost use Rattle.first_fault.specs.Reading.{Gives};
-ghost use Rattle.ohh_posts.specs.Conditions.{posts_checked};
+ghost use Rattle.ohh_posts.specs.PostRules.{posts_checked};
 ghost use Rattle.ohh_posts.specs.Posts.{plain_post};
 ghost use Rattle.ohh_posts.specs.AntesAndBlinds.{AreAntesAndBlindsFor, antes_and_blinds_said, plain_antes_and_blinds};
 ghost use Rattle.ohh_posts.specs.NamedBlinds.{plain_named_blinds};
 ghost use Rattle.ohh_rounds.specs.Play.{at_posts, event_in, events_in, hole_cards as hole_cards_said, hole_deal as hole_deal_said, plain_play, post_in, posts_in, rounds_said, script_said};
-ghost use Rattle.ohh_rounds.specs.Setting.{plain_setting};
-ghost use Rattle.ohh_rounds.specs.Steps.{plain_deed, plain_step};
+ghost use Rattle.ohh_rounds.specs.HandContext.{plain_setting};
+ghost use Rattle.ohh_rounds.specs.Steps.{plain_effect, plain_step};
 
 use crate::actions::path_of;
+use crate::hand_context::HandContext;
 use crate::rounds::read_told;
-use crate::setting::Setting;
-use crate::step::{Deed, RoundStep};
-use crate::told::Told;
+use crate::rounds_so_far::RoundsSoFar;
+use crate::step::{ActionEffect, RoundStep};
 use card_set::{Memory, Slot, SlotRow};
 use chip_ledger::Seat;
-use first_fault::Stop;
+use first_fault::ReadError;
 use ohh_members::fault::{ActionMember, MemberFault, MemberFaultKind, Path};
-use ohh_members::values::wrong;
+use ohh_members::values::fault_at;
 use ohh_posts::{AntesAndBlinds, NamedBlinds, Post, PostFault, check_posts};
 use play_event::{Event, Kind, Script};
 use serde_json::Value;
@@ -45,9 +45,9 @@ pub struct RoundsPlay {
 #[tactic(auto, unfolding(crate::specs::Play::rounds_said))]
 pub fn read_rounds(
     alloc: Global,
-    setting: &Setting,
+    setting: &HandContext,
     ohh: &Value,
-) -> Result<RoundsPlay, Stop<MemberFault>>
+) -> Result<RoundsPlay, ReadError<MemberFault>>
     ensures said { Gives plain_play result
         (rounds_said (plain_setting setting.now) (view ohh.now)) }
     ensures stakes { IfOk result (λ play.
@@ -72,7 +72,7 @@ fn read_stakes(
     alloc: Global,
     table: &NamedBlinds,
     steps: &[RoundStep],
-) -> Result<AntesAndBlinds, Stop<MemberFault>>
+) -> Result<AntesAndBlinds, ReadError<MemberFault>>
     ensures checked { Gives (λ stakes. tt) result
         (at_posts (posts_checked
         (plain_named_blinds table.now) (posts_in (map plain_step steps.now)))) }
@@ -93,35 +93,35 @@ fn posts_of(alloc: Global, steps: &[RoundStep]) -> Result<Vec<Post>, Memory>
 {
     let mut posts = Vec::new(alloc);
     for step in steps {
-        push_post(&mut posts, step.deed)?;
+        push_post(&mut posts, step.effect)?;
     }
     Ok(posts)
 }
 
 // Appends the post of a step, if it is one.
-fn push_post(posts: &mut Vec<Post>, deed: Deed) -> Result<(), Memory>
+fn push_post(posts: &mut Vec<Post>, effect: ActionEffect) -> Result<(), Memory>
     ensures { OnOk result (map plain_post posts.new.items
-        ≡ map plain_post posts.old.items ++ post_in (plain_deed deed)) }
+        ≡ map plain_post posts.old.items ++ post_in (plain_effect effect)) }
 {
-    match deed {
-        Deed::Posted(post) => {
+    match effect {
+        ActionEffect::Posted(post) => {
             posts.push(post)?;
             Ok(())
         }
-        Deed::Dealt { .. } | Deed::Happened(_) | Deed::Passed => Ok(()),
+        ActionEffect::Dealt { .. } | ActionEffect::Happened(_) | ActionEffect::Passed => Ok(()),
     }
 }
 
 // Checks the posts; the first that breaks a condition is reported at its action.
-fn check(table: &NamedBlinds, posts: &[Post]) -> Result<(), Stop<MemberFault>>
+fn check(table: &NamedBlinds, posts: &[Post]) -> Result<(), ReadError<MemberFault>>
     ensures { Gives (λ x. x) result
         (at_posts (posts_checked (plain_named_blinds table.now) (map plain_post posts.now))) }
 {
     match check_posts(table, posts) {
         Ok(()) => Ok(()),
-        Err(PostFault::MissingBlind) => Err(wrong(MemberFaultKind::BadPost, Path::Rounds)),
+        Err(PostFault::MissingBlind) => Err(fault_at(MemberFaultKind::BadPost, Path::Rounds)),
         Err(PostFault::At(place)) => {
-            Err(wrong(
+            Err(fault_at(
                 MemberFaultKind::BadPost,
                 path_of(place, ActionMember::Itself),
             ))
@@ -131,7 +131,7 @@ fn check(table: &NamedBlinds, posts: &[Post]) -> Result<(), Stop<MemberFault>>
 
 // The script.
 #[tactic(auto, unfolding(crate::specs::Play::script_said))]
-fn script_of(alloc: Global, told: &Told) -> Result<Script, Memory>
+fn script_of(alloc: Global, told: &RoundsSoFar) -> Result<Script, Memory>
     ensures script { IfOk result (λ script. map numbered script
         ≡ script_said told.now.setting.table.stacks.seats told.now.setting.hole_cards
         (map plain_step told.now.steps.items)) }
@@ -142,7 +142,7 @@ fn script_of(alloc: Global, told: &Told) -> Result<Script, Memory>
 }
 
 // The hole deals of all seats.
-fn hole_deals(alloc: Global, told: &Told) -> Result<Script, Memory>
+fn hole_deals(alloc: Global, told: &RoundsSoFar) -> Result<Script, Memory>
     ensures { IfOk result (λ script. map numbered script
         ≡ map (hole_deal_said told.now.setting.hole_cards (map plain_step told.now.steps.items))
         (seats_of told.now.setting.table.stacks.seats)) }
@@ -155,7 +155,7 @@ fn hole_deals(alloc: Global, told: &Told) -> Result<Script, Memory>
 }
 
 // The deal of a seat's hole cards.
-fn hole_deal(told: &Told, seat: Seat) -> Event
+fn hole_deal(told: &RoundsSoFar, seat: Seat) -> Event
     ensures { numbered result ≡ hole_deal_said told.now.setting.hole_cards
         (map plain_step told.now.steps.items) seat.number }
 {
@@ -197,13 +197,13 @@ fn push_events(script: &mut Script, steps: &[RoundStep]) -> Result<(), Memory>
 // Appends the event of a step, if it is one.
 fn push_event(script: &mut Script, step: RoundStep) -> Result<(), Memory>
     ensures { OnOk result (map numbered script.new
-        ≡ map numbered script.old ++ event_in (plain_step step) (plain_deed step.deed)) }
+        ≡ map numbered script.old ++ event_in (plain_step step) (plain_effect step.effect)) }
 {
-    match step.deed {
-        Deed::Happened(kind) => script.push(Event {
+    match step.effect {
+        ActionEffect::Happened(kind) => script.push(Event {
             at: step.number,
             kind,
         }),
-        Deed::Posted(_) | Deed::Dealt { .. } | Deed::Passed => Ok(()),
+        ActionEffect::Posted(_) | ActionEffect::Dealt { .. } | ActionEffect::Passed => Ok(()),
     }
 }

@@ -2,7 +2,7 @@
 ghost use Rattle.std.specs.Prelude.{◌≡◌, ◌+◌, cond, min};
 ghost use Rattle.canon_script.specs.PlayedScript.{is_move as is_move_said};
 ghost use Rattle.play_event.specs.Said.{kind_said};
-ghost use Rattle.ohh_rounds.specs.Steps.{is_action, is_move_deed, is_other_deed, plain_deed, plain_step};
+ghost use Rattle.ohh_rounds.specs.Steps.{is_action, is_move_effect, is_other_effect, plain_effect, plain_step};
 
 use card_set::SlotRow;
 use chip_ledger::Seat;
@@ -11,7 +11,7 @@ use play_event::Kind;
 
 /// What was done.
 #[derive(Clone, Copy, Debug, PartialEq, Eq)]
-pub enum Deed {
+pub enum ActionEffect {
     /// Chips were put in before play began.
     Posted(Post),
     /// Hole cards were dealt to a seat.
@@ -27,26 +27,26 @@ pub enum Deed {
 #[derive(Clone, Copy, Debug, PartialEq, Eq)]
 pub struct RoundStep {
     pub number: u32,
-    pub deed: Deed,
+    pub effect: ActionEffect,
 }
 
 /// 1 for a move, else 0.
-pub fn moves_of(deed: Deed) -> usize
-    ensures { result ≡ cond (is_move_deed (plain_deed deed)) 1 0 }
+pub fn moves_of(effect: ActionEffect) -> usize
+    ensures { result ≡ cond (is_move_effect (plain_effect effect)) 1 0 }
 {
-    match deed {
-        Deed::Happened(kind) => if is_move(kind) { 1 } else { 0 },
-        Deed::Posted(_) | Deed::Dealt { .. } | Deed::Passed => 0,
+    match effect {
+        ActionEffect::Happened(kind) => if is_move(kind) { 1 } else { 0 },
+        ActionEffect::Posted(_) | ActionEffect::Dealt { .. } | ActionEffect::Passed => 0,
     }
 }
 
 /// 1 for an event of the script that is not a move, else 0.
-pub fn others_of(deed: Deed) -> usize
-    ensures { result ≡ cond (is_other_deed (plain_deed deed)) 1 0 }
+pub fn others_of(effect: ActionEffect) -> usize
+    ensures { result ≡ cond (is_other_effect (plain_effect effect)) 1 0 }
 {
-    match deed {
-        Deed::Happened(kind) => if is_move(kind) { 0 } else { 1 },
-        Deed::Posted(_) | Deed::Dealt { .. } | Deed::Passed => 0,
+    match effect {
+        ActionEffect::Happened(kind) => if is_move(kind) { 0 } else { 1 },
+        ActionEffect::Posted(_) | ActionEffect::Dealt { .. } | ActionEffect::Passed => 0,
     }
 }
 

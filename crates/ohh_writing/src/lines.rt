@@ -6,7 +6,7 @@ ghost use Rattle.first_fault.specs.declared.limits.TheConstants.{MOST_HANDS};
 ghost use Rattle.hand_records.specs.declared.trace.Play.{Play as AnyPlay};
 ghost use Rattle.ohh_writing.specs.Lines.{IsTextOf, Spells, empty_line_behind, hand_text};
 ghost use Rattle.ohh_writing.specs.Spelled.{unspelled};
-ghost use Rattle.hand_records.specs.WriteRefusals.{IsWant, first_refusal};
+ghost use Rattle.hand_records.specs.WriteRefusals.{IsOutOfMemory, first_refusal};
 
 use crate::hand::hand_value;
 use crate::spelled::find_refusal;
@@ -27,7 +27,7 @@ pub fn write(
     requires sound { AllByRecursion IsSound plays.now }
     ensures written { IfOk result (λ bytes. Spells dialect plays.now bytes.items) }
     ensures spelled { OnOk result (first_refusal (unspelled keep) plays.now ≡ None) }
-    ensures refused { IfErr result (λ refusal. IsWant refusal
+    ensures refused { IfErr result (λ refusal. IsOutOfMemory refusal
         ⊎ (first_refusal (unspelled keep) plays.now ≡ Some refusal)) }
 {
     if let Some(refusal) = find_refusal(plays, keep) {

@@ -70,8 +70,8 @@ abbrev pub field : FieldKey → Members → Option Data
 field key members = get_member (key_text key) members
 
 -- the value at a required key
-unfoldable pub needed : FieldKey → Members → Result Data FieldFault
-needed key members = or_wrong whats.MissingField (at_key key) (field key members)
+unfoldable pub required : FieldKey → Members → Result Data FieldFault
+required key members = or_wrong whats.MissingField (at_key key) (field key members)
 
 -- the text that a value is
 abbrev pub text_of : Data → Option (List ℕ)

@@ -8,7 +8,7 @@ use Rattle.toml_datetime.specs.declared.datetime.Offset.{Offset}
 use Rattle.toml_datetime.specs.declared.datetime.Time.{Time}
 use Rattle.first_fault.specs.declared.limits.Quantity.TheVariants as quantities
 use Rattle.hand_records.specs.declared.notes.Clock.{Clock}
-use Rattle.hand_records.specs.AllowedNotes.{IsName, days_in_month, noted_or, unless_usual}
+use Rattle.hand_records.specs.AllowedNotes.{IsName, days_in_month, noted_or, non_default_seats}
 use Rattle.hand_records.specs.SaidNotes.{SaidNotes}
 use Rattle.first_fault.specs.Reading.{◌>>=◌, each_from, read_if, or_none}
 use Rattle.phh_fields.specs.declared.fault.FieldKey.TheVariants as keys
@@ -75,7 +75,7 @@ numbers_from items = each_from (λ n value. number_said 1 255 (at_item keys.Seat
 unfoldable pub seats_said : ℕ → Data → Result (Option (List ℕ)) FieldFault
 seats_said count value =
     items_said count keys.Seats value >>= numbers_from
-    >>= λ numbers. Ok (unless_usual count numbers)
+    >>= λ numbers. Ok (non_default_seats count numbers)
 
 -- how many seats the table has
 unfoldable pub seat_count_said : ℕ → Data → Result (Option ℕ) FieldFault

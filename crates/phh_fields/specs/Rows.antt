@@ -49,9 +49,9 @@ unfoldable pub antes_said : List ℕ → Data → Result (List ℕ) FieldFault
 antes_said stacks value = items_said (length stacks) keys.Antes value >>= antes_from stacks
 
 -- the blinds in the order of seats: with two seats, the first seat has the greater one
-abbrev pub posted : List ℕ → List ℕ
-posted (first ∷ second ∷ []) = max first second ∷ min first second ∷ []
-posted blinds = blinds
+abbrev pub heads_up_swapped : List ℕ → List ℕ
+heads_up_swapped (first ∷ second ∷ []) = max first second ∷ min first second ∷ []
+heads_up_swapped blinds = blinds
 
 -- the rakes of pots, the lowest pot's first; a pot past the last one has 0
 unfoldable pub rakes_from : List Data → Result (List ℕ) FieldFault

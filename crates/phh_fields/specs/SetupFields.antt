@@ -16,8 +16,8 @@ use Rattle.phh_fields.specs.declared.fault.FieldKey.{FieldKey}
 use Rattle.phh_fields.specs.declared.fault.FieldKey.TheVariants as keys
 use Rattle.phh_fields.specs.declared.fault.FieldFaultKind.TheVariants as whats
 use Rattle.phh_fields.specs.declared.fault.FieldFault.{FieldFault}
-use Rattle.phh_fields.specs.Fields.{at_key, or_wrong, field, needed, text_said, flag_said, amount_said}
-use Rattle.phh_fields.specs.Rows.{row_said, stacks_said, antes_said, posted}
+use Rattle.phh_fields.specs.Fields.{at_key, or_wrong, field, required, text_said, flag_said, amount_said}
+use Rattle.phh_fields.specs.Rows.{row_said, stacks_said, antes_said, heads_up_swapped}
 
 -- the game with this code, if it is one of the eleven
 unfoldable pub game_named : List ℕ → Option Code
@@ -43,13 +43,14 @@ are_dead trimmed antes = not trimmed && list_any (λ ante. nat_lt 0 ante) antes
 unfoldable pub blinds_said : Code → ℕ → Members → Result (List ℕ) FieldFault
 blinds_said code seats members =
     if is_stud code then Ok (replicate seats 0)
-    else (needed keys.BlindsOrStraddles members >>= row_said seats MOST_CHIPS keys.BlindsOrStraddles
-    >>= λ blinds. Ok (posted blinds))
+    else (required keys.BlindsOrStraddles members
+    >>= row_said seats MOST_CHIPS keys.BlindsOrStraddles
+    >>= λ blinds. Ok (heads_up_swapped blinds))
 
 -- a bet size, if the game uses it, else 0
 unfoldable pub size_said : Bool → FieldKey → Members → Result ℕ FieldFault
 size_said used key members =
-    if used then (needed key members >>= amount_said 1 MOST_CHIPS (at_key key)) else Ok 0
+    if used then (required key members >>= amount_said 1 MOST_CHIPS (at_key key)) else Ok 0
 
 -- the bring-in of stud, the bets of fixed limit, and the least bet of the other limits
 unfoldable pub sizes_said : Code → Members → Result Sizes FieldFault
@@ -63,9 +64,9 @@ sizes_said code members = do
 -- the setup
 unfoldable pub setup_said : Members → Result PlainSetup FieldFault
 setup_said members = do
-  code ← needed keys.Variant members >>= variant_said
-  stacks ← needed keys.StartingStacks members >>= stacks_said (game_of code).seats
-  antes ← needed keys.Antes members >>= antes_said stacks
+  code ← required keys.Variant members >>= variant_said
+  stacks ← required keys.StartingStacks members >>= stacks_said (game_of code).seats
+  antes ← required keys.Antes members >>= antes_said stacks
   trimmed ← trimming_said members
   blinds ← blinds_said code (length stacks) members
   sizes ← sizes_said code members

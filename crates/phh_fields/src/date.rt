@@ -8,8 +8,8 @@ ghost use Rattle.phh_fields.specs.Fields.{at_key, field as field_said, number_sa
 ghost use Rattle.phh_fields.specs.NoteFields.{clock_of as clock_of_said, day_said, is_clock as is_clock_said, is_in_calendar as is_in_calendar_said, time_alone as time_alone_said, time_said};
 
 use crate::fault::{FieldFault, FieldFaultKind, FieldKey, FieldPlace};
-use crate::values::{field, read_number, wrong};
-use first_fault::Stop;
+use crate::values::{field, field_fault_at, read_number};
+use first_fault::ReadError;
 use hand_records::{Clock, has_day};
 use toml::value::{Datetime, Time};
 use toml::{Table, Value};
@@ -24,7 +24,7 @@ pub struct PartialDate {
 
 /// The date on which the hand was played.
 #[tactic(auto, unfolding(crate::specs::NoteFields::day_said))]
-pub fn read_day(table: &Table) -> Result<PartialDate, Stop<FieldFault>>
+pub fn read_day(table: &Table) -> Result<PartialDate, ReadError<FieldFault>>
     ensures said { Gives (λ day. day) result (day_said (table_view table.now)) }
     ensures year { IfOk result (λ date. IfSome date.year (IsWithin 1 9999)) }
     ensures month { IfOk result (λ date. IfSome date.month (IsWithin 1 12)) }
@@ -39,12 +39,12 @@ pub fn read_day(table: &Table) -> Result<PartialDate, Stop<FieldFault>>
     if is_in_calendar(date) {
         Ok(date)
     } else {
-        Err(wrong(FieldFaultKind::WrongType, FieldPlace::at_key(FieldKey::Day)))
+        Err(field_fault_at(FieldFaultKind::WrongType, FieldPlace::at_key(FieldKey::Day)))
     }
 }
 
 // The year at its key, if there is one.
-fn read_year(table: &Table) -> Result<Option<u16>, Stop<FieldFault>>
+fn read_year(table: &Table) -> Result<Option<u16>, ReadError<FieldFault>>
     ensures said { Gives (λ year. year) result
         (read_if (number_said 1 9999 (at_key keys.Year))
         (field_said keys.Year (table_view table.now))) }
@@ -60,7 +60,7 @@ fn read_year(table: &Table) -> Result<Option<u16>, Stop<FieldFault>>
 }
 
 // The number from 1 to `most` at a key, if there is one.
-fn read_part(table: &Table, key: FieldKey, most: u8) -> Result<Option<u8>, Stop<FieldFault>>
+fn read_part(table: &Table, key: FieldKey, most: u8) -> Result<Option<u8>, ReadError<FieldFault>>
     ensures said { Gives (λ part. part) result
         (read_if (number_said 1 most (at_key key)) (field_said key (table_view table.now))) }
     ensures within { IfOk result (λ part. IfSome part (IsWithin 1 most)) }
@@ -88,7 +88,7 @@ fn is_in_calendar(date: PartialDate) -> bool
 }
 
 /// The time of day, if it is given.
-pub fn read_time_at(table: &Table) -> Result<Option<Clock>, Stop<FieldFault>>
+pub fn read_time_at(table: &Table) -> Result<Option<Clock>, ReadError<FieldFault>>
     ensures said { Gives (λ clock. clock) result
         (read_if time_said (field_said keys.Time (table_view table.now))) }
     ensures allowed { IfOk result (λ clock. IfSome clock IsTime) }
@@ -101,7 +101,7 @@ pub fn read_time_at(table: &Table) -> Result<Option<Clock>, Stop<FieldFault>>
 
 // The time of day.
 #[tactic(auto, unfolding(crate::specs::NoteFields::time_said, crate::specs::NoteFields::clock_said))]
-fn read_time(value: &Value) -> Result<Clock, Stop<FieldFault>>
+fn read_time(value: &Value) -> Result<Clock, ReadError<FieldFault>>
     ensures said { Gives (λ clock. clock) result (time_said (view value.now)) }
     ensures allowed { IfOk result IsTime }
 {
@@ -113,7 +113,7 @@ fn read_time(value: &Value) -> Result<Clock, Stop<FieldFault>>
             }
         }
     }
-    Err(wrong(
+    Err(field_fault_at(
         FieldFaultKind::WrongType,
         FieldPlace::at_key(FieldKey::Time),
     ))

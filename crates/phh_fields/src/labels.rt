@@ -11,7 +11,7 @@ ghost use Rattle.phh_fields.specs.NoteFields.{label_said, labels_said, text_note
 use crate::fault::{FieldFault, FieldKey, FieldPlace};
 use crate::texts::{read_label, read_text_note};
 use crate::values::field;
-use first_fault::{Stop, Text};
+use first_fault::{ReadError, Text};
 use std::alloc::Global;
 use toml::Table;
 
@@ -26,7 +26,11 @@ pub struct Labels {
 
 /// The labels of the hand at this place of its file, from 0.
 #[tactic(auto, unfolding(crate::specs::NoteFields::labels_said))]
-pub fn read_labels(alloc: Global, table: &Table, place: u32) -> Result<Labels, Stop<FieldFault>>
+pub fn read_labels(
+    alloc: Global,
+    table: &Table,
+    place: u32,
+) -> Result<Labels, ReadError<FieldFault>>
     ensures said { Gives (λ labels. labels) result (labels_said place (table_view table.now)) }
     ensures hand { IfOk result (λ labels. IfSome labels.hand IsNoteText) }
     ensures table { IfOk result (λ labels. IfSome labels.table IsNoteText) }
@@ -47,7 +51,7 @@ pub fn read_labels(alloc: Global, table: &Table, place: u32) -> Result<Labels, S
 
 // The name of the hand at this place of its file, from 0, if there is one. Most files have none, so
 // the number of the place is made into text only if there is a name to compare it with.
-fn hand_at(alloc: Global, table: &Table, place: u32) -> Result<Option<Text>, Stop<FieldFault>>
+fn hand_at(alloc: Global, table: &Table, place: u32) -> Result<Option<Text>, ReadError<FieldFault>>
     ensures said { Gives (λ note. note) result
         (or_none (label_said (decimal place) (at_key keys.Hand))
         (field_said keys.Hand (table_view table.now))) }
@@ -68,7 +72,11 @@ fn hand_at(alloc: Global, table: &Table, place: u32) -> Result<Option<Text>, Sto
 }
 
 // The label at a key, if there is one that is not empty.
-fn label_at(alloc: Global, table: &Table, key: FieldKey) -> Result<Option<Text>, Stop<FieldFault>>
+fn label_at(
+    alloc: Global,
+    table: &Table,
+    key: FieldKey,
+) -> Result<Option<Text>, ReadError<FieldFault>>
     ensures said { Gives (λ note. note) result
         (or_none (label_said [] (at_key key)) (field_said key (table_view table.now))) }
     ensures allowed { IfOk result (λ note. IfSome note IsNoteText) }
@@ -84,7 +92,7 @@ pub fn text_at(
     alloc: Global,
     table: &Table,
     key: FieldKey,
-) -> Result<Option<Text>, Stop<FieldFault>>
+) -> Result<Option<Text>, ReadError<FieldFault>>
     ensures said { Gives (λ note. note) result
         (or_none (text_note_said [] (at_key key)) (field_said key (table_view table.now))) }
     ensures allowed { IfOk result (λ note. IfSome note IsNoteText) }

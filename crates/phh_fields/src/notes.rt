@@ -10,7 +10,7 @@ use crate::date::{PartialDate, read_day, read_time_at};
 use crate::fault::{FieldFault, FieldKey};
 use crate::labels::{Labels, read_labels, text_at};
 use crate::seating::{Seating, read_seating};
-use first_fault::Stop;
+use first_fault::ReadError;
 use hand_records::Notes;
 use std::alloc::Global;
 use toml::Table;
@@ -22,7 +22,7 @@ pub fn read_notes(
     table: &Table,
     place: u32,
     seats: u8,
-) -> Result<Notes, Stop<FieldFault>>
+) -> Result<Notes, ReadError<FieldFault>>
     requires { seats ≤ 10 }
     ensures said { Gives (plain_notes seats) result
         (notes_said place seats (table_view table.now)) }

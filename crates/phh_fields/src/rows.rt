@@ -6,13 +6,13 @@ ghost use Rattle.chip_ledger.specs.RakeRow.{rake_of};
 ghost use Rattle.play_event.specs.ValidSetup.{IsSize};
 ghost use Rattle.first_fault.specs.Reading.{Gives};
 ghost use Rattle.phh_fields.specs.declared.fault.FieldKey.TheVariants as keys;
-ghost use Rattle.phh_fields.specs.Rows.{AreHeld, amounts_said, antes_from, ante_said, antes_said, posted as posted_said, rakes_said, row_said, stacks_said};
+ghost use Rattle.phh_fields.specs.Rows.{AreHeld, amounts_said, antes_from, ante_said, antes_said, heads_up_swapped as heads_up_swapped_said, rakes_said, row_said, stacks_said};
 ghost use Rattle.chip_ledger.specs.SeatRow.{amounts_in};
 
 use crate::fault::{FieldFault, FieldFaultKind, FieldKey, FieldPlace};
-use crate::values::{read_amount, read_items, read_list, wrong};
+use crate::values::{field_fault_at, read_amount, read_items, read_list};
 use chip_ledger::{MOST_AMOUNT, MOST_CHIPS, RakeRow, SeatRow};
-use first_fault::{Stop, has_count};
+use first_fault::{ReadError, has_count};
 use toml::Value;
 
 /// One amount per seat, for `seats` seats, each of at most `most` chips.
@@ -22,7 +22,7 @@ pub fn read_row(
     seats: u8,
     most: u64,
     key: FieldKey,
-) -> Result<SeatRow, Stop<FieldFault>>
+) -> Result<SeatRow, ReadError<FieldFault>>
     requires some { 2 ≤ seats }
     requires few { seats ≤ 10 }
     requires bounded { most ≤ MOST_AMOUNT }
@@ -36,7 +36,7 @@ pub fn read_row(
 
 /// The starting stacks of 2 to `most_seats` seats, each of at least one chip.
 #[tactic(auto, unfolding(crate::specs::Rows::stacks_said))]
-pub fn read_stacks(value: &Value, most_seats: u8) -> Result<SeatRow, Stop<FieldFault>>
+pub fn read_stacks(value: &Value, most_seats: u8) -> Result<SeatRow, ReadError<FieldFault>>
     requires { most_seats ≤ 10 }
     ensures amounts { Gives amounts_in result (stacks_said most_seats (view value.now)) }
     ensures seats { IfOk result (λ row. row.seats ≤ most_seats) }
@@ -46,7 +46,7 @@ pub fn read_stacks(value: &Value, most_seats: u8) -> Result<SeatRow, Stop<FieldF
     let place = FieldPlace::at_key(FieldKey::StartingStacks);
     let values = read_list(value, place)?;
     if !has_count(values, 2, most_seats as usize) {
-        return Err(wrong(FieldFaultKind::SeatCount, place));
+        return Err(field_fault_at(FieldFaultKind::SeatCount, place));
     }
     read_amounts(values, 1, MOST_CHIPS, FieldKey::StartingStacks)
 }
@@ -57,7 +57,7 @@ fn read_amounts(
     least: u64,
     most: u64,
     key: FieldKey,
-) -> Result<SeatRow, Stop<FieldFault>>
+) -> Result<SeatRow, ReadError<FieldFault>>
     requires some { 2 ≤ length values.now }
     requires few { length values.now ≤ 10 }
     requires bounded { most ≤ MOST_AMOUNT }
@@ -83,7 +83,7 @@ fn read_amounts(
 
 /// The antes of seats with these stacks.
 #[tactic(auto, unfolding(crate::specs::Rows::antes_said))]
-pub fn read_antes(value: &Value, stacks: &SeatRow) -> Result<SeatRow, Stop<FieldFault>>
+pub fn read_antes(value: &Value, stacks: &SeatRow) -> Result<SeatRow, ReadError<FieldFault>>
     ensures amounts { Gives amounts_in result
         (antes_said (amounts_in stacks.now) (view value.now)) }
     ensures held { IfOk result (AreHeld stacks.now) }
@@ -93,7 +93,7 @@ pub fn read_antes(value: &Value, stacks: &SeatRow) -> Result<SeatRow, Stop<Field
 }
 
 // The antes of seats with these stacks.
-fn fill_antes(values: &[Value], stacks: &SeatRow) -> Result<SeatRow, Stop<FieldFault>>
+fn fill_antes(values: &[Value], stacks: &SeatRow) -> Result<SeatRow, ReadError<FieldFault>>
     requires { length values.now ≡ stacks.now.seats }
     ensures amounts { Gives amounts_in result
         (antes_from stacks.now.amounts (map view values.now)) }
@@ -115,7 +115,7 @@ fn fill_antes(values: &[Value], stacks: &SeatRow) -> Result<SeatRow, Stop<FieldF
 
 // An ante: the smaller of the stated one and the stack.
 #[tactic(auto, unfolding(crate::specs::Rows::ante_said))]
-fn read_ante(value: &Value, stack: u64, place: FieldPlace) -> Result<u64, Stop<FieldFault>>
+fn read_ante(value: &Value, stack: u64, place: FieldPlace) -> Result<u64, ReadError<FieldFault>>
     ensures within { IfOk result (λ ante. ante ≤ stack) }
     ensures said { Gives (λ ante. ante) result (ante_said stack place (view value.now)) }
 {
@@ -124,7 +124,7 @@ fn read_ante(value: &Value, stack: u64, place: FieldPlace) -> Result<u64, Stop<F
 }
 
 /// The blinds in the order of seats: with two seats, the first seat has the greater one.
-pub fn posted(mut blinds: SeatRow) -> SeatRow
+pub fn heads_up_swapped(mut blinds: SeatRow) -> SeatRow
     ensures amounts { amounts_in result ≡ posted_said (amounts_in blinds) }
     ensures seats { result.seats ≡ blinds.seats }
     ensures most { (most : ℕ) → ((k : ℕ) → slice_index blinds.amounts k ≤ most)
@@ -140,14 +140,14 @@ pub fn posted(mut blinds: SeatRow) -> SeatRow
 
 /// The rakes of at most eleven pots.
 #[tactic(auto, unfolding(crate::specs::Rows::rakes_said, crate::specs::Rows::rakes_from))]
-pub fn read_rakes(value: &Value) -> Result<RakeRow, Stop<FieldFault>>
+pub fn read_rakes(value: &Value) -> Result<RakeRow, ReadError<FieldFault>>
     ensures said { Gives (λ row. row.rakes) result (rakes_said (view value.now)) }
     ensures most { IfOk result (λ row. (pot : ℕ) → rake_of row pot ≤ MOST_AMOUNT) }
 {
     let place = FieldPlace::at_key(FieldKey::Rakes);
     let values = read_list(value, place)?;
     if !has_count(values, 0, 11) {
-        return Err(wrong(FieldFaultKind::ListLength, place));
+        return Err(field_fault_at(FieldFaultKind::ListLength, place));
     }
     let rakes = read_each_rake(values)?;
     Ok(RakeRow { rakes })
@@ -155,7 +155,7 @@ pub fn read_rakes(value: &Value) -> Result<RakeRow, Stop<FieldFault>>
 
 // The rakes of at most eleven pots, each within the limit of stated amounts; the other entries are
 // 0.
-fn read_each_rake(values: &[Value]) -> Result<[u64; 11], Stop<FieldFault>>
+fn read_each_rake(values: &[Value]) -> Result<[u64; 11], ReadError<FieldFault>>
     requires { length values.now ≤ 11 }
     ensures amounts { Gives (λ rakes. take (length values.now) rakes) result
         (amounts_said 0 MOST_AMOUNT keys.Rakes (map view values.now)) }

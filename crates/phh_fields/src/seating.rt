@@ -11,8 +11,8 @@ ghost use Rattle.chip_ledger.specs.SeatsSaid.{default_name};
 use crate::fault::{FieldFault, FieldKey, FieldPlace};
 use crate::texts::read_text_note;
 use crate::values::{field, read_items, read_number};
-use first_fault::{Stop, Text};
-use hand_records::unless_usual;
+use first_fault::{ReadError, Text};
+use hand_records::non_default_seats;
 use std::alloc::Global;
 use toml::{Table, Value};
 
@@ -26,7 +26,11 @@ pub struct Seating {
 
 /// Who sits where in a hand with `seats` seats.
 #[tactic(auto, unfolding(crate::specs::NoteFields::seating_said))]
-pub fn read_seating(alloc: Global, table: &Table, seats: u8) -> Result<Seating, Stop<FieldFault>>
+pub fn read_seating(
+    alloc: Global,
+    table: &Table,
+    seats: u8,
+) -> Result<Seating, ReadError<FieldFault>>
     requires { seats ≤ 10 }
     ensures said { Gives (plain_seating seats) result (seating_said seats (table_view table.now)) }
     ensures names { IfOk result (λ seating. AreNames seats seating.names) }
@@ -49,7 +53,7 @@ fn read_names(
     alloc: Global,
     table: &Table,
     seats: u8,
-) -> Result<[Option<Text>; 10], Stop<FieldFault>>
+) -> Result<[Option<Text>; 10], ReadError<FieldFault>>
     requires { seats ≤ 10 }
     ensures said { Gives (take seats) result
         (names_said seats (field_said keys.Players (table_view table.now))) }
@@ -65,7 +69,7 @@ fn read_names(
 }
 
 // The names of as many players as there are values.
-fn fill_names(alloc: Global, values: &[Value]) -> Result<[Option<Text>; 10], Stop<FieldFault>>
+fn fill_names(alloc: Global, values: &[Value]) -> Result<[Option<Text>; 10], ReadError<FieldFault>>
     requires { length values.now ≤ 10 }
     ensures said { Gives (take (length values.now)) result
         (names_from (map view values.now)) }
@@ -88,7 +92,7 @@ fn no_names() -> [Option<Text>; 10]
 }
 
 // The name of a seat's player.
-fn read_name(alloc: Global, value: &Value, seat: u8) -> Result<Option<Text>, Stop<FieldFault>>
+fn read_name(alloc: Global, value: &Value, seat: u8) -> Result<Option<Text>, ReadError<FieldFault>>
     ensures said { Gives (λ name. name) result
         (text_note_said (default_name seat) (at_item keys.Players seat) (view value.now)) }
     ensures allowed { IfOk result (λ name. IfSome name (IsName seat)) }
@@ -103,7 +107,7 @@ fn read_name(alloc: Global, value: &Value, seat: u8) -> Result<Option<Text>, Sto
 
 // The numbers of the seats, if they are given and are not the usual ones.
 #[tactic(auto, unfolding(crate::specs::NoteFields::seats_said))]
-fn read_seats(table: &Table, seats: u8) -> Result<Option<[u8; 10]>, Stop<FieldFault>>
+fn read_seats(table: &Table, seats: u8) -> Result<Option<[u8; 10]>, ReadError<FieldFault>>
     requires { seats ≤ 10 }
     ensures said { Gives (option_map (take seats)) result
         (or_none (seats_said seats) (field_said keys.Seats (table_view table.now))) }
@@ -114,11 +118,11 @@ fn read_seats(table: &Table, seats: u8) -> Result<Option<[u8; 10]>, Stop<FieldFa
     };
     let values = read_items(value, seats, FieldKey::Seats)?;
     let numbers = fill_numbers(values)?;
-    Ok(unless_usual(numbers, seats as usize))
+    Ok(non_default_seats(numbers, seats as usize))
 }
 
 // The numbers of as many seats as there are values.
-fn fill_numbers(values: &[Value]) -> Result<[u8; 10], Stop<FieldFault>>
+fn fill_numbers(values: &[Value]) -> Result<[u8; 10], ReadError<FieldFault>>
     requires { length values.now ≤ 10 }
     ensures said { Gives (take (length values.now)) result
         (numbers_from (map view values.now)) }
@@ -140,7 +144,7 @@ fn fill_numbers(values: &[Value]) -> Result<[u8; 10], Stop<FieldFault>>
 
 // The number of seats of the table, if it is given and differs from that of the hand.
 #[tactic(auto, unfolding(crate::specs::NoteFields::seat_count_said))]
-fn read_seat_count(table: &Table, seats: u8) -> Result<Option<u8>, Stop<FieldFault>>
+fn read_seat_count(table: &Table, seats: u8) -> Result<Option<u8>, ReadError<FieldFault>>
     ensures said { Gives (λ count. count) result
         (or_none (seat_count_said seats) (field_said keys.SeatCount (table_view table.now))) }
     ensures allowed { IfOk result (λ count. IfSome count (IsSeatCount seats)) }

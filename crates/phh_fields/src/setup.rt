@@ -12,24 +12,27 @@ ghost use Rattle.hand_records.specs.PlainHands.{plain_setup};
 ghost use Rattle.phh_fields.specs.SetupFields.{are_dead as are_dead_said, blinds_said, game_named, setup_said, trimming_said, variant_said};
 
 use crate::fault::{FieldFault, FieldFaultKind, FieldKey, FieldPlace};
-use crate::rows::{posted, read_antes, read_row, read_stacks};
+use crate::rows::{heads_up_swapped, read_antes, read_row, read_stacks};
 use crate::sizes::read_sizes;
-use crate::values::{field, needed, read_flag, read_text, wrong};
+use crate::values::{field, field_fault_at, read_flag, read_text, required};
 use chip_ledger::{MOST_CHIPS, RakeRow, SeatRow};
-use first_fault::Stop;
+use first_fault::ReadError;
 use hand_records::Sizes;
 use play_event::{Code, Setup};
 use toml::{Table, Value};
 
 /// The setup in a hand's fields, from its variant to its least bet; it has no rakes yet.
 #[tactic(auto, unfolding(crate::specs::SetupFields::setup_said))]
-pub fn read_setup(table: &Table) -> Result<Setup, Stop<FieldFault>>
+pub fn read_setup(table: &Table) -> Result<Setup, ReadError<FieldFault>>
     ensures said { Gives plain_setup result (setup_said (table_view table.now)) }
     ensures valid { IfOk result IsValid }
 {
-    let code = read_variant(needed(table, FieldKey::Variant)?)?;
-    let stacks = read_stacks(needed(table, FieldKey::StartingStacks)?, code.most_seats())?;
-    let antes = read_antes(needed(table, FieldKey::Antes)?, &stacks)?;
+    let code = read_variant(required(table, FieldKey::Variant)?)?;
+    let stacks = read_stacks(
+        required(table, FieldKey::StartingStacks)?,
+        code.most_seats(),
+    )?;
+    let antes = read_antes(required(table, FieldKey::Antes)?, &stacks)?;
     let trimmed = read_trimming(table)?;
     let blinds = read_blinds(table, code, stacks.seats)?;
     let sizes = read_sizes(table, code)?;
@@ -55,13 +58,13 @@ pub fn read_setup(table: &Table) -> Result<Setup, Stop<FieldFault>>
 
 // The variant.
 #[tactic(auto, unfolding(crate::specs::SetupFields::variant_said))]
-fn read_variant(value: &Value) -> Result<Code, Stop<FieldFault>>
+fn read_variant(value: &Value) -> Result<Code, ReadError<FieldFault>>
     ensures { Gives (λ code. code) result (variant_said (view value.now)) }
 {
     let place = FieldPlace::at_key(FieldKey::Variant);
     match game(read_text(value, place)?) {
         Some(code) => Ok(code),
-        None => Err(wrong(FieldFaultKind::UnknownVariant, place)),
+        None => Err(field_fault_at(FieldFaultKind::UnknownVariant, place)),
     }
 }
 
@@ -74,7 +77,7 @@ fn game(text: &str) -> Option<Code>
 
 // Whether the fields say that antes are trimmed.
 #[tactic(auto, unfolding(crate::specs::SetupFields::trimming_said))]
-fn read_trimming(table: &Table) -> Result<bool, Stop<FieldFault>>
+fn read_trimming(table: &Table) -> Result<bool, ReadError<FieldFault>>
     ensures { Gives (λ trimmed. trimmed) result (trimming_said (table_view table.now)) }
 {
     match field(table, FieldKey::AnteTrimmingStatus) {
@@ -85,7 +88,7 @@ fn read_trimming(table: &Table) -> Result<bool, Stop<FieldFault>>
 
 // The blinds of `seats` seats; stud has none.
 #[tactic(auto, unfolding(crate::specs::SetupFields::blinds_said))]
-fn read_blinds(table: &Table, code: Code, seats: u8) -> Result<SeatRow, Stop<FieldFault>>
+fn read_blinds(table: &Table, code: Code, seats: u8) -> Result<SeatRow, ReadError<FieldFault>>
     requires some { 2 ≤ seats }
     requires few { seats ≤ 10 }
     ensures said { Gives amounts_in result (blinds_said code seats (table_view table.now)) }
@@ -102,9 +105,9 @@ fn read_blinds(table: &Table, code: Code, seats: u8) -> Result<SeatRow, Stop<Fie
             amounts: [0; 10],
         });
     }
-    let value = needed(table, FieldKey::BlindsOrStraddles)?;
+    let value = required(table, FieldKey::BlindsOrStraddles)?;
     let blinds = read_row(value, seats, MOST_CHIPS, FieldKey::BlindsOrStraddles)?;
-    Ok(posted(blinds))
+    Ok(heads_up_swapped(blinds))
 }
 
 // Whether antes are dead.

@@ -7,16 +7,16 @@ ghost use Rattle.first_fault.specs.Reading.{Gives};
 ghost use Rattle.phh_fields.specs.SetupFields.{size_said, sizes_said};
 
 use crate::fault::{FieldFault, FieldKey, FieldPlace};
-use crate::values::{needed, read_amount};
+use crate::values::{read_amount, required};
 use chip_ledger::MOST_CHIPS;
-use first_fault::Stop;
+use first_fault::ReadError;
 use hand_records::Sizes;
 use play_event::Code;
 use toml::Table;
 
 /// The bet sizes of the game.
 #[tactic(auto, unfolding(crate::specs::SetupFields::sizes_said))]
-pub fn read_sizes(table: &Table, code: Code) -> Result<Sizes, Stop<FieldFault>>
+pub fn read_sizes(table: &Table, code: Code) -> Result<Sizes, ReadError<FieldFault>>
     ensures said { Gives (λ sizes. sizes) result (sizes_said code (table_view table.now)) }
     ensures bring_in { IfOk result (λ sizes. IsSizeWhere (is_stud_said code) sizes.bring_in) }
     ensures small_bet { IfOk result (λ sizes.
@@ -41,12 +41,17 @@ pub fn read_sizes(table: &Table, code: Code) -> Result<Sizes, Stop<FieldFault>>
 
 // A bet size, if the game uses it, else 0.
 #[tactic(auto, unfolding(crate::specs::SetupFields::size_said))]
-fn read_size(table: &Table, used: bool, key: FieldKey) -> Result<u64, Stop<FieldFault>>
+fn read_size(table: &Table, used: bool, key: FieldKey) -> Result<u64, ReadError<FieldFault>>
     ensures said { Gives (λ size. size) result (size_said used key (table_view table.now)) }
     ensures within { IfOk result (IsSizeWhere used) }
 {
     if !used {
         return Ok(0);
     }
-    read_amount(needed(table, key)?, 1, MOST_CHIPS, FieldPlace::at_key(key))
+    read_amount(
+        required(table, key)?,
+        1,
+        MOST_CHIPS,
+        FieldPlace::at_key(key),
+    )
 }

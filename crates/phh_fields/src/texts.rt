@@ -7,8 +7,8 @@ ghost use Rattle.phh_fields.specs.Fields.{fault_at};
 ghost use Rattle.phh_fields.specs.NoteFields.{label_said, text_note_said};
 
 use crate::fault::{FieldFault, FieldFaultKind, FieldPlace};
-use crate::values::{read_text, wrong};
-use first_fault::{Quantity, Stop, Text};
+use crate::values::{field_fault_at, read_text};
+use first_fault::{Quantity, ReadError, Text};
 use hand_records::keep_text;
 use std::alloc::Global;
 use toml::Value;
@@ -20,7 +20,7 @@ pub fn read_text_note(
     value: &Value,
     default: &str,
     place: FieldPlace,
-) -> Result<Option<Text>, Stop<FieldFault>>
+) -> Result<Option<Text>, ReadError<FieldFault>>
     ensures said { Gives (λ note. note) result
         (text_note_said default.now place (view value.now)) }
     ensures allowed { IfOk result (λ note. IfSome note (IsUnusualNote default.now)) }
@@ -35,7 +35,7 @@ pub fn read_label(
     value: &Value,
     default: &str,
     place: FieldPlace,
-) -> Result<Option<Text>, Stop<FieldFault>>
+) -> Result<Option<Text>, ReadError<FieldFault>>
     ensures said { Gives (λ note. note) result (label_said default.now place (view value.now)) }
     ensures allowed { IfOk result (λ note. IfSome note (IsUnusualNote default.now)) }
 {
@@ -45,7 +45,7 @@ pub fn read_label(
             let text = number.to_string(alloc)?;
             keep_text(alloc, text.as_str(), default, too_long(place))
         }
-        _ => Err(wrong(FieldFaultKind::WrongType, place)),
+        _ => Err(field_fault_at(FieldFaultKind::WrongType, place)),
     }
 }
 

@@ -2,20 +2,20 @@
 ghost use Rattle.std.specs.Prelude.{◌≡◌, ◌≤◌, length, map, option_map, IfOk};
 ghost use Rattle.toml.specs.View.{array_view, table_view, view};
 ghost use Rattle.first_fault.specs.Reading.{Gives};
-ghost use Rattle.phh_fields.specs.Fields.{amount_said, field as field_said, flag_said, items_said, list_said, listed, needed as needed_said, number_said, text_said};
+ghost use Rattle.phh_fields.specs.Fields.{amount_said, field as field_said, flag_said, items_said, list_said, listed, number_said, required as required_said, text_said};
 
 use crate::fault::{FieldFault, FieldFaultKind, FieldKey, FieldPlace};
-use first_fault::{Stop, keep_within};
+use first_fault::{ReadError, in_range};
 use toml::{Table, Value};
 
 /// The value at a required key.
-#[tactic(auto, unfolding(crate::specs::Fields::needed))]
-pub fn needed<'a>(table: &'a Table, key: FieldKey) -> Result<&'a Value, Stop<FieldFault>>
+#[tactic(auto, unfolding(crate::specs::Fields::required))]
+pub fn required<'a>(table: &'a Table, key: FieldKey) -> Result<&'a Value, ReadError<FieldFault>>
     ensures { Gives (λ value. view value.now) result (needed_said key (table_view table.now)) }
 {
     match field(table, key) {
         Some(value) => Ok(value),
-        None => Err(wrong(FieldFaultKind::MissingField, FieldPlace::at_key(key))),
+        None => Err(field_fault_at(FieldFaultKind::MissingField, FieldPlace::at_key(key))),
     }
 }
 
@@ -29,29 +29,33 @@ pub fn field<'a>(table: &'a Table, key: FieldKey) -> Option<&'a Value>
 
 /// A text.
 #[tactic(auto, unfolding(crate::specs::Fields::text_said))]
-pub fn read_text(value: &Value, place: FieldPlace) -> Result<&str, Stop<FieldFault>>
+pub fn read_text(value: &Value, place: FieldPlace) -> Result<&str, ReadError<FieldFault>>
     ensures { Gives (λ text. text.now) result (text_said place (view value.now)) }
 {
     match value {
         Value::String(text) => Ok(text.as_str()),
-        _ => Err(wrong(FieldFaultKind::WrongType, place)),
+        _ => Err(field_fault_at(FieldFaultKind::WrongType, place)),
     }
 }
 
 /// A truth value.
 #[tactic(auto, unfolding(crate::specs::Fields::flag_said))]
-pub fn read_flag(value: &Value, place: FieldPlace) -> Result<bool, Stop<FieldFault>>
+pub fn read_flag(value: &Value, place: FieldPlace) -> Result<bool, ReadError<FieldFault>>
     ensures { Gives (λ flag. flag) result (flag_said place (view value.now)) }
 {
     match value {
         Value::Boolean(flag) => Ok(*flag),
-        _ => Err(wrong(FieldFaultKind::WrongType, place)),
+        _ => Err(field_fault_at(FieldFaultKind::WrongType, place)),
     }
 }
 
 /// The values of a list with one item for each of `seats` seats.
 #[tactic(auto, unfolding(crate::specs::Fields::items_said))]
-pub fn read_items(value: &Value, seats: u8, key: FieldKey) -> Result<&Vec<Value>, Stop<FieldFault>>
+pub fn read_items(
+    value: &Value,
+    seats: u8,
+    key: FieldKey,
+) -> Result<&Vec<Value>, ReadError<FieldFault>>
     ensures said { Gives (λ values. map view values.now.items) result
         (items_said seats key (view value.now)) }
     ensures count { IfOk result (λ values. length values.now.items ≡ seats) }
@@ -59,14 +63,14 @@ pub fn read_items(value: &Value, seats: u8, key: FieldKey) -> Result<&Vec<Value>
     let place = FieldPlace::at_key(key);
     let values = read_list(value, place)?;
     if values.len() != seats as usize {
-        return Err(wrong(FieldFaultKind::ListLength, place));
+        return Err(field_fault_at(FieldFaultKind::ListLength, place));
     }
     Ok(values)
 }
 
 /// The values of a list.
 #[tactic(auto, using(crate::proofs::Lists::listed_view))]
-pub fn read_list(value: &Value, place: FieldPlace) -> Result<&Vec<Value>, Stop<FieldFault>>
+pub fn read_list(value: &Value, place: FieldPlace) -> Result<&Vec<Value>, ReadError<FieldFault>>
     ensures { Gives (λ values. map view values.now.items) result
         (list_said place (view value.now)) }
 {
@@ -76,13 +80,13 @@ pub fn read_list(value: &Value, place: FieldPlace) -> Result<&Vec<Value>, Stop<F
 
 // A list.
 #[tactic(auto, unfolding(crate::specs::Fields::list_said))]
-fn read_array(value: &Value, place: FieldPlace) -> Result<&Vec<Value>, Stop<FieldFault>>
+fn read_array(value: &Value, place: FieldPlace) -> Result<&Vec<Value>, ReadError<FieldFault>>
     ensures { Gives (λ values. listed (array_view values.now)) result
         (list_said place (view value.now)) }
 {
     match value {
         Value::Array(values) => Ok(values),
-        _ => Err(wrong(FieldFaultKind::WrongType, place)),
+        _ => Err(field_fault_at(FieldFaultKind::WrongType, place)),
     }
 }
 
@@ -93,13 +97,13 @@ pub fn read_amount(
     least: u64,
     most: u64,
     place: FieldPlace,
-) -> Result<u64, Stop<FieldFault>>
+) -> Result<u64, ReadError<FieldFault>>
     ensures within { IfOk result (λ amount. (least ≤ amount) × (amount ≤ most)) }
     ensures said { Gives (λ amount. amount) result
         (amount_said least most place (view value.now)) }
 {
     match value {
-        Value::Float(_) => Err(wrong(FieldFaultKind::AmountNotWhole, place)),
+        Value::Float(_) => Err(field_fault_at(FieldFaultKind::AmountNotWhole, place)),
         _ => read_number(value, least, most, place),
     }
 }
@@ -111,24 +115,24 @@ pub fn read_number(
     least: u64,
     most: u64,
     place: FieldPlace,
-) -> Result<u64, Stop<FieldFault>>
+) -> Result<u64, ReadError<FieldFault>>
     ensures within { IfOk result (λ number. (least ≤ number) × (number ≤ most)) }
     ensures said { Gives (λ number. number) result
         (number_said least most place (view value.now)) }
 {
     let Value::Integer(number) = value else {
-        return Err(wrong(FieldFaultKind::WrongType, place));
+        return Err(field_fault_at(FieldFaultKind::WrongType, place));
     };
     if *number < 0 {
-        return Err(wrong(FieldFaultKind::AmountLimit, place));
+        return Err(field_fault_at(FieldFaultKind::AmountLimit, place));
     }
     let what = FieldFaultKind::AmountLimit;
-    keep_within(*number as u64, least, most, FieldFault { what, place })
+    in_range(*number as u64, least, most, FieldFault { what, place })
 }
 
 /// A fault at a place.
-pub fn wrong(what: FieldFaultKind, place: FieldPlace) -> Stop<FieldFault>
-    ensures { result ≡ Stop.At (record { what = what; place = place }) }
+pub fn field_fault_at(what: FieldFaultKind, place: FieldPlace) -> ReadError<FieldFault>
+    ensures { result ≡ ReadError.Fault (record { what = what; place = place }) }
 {
-    Stop::At(FieldFault { what, place })
+    ReadError::Fault(FieldFault { what, place })
 }

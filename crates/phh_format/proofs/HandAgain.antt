@@ -12,7 +12,7 @@ use Rattle.phh_actions.specs.Written.{event_text}
 use Rattle.phh_fields.specs.declared.fault.FieldFault.{FieldFault}
 use Rattle.phh_fields.specs.declared.fault.FieldKey.{FieldKey}
 use Rattle.phh_fields.specs.declared.fault.FieldKey.TheVariants as keys
-use Rattle.phh_fields.specs.Fields.{at_key, field, key_text, list_said, needed}
+use Rattle.phh_fields.specs.Fields.{at_key, field, key_text, list_said, required}
 use Rattle.phh_fields.specs.Rows.{rakes_from, rakes_said, row_said}
 use Rattle.phh_fields.specs.NoteFields.{PlainSeating, day_said, labels_said, notes_said, seating_said}
 use Rattle.phh_reading.specs.Events.{counts_after}
@@ -64,8 +64,8 @@ module _ (place : ℕ) (play : Play) (is : IsReadable play) where
   few : seats ≤ 10
   few = setup.stacks.greatest
 
-  actions_again : (needed keys.Actions members >>= list_said (at_key keys.Actions)) ≡ Ok (map string (map event_text (script_of play.trace)))
-  unfolding needed list_said
+  actions_again : (required keys.Actions members >>= list_said (at_key keys.Actions)) ≡ Ok (map string (map event_text (script_of play.trace)))
+  unfolding required list_said
   actions_again = rw (here keys.Actions) (ap (λ items. Ok items) (listed_again (map string (map event_text (script_of play.trace)))))
 
   finish_again : read_if (row_said seats MOST_AMOUNT keys.FinishingStacks) (field keys.FinishingStacks members) ≡ Ok (Some (amounts_in play.trace.finish))

@@ -14,7 +14,7 @@ use Rattle.std.proofs.lemmas.Slice.Eq.{bytes_eq-Decides}
 use Rattle.std.proofs.lemmas.List.{append-nil}
 use Rattle.toml.specs.Data.{Data, Members, no_members, member, table}
 use Rattle.hand_records.specs.declared.trace.Play.{Play}
-use Rattle.phh_reading.specs.Order.{Entry, are_hands, in_order, is_table, key_cmp, placed, placed_all, tables_among}
+use Rattle.phh_reading.specs.Order.{Entry, is_multi_hand, in_order, is_table, key_cmp, placed, placed_all, tables_among}
 use Rattle.phh_writing.specs.Members.{put, table_of}
 use Rattle.phh_writing.specs.Document.{hand_table, numbered_hands}
 use Rattle.list_laws.proofs.Digits.{number_said}
@@ -203,20 +203,20 @@ pub in_order_again : (plays : List Play) → length plays < 2 ^ 64 → in_order 
 in_order_again plays small =
     ap (λ (entries : List Entry). tables_among (map (λ entry. entry.1) entries)) (placed_in_order 0 plays [] tt (omega (arith, small))) ∙ tables_from 0 plays
 
-hands_at : (o : Ordering) (k l : List ℕ) (v w : Data) (rest more : Members) → (are_digits k && is_table v) ≡ true → slice_cmp nat_cmp k l ≡ o → are_hands (member l w rest) ≡ true → are_hands more ≡ true
-    → are_hands (match_ordering o (member k v (member l w rest)) (member l v rest) (member l w more)) ≡ true
+hands_at : (o : Ordering) (k l : List ℕ) (v w : Data) (rest more : Members) → (are_digits k && is_table v) ≡ true → slice_cmp nat_cmp k l ≡ o → is_multi_hand (member l w rest) ≡ true → is_multi_hand more ≡ true
+    → is_multi_hand (match_ordering o (member k v (member l w rest)) (member l v rest) (member l w more)) ≡ true
 hands_at Less k l v w rest more one is all later = rw one all
 hands_at Equal k l v w rest more one is all later =
     let same : k ≡ l = (bytes_eq-Decides k l).0 (sym (is_eq-slice_cmp k l) ∙ ap is_eq is) in
-    rw (ap (λ (key : List ℕ). are_digits key && is_table v) (sym same) ∙ one) (and_parts (are_digits l && is_table w) (are_hands rest) all).1
-hands_at Greater k l v w rest more one is all later = rw ((and_parts (are_digits l && is_table w) (are_hands rest) all).0) later
+    rw (ap (λ (key : List ℕ). are_digits key && is_table v) (sym same) ∙ one) (and_parts (are_digits l && is_table w) (is_multi_hand rest) all).1
+hands_at Greater k l v w rest more one is all later = rw ((and_parts (are_digits l && is_table w) (is_multi_hand rest) all).0) later
 
-hands_put : (k : List ℕ) (v : Data) (members : Members) → (are_digits k && is_table v) ≡ true → are_hands members ≡ true → are_hands (put k v members) ≡ true
+hands_put : (k : List ℕ) (v : Data) (members : Members) → (are_digits k && is_table v) ≡ true → is_multi_hand members ≡ true → is_multi_hand (put k v members) ≡ true
 hands_put k v no_members one all = rw one refl
 hands_put k v (member l w rest) one all =
-    hands_at (slice_cmp nat_cmp k l) k l v w rest (put k v rest) one refl all (hands_put k v rest one (and_parts (are_digits l && is_table w) (are_hands rest) all).1)
+    hands_at (slice_cmp nat_cmp k l) k l v w rest (put k v rest) one refl all (hands_put k v rest one (and_parts (are_digits l && is_table w) (is_multi_hand rest) all).1)
 
-pub are_hands_again : (place : ℕ) (plays : List Play) → place + length plays < 2 ^ 64 → are_hands (table_of (numbered_hands place plays)) ≡ true
+pub are_hands_again : (place : ℕ) (plays : List Play) → place + length plays < 2 ^ 64 → is_multi_hand (table_of (numbered_hands place plays)) ≡ true
 are_hands_again place [] small = refl
 are_hands_again place (play ∷ rest) small =
     hands_put (decimal (place + 1)) (table (hand_table place play)) (table_of (numbered_hands (place + 1) rest))

@@ -10,7 +10,7 @@ use Rattle.toml.specs.Data.{string}
 use Rattle.first_fault.specs.Reading.{each_from, or_none}
 use Rattle.first_fault.specs.declared.limits.TheConstants.{MOST_TEXT_BYTES}
 use Rattle.hand_records.specs.declared.notes.Notes.{Notes}
-use Rattle.hand_records.specs.AllowedNotes.{AreSeatNumbers, IsName, IsSeatCount, IsWithin, name_written, unless_usual}
+use Rattle.hand_records.specs.AllowedNotes.{AreSeatNumbers, IsName, IsSeatCount, IsWithin, name_written, non_default_seats}
 use Rattle.phh_fields.specs.declared.fault.FieldKey.TheVariants as keys
 use Rattle.phh_fields.specs.declared.fault.FieldPlace.{FieldPlace}
 use Rattle.phh_fields.specs.Fields.{at_item, at_key, items_said, list_said, number_said, text_said}
@@ -87,7 +87,7 @@ each_number n [] each = refl
 each_number n (number ∷ rest) each =
     rw (number_again 1 255 number (at_item keys.Seats n) (each 0 (omega arith)), each_number (n + 1) rest (λ k within. each (suc k) (omega (arith, within)))) refl
 
-pub seats_again : (count : ℕ) (said : Option (List ℕ)) → 1 ≤ count → IfSome said (AreSeatNumbers count) → or_none (seats_said count) (option_map (λ seats. numbers (take count seats)) said) ≡ Ok (option_and_then (λ seats. unless_usual count (take count seats)) said)
+pub seats_again : (count : ℕ) (said : Option (List ℕ)) → 1 ≤ count → IfSome said (AreSeatNumbers count) → or_none (seats_said count) (option_map (λ seats. numbers (take count seats)) said) ≡ Ok (option_and_then (λ seats. non_default_seats count (take count seats)) said)
 unfolding seats_said
 seats_again count None some are = refl
 seats_again count (Some seats) some are =

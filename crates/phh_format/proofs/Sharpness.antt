@@ -5,7 +5,7 @@ use Rattle.std.specs.List.{AllByRecursion, list_any}
 use Rattle.toml.specs.Data.{Data, Members}
 use Rattle.chip_ledger.specs.declared.seat_row.TheConstants.{MOST_AMOUNT}
 use Rattle.phh_fields.specs.declared.fault.FieldKey.TheVariants as keys
-use Rattle.phh_fields.specs.Fields.{at_key, field, list_said, needed}
+use Rattle.phh_fields.specs.Fields.{at_key, field, list_said, required}
 use Rattle.phh_fields.specs.NoteFields.{notes_said}
 use Rattle.phh_fields.specs.Rows.{row_said}
 use Rattle.phh_fields.specs.SetupFields.{setup_said}
@@ -67,7 +67,7 @@ module _ (file_moves place : ℕ) (members : Members) where
   after_actions setup actions = events_said (length setup.stacks) (counts_after file_moves) actions >>= after_events setup
 
   abbrev actions_read : Result (List Data) FieldFault
-  actions_read = needed keys.Actions members >>= list_said (at_key keys.Actions)
+  actions_read = required keys.Actions members >>= list_said (at_key keys.Actions)
 
   abbrev after_setup : PlainSetup → Result (PlainHand × ℕ) FieldFault
   after_setup setup = actions_read >>= after_actions setup

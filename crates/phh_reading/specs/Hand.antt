@@ -7,7 +7,7 @@ use Rattle.play_event.specs.HistoryRules.{history_rules}
 use Rattle.first_fault.specs.Reading.{◌>>=◌, read_if}
 use Rattle.phh_fields.specs.declared.fault.FieldKey.TheVariants as keys
 use Rattle.phh_fields.specs.declared.fault.FieldFault.{FieldFault}
-use Rattle.phh_fields.specs.Fields.{at_key, field, needed, list_said}
+use Rattle.phh_fields.specs.Fields.{at_key, field, required, list_said}
 use Rattle.phh_fields.specs.Rows.{row_said, rakes_said}
 use Rattle.phh_fields.specs.SetupFields.{setup_said}
 use Rattle.phh_fields.specs.NoteFields.{notes_said}
@@ -27,7 +27,7 @@ rakes_at members =
 unfoldable pub hand_said : ℕ → ℕ → Members → Result (PlainHand × ℕ) FieldFault
 hand_said file_moves place members = do
   setup ← setup_said members
-  actions ← needed keys.Actions members >>= list_said (at_key keys.Actions)
+  actions ← required keys.Actions members >>= list_said (at_key keys.Actions)
   events ← events_said (length setup.stacks) (counts_after file_moves) actions
   finish ← read_if (row_said (length setup.stacks) MOST_AMOUNT keys.FinishingStacks)
       (field keys.FinishingStacks members)

@@ -14,9 +14,9 @@ is_table (table hand) = true
 is_table _ = false
 
 -- each key is a number, and each value a table
-abbrev pub are_hands : Members → Bool
-are_hands no_members = true
-are_hands (member key value rest) = (are_digits key && is_table value) && are_hands rest
+abbrev pub is_multi_hand : Members → Bool
+is_multi_hand no_members = true
+is_multi_hand (member key value rest) = (are_digits key && is_table value) && is_multi_hand rest
 
 -- a key and its value
 abbrev pub Entry : Type 0

@@ -16,7 +16,7 @@ use Rattle.phh_reading.specs.declared.fault.PhhHandFault.{PhhHandFault}
 use Rattle.phh_reading.specs.declared.fault.PhhFault.{PhhFault}
 use Rattle.phh_reading.specs.declared.fault.PhhFault.TheVariants as faults
 use Rattle.phh_reading.specs.Hand.{hand_said}
-use Rattle.phh_reading.specs.Order.{are_hands, in_order}
+use Rattle.phh_reading.specs.Order.{is_multi_hand, in_order}
 use Rattle.hand_records.specs.PlainHands.{PlainHand, plain}
 
 -- a fault of the hand with this number
@@ -42,7 +42,7 @@ numbered_hand file_moves number members =
 unfoldable pub hands_of : Members → Option (List Members)
 hands_of members =
     if is_some (field keys.Variant members) then Some (members ∷ [])
-    else if are_hands members then Some (in_order members)
+    else if is_multi_hand members then Some (in_order members)
     else None
 
 -- the hands of tables, in order, and the number of moves in the file

@@ -11,10 +11,10 @@ ghost use Rattle.first_fault.specs.Numbers.{kept_number};
 
 use canon_script::{MOST_MOVES, MOST_OTHER_EVENTS};
 use card_set::Memory;
-use first_fault::{MOST_FILE_MOVES, Quantity, Stop};
+use first_fault::{MOST_FILE_MOVES, Quantity, ReadError};
 use phh_actions::{ActionFault, read_action};
 use phh_fields::fault::{FieldFault, FieldFaultKind, FieldKey, FieldPlace};
-use phh_fields::values::{read_text, wrong};
+use phh_fields::values::{field_fault_at, read_text};
 use play_event::{Event, Kind, Script};
 use std::alloc::Global;
 use toml::Value;
@@ -34,7 +34,7 @@ pub fn read_events(
     seats: u8,
     file_moves: usize,
     actions: &[Value],
-) -> Result<(Script, EventCounts), Stop<FieldFault>>
+) -> Result<(Script, EventCounts), ReadError<FieldFault>>
     requires seats { seats ≤ 10 }
     requires few { file_moves ≤ MOST_FILE_MOVES }
     ensures said { Gives (λ found. (map numbered found.0, found.1)) result
@@ -63,7 +63,7 @@ fn read_event(
     counts: EventCounts,
     number: u64,
     value: &Value,
-) -> Result<(Option<Event>, EventCounts), Stop<FieldFault>>
+) -> Result<(Option<Event>, EventCounts), ReadError<FieldFault>>
     requires { seats ≤ 10 }
     ensures said { Gives (λ found. (listed_event found.0, found.1)) result
         (event_said seats counts number (view value.now)) }
@@ -79,20 +79,24 @@ fn read_event(
         None => Ok((None, counts)),
         Some(kind) => {
             let next = count(counts, place, is_move(kind))?;
-            let at = kept(number);
+            let at = saturating_u32(number);
             Ok((Some(Event { at, kind }), next))
         }
     }
 }
 
 // The event of an action's text.
-fn read_kind(text: &str, seats: u8, place: FieldPlace) -> Result<Option<Kind>, Stop<FieldFault>>
+fn read_kind(
+    text: &str,
+    seats: u8,
+    place: FieldPlace,
+) -> Result<Option<Kind>, ReadError<FieldFault>>
     requires { seats ≤ 10 }
     ensures { Gives (option_map kind_said) result (at_place place (action_said seats text.now)) }
 {
     match read_action(text, seats) {
         Ok(kind) => Ok(kind),
-        Err(fault) => Err(wrong(fault_of(fault), place)),
+        Err(fault) => Err(field_fault_at(fault_of(fault), place)),
     }
 }
 
@@ -113,7 +117,7 @@ fn count(
     counts: EventCounts,
     place: FieldPlace,
     moves: bool,
-) -> Result<EventCounts, Stop<FieldFault>>
+) -> Result<EventCounts, ReadError<FieldFault>>
     ensures said { Gives (λ next. next) result (counted counts place moves) }
     ensures few { AreFew counts → IfOk result AreFew }
     ensures one_more { IfOk result (IsOneMore counts moves) }
@@ -143,10 +147,11 @@ fn count(
 }
 
 // The fault of a quantity that exceeds its limit.
-fn too_many(quantity: Quantity, place: FieldPlace) -> Stop<FieldFault>
-    ensures { result ≡ Stop.At (record { what = FieldFaultKind.TooMany quantity; place = place }) }
+fn too_many(quantity: Quantity, place: FieldPlace) -> ReadError<FieldFault>
+    ensures { result ≡ ReadError.Fault
+        (record { what = FieldFaultKind.TooMany quantity; place = place }) }
 {
-    wrong(FieldFaultKind::TooMany { quantity }, place)
+    field_fault_at(FieldFaultKind::TooMany { quantity }, place)
 }
 
 // Whether the event is a move.
@@ -160,7 +165,7 @@ fn is_move(kind: Kind) -> bool
 }
 
 // The number of an action as it is stored.
-fn kept(number: u64) -> u32
+fn saturating_u32(number: u64) -> u32
     ensures { result ≡ kept_number number }
 {
     if number > 4_294_967_295 {

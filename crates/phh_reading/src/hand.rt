@@ -17,13 +17,13 @@ ghost use Rattle.hand_records.specs.PlainHands.{plain};
 
 use crate::events::read_events;
 use chip_ledger::{MOST_AMOUNT, RakeRow, SeatRow};
-use first_fault::Stop;
+use first_fault::ReadError;
 use hand_records::{Record, Stated};
 use phh_fields::fault::{FieldFault, FieldKey, FieldPlace};
 use phh_fields::notes::read_notes;
 use phh_fields::rows::{read_rakes, read_row};
 use phh_fields::setup::read_setup;
-use phh_fields::values::{field, needed, read_list};
+use phh_fields::values::{field, read_list, required};
 use play_event::{Reopen, Rules, Setup};
 use std::alloc::Global;
 use toml::Table;
@@ -36,7 +36,7 @@ pub fn read_hand(
     table: &Table,
     place: u32,
     file_moves: usize,
-) -> Result<(Record, usize), Stop<FieldFault>>
+) -> Result<(Record, usize), ReadError<FieldFault>>
     requires { file_moves ≤ MOST_FILE_MOVES }
     ensures said { Gives (λ found. (plain found.0, found.1)) result
         (hand_said file_moves place (table_view table.now)) }
@@ -47,7 +47,7 @@ pub fn read_hand(
     let setup = read_setup(table)?;
     let seats = setup.stacks.seats;
     let actions = read_list(
-        needed(table, FieldKey::Actions)?,
+        required(table, FieldKey::Actions)?,
         FieldPlace::at_key(FieldKey::Actions),
     )?;
     let (script, counts) = read_events(alloc, seats, file_moves, actions)?;
@@ -74,7 +74,7 @@ pub fn read_hand(
 }
 
 // The finishing stacks of `seats` seats, if they are stated.
-fn read_finish(table: &Table, seats: u8) -> Result<Option<SeatRow>, Stop<FieldFault>>
+fn read_finish(table: &Table, seats: u8) -> Result<Option<SeatRow>, ReadError<FieldFault>>
     requires some { 2 ≤ seats }
     requires few { seats ≤ 10 }
     ensures said { Gives (option_map amounts_in) result
@@ -93,7 +93,7 @@ fn read_finish(table: &Table, seats: u8) -> Result<Option<SeatRow>, Stop<FieldFa
 
 // The rakes; 0 if the field is missing.
 #[tactic(auto, unfolding(crate::specs::Hand::rakes_at))]
-fn read_rakes_at(table: &Table) -> Result<RakeRow, Stop<FieldFault>>
+fn read_rakes_at(table: &Table) -> Result<RakeRow, ReadError<FieldFault>>
     ensures said { Gives (λ row. row.rakes) result (rakes_at (table_view table.now)) }
     ensures most { IfOk result (λ row. (pot : ℕ) → rake_of row pot ≤ MOST_AMOUNT) }
 {

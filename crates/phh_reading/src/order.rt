@@ -4,7 +4,7 @@ ghost use Rattle.std.specs.Prelude.{◌≡◌, ◌==◌, [], ◌∷◌, ◌++◌
 ghost use Rattle.std.specs.List.{prefix_len};
 ghost use Rattle.toml.specs.View.{table_view, view};
 ghost use Rattle.first_fault.specs.Digits.{are_digits as are_digits_said};
-ghost use Rattle.phh_reading.specs.Order.{are_hands as are_hands_said, in_order, is_table as is_table_said, tables_among};
+ghost use Rattle.phh_reading.specs.Order.{is_multi_hand as are_hands_said, in_order, is_table as is_table_said, tables_among};
 ghost use Rattle.phh_reading.specs.Stripped.{number_digits};
 
 use card_set::Memory;
@@ -18,7 +18,7 @@ use toml::{Table, Value};
 type NumberedTables<'a> = BTreeMap<(usize, &'a [u8], &'a [u8]), &'a Value>;
 
 /// Whether each key is a number and each value a table.
-pub fn are_hands(table: &Table) -> bool
+pub fn is_multi_hand(table: &Table) -> bool
     ensures { result ≡ are_hands_said (table_view table.now) }
 {
     for (key, value) in table.iter() {

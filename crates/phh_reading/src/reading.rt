@@ -12,7 +12,7 @@ ghost use Rattle.hand_records.specs.Moves.{moves_of};
 use crate::fault::{PhhFault, PhhHandFault};
 use crate::file::read_hands;
 use card_set::Memory;
-use first_fault::{Stop, Text};
+use first_fault::{ReadError, Text};
 use hand_records::Records;
 use phh_fields::fault::{FieldFaultKind, FieldPlace};
 use std::alloc::Global;
@@ -60,8 +60,8 @@ fn read_document(alloc: Global, table: &Table) -> Result<Records, PhhFault>
 {
     match read_hands(alloc, table) {
         Ok(records) => Ok(records),
-        Err(Stop::Memory(memory)) => Err(PhhFault::Memory(memory)),
-        Err(Stop::At(found)) => Err(spelled(alloc, found)),
+        Err(ReadError::Memory(memory)) => Err(PhhFault::Memory(memory)),
+        Err(ReadError::Fault(found)) => Err(spelled(alloc, found)),
     }
 }
 

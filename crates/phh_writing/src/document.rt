@@ -6,7 +6,7 @@ ghost use Rattle.hand_canon.specs.Sound.{IsSound};
 ghost use Rattle.first_fault.specs.declared.limits.TheConstants.{MOST_HANDS};
 ghost use Rattle.phh_writing.specs.Document.{Spells, document, hand_table};
 ghost use Rattle.phh_writing.specs.Spelled.{unspelled};
-ghost use Rattle.hand_records.specs.WriteRefusals.{IsWant, first_refusal};
+ghost use Rattle.hand_records.specs.WriteRefusals.{IsOutOfMemory, first_refusal};
 
 use crate::members::put;
 use crate::notes::put_notes;
@@ -28,7 +28,7 @@ pub fn write(alloc: Global, plays: &[Play], keep: Keep) -> Result<Vec<u8>, Write
     ensures written { IfOk result (λ bytes. Spells plays.now bytes.items) }
     ensures nothing { plays.now ≡ [] → IfOk result (λ bytes. bytes.items ≡ []) }
     ensures spelled { OnOk result (first_refusal unspelled plays.now ≡ None) }
-    ensures refused { IfErr result (λ refusal. IsWant refusal
+    ensures refused { IfErr result (λ refusal. IsOutOfMemory refusal
         ⊎ (first_refusal unspelled plays.now ≡ Some refusal)) }
 {
     if let Some(refusal) = find_refusal(plays, keep) {

@@ -13,12 +13,12 @@ use Rattle.play_event.specs.Said.{Said}
 use Rattle.play_event.specs.Past as past
 use Rattle.play_event.specs.Past.{Past, Move, Act, moves_of}
 use Rattle.play_event.specs.Chips.{chips_put, chips_left, street_chips, all_in, posted, chips_added}
-use Rattle.play_event.specs.Price.{price}
+use Rattle.play_event.specs.CurrentBet.{current_bet}
 use Rattle.chip_ledger.specs.Greatest.{greatest}
 use Rattle.play_event.specs.Amounts.{call_target, raise_target, bring_in_target}
 use Rattle.play_event.specs.Targets.{greatest_target, greatest_target_in, pot_ceiling, full_targets}
 use Rattle.play_event.specs.Openers.{InTurn}
-use Rattle.play_event.specs.Mover.{mover}
+use Rattle.play_event.specs.PlayerToAct.{player_to_act}
 use Rattle.play_event.specs.Table.{up_cards}
 use Rattle.play_event.specs.MoveReasons.{actor_of, is_raise_too_big}
 use Rattle.play_event.specs.Due.{turn}
@@ -65,7 +65,7 @@ resolved_within setup before street turn (said.Fold named) within legal =
     moved_within setup (moves_of before) street seat past.Folded (street_chips setup (moves_of before) street seat) within (omega arith)
 resolved_within setup before street turn (said.Call named stated) within legal =
     let seat = actor_of named turn in
-    moved_within setup (moves_of before) street seat past.Called (call_target setup (moves_of before) street seat) within (min-le_right (price setup (moves_of before) street) (all_in setup (moves_of before) street seat))
+    moved_within setup (moves_of before) street seat past.Called (call_target setup (moves_of before) street seat) within (min-le_right (current_bet setup (moves_of before) street) (all_in setup (moves_of before) street seat))
 resolved_within setup before street turn (said.BringIn named) within legal =
     let seat = actor_of named turn in
     moved_within setup (moves_of before) street seat past.BroughtIn (bring_in_target setup (moves_of before) street seat) within (min-le_right setup.bring_in (all_in setup (moves_of before) street seat))
@@ -81,7 +81,7 @@ event_within : (setup : Setup) (rules : Rules) (before : Past) (event : Said) �
 unfolding with_event
 event_within setup rules before event within legal =
     let street = (turn setup before).0 in
-    resolved_within setup before street (mover setup (up_cards setup.code before) (moves_of before) street) event within (not_too_big setup rules before event legal)
+    resolved_within setup before street (player_to_act setup (up_cards setup.code before) (moves_of before) street) event within (not_too_big setup rules before event legal)
 
 pub puts_within : (setup : Setup) (rules : Rules) (events : List Said) → ((seat : ℕ) → amount_of setup.antes seat ≤ amount_of setup.stacks seat) → AreLegal setup rules events → (seat : ℕ) → chips_put setup (moves_of (past_of setup events)) seat ≤ amount_of setup.stacks seat
 puts_within setup rules [] antes legal = posted_within setup antes

@@ -10,7 +10,7 @@ use Rattle.card_set.specs.declared.card.Slot.TheVariants as slots
 use Rattle.card_set.specs.Deck.{deck_place}
 use Rattle.play_event.specs.declared.code.Code.{Code}
 use Rattle.play_event.specs.Places.{Place, places_dealt, after_deal, is_past_deck, is_in_group}
-use Rattle.play_event.specs.Taken.{is_clash, may_repeat, is_gone_before, is_one_card, is_borne_by, is_in_deck, is_taken, has_repeat, is_repeated, has_taken_card, has_misplaced_card, is_misplaced, is_foreign, newly_known}
+use Rattle.play_event.specs.Taken.{is_clash, may_repeat, is_gone_before, is_one_card, slot_is_card, is_in_deck, is_taken, has_repeat, is_repeated, has_taken_card, has_misplaced_card, is_misplaced, is_not_in_deck, newly_known}
 use Rattle.play_event.specs.Laws.{IsAmong, NoneClash}
 use Rattle.play_event.proofs.Kept.{AreKept, ComesFrom, comes_from, clash_kept}
 
@@ -34,7 +34,7 @@ not_at p (first ∷ rest) place none (inr later) = not_at p rest place (or_parts
 fresh_fits : (code : Code) (before after : List Place) (a b : Place) → has_misplaced_card code before after ≡ false → IsAmong (newly_known before after) a → IsAmong after b → a.number ≢ b.number → is_clash a b ≡ false
 fresh_fits code before after a b fits fresh among differ =
     let placed_well : is_misplaced code after a ≡ false = not_at (is_misplaced code after) (newly_known before after) a fits fresh in
-    let others : list_any (λ other. not (other.number == a.number) && is_clash a other) after ≡ false = (or_parts (is_foreign code a.slot) (list_any (λ other. not (other.number == a.number) && is_clash a other) after) placed_well).1 in
+    let others : list_any (λ other. not (other.number == a.number) && is_clash a other) after ≡ false = (or_parts (is_not_in_deck code a.slot) (list_any (λ other. not (other.number == a.number) && is_clash a other) after) placed_well).1 in
     let here : (not (b.number == a.number) && is_clash a b) ≡ false = not_at (λ other. not (other.number == a.number) && is_clash a other) after b others among in
     sym (ap (λ x. not x && is_clash a b) (different_number b.number a.number differ)) ∙ here
 
@@ -89,7 +89,7 @@ different_clash a b differ = ap (λ s. not (may_repeat a b || may_repeat b a) &&
 
 -- the cards of one deal do not clash
 stands_once : (first : Slot) (rest : List Slot) (slot : Slot) → is_repeated first rest ≡ false → IsOneOf rest slot → is_one_card first slot ≡ false
-stands_once (slots.Known card) rest slot once among = not_one_of (is_borne_by card) rest slot once among
+stands_once (slots.Known card) rest slot once among = not_one_of (slot_is_card card) rest slot once among
 stands_once slots.Unknown rest slot once among = refl
 
 dealt_apart : (owner : Option ℕ) (street : ℕ) (late : Bool) (index least : ℕ) (cards : List Slot) → has_repeat cards ≡ false → NoneClash (places_dealt owner street late index least cards)
@@ -119,7 +119,7 @@ without_own false false s none is = is
 
 not_taken : (card : Slot) (code : Code) (placed : List Place) (late : Bool) (old : Place) → is_taken code placed late card ≡ false → IsAmong placed old → (not (late && is_some old.gone_after) && is_one_card card old.slot) ≡ false
 not_taken (slots.Known card) code placed late old free among =
-    not_at (λ place. not (late && is_some place.gone_after) && is_borne_by card place.slot) placed old (or_parts (not (is_in_deck code card)) (list_any (λ place. not (late && is_some place.gone_after) && is_borne_by card place.slot) placed) free).1 among
+    not_at (λ place. not (late && is_some place.gone_after) && slot_is_card card place.slot) placed old (or_parts (not (is_in_deck code card)) (list_any (λ place. not (late && is_some place.gone_after) && slot_is_card card place.slot) placed) free).1 among
 not_taken slots.Unknown code placed late old free among = and_false (not (late && is_some old.gone_after))
 
 new_fits : (code : Code) (placed : List Place) (late : Bool) (cards : List Slot) (new old : Place) → GoneWithin placed → list_any (is_taken code placed late) cards ≡ false → IsDealt late (length placed) cards new → IsAmong placed old → is_clash new old ≡ false

@@ -1,5 +1,5 @@
 pub mod StreetLaws
-pub mod MoverLaws
+pub mod PlayerToActLaws
 pub mod ReasonLaws
 pub mod ChipLaws
 pub mod TargetLaws

@@ -7,7 +7,7 @@ use Rattle.play_event.specs.declared.setup.Rules.{Rules}
 use Rattle.play_event.specs.Said.{Said}
 use Rattle.play_event.specs.Past.{Past, moves_of}
 use Rattle.play_event.specs.Due.{turn}
-use Rattle.play_event.specs.Mover.{mover}
+use Rattle.play_event.specs.PlayerToAct.{player_to_act}
 use Rattle.play_event.specs.Table.{up_cards}
 use Rattle.play_event.specs.MoveReasons.{is_raise_too_big}
 use Rattle.play_event.specs.Reasons.{why, first_reason, all_reasons}
@@ -26,7 +26,7 @@ unfolding why
 no_reason_holds setup rules past event is = none_hold (all_reasons setup rules past (turn setup past) event) is
 
 -- a legal raise goes at most to the highest legal target
-pub not_too_big : (setup : Setup) (rules : Rules) (past : Past) (event : Said) → why setup rules past event ≡ None → is_raise_too_big setup (moves_of past) (turn setup past).0 (mover setup (up_cards setup.code past) (moves_of past) (turn setup past).0) event ≡ false
+pub not_too_big : (setup : Setup) (rules : Rules) (past : Past) (event : Said) → why setup rules past event ≡ None → is_raise_too_big setup (moves_of past) (turn setup past).0 (player_to_act setup (up_cards setup.code past) (moves_of past) (turn setup past).0) event ≡ false
 not_too_big setup rules past event is = (no_reason_holds setup rules past event is).1.1.1.1.1.1.1.1.1.1.0
 
 -- and if none holds, an event is legal

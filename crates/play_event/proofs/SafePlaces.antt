@@ -17,7 +17,7 @@ use Rattle.play_event.specs.Past.{Past, moves_of}
 use Rattle.play_event.specs.Due.{turn}
 use Rattle.play_event.specs.Openers.{InTurn}
 use Rattle.card_set.specs.Known.{is_unknown, known_cards}
-use Rattle.play_event.specs.Mover.{mover}
+use Rattle.play_event.specs.PlayerToAct.{player_to_act}
 use Rattle.play_event.specs.Places.{Place, is_held_by, is_up, places_dealt, after_deal, after_fold, is_past_deck, is_in_group, folded_place, gone_now}
 use Rattle.play_event.specs.Naming.{after_discard, after_show, discarded_now, other_names, blanks_in, is_covered, is_show_of_all}
 use Rattle.play_event.specs.Table.{places_of, up_cards}
@@ -129,7 +129,7 @@ event_safe : (setup : Setup) (rules : Rules) (before : Past) (event : Said) → 
 unfolding with_event
 event_safe setup rules before event legal safe =
     let street = (turn setup before).0 in
-    resolved_safe setup before street (mover setup (up_cards setup.code before) (moves_of before) street) event (no_reason_holds setup rules before event legal).1.1.1.1.0 safe
+    resolved_safe setup before street (player_to_act setup (up_cards setup.code before) (moves_of before) street) event (no_reason_holds setup rules before event legal).1.1.1.1.0 safe
 
 events_safe : (setup : Setup) (rules : Rules) (events : List Said) → AreLegal setup rules events → Safe (places_of setup.code (past_of setup events))
 events_safe setup rules [] legal = (λ a b in_a in_b differ. absurd in_a, λ place among count is. absurd among)

@@ -19,7 +19,7 @@ use Rattle.chip_ledger.proofs.SolePot.{live_stakes, may_win-one_pot, one_pot, so
 use Rattle.play_event.specs.declared.setup.Setup.{Setup}
 use Rattle.play_event.specs.Past.{Move}
 use Rattle.play_event.specs.Chips.{chips_left, chips_put}
-use Rattle.play_event.specs.Price.{all_chips_put}
+use Rattle.play_event.specs.CurrentBet.{all_chips_put}
 use Rattle.play_event.specs.Seats.{all_seats, is_live, live_count}
 use Rattle.play_event.specs.Stakes.{counted_put, dead_antes_of, pots_after, returned_after, shares_by_folds, stack_by_folds, stake_after, stakes_after}
 use Rattle.list_laws.proofs.Tests.{if_same}

@@ -6,12 +6,12 @@ use Rattle.play_event.specs.declared.setup.Setup.{Setup}
 use Rattle.play_event.specs.Past.{Move}
 use Rattle.play_event.specs.Streets.{unit}
 use Rattle.play_event.specs.Chips.{chips_put, street_chips, all_in}
-use Rattle.play_event.specs.Price.{price}
+use Rattle.play_event.specs.CurrentBet.{current_bet}
 
 -- a call goes to the current bet, or as far as the player's chips reach
 abbrev pub call_target : Setup → List Move → ℕ → ℕ → ℕ
 call_target setup moves street seat =
-    min (price setup moves street) (all_in setup moves street seat)
+    min (current_bet setup moves street) (all_in setup moves street seat)
 
 -- the chips that a seat put in before this street
 abbrev pub put_before_street : Setup → List Move → ℕ → ℕ → ℕ
@@ -23,9 +23,9 @@ put_before_street setup moves street seat =
 abbrev pub unit_target : Setup → List Move → ℕ → ℕ → ℕ
 unit_target setup moves street seat =
     min
-    (if nat_lt (price setup moves street) (unit setup street)
+    (if nat_lt (current_bet setup moves street) (unit setup street)
     then unit setup street
-    else price setup moves street + unit setup street)
+    else current_bet setup moves street + unit setup street)
     (all_in setup moves street seat)
 
 -- the chips on the street to which a bet or raise takes its seat

@@ -9,30 +9,30 @@ use Rattle.play_event.specs.declared.setup.Setup.{Setup}
 use Rattle.play_event.specs.Games.{street_count}
 use Rattle.play_event.specs.Streets.{is_stud}
 use Rattle.play_event.specs.Past.{Past, Move, Act, moves_of, moves_on, newest_street, is_raise, is_bring_in}
-use Rattle.play_event.specs.Seats.{is_able, all_seats, live_count, able_count}
-use Rattle.play_event.specs.Price.{price, owed}
+use Rattle.play_event.specs.Seats.{can_act, all_seats, live_count, able_count}
+use Rattle.play_event.specs.CurrentBet.{current_bet, to_call}
 use Rattle.play_event.specs.Dealing.{is_deal_due, is_draw_due}
 use Rattle.play_event.specs.Showing.{is_show_due}
 
 -- a seat has acted on this street since the current bet last rose: it made that bet or raise, or
 -- acted after it
-abbrev pub has_moved_since_rise : Setup → List Move → ℕ → ℕ → Bool
-has_moved_since_rise setup [] street seat = false
-has_moved_since_rise setup (move ∷ before) street seat =
+abbrev pub has_acted_since_raise : Setup → List Move → ℕ → ℕ → Bool
+has_acted_since_raise setup [] street seat = false
+has_acted_since_raise setup (move ∷ before) street seat =
     if move.street == street
     then (move.seat == seat)
-    || (nat_le move.to (price setup before street)
-    && has_moved_since_rise setup before street seat)
-    else has_moved_since_rise setup before street seat
+    || (nat_le move.to (current_bet setup before street)
+    && has_acted_since_raise setup before street seat)
+    else has_acted_since_raise setup before street seat
 
 -- a seat has a move to make: it is live with chips left, has not acted since the current bet rose,
 -- and has chips to call or an opponent who is live with chips left
 abbrev pub has_to_move : Setup → List Move → ℕ → ℕ → Bool
 has_to_move setup moves street seat =
-    is_able setup moves seat
-    && (if has_moved_since_rise setup moves street seat
+    can_act setup moves seat
+    && (if has_acted_since_raise setup moves street seat
     then false
-    else (nat_lt 0 (owed setup moves street seat) || nat_le 2 (able_count setup moves)))
+    else (nat_lt 0 (to_call setup moves street seat) || nat_le 2 (able_count setup moves)))
 
 -- a move is due: some seat has a move to make
 abbrev pub is_move_due : Setup → List Move → ℕ → Bool
@@ -105,7 +105,7 @@ is_after_betting dues.Move = false
 -- a live seat with chips left has chips to call
 abbrev pub has_able_seat_to_call : Setup → List Move → ℕ → Bool
 has_able_seat_to_call setup moves street =
-    list_any (λ seat. is_able setup moves seat && nat_lt 0 (owed setup moves street seat))
+    list_any (λ seat. can_act setup moves seat && nat_lt 0 (to_call setup moves street seat))
     (all_seats setup)
 
 -- the hand is settled: at least two seats are live, and no more betting can come

@@ -13,7 +13,7 @@ use Rattle.play_event.specs.Streets.{limit_of}
 use Rattle.play_event.specs.Amounts.{raise_target}
 use Rattle.play_event.specs.Due.{turn}
 use Rattle.play_event.specs.Openers.{TheSeat}
-use Rattle.play_event.specs.Mover.{mover}
+use Rattle.play_event.specs.PlayerToAct.{player_to_act}
 use Rattle.play_event.specs.Table.{up_cards}
 use Rattle.play_event.specs.ValidSetup.{IsValid, is_fixed}
 use Rattle.play_event.specs.Places.{Place}
@@ -51,7 +51,8 @@ moves_by setup events = moves_of (past_of setup events)
 -- it is this seat's turn after a past
 abbrev pub IsInTurn : Setup → Past → ℕ → Type 0
 IsInTurn setup past seat =
-    mover setup (up_cards setup.code past) (moves_of past) (turn setup past).0 ≡ TheSeat seat
+    player_to_act setup (up_cards setup.code past) (moves_of past) (turn setup past).0
+    ≡ TheSeat seat
 
 -- a raise by a named seat to the target that is written
 abbrev pub spelled_out : Setup → Past → ℕ → Spelled → Said

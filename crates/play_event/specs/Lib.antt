@@ -11,12 +11,12 @@ pub mod PackedOnce
 pub mod Past
 pub mod Chips
 pub mod Seats
-pub mod Price
+pub mod CurrentBet
 pub mod Dealing
 pub mod Showing
 pub mod Due
 pub mod Openers
-pub mod Mover
+pub mod PlayerToAct
 pub mod Amounts
 pub mod Targets
 pub mod Raising

@@ -9,8 +9,8 @@ use Rattle.play_event.specs.Said as said
 use Rattle.play_event.specs.Said.{Said}
 use Rattle.play_event.specs.Past.{Move}
 use Rattle.play_event.specs.Chips.{street_chips}
-use Rattle.play_event.specs.Seats.{is_able}
-use Rattle.play_event.specs.Price.{owed}
+use Rattle.play_event.specs.Seats.{can_act}
+use Rattle.play_event.specs.CurrentBet.{to_call}
 use Rattle.play_event.specs.Amounts.{call_target, raise_target}
 use Rattle.play_event.specs.Targets.{is_legal_target, greatest_target}
 use Rattle.play_event.specs.Raising.{may_raise}
@@ -29,7 +29,7 @@ abbrev pub is_other_seat : Setup → List Move → Option ℕ → InTurn → Boo
 is_other_seat setup moves None turn = false
 is_other_seat setup moves (Some seat) (TheSeat other) = not (seat == other)
 is_other_seat setup moves (Some seat) NoSeat = true
-is_other_seat setup moves (Some seat) Undecided = not (is_able setup moves seat)
+is_other_seat setup moves (Some seat) Undecided = not (can_act setup moves seat)
 
 -- the player to act is not known, because an up-card that decides it is unknown
 abbrev pub is_undecided : InTurn → Bool
@@ -48,7 +48,7 @@ is_undecided_move turn _ = false
 -- a fold with nothing to call, under rules that do not allow it
 abbrev pub has_nothing_to_call : Setup → Rules → List Move → ℕ → InTurn → Said → Bool
 has_nothing_to_call setup rules moves street turn (said.Fold named) =
-    not rules.free_fold && (owed setup moves street (actor_of named turn) == 0)
+    not rules.free_fold && (to_call setup moves street (actor_of named turn) == 0)
 has_nothing_to_call setup rules moves street turn _ = false
 
 -- a raise by a seat that may not raise

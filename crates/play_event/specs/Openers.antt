@@ -14,7 +14,7 @@ use Rattle.play_event.specs.declared.limit.Opener.{Opener}
 use Rattle.play_event.specs.declared.limit.Opener.TheVariants as openers
 use Rattle.play_event.specs.Streets.{opener_of}
 use Rattle.play_event.specs.Past.{Move}
-use Rattle.play_event.specs.Seats.{all_seats, is_able}
+use Rattle.play_event.specs.Seats.{all_seats, can_act}
 
 -- the player to act: no seat, a seat, or not known because an up-card that decides it is unknown
 pub data InTurn : Type 0 where
@@ -99,7 +99,7 @@ is_opener_before openers.Blinds first a b = false
 
 -- the seats that are live with chips left
 abbrev pub able_seats : Setup → List Move → List ℕ
-able_seats setup moves = filter (is_able setup moves) (all_seats setup)
+able_seats setup moves = filter (can_act setup moves) (all_seats setup)
 
 -- the first seat, of those that are live with chips left, before which no other one acts
 abbrev pub up_cards_opener : Setup → UpCards → List Move → ℕ → Option ℕ

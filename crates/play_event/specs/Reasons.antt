@@ -13,7 +13,7 @@ use Rattle.play_event.specs.Said.{Said}
 use Rattle.play_event.specs.Past.{Past, moves_of}
 use Rattle.play_event.specs.Due.{turn, is_settled}
 use Rattle.play_event.specs.Openers.{InTurn}
-use Rattle.play_event.specs.Mover.{mover}
+use Rattle.play_event.specs.PlayerToAct.{player_to_act}
 use Rattle.play_event.specs.Places.{Place}
 use Rattle.play_event.specs.Table.{places_of, up_cards}
 use Rattle.play_event.specs.CardReasons.{is_owed_nothing, is_next_to_draw, may_show, is_wrong_count, is_card_taken, is_not_held}
@@ -111,7 +111,8 @@ reasons_by setup rules past street in_turn placed event =
 abbrev pub later_reasons : Setup → Rules → Past → ℕ → Said → List (Bool × Illegal)
 later_reasons setup rules past street event =
     reasons_by setup rules past street
-    (mover setup (up_cards setup.code past) (moves_of past) street) (places_of setup.code past)
+    (player_to_act setup (up_cards setup.code past) (moves_of past) street)
+    (places_of setup.code past)
     event
 
 -- The twelve reasons in their order: the hand is over, an event of this kind may not come, and then

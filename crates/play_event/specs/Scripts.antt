@@ -10,7 +10,7 @@ use Rattle.play_event.specs.Past as past
 use Rattle.play_event.specs.Past.{Past, Resolved, Move, Act, moves_of}
 use Rattle.play_event.specs.Chips.{street_chips}
 use Rattle.play_event.specs.Due.{turn, is_unfinished}
-use Rattle.play_event.specs.Mover.{mover}
+use Rattle.play_event.specs.PlayerToAct.{player_to_act}
 use Rattle.play_event.specs.Amounts.{call_target, raise_target, bring_in_target}
 use Rattle.play_event.specs.Openers.{InTurn}
 use Rattle.play_event.specs.Table.{up_cards}
@@ -53,7 +53,7 @@ resolved_by setup moves street in_turn (said.Muck seat) = past.Mucked street sea
 abbrev pub resolved_on : Setup → Past → ℕ → Said → Resolved
 resolved_on setup before street event =
     resolved_by setup (moves_of before) street
-    (mover setup (up_cards setup.code before) (moves_of before) street) event
+    (player_to_act setup (up_cards setup.code before) (moves_of before) street) event
 
 -- the past after one more event
 unfoldable pub with_event : Setup → Said → Past → Past

@@ -16,13 +16,13 @@ abbrev pub is_in_deck : Code → Card → Bool
 is_in_deck code card = if deck_of code == 36 then nat_le 4 (ranks_below card.rank) else true
 
 -- a slot is this known card
-abbrev pub is_borne_by : Card → Slot → Bool
-is_borne_by card (slots.Known other) = is_same_card card other
-is_borne_by card slots.Unknown = false
+abbrev pub slot_is_card : Card → Slot → Bool
+slot_is_card card (slots.Known other) = is_same_card card other
+slot_is_card card slots.Unknown = false
 
 -- two slots are the same known card
 abbrev pub is_one_card : Slot → Slot → Bool
-is_one_card (slots.Known card) other = is_borne_by card other
+is_one_card (slots.Known card) other = slot_is_card card other
 is_one_card slots.Unknown other = false
 
 -- a card was gone before this number of cards were dealt
@@ -44,13 +44,13 @@ is_clash a b = not (may_repeat a b || may_repeat b a) && is_one_card a.slot b.sl
 abbrev pub is_taken : Code → List Place → Bool → Slot → Bool
 is_taken code placed late (slots.Known card) =
     not (is_in_deck code card)
-    || list_any (λ place. not (late && is_some place.gone_after) && is_borne_by card place.slot)
+    || list_any (λ place. not (late && is_some place.gone_after) && slot_is_card card place.slot)
     placed
 is_taken code placed late slots.Unknown = false
 
 -- the card of a slot appears again among others
 abbrev pub is_repeated : Slot → List Slot → Bool
-is_repeated (slots.Known card) others = list_any (is_borne_by card) others
+is_repeated (slots.Known card) others = list_any (slot_is_card card) others
 is_repeated slots.Unknown others = false
 
 -- two of the slots are the same card
@@ -74,14 +74,14 @@ newly_known (old ∷ olds) (new ∷ news) =
     else newly_known olds news
 
 -- the card of a slot is not in the deck
-abbrev pub is_foreign : Code → Slot → Bool
-is_foreign code (slots.Known card) = not (is_in_deck code card)
-is_foreign code slots.Unknown = false
+abbrev pub is_not_in_deck : Code → Slot → Bool
+is_not_in_deck code (slots.Known card) = not (is_in_deck code card)
+is_not_in_deck code slots.Unknown = false
 
 -- a dealt card is not in the deck, or clashes with another of these dealt cards
 abbrev pub is_misplaced : Code → List Place → Place → Bool
 is_misplaced code placed place =
-    is_foreign code place.slot
+    is_not_in_deck code place.slot
     || list_any (λ other. not (other.number == place.number) && is_clash place other) placed
 
 -- a card that has just become known is not in the deck, or clashes with another

@@ -10,7 +10,7 @@ use Rattle.play_event.specs.Games.{street_count}
 use Rattle.play_event.specs.Streets.{limit_of}
 use Rattle.play_event.specs.Past.{Past, Move, Act, moves_of, is_raise}
 use Rattle.play_event.specs.Seats.{is_live, live_count, all_seats}
-use Rattle.play_event.specs.Price.{price}
+use Rattle.play_event.specs.CurrentBet.{current_bet}
 use Rattle.play_event.specs.Amounts.{unit_target}
 use Rattle.play_event.specs.Raising.{is_closed}
 use Rattle.play_event.specs.Showing.{has_mucked}
@@ -46,7 +46,7 @@ traced_move setup move before =
       act = move.act;
       from = move.from;
       to = move.to;
-      price = price setup before move.street;
+      price = current_bet setup before move.street;
       closed = is_raise move.act && is_closed setup before move.street move.seat move.to;
       unit_to = unit_target_in (limit_of setup.code) setup before move.street move.seat;
     }

@@ -7,7 +7,7 @@ use Rattle.play_event.specs.declared.setup.Rules.{Rules}
 use Rattle.play_event.specs.Past.{Past, Move, moves_of}
 use Rattle.play_event.specs.Chips as chips
 use Rattle.play_event.specs.Due.{turn}
-use Rattle.play_event.specs.Mover.{mover}
+use Rattle.play_event.specs.PlayerToAct.{player_to_act}
 use Rattle.play_event.specs.Openers.{InTurn, NoSeat, TheSeat, Undecided}
 use Rattle.play_event.specs.Raising.{may_raise}
 use Rattle.play_event.specs.Table.{up_cards}
@@ -33,7 +33,7 @@ abbrev pub has_targets_at : Setup → Rules → Past → ℕ × Due → Bool
 has_targets_at setup rules past now =
     is_bet_due now.1
     && may_raise_now setup rules (moves_of past) now.0
-    (mover setup (up_cards setup.code past) (moves_of past) now.0)
+    (player_to_act setup (up_cards setup.code past) (moves_of past) now.0)
 
 -- the player to act has legal targets: a move or a bring-in is due, the player to act is known, and
 -- may raise

@@ -14,14 +14,14 @@ ghost use Rattle.play_event.specs.Chips.{chips_put, chips_left, all_in};
 ghost use Rattle.play_event.specs.Due.{turn, due_on, has_to_move, is_unfinished};
 ghost use Rattle.play_event.specs.Games.{street_count};
 ghost use Rattle.play_event.specs.Laws.{IsFirstStreet, NoneHold, AreLegal, AreLegalUnfixed, IsInTurn, NoneClash, moves_by, spelled_out};
-ghost use Rattle.play_event.specs.Mover.{mover};
+ghost use Rattle.play_event.specs.PlayerToAct.{player_to_act};
 ghost use Rattle.play_event.specs.Openers.{UpCards, TheSeat, is_weaker_up_high, is_weaker_low};
 ghost use Rattle.play_event.specs.Past.{Past, Move, moves_of, newest_street};
-ghost use Rattle.play_event.specs.Price.{price, full_raise};
+ghost use Rattle.play_event.specs.CurrentBet.{current_bet, full_raise};
 ghost use Rattle.play_event.specs.Reasons.{why, all_reasons};
 ghost use Rattle.play_event.specs.Said.{Said, Raise};
 ghost use Rattle.play_event.specs.Scripts.{past_of, with_event, HasNoIllegalEvent, IsFirstIllegal, illegal_event};
-ghost use Rattle.play_event.specs.Seats.{is_able, live_count};
+ghost use Rattle.play_event.specs.Seats.{can_act, live_count};
 ghost use Rattle.play_event.specs.Table.{places_of};
 ghost use Rattle.play_event.specs.Targets.{floor, is_legal_target, least_target, greatest_target};
 ghost use Rattle.play_event.specs.TurnTargets.{AreTargets, has_targets};
@@ -42,9 +42,10 @@ pub fn law_of_streets()
 /// The player to act has a move to make, and so is live and has chips left.
 pub fn law_of_movers()
     ensures has_to_move { (setup : Setup) (ups : UpCards) (moves : List Move) (street seat : ℕ)
-        → mover setup ups moves street ≡ TheSeat seat → has_to_move setup moves street seat ≡ true }
-    ensures is_able { (setup : Setup) (ups : UpCards) (moves : List Move) (street seat : ℕ)
-        → mover setup ups moves street ≡ TheSeat seat → is_able setup moves seat ≡ true }
+        → player_to_act setup ups moves street ≡ TheSeat seat → has_to_move setup moves street seat
+        ≡ true }
+    ensures can_act { (setup : Setup) (ups : UpCards) (moves : List Move) (street seat : ℕ)
+        → player_to_act setup ups moves street ≡ TheSeat seat → can_act setup moves seat ≡ true }
 {}
 
 /// After legal events no seat has put in more than its stack, and what it put in plus what it has
@@ -83,14 +84,14 @@ pub fn law_of_raises()
 /// In no limit and pot limit the lowest raise that is not all-in goes above the current bet, and by
 /// at most a full raise, even if betting always reopens.
 pub fn law_of_floors()
-    ensures above_price { (setup : Setup) (rules : Rules) (events : List Said)
+    ensures above_current_bet { (setup : Setup) (rules : Rules) (events : List Said)
         → AreLegalUnfixed setup rules events → (reopens : Reopen) (street : ℕ)
-        → price setup (moves_by setup events) street
+        → current_bet setup (moves_by setup events) street
         < floor reopens setup (moves_by setup events) street }
     ensures within_full_raise { (setup : Setup) (rules : Rules) (events : List Said)
         → AreLegalUnfixed setup rules events → (reopens : Reopen) (street : ℕ)
         → floor reopens setup (moves_by setup events) street
-        ≤ price setup (moves_by setup events) street
+        ≤ current_bet setup (moves_by setup events) street
         + full_raise setup (moves_by setup events) street }
 {}
 

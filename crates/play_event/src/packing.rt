@@ -5,10 +5,9 @@ ghost use Rattle.play_event.specs.declared.event.Event.{Event};
 ghost use Rattle.play_event.specs.EventNumbers.{ChipsFit, IsEvent, AreEvents};
 ghost use Rattle.play_event.specs.PackedForm.{actor_byte, card_byte, slot_byte, counted, kind_byte, kind_bytes, packed_event, packed_events};
 
-use card_set::Memory;
 use crate::event::{Event, Kind, Spelled};
 use crate::packed_event::PackedEvent;
-use card_set::{Card, Slot, place_in_deck};
+use card_set::{Card, Memory, Slot, place_in_deck};
 use chip_ledger::Seat;
 
 // Enough bytes for the events of most hands.

@@ -81,7 +81,10 @@ impl Script {
         ensures { IfOk result (λ script. script ≡ []) }
     {
         Ok(Script {
-            bytes: list_with_room(alloc, events.saturating_mul(USUAL_EVENT_BYTES).min(MOST_ROOM))?,
+            bytes: list_with_room(
+                alloc,
+                events.saturating_mul(USUAL_EVENT_BYTES).min(MOST_ROOM),
+            )?,
             count: 0,
         })
     }

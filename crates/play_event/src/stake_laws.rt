@@ -5,7 +5,7 @@ ghost use Rattle.chip_ledger.specs.Rakes.{HaveRakes};
 ghost use Rattle.play_event.specs.declared.setup.Setup.{Setup};
 ghost use Rattle.play_event.specs.Past.{Move};
 ghost use Rattle.play_event.specs.Chips.{chips_left};
-ghost use Rattle.play_event.specs.Price.{all_chips_put};
+ghost use Rattle.play_event.specs.CurrentBet.{all_chips_put};
 ghost use Rattle.play_event.specs.Seats.{is_live, live_count};
 ghost use Rattle.play_event.specs.Stakes.{pots_after, stack_by_folds};
 

@@ -12,12 +12,12 @@ use Rattle.play_event.specs.Games.{game_of}
 use Rattle.play_event.specs.declared.street.Street.{Street}
 use Rattle.play_event.specs.Streets.{has_draw, up_cards_on, down_cards_on, opener_of}
 use Rattle.play_event.specs.Past.{Past, Move, moves_of, moves_on, newest_street}
-use Rattle.play_event.specs.Seats.{is_live, is_able}
+use Rattle.play_event.specs.Seats.{is_live, can_act}
 use Rattle.play_event.specs.Dealing.{has_drawn}
 use Rattle.play_event.specs.Due.{has_to_move}
 use Rattle.play_event.specs.Openers.{InTurn, NoSeat, TheSeat, Undecided, in_turn, UpCards, opener_by, up_cards_opener, has_unknown_up_card}
 use Rattle.card_set.specs.Known.{is_unknown}
-use Rattle.play_event.specs.Mover.{mover, mover_after, first_in_turn, next_in_turn}
+use Rattle.play_event.specs.PlayerToAct.{player_to_act, player_to_act_after, first_in_turn, next_in_turn}
 use Rattle.play_event.specs.Places.{Place, is_same_owner, is_held_by, is_up}
 use Rattle.play_event.specs.Table.{places_of, up_cards}
 use Rattle.play_event.specs.Laws.{IsAmong}
@@ -25,8 +25,8 @@ use Rattle.list_laws.proofs.Tests.{false_true}
 use Rattle.play_laws.specs.LegalPlaces.{has_owner_folded}
 use Rattle.play_laws.specs.PastLaws.{has_move, PastLaw}
 use Rattle.play_laws.proofs.LegalPlaces.{PlacesOf}
-use Rattle.play_laws.proofs.MoverUps.{SameUps, mover_same}
-use Rattle.play_laws.proofs.MovesLaw.{is_up_by, ups_by, IsMover, free, shown}
+use Rattle.play_laws.proofs.PlayerToActUps.{SameUps, player_to_act_same}
+use Rattle.play_laws.proofs.MovesLaw.{is_up_by, ups_by, IsPlayerToAct, free, shown}
 use Rattle.play_laws.proofs.DrawnDiscards.{out_drawn}
 use Rattle.play_event.proofs.OwnerLaws.{is_same_owner-true}
 use Rattle.list_laws.proofs.Options.{none_some}
@@ -41,16 +41,16 @@ some_on street (move ∷ rest) is = by_street (move.street == street) (some_on s
     by_street true later it = (move, (moves_on street rest, refl))
     by_street false later it = later it
 
-moved_free : (setup : Setup) (ups others : UpCards) (list : List Move) (street seat : ℕ) → has_move street list ≡ true → mover setup ups list street ≡ TheSeat seat → mover setup others list street ≡ TheSeat seat
+moved_free : (setup : Setup) (ups others : UpCards) (list : List Move) (street seat : ℕ) → has_move street list ≡ true → player_to_act setup ups list street ≡ TheSeat seat → player_to_act setup others list street ≡ TheSeat seat
 moved_free setup ups others list street seat has is =
     let some = some_on street list has in
     let by = λ (l : List Move) (o : InTurn). first_in_turn setup (has_to_move setup list street) (next_in_turn setup o l) in
     ap (λ l. by l (opener_by (opener_of setup.code) setup others list street)) some.1.1 ∙ (sym (ap (λ l. by l (opener_by (opener_of setup.code) setup ups list street)) some.1.1) ∙ is)
 
 -- in games with blinds, too
-blinds_free : (setup : Setup) (ups others : UpCards) (list : List Move) (street seat : ℕ) → opener_of setup.code ≡ openers.Blinds → mover setup ups list street ≡ TheSeat seat → mover setup others list street ≡ TheSeat seat
+blinds_free : (setup : Setup) (ups others : UpCards) (list : List Move) (street seat : ℕ) → opener_of setup.code ≡ openers.Blinds → player_to_act setup ups list street ≡ TheSeat seat → player_to_act setup others list street ≡ TheSeat seat
 blinds_free setup ups others list street seat opener is =
-    ap (λ o. mover_after setup (opener_by o setup others list street) list street) opener ∙ (sym (ap (λ o. mover_after setup (opener_by o setup ups list street) list street) opener) ∙ is)
+    ap (λ o. player_to_act_after setup (opener_by o setup others list street) list street) opener ∙ (sym (ap (λ o. player_to_act_after setup (opener_by o setup ups list street) list street) opener) ∙ is)
 
 -- otherwise the up-cards of seats that can act are known
 no_moves_on : (street : ℕ) (list : List Move) → has_move street list ≡ false → moves_on street list ≡ []
@@ -69,7 +69,7 @@ unfolding is_one_seat
 decided_by setup ups list street seat true found is = false_true (ap is_one_seat is)
 decided_by setup ups list street seat false found is = refl
 
-decided : (opener : Opener) (setup : Setup) (ups : UpCards) (list : List Move) (street seat : ℕ) → has_move street list ≡ false → mover_after setup (opener_by opener setup ups list street) list street ≡ TheSeat seat → (opener ≡ openers.Blinds) ⊎ (has_unknown_up_card setup ups list ≡ false)
+decided : (opener : Opener) (setup : Setup) (ups : UpCards) (list : List Move) (street seat : ℕ) → has_move street list ≡ false → player_to_act_after setup (opener_by opener setup ups list street) list street ≡ TheSeat seat → (opener ≡ openers.Blinds) ⊎ (has_unknown_up_card setup ups list ≡ false)
 decided openers.Blinds setup ups list street seat none is = inl refl
 decided openers.LowUp setup ups list street seat none is =
     inr (decided_by setup ups list street seat (has_unknown_up_card setup ups list) (up_cards_opener setup ups list street) (sym (ap (λ l. first_in_turn setup (has_to_move setup list street) (next_in_turn setup (opener_by openers.LowUp setup ups list street) l)) (no_moves_on street list none)) ∙ is))
@@ -77,14 +77,14 @@ decided openers.HighUp setup ups list street seat none is =
     inr (decided_by setup ups list street seat (has_unknown_up_card setup ups list) (up_cards_opener setup ups list street) (sym (ap (λ l. first_in_turn setup (has_to_move setup list street) (next_in_turn setup (opener_by openers.HighUp setup ups list street) l)) (no_moves_on street list none)) ∙ is))
 
 -- the player to act by the up-cards of seats that can act is the player to act by the places
-pub is_mover : (setup : Setup) (placed : List Place) (ups : UpCards) (list : List Move) (street seat : ℕ) → SameUps setup list (ups_by setup.code placed street) ups → mover setup ups list street ≡ TheSeat seat → IsMover setup placed list street seat
-is_mover setup placed ups list street seat same is = elim (cases_Bool (has_move street list)) [
+pub is_player_to_act : (setup : Setup) (placed : List Place) (ups : UpCards) (list : List Move) (street seat : ℕ) → SameUps setup list (ups_by setup.code placed street) ups → player_to_act setup ups list street ≡ TheSeat seat → IsPlayerToAct setup placed list street seat
+is_player_to_act setup placed ups list street seat same is = elim (cases_Bool (has_move street list)) [
   | inl has ↦ free (λ others. moved_free setup ups others list street seat has is)
   | inr none ↦ elim (decided (opener_of setup.code) setup ups list street seat none is) [
     | inl blinds ↦ free (λ others. blinds_free setup ups others list street seat blinds is)
     | inr known ↦ shown
-        (λ other least most able. ap (list_any is_unknown) (same other least most able) ∙ none_kept_passes (is_able setup list) (λ seat. list_any is_unknown (ups seat)) 1 setup.stacks.seats other known least (omega (arith, most)) able)
-        (mover_same setup list street (ups_by setup.code placed street) ups same ∙ is)
+        (λ other least most able. ap (list_any is_unknown) (same other least most able) ∙ none_kept_passes (can_act setup list) (λ seat. list_any is_unknown (ups seat)) 1 setup.stacks.seats other known least (omega (arith, most)) able)
+        (player_to_act_same setup list street (ups_by setup.code placed street) ups same ∙ is)
   ]
 ]
 

@@ -16,9 +16,9 @@ use Rattle.play_event.specs.Places.{Place, is_same_owner, is_in_group, is_up, is
 use Rattle.play_event.specs.Naming.{after_names, after_discard, after_show, discarded_now, other_names, blanks_in, is_covered, is_show_of_all, found_by, is_named}
 use Rattle.play_event.specs.Laws.{IsAmong}
 use Rattle.list_laws.proofs.Tests.{false_true}
-use Rattle.play_laws.proofs.MoverUps.{mover_same}
+use Rattle.play_laws.proofs.PlayerToActUps.{player_to_act_same}
 use Rattle.play_laws.proofs.DealtPlaces.{are_new}
-use Rattle.play_laws.proofs.MovesLaw.{is_up_by, ups_by, IsMover, free, shown, FitsMove, MovesLaw}
+use Rattle.play_laws.proofs.MovesLaw.{is_up_by, ups_by, IsPlayerToAct, free, shown, FitsMove, MovesLaw}
 use Rattle.play_event.specs.Streets.{up_cards_on, down_cards_on}
 
 -- the new place has the same owner and street as the old, and the same card if that was known
@@ -122,16 +122,16 @@ ups_deal code street seat owner on cards placed later =
     ∙ append-nil (filter (is_up_by code street seat) placed))
 
 -- so whose turn it was is unchanged
-pub mover_still : (setup : Setup) (olds news : List Place) (older : List Move) (street seat : ℕ) → ((other : ℕ) → list_any is_unknown (ups_by setup.code olds street other) ≡ false → ups_by setup.code news street other ≡ ups_by setup.code olds street other) → IsMover setup olds older street seat → IsMover setup news older street seat
-mover_still setup olds news older street seat same (free by) = free by
-mover_still setup olds news older street seat same (shown known by) =
+pub player_to_act_still : (setup : Setup) (olds news : List Place) (older : List Move) (street seat : ℕ) → ((other : ℕ) → list_any is_unknown (ups_by setup.code olds street other) ≡ false → ups_by setup.code news street other ≡ ups_by setup.code olds street other) → IsPlayerToAct setup olds older street seat → IsPlayerToAct setup news older street seat
+player_to_act_still setup olds news older street seat same (free by) = free by
+player_to_act_still setup olds news older street seat same (shown known by) =
     shown (λ other least most able. ap (list_any is_unknown) (same other (known other least most able)) ∙ known other least most able)
-    (mover_same setup older street (ups_by setup.code news street) (ups_by setup.code olds street) (λ other least most able. same other (known other least most able)) ∙ by)
+    (player_to_act_same setup older street (ups_by setup.code news street) (ups_by setup.code olds street) (λ other least most able. same other (known other least most able)) ∙ by)
 
 -- a move that fits still fits if known up-cards are unchanged
 pub fits_still : (setup : Setup) (rules : Rules) (olds news : List Place) (older : List Move) (move : Move) → ((other : ℕ) → list_any is_unknown (ups_by setup.code olds move.street other) ≡ false → ups_by setup.code news move.street other ≡ ups_by setup.code olds move.street other) → FitsMove setup rules olds older move → FitsMove setup rules news older move
 fits_still setup rules olds news older move same fits =
-    record { several = fits.several; due = fits.due; is_due = fits.is_due; event = fits.event; is_move = fits.is_move; in_turn = mover_still setup olds news older move.street move.seat same fits.in_turn; none = fits.none; place = fits.place }
+    record { several = fits.several; due = fits.due; is_due = fits.is_due; event = fits.event; is_move = fits.is_move; in_turn = player_to_act_still setup olds news older move.street move.seat same fits.in_turn; none = fits.none; place = fits.place }
 
 -- all moves are on streets before a deal
 abbrev pub AreBefore : ℕ → List Move → Type 0

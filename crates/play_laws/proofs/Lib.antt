@@ -1,7 +1,7 @@
 -- Laws of legal pasts: what is due, whose turn it is, and where the cards are.
 pub mod DueAtEvents
 pub mod MoveKinds
-pub mod MoverUps
+pub mod PlayerToActUps
 pub mod NamedCounts
 pub mod NamedMoves
 pub mod PlaceChanges
@@ -12,7 +12,7 @@ pub mod UnknownCards
 pub mod ClosedBetting
 pub mod KeptPlaces
 pub mod LegalEvents
-pub mod Movers
+pub mod PlayersToAct
 pub mod MovesLaw
 pub mod BettingDue
 pub mod DoneKept

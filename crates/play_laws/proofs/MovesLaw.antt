@@ -9,11 +9,11 @@ use Rattle.play_event.specs.declared.setup.Setup.{Setup}
 use Rattle.play_event.specs.declared.setup.Rules.{Rules}
 use Rattle.play_event.specs.Said.{Said}
 use Rattle.play_event.specs.Past.{Move, Moved}
-use Rattle.play_event.specs.Seats.{is_able, live_count}
+use Rattle.play_event.specs.Seats.{can_act, live_count}
 use Rattle.play_event.specs.Due.{is_bring_in_due, is_move_due}
 use Rattle.play_event.specs.Openers.{TheSeat, UpCards}
 use Rattle.card_set.specs.Known.{is_unknown}
-use Rattle.play_event.specs.Mover.{mover}
+use Rattle.play_event.specs.PlayerToAct.{player_to_act}
 use Rattle.play_event.specs.Places.{Place, is_same_owner, is_up}
 use Rattle.play_event.specs.Scripts.{resolved_by}
 use Rattle.play_event.specs.Laws.{NoneHold}
@@ -30,9 +30,9 @@ ups_by code placed street seat = map (λ place. place.slot) (filter (is_up_by co
 
 -- the moves alone decide whose turn it is, or the up-cards of seats that can act do, and all of
 -- these are known
-pub data IsMover (setup : Setup) (placed : List Place) (older : List Move) (street seat : ℕ) : Type 0 where
-  free : ((ups : UpCards) → mover setup ups older street ≡ TheSeat seat) → IsMover setup placed older street seat
-  shown : ((other : ℕ) → 1 ≤ other → other ≤ setup.stacks.seats → is_able setup older other ≡ true → list_any is_unknown (ups_by setup.code placed street other) ≡ false) → mover setup (ups_by setup.code placed street) older street ≡ TheSeat seat → IsMover setup placed older street seat
+pub data IsPlayerToAct (setup : Setup) (placed : List Place) (older : List Move) (street seat : ℕ) : Type 0 where
+  free : ((ups : UpCards) → player_to_act setup ups older street ≡ TheSeat seat) → IsPlayerToAct setup placed older street seat
+  shown : ((other : ℕ) → 1 ≤ other → other ≤ setup.stacks.seats → can_act setup older other ≡ true → list_any is_unknown (ups_by setup.code placed street other) ≡ false) → player_to_act setup (ups_by setup.code placed street) older street ≡ TheSeat seat → IsPlayerToAct setup placed older street seat
 
 -- what is due: a bring-in, or a move
 pub data IsBetDue (setup : Setup) (older : List Move) (street : ℕ) : Due → Type 0 where
@@ -46,7 +46,7 @@ pub record FitsMove (setup : Setup) (rules : Rules) (placed : List Place) (older
   pub is_due : IsBetDue setup older move.street due
   pub event : Said
   pub is_move : IsMoveSaid event
-  pub in_turn : IsMover setup placed older move.street move.seat
+  pub in_turn : IsPlayerToAct setup placed older move.street move.seat
   pub none : NoneHold (move_reasons setup rules older (move.street, due) (TheSeat move.seat) event)
   pub place : resolved_by setup older move.street (TheSeat move.seat) event ≡ Moved move
 

@@ -15,8 +15,8 @@ use Rattle.play_event.specs.Past.{Past, Move, moves_of}
 use Rattle.play_event.specs.Amounts.{raise_target}
 use Rattle.play_event.specs.Due.{turn}
 use Rattle.play_event.specs.Openers.{InTurn, TheSeat}
-use Rattle.play_event.specs.Mover.{mover}
-use Rattle.play_event.specs.Price.{owed}
+use Rattle.play_event.specs.PlayerToAct.{player_to_act}
+use Rattle.play_event.specs.CurrentBet.{to_call}
 use Rattle.play_event.specs.Raising.{may_raise}
 use Rattle.play_event.specs.Table.{up_cards}
 use Rattle.play_event.specs.MoveReasons.{actor_of, is_other_seat, is_undecided, has_nothing_to_call, is_raise_closed, is_raise_too_small, is_raise_too_big, is_below_targets, is_above_targets, amount_row}
@@ -52,7 +52,7 @@ move_reasons setup rules moves now in_turn event =
     ∷ []
 
 -- why a move is illegal depends on them alone
-pub why_move : (setup : Setup) (rules : Rules) (before : Past) (event : Said) → IsMoveSaid event → why setup rules before event ≡ first_reason (move_reasons setup rules (moves_of before) (turn setup before) (mover setup (up_cards setup.code before) (moves_of before) (turn setup before).0) event)
+pub why_move : (setup : Setup) (rules : Rules) (before : Past) (event : Said) → IsMoveSaid event → why setup rules before event ≡ first_reason (move_reasons setup rules (moves_of before) (turn setup before) (player_to_act setup (up_cards setup.code before) (moves_of before) (turn setup before).0) event)
 unfolding why
 why_move setup rules before _ (fold_said named) = refl
 why_move setup rules before _ (call_said named stated) = refl
@@ -99,7 +99,7 @@ named_none setup rules moves now seat _ (fold_said named) none =
                 refl,
                 (
                   refl,
-                  (ap (λ a. not rules.free_fold && (owed setup moves now.0 a == 0)) (sym actor) ∙ none.1.1.1.1.1.1.1.0, (refl, (refl, (refl, (refl, tt))))),
+                  (ap (λ a. not rules.free_fold && (to_call setup moves now.0 a == 0)) (sym actor) ∙ none.1.1.1.1.1.1.1.0, (refl, (refl, (refl, (refl, tt))))),
                 ),
               ),
             ),

@@ -4,7 +4,7 @@ use Rattle.std.specs.Prelude.{ℕ, List, [], ◌∷◌, Option, Some, unwrap_or}
 use Rattle.play_event.specs.Amounts.{raise_target}
 use Rattle.play_event.specs.Due.{turn}
 use Rattle.play_event.specs.MoveReasons.{actor_of}
-use Rattle.play_event.specs.Mover.{mover}
+use Rattle.play_event.specs.PlayerToAct.{player_to_act}
 use Rattle.play_event.specs.Openers.{InTurn, NoSeat, TheSeat, Undecided}
 use Rattle.play_event.specs.Past.{Past, moves_of}
 use Rattle.play_event.specs.Said.{BringIn, Call, Fold, Raise, Said}
@@ -25,7 +25,7 @@ with_actor seat event = event
 -- whose turn it is after a past
 abbrev pub in_turn_after : Setup → Past → InTurn
 in_turn_after setup past =
-    mover setup (up_cards setup.code past) (moves_of past) (turn setup past).0
+    player_to_act setup (up_cards setup.code past) (moves_of past) (turn setup past).0
 
 -- the target of a raise after a past, for the seat that it names or else the player to act
 abbrev pub target_after : Setup → Past → Option ℕ → Spelled → ℕ

@@ -11,7 +11,7 @@ use Rattle.command_words.specs.Words.{Load, Plain, Request, Under, Compare}
 use Rattle.command_words.specs.declared.request.Logs.{Logs}
 use Rattle.poker_cli.specs.declared.task.Task.{Task}
 use Rattle.convert_core.specs.Conversion.{IsConversion as IsConverting, IsConverted, IsPlaysRefusal, IsReadFault, ReadAsRefused}
-use Rattle.convert_core.specs.Faults.{is_want_in_acpc, is_want_in_ohh, is_want_in_phh, is_want_of_memory}
+use Rattle.convert_core.specs.Faults.{is_out_of_memory_in_acpc, is_out_of_memory_in_ohh, is_out_of_memory_in_phh, is_out_of_memory}
 use Rattle.convert_core.specs.declared.convert_fault.ConvertFault.{ConvertFault}
 use Rattle.convert_core.specs.declared.convert_fault.ConvertFault.TheVariants as convert_faults
 use Rattle.convert_core.specs.declared.refusal.Refusal.{Refusal}
@@ -26,17 +26,17 @@ use Rattle.phh_reading.specs.declared.fault.PhhFault.{PhhFault}
 use Rattle.phh_reading.specs.declared.fault.PhhFault.TheVariants as in_phh
 use Rattle.poker_cli.specs.Answer.{Answer, Files, GivesGame, GivesNoGame, IsAnswer, IsAnswerBy, IsAnswerIn, IsAnswerTo, IsAnswerUnder, IsJudgement, IsToldOf, IsWritten, done, most_input, to_excess, to_fault, to_refusal}
 use Rattle.poker_cli.specs.Answer as answers
-use Rattle.poker_cli.specs.Lacking.{IsLackTold, Lacks}
+use Rattle.poker_cli.specs.Lacking.{IsGameFileErrorTold, Lacks}
 use Rattle.poker_cli.specs.Told.{answer_told}
 use Rattle.poker_cli.specs.declared.answer.Answer as made
-use Rattle.poker_cli.specs.declared.no_answer.NoAnswer.{NoAnswer}
-use Rattle.poker_cli.specs.declared.games.Lack.{Lack}
-use Rattle.poker_cli.specs.declared.games.Lack.TheVariants as lacks
+use Rattle.poker_cli.specs.declared.no_answer.NoAnswerError.{NoAnswerError}
+use Rattle.poker_cli.specs.declared.games.GameFileError.{GameFileError}
+use Rattle.poker_cli.specs.declared.games.GameFileError.TheVariants as lacks
 use Rattle.poker_cli.specs.Run.{AsksForFile, Ends, EndsLeaving, IsFileMissing, IsGameMissing, IsOwn, LacksFile, MayEnd, OfBytes, ReadsHands, Sinks, TellsLine, Writes, WhereTold, line_of}
 use Rattle.poker_cli.specs.declared.status.Status.{Status}
 use Rattle.poker_cli.specs.declared.status.Status.TheVariants as statuses
 use Rattle.poker_cli.specs.declared.task.Format.{Format}
-use Rattle.poker_cli.specs.Ways.{way_under}
+use Rattle.poker_cli.specs.Ways.{job_under}
 
 -- the bytes that were read are those that the source had left
 pub answer_within : (task : Task) (reader : Format) (left : Option (List ℕ)) (bytes : List ℕ) (answer : Answer)
@@ -57,7 +57,7 @@ answer_beyond task reader left answer many is =
     beyond most_input left _ many (λ bytes more. subst (λ (a : Answer). IsAnswer task reader bytes a) (sym is) (answers.TooLong more))
 
 -- running out of memory is not reported as a fault
-history_memory : (fault : PhhFault) (answer : Answer) → to_fault (formats.Phh fault) ≡ Some answer → is_want_in_phh fault ≡ true → ⊥
+history_memory : (fault : PhhFault) (answer : Answer) → to_fault (formats.Phh fault) ≡ Some answer → is_out_of_memory_in_phh fault ≡ true → ⊥
 history_memory (in_phh.Memory memory) answer told memory = cc (told)
 history_memory in_phh.Text answer told memory = cc (memory)
 history_memory (in_phh.MissingField hand key) answer told memory = cc (memory)
@@ -70,7 +70,7 @@ history_memory (in_phh.ListLength hand key) answer told memory = cc (memory)
 history_memory (in_phh.BadAction hand key) answer told memory = cc (memory)
 history_memory (in_phh.TooMany quantity hand key) answer told memory = cc (memory)
 
-tree_memory : (fault : OhhFault) (answer : Answer) → to_fault (formats.Ohh fault) ≡ Some answer → is_want_in_ohh fault ≡ true → ⊥
+tree_memory : (fault : OhhFault) (answer : Answer) → to_fault (formats.Ohh fault) ≡ Some answer → is_out_of_memory_in_ohh fault ≡ true → ⊥
 tree_memory (in_ohh.Memory memory) answer told memory = cc (told)
 tree_memory (in_ohh.Text hand) answer told memory = cc (memory)
 tree_memory (in_ohh.MissingMember hand path) answer told memory = cc (memory)
@@ -85,7 +85,7 @@ tree_memory (in_ohh.BadPost hand path) answer told memory = cc (memory)
 tree_memory (in_ohh.RakePlace hand path) answer told memory = cc (memory)
 tree_memory (in_ohh.TooMany quantity hand path) answer told memory = cc (memory)
 
-log_memory : (fault : AcpcFault) (answer : Answer) → to_fault (formats.Acpc fault) ≡ Some answer → is_want_in_acpc fault ≡ true → ⊥
+log_memory : (fault : AcpcFault) (answer : Answer) → to_fault (formats.Acpc fault) ≡ Some answer → is_out_of_memory_in_acpc fault ≡ true → ⊥
 log_memory (in_acpc.Memory memory) answer told memory = cc (told)
 log_memory (in_acpc.LineShape line byte) answer told memory = cc (memory)
 log_memory (in_acpc.BadBetting line byte) answer told memory = cc (memory)
@@ -97,7 +97,7 @@ log_memory (in_acpc.UnsupportedGame line byte) answer told memory = cc (memory)
 log_memory (in_acpc.AmountLimit line byte) answer told memory = cc (memory)
 log_memory (in_acpc.TooMany quantity line byte) answer told memory = cc (memory)
 
-no_memory : (fault : FormatFault) (answer : Answer) → to_fault fault ≡ Some answer → is_want_of_memory fault ≡ true → ⊥
+no_memory : (fault : FormatFault) (answer : Answer) → to_fault fault ≡ Some answer → is_out_of_memory fault ≡ true → ⊥
 no_memory (formats.Phh fault) answer told memory = history_memory fault answer told memory
 no_memory (formats.Ohh fault) answer told memory = tree_memory fault answer told memory
 no_memory (formats.Acpc fault) answer told memory = log_memory fault answer told memory
@@ -105,7 +105,7 @@ no_memory (formats.Acpc fault) answer told memory = log_memory fault answer told
 module _ (Say : List Record → Type 0) (HaveFault : FormatFault → Type 0) where
   module _ (IsMade : List Play → Answer → Type 0) (answer : Answer) where
     -- bytes that cannot be read
-    pub answer_unread : (fault : FormatFault) → (is_want_of_memory fault ≡ true) ⊎ HaveFault fault → to_fault fault ≡ Some answer
+    pub answer_unread : (fault : FormatFault) → (is_out_of_memory fault ≡ true) ⊎ HaveFault fault → to_fault fault ≡ Some answer
         → IsAnswerTo Say HaveFault IsMade answer
     answer_unread fault (inl memory) told = absurd (no_memory fault answer told memory)
     answer_unread fault (inr have) told = answers.Unread fault have answer told
@@ -318,9 +318,9 @@ told_alone answer statuses.GameMissing held same own undone = absurd own
 told_alone answer statuses.FileMissing held same own undone = absurd own
 
 -- if logs are under a game, the answer is that under the game in its file
-pub game_reply : (told : Option Files) (left : Option (List ℕ)) (name : List ℕ) (logs : Logs) (game : Game) (result : Result made.Answer NoAnswer)
+pub game_reply : (told : Option Files) (left : Option (List ℕ)) (name : List ℕ) (logs : Logs) (game : Game) (result : Result made.Answer NoAnswerError)
     → IfSome told (λ files. GivesGame (files name) game)
-    → IfOk result (λ answer. OfBytes left (λ bytes. IsAnswerBy (way_under game logs) bytes (answer_told answer)))
+    → IfOk result (λ answer. OfBytes left (λ bytes. IsAnswerBy (job_under game logs) bytes (answer_told answer)))
     → IfOk result (λ answer. IfSome told (λ files. OfBytes left (λ bytes. IsAnswerUnder (files name) logs bytes (answer_told answer))))
 game_reply (Some files) left name logs game (Ok answer) gives is =
     bytes_told left _ (λ bytes. IsAnswerUnder (files name) logs bytes (answer_told answer)) (λ bytes to. answers.OfInput game gives (answer_told answer) to) is
@@ -328,17 +328,17 @@ game_reply None left name logs game (Ok answer) gives is = tt
 game_reply told left name logs game (Err why) gives is = tt
 
 -- or it reports what is wrong with the file
-pub no_game : (file : Option (List ℕ)) (lack : Lack) (answer : Answer) → Lacks file lack → IsLackTold lack answer → GivesNoGame file answer
+pub no_game : (file : Option (List ℕ)) (lack : GameFileError) (answer : Answer) → Lacks file lack → IsGameFileErrorTold lack answer → GivesNoGame file answer
 no_game file lacks.TooLong answer is told = subst (λ (a : Answer). GivesNoGame file a) (sym told) (answers.FileTooLong is.0 is.1.0 is.1.1)
 no_game file (lacks.Bad fault) answer is told =
     subst (λ (a : Answer). GivesNoGame file a) (sym told) (answers.BadGame is.0 is.1.0 is.1.1.0 fault is.1.1.1)
 
-pub lack_reply : (told : Option Files) (left : Option (List ℕ)) (name : List ℕ) (logs : Logs) (lack : Lack) (answer : Answer)
-    → IfSome told (λ files. Lacks (files name) lack) → IsLackTold lack answer
+pub game_file_error_reply : (told : Option Files) (left : Option (List ℕ)) (name : List ℕ) (logs : Logs) (lack : GameFileError) (answer : Answer)
+    → IfSome told (λ files. Lacks (files name) lack) → IsGameFileErrorTold lack answer
     → IfSome told (λ files. OfBytes left (λ bytes. IsAnswerUnder (files name) logs bytes answer))
-lack_reply (Some files) left name logs lack answer is tells =
-    of_all left (λ bytes. IsAnswerUnder (files name) logs bytes answer) (λ bytes. answers.NoGame answer (no_game (files name) lack answer is tells))
-lack_reply None left name logs lack answer is tells = tt
+game_file_error_reply (Some files) left name logs lack answer is tells =
+    of_all left (λ bytes. IsAnswerUnder (files name) logs bytes answer) (λ bytes. answers.NoGameError answer (no_game (files name) lack answer is tells))
+game_file_error_reply None left name logs lack answer is tells = tt
 
 -- what is known of the files holds whatever the bytes are
 pub of_files : (left : Option (List ℕ)) (told : Option Files) (P : Files → Type 0) → IfSome told P → IfSome told (λ files. OfBytes left (λ bytes. P files))

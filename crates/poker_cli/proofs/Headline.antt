@@ -30,7 +30,7 @@ use Rattle.poker_cli.specs.declared.status.Status.{Status}
 use Rattle.poker_cli.specs.declared.status.Status.TheVariants as statuses
 use Rattle.poker_cli.specs.declared.task.Format.{Format}
 use Rattle.poker_cli.specs.declared.task.Format.TheVariants as readers
-use Rattle.poker_cli.specs.declared.task.Way.{Way}
+use Rattle.poker_cli.specs.declared.task.Job.{Job}
 use Rattle.poker_cli.proofs.Answering.{where_told}
 use Rattle.poker_cli.proofs.LawfulFormats.{no_fault}
 use Rattle.poker_cli.proofs.OneAnswer.{in_way, legal_in_way, no_file_missing, no_missing}
@@ -189,13 +189,13 @@ asks_for_logs : (files : Files) (request : Request) (from to : Format) (keep : K
 asks_for_logs files (Load seed hands) from to keep found asks = absurd found
 asks_for_logs files (Plain notation task) from to keep found asks = absurd asks
 asks_for_logs files (Under name (logs_are.Read task)) from to keep found asks =
-    let read : from ≡ readers.Acpc found.game = ap (λ (w : Way). w.reader) found.same in
+    let read : from ≡ readers.Acpc found.game = ap (λ (w : Job). w.reader) found.same in
     inl (subst IsOfLogs (sym read) tt)
 asks_for_logs files (Under name (logs_are.Viewed seat)) from to keep found asks =
-    let read : from ≡ readers.Acpc found.game = ap (λ (w : Way). w.reader) found.same in
+    let read : from ≡ readers.Acpc found.game = ap (λ (w : Job). w.reader) found.same in
     inl (subst IsOfLogs (sym read) tt)
 asks_for_logs files (Under name (logs_are.Written notation keeps)) from to keep found asks =
-    let task : tasks.Convert to keep ≡ tasks.Convert (readers.Acpc found.game) keeps = ap (λ (w : Way). w.task) found.same in
+    let task : tasks.Convert to keep ≡ tasks.Convert (readers.Acpc found.game) keeps = ap (λ (w : Job). w.task) found.same in
     let written : to ≡ readers.Acpc found.game = cc (task) in
     inr (subst IsOfLogs (sym written) tt)
 asks_for_logs files (Compare sides file notes) from to keep found asks = absurd found

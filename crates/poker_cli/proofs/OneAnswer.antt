@@ -42,13 +42,13 @@ use Rattle.poker_cli.specs.Answer as answers
 use Rattle.poker_cli.specs.Inputs.{HaveFault, SayRecords}
 use Rattle.poker_cli.specs.OneAnswer.{AreOneAnswer}
 use Rattle.poker_cli.specs.Outputs.{AreSameIn, first_refusal_in, kept_in, unspelled_in}
-use Rattle.poker_cli.specs.Ways.{way, way_under}
+use Rattle.poker_cli.specs.Ways.{way, job_under}
 use Rattle.poker_cli.specs.Run.{Ends, GivesNone, IsFileMissing, IsGameMissing, NeedsNoInput, RefusesNothing, Sinks}
 use Rattle.poker_cli.specs.declared.status.Status.{Status}
 use Rattle.poker_cli.specs.declared.status.Status.TheVariants as statuses
 use Rattle.poker_cli.specs.declared.task.Format.{Format}
 use Rattle.poker_cli.specs.declared.task.Format.TheVariants as readers
-use Rattle.poker_cli.specs.declared.task.Way.{Way}
+use Rattle.poker_cli.specs.declared.task.Job.{Job}
 use Rattle.poker_cli.proofs.AlikeGames.{one_game}
 use Rattle.poker_cli.proofs.LawfulFormats.{no_fault, one_reading, one_spelling, read_by, same_fact}
 use Rattle.hand_session.specs.Hands.{Hand as SessionHand}
@@ -427,24 +427,24 @@ games_same file game other gives too =
     one_game game other (cc (says, it))
 
 -- a request is answered in one way
-pub in_way : (request : Request) (files : Files) (bytes : List ℕ) (by : Way) (answer : Answer) → IsWay files request by
+pub in_way : (request : Request) (files : Files) (bytes : List ℕ) (by : Job) (answer : Answer) → IsWay files request by
     → IsAnswerIn request files bytes answer → IsAnswerBy by bytes answer
 in_way (Load seed hands) files bytes by answer found is = absurd found
-in_way (Plain from task) files bytes by answer found is = subst (λ (w : Way). IsAnswerBy w bytes answer) (sym found) is
-in_way (Under name logs) files bytes by answer found (answers.NoGame _ lacks) = absurd (no_game (files name) found.game answer found.gives lacks)
+in_way (Plain from task) files bytes by answer found is = subst (λ (w : Job). IsAnswerBy w bytes answer) (sym found) is
+in_way (Under name logs) files bytes by answer found (answers.NoGameError _ lacks) = absurd (no_game (files name) found.game answer found.gives lacks)
 in_way (Under name logs) files bytes by answer found (answers.OfInput game gives _ to) =
-    subst (λ (w : Way). IsAnswerBy w bytes answer)
-    (ap (λ (g : AnyGame). way_under g logs) (games_same (files name) game found.game gives found.gives) ∙ sym found.same) to
+    subst (λ (w : Job). IsAnswerBy w bytes answer)
+    (ap (λ (g : AnyGame). job_under g logs) (games_same (files name) game found.game gives found.gives) ∙ sym found.same) to
 in_way (Compare sides file notes) files bytes by answer found is = absurd found
 
 -- a request that is read and handled in a way misses no game file and no other file
-pub no_missing : (files : Files) (request : Request) (by : Way) → IsWay files request by → IsGameMissing request files → ⊥
+pub no_missing : (files : Files) (request : Request) (by : Job) → IsWay files request by → IsGameMissing request files → ⊥
 no_missing files (Load seed hands) by found missing = missing
 no_missing files (Plain from task) by found missing = missing
 no_missing files (Under name logs) by found missing = let there = found.gives.there in cc (there, missing)
 no_missing files (Compare sides file notes) by found missing = found
 
-pub no_file_missing : (files : Files) (request : Request) (by : Way) → IsWay files request by → IsFileMissing request files → ⊥
+pub no_file_missing : (files : Files) (request : Request) (by : Job) → IsWay files request by → IsFileMissing request files → ⊥
 no_file_missing files (Load seed hands) by found missing = missing
 no_file_missing files (Plain from task) by found missing = missing
 no_file_missing files (Under name logs) by found missing = missing

@@ -30,13 +30,13 @@ use Rattle.poker_cli.specs.Run.{IsOfInput, IsOwn, OfBytes, ReadsNothing}
 use Rattle.poker_cli.specs.Told.{answer_told}
 use Rattle.poker_cli.specs.declared.answer.Answer as made
 use Rattle.poker_cli.specs.declared.comparison.Comparison.{Comparison}
-use Rattle.poker_cli.specs.declared.no_answer.NoAnswer.{NoAnswer}
+use Rattle.poker_cli.specs.declared.no_answer.NoAnswerError.{NoAnswerError}
 use Rattle.poker_cli.specs.declared.status.Status.{Status}
 use Rattle.poker_cli.specs.declared.status.Status.TheVariants as statuses
 use Rattle.poker_cli.specs.declared.task.Format.{Format}
 use Rattle.poker_cli.specs.declared.task.Task.{Task}
 use Rattle.poker_cli.specs.declared.task.Task.TheVariants as tasks
-use Rattle.poker_cli.specs.declared.task.Way.{Way}
+use Rattle.poker_cli.specs.declared.task.Job.{Job}
 
 -- a status of an answer to what was read of the input is not that of a fault, and comes after the
 -- reading
@@ -165,12 +165,12 @@ some_bytes : (left : Option (List ℕ)) (P : List ℕ → Type 0) (This : Type 0
 some_bytes (Some bytes) P This each is = each bytes is
 some_bytes None P This each is = each is.0 is.1
 
-pub of_way : (left : Option (List ℕ)) (by : Way) (result : Result made.Answer NoAnswer)
+pub of_way : (left : Option (List ℕ)) (by : Job) (result : Result made.Answer NoAnswerError)
     → IfOk result (λ answer. OfBytes left (λ bytes. IsAnswerBy by bytes (answer_told answer))) → IfOk result (λ answer. IsOfInput answer.status)
 of_way left by (Ok answer) is = some_bytes left _ _ (λ bytes to. answer_own by.task by.reader bytes (answer_told answer) to) is
 of_way left by (Err why) is = tt
 
-pub of_both : (left : Option (List ℕ)) (by : Comparison) (file : List ℕ) (result : Result made.Answer NoAnswer)
+pub of_both : (left : Option (List ℕ)) (by : Comparison) (file : List ℕ) (result : Result made.Answer NoAnswerError)
     → IfOk result (λ answer. OfBytes left (λ bytes. IsComparison by file bytes (answer_told answer))) → IfOk result (λ answer. IsOfInput answer.status)
 of_both left by file (Ok answer) is = some_bytes left _ _ (λ bytes to. comparison_own by file bytes (answer_told answer) to) is
 of_both left by file (Err why) is = tt

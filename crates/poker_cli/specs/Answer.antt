@@ -50,11 +50,11 @@ use Rattle.poker_cli.specs.Outputs.{ReadsBack, SpellPlays, unspelled_in}
 use Rattle.poker_cli.specs.OhhFaults.{ohh_fault_line, ohh_status}
 use Rattle.poker_cli.specs.Unspelled.{unspelled_line}
 use Rattle.poker_cli.specs.Verdicts.{judged_said}
-use Rattle.poker_cli.specs.Ways.{format_under, plain_format, plain_way, way_under}
+use Rattle.poker_cli.specs.Ways.{format_under, plain_format, plain_job, job_under}
 use Rattle.poker_cli.specs.declared.comparison.Comparison.{Comparison}
 use Rattle.poker_cli.specs.declared.status.Status.TheVariants as statuses
 use Rattle.poker_cli.specs.declared.task.Format.{Format}
-use Rattle.poker_cli.specs.declared.task.Way.{Way}
+use Rattle.poker_cli.specs.declared.task.Job.{Job}
 use Rattle.hand_records.specs.WriteRefusals.{first_refusal}
 
 -- the most bytes of an input
@@ -205,7 +205,7 @@ pub data IsAnswer (task : Task) (reader : Format) (bytes : List ℕ) : Answer �
       → IsAnswer task reader bytes answer
 
 -- the answer to the bytes of an input that is read and handled this way
-abbrev pub IsAnswerBy : Way → List ℕ → Answer → Type 0
+abbrev pub IsAnswerBy : Job → List ℕ → Answer → Type 0
 IsAnswerBy by bytes answer = IsAnswer by.task by.reader bytes answer
 
 -- the answer says why bytes cannot be converted or have no plays; none if memory ran out
@@ -237,16 +237,16 @@ abbrev pub Files : Type 0
 Files = List ℕ → Option (List ℕ)
 
 -- Hands are read and handled this way if logs are under the game in this game file.
-pub record IsWayUnder (file : Option (List ℕ)) (logs : Logs) (way : Way) : Type 0 where
+pub record IsWayUnder (file : Option (List ℕ)) (logs : Logs) (way : Job) : Type 0 where
   pub game : Game
   pub gives : GivesGame file game
-  pub same : way ≡ way_under game logs
+  pub same : way ≡ job_under game logs
 
 -- how the hands of a request are read and handled, by the files on a shelf; none for generated
 -- hands and for comparisons
-abbrev pub IsWay : Files → Request → Way → Type 0
+abbrev pub IsWay : Files → Request → Job → Type 0
 IsWay files (Load seed hands) way = ⊥
-IsWay files (Plain from task) way = way ≡ plain_way from task
+IsWay files (Plain from task) way = way ≡ plain_job from task
 IsWay files (Under name logs) way = IsWayUnder (files name) logs way
 IsWay files (Compare sides file notes) way = ⊥
 
@@ -260,10 +260,10 @@ pub record IsSummed (seed hands : ℕ) (answer : Answer) : Type 0 where
 pub data IsAnswerUnder (file : Option (List ℕ)) (logs : Logs) (bytes : List ℕ) : Answer
     → Type 0 where
   -- the game file gives no game
-  NoGame : (answer : Answer) → GivesNoGame file answer → IsAnswerUnder file logs bytes answer
+  NoGameError : (answer : Answer) → GivesNoGame file answer → IsAnswerUnder file logs bytes answer
   -- the input is answered under the game in the file
   OfInput : (game : Game) → GivesGame file game → (answer : Answer)
-      → IsAnswerBy (way_under game logs) bytes answer
+      → IsAnswerBy (job_under game logs) bytes answer
       → IsAnswerUnder file logs bytes answer
 
 -- the answer that reports a fault inside the other file of a comparison
@@ -374,7 +374,7 @@ AsksToCompare files request by text = ⊥
 -- hands are generated
 abbrev pub IsAnswerIn : Request → Files → List ℕ → Answer → Type 0
 IsAnswerIn (Load seed hands) files bytes answer = IsSummed seed hands answer
-IsAnswerIn (Plain from task) files bytes answer = IsAnswerBy (plain_way from task) bytes answer
+IsAnswerIn (Plain from task) files bytes answer = IsAnswerBy (plain_job from task) bytes answer
 IsAnswerIn (Under name logs) files bytes answer = IsAnswerUnder (files name) logs bytes answer
 IsAnswerIn (Compare sides file notes) files bytes answer =
     IsComparedIn files sides file notes bytes answer

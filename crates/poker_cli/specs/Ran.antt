@@ -1,5 +1,6 @@
 -- That the program ran over its devices. What is said here is shut: no other file can open it, so a
--- contract that promises it is met only by a call of `end_with`, the run of the program on its words.
+-- contract that promises it is met only by a call of `end_with`, the run of the program on its
+-- words.
 use Rattle.std.specs.Prelude.{◌≡◌, ℕ}
 use Rattle.host_io.specs.StdSink.{inner_writer}
 use Rattle.host_io.specs.StdSource.{inner_reader}

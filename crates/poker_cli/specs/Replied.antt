@@ -5,13 +5,13 @@ use Rattle.host_io.specs.Faults.{Rose}
 use Rattle.poker_cli.specs.Answer.{Files}
 use Rattle.poker_cli.specs.Run.{AsksForFile, IsFileMissing, IsGameMissing, IsOwn, LacksFile, ReadsHands, ReadsNothing, WhereTold}
 use Rattle.poker_cli.specs.declared.answer.Answer as made
-use Rattle.poker_cli.specs.declared.no_answer.NoAnswer.{NoAnswer}
-use Rattle.poker_cli.specs.declared.no_answer.NoAnswer.TheVariants as whys
+use Rattle.poker_cli.specs.declared.no_answer.NoAnswerError.{NoAnswerError}
+use Rattle.poker_cli.specs.declared.no_answer.NoAnswerError.TheVariants as whys
 
 -- A request has no answer for this reason, by the bytes that a source has left and the files on a
 -- shelf: the input was to be read and no file was missing, or the shelf failed, or a file that is
 -- asked for is not there. Nothing is known of them if memory ran out.
-abbrev pub HasNoAnswer : Request → (left : Option (List ℕ)) → (told : Option Files) → NoAnswer
+abbrev pub HasNoAnswer : Request → (left : Option (List ℕ)) → (told : Option Files) → NoAnswerError
     → Type 0
 HasNoAnswer request left told whys.ReadFault = ReadsHands request × (LacksFile request told → ⊥)
 HasNoAnswer request left told whys.ShelfFault = AsksForFile request
@@ -26,7 +26,7 @@ HasNoAnswer request left told (whys.Memory memory) = Unit {0}
 -- rose, and if the reply comes before the input is read, the source stays as it was. `reads` and
 -- `asks` are the fault counts of the source and of the shelf.
 abbrev pub Keeps : {S : Type 0} → (input read : S) → (reads asks : ℕ × ℕ)
-    → Result made.Answer NoAnswer → Type 0
+    → Result made.Answer NoAnswerError → Type 0
 Keeps input read reads asks (Ok answer) =
     IsOwn answer.status × (ReadsNothing answer.status → read ≡ input)
 Keeps input read reads asks (Err whys.ReadFault) = Rose reads.0 reads.1

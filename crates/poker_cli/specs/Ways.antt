@@ -13,7 +13,7 @@ use Rattle.poker_cli.specs.declared.task.Format.{Format}
 use Rattle.poker_cli.specs.declared.task.Format.TheVariants as readers
 use Rattle.poker_cli.specs.declared.task.Task.{Task}
 use Rattle.poker_cli.specs.declared.task.Task.TheVariants as tasks
-use Rattle.poker_cli.specs.declared.task.Way.{Way}
+use Rattle.poker_cli.specs.declared.task.Job.{Job}
 
 -- the notation of this name, which needs no game
 abbrev pub plain_format : PlainNotation → Format
@@ -33,17 +33,17 @@ task_in format named.Judge = tasks.Judge
 task_in format (named.Convert to keep) = tasks.Convert (format to) keep
 
 -- how hands are read, and what is done with them
-abbrev pub way : Task → Format → Way
+abbrev pub way : Task → Format → Job
 way task reader = record { reader = reader; task = task }
 
 -- how hands without a game are read, and what is done with them
-abbrev pub plain_way : PlainNotation → NamedTask PlainNotation → Way
-plain_way from task = way (task_in plain_format task) (plain_format from)
+abbrev pub plain_job : PlainNotation → NamedTask PlainNotation → Job
+plain_job from task = way (task_in plain_format task) (plain_format from)
 
 -- how hands are read and handled if logs are under a game: logs are read or viewed, or hands of
 -- another notation are written as logs
-abbrev pub way_under : Game → Logs → Way
-way_under game (logs_are.Read task) = way (task_in (format_under game) task) (readers.Acpc game)
-way_under game (logs_are.Viewed seat) = way (tasks.Views game seat) (readers.Acpc game)
-way_under game (logs_are.Written from keep) =
+abbrev pub job_under : Game → Logs → Job
+job_under game (logs_are.Read task) = way (task_in (format_under game) task) (readers.Acpc game)
+job_under game (logs_are.Viewed seat) = way (tasks.Views game seat) (readers.Acpc game)
+job_under game (logs_are.Written from keep) =
     way (tasks.Convert (readers.Acpc game) keep) (plain_format from)

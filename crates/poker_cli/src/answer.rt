@@ -232,7 +232,7 @@ pub fn answer_to_unspelled(alloc: Global, hand: u32, fact: Unspelled) -> Result<
 }
 
 /// The answer to an input that is too long.
-pub fn answer_to_excess(alloc: Global) -> Result<Answer, Memory>
+pub fn input_too_long(alloc: Global) -> Result<Answer, Memory>
     ensures { IfOk result (λ answer. answer_told answer ≡ definition.to_excess) }
 {
     let line = excess_line(alloc, "input bytes", MOST_INPUT)?;

@@ -16,12 +16,12 @@ ghost use Rattle.poker_cli.specs.declared.task.Format.{Format};
 
 use crate::answer::{self, Answer, MOST_INPUT};
 use crate::comparing::reply_to_comparison;
-use crate::games::{NoGame, answer_to_lack, fetch_game};
-use crate::no_answer::NoAnswer;
+use crate::games::{NoGameError, fetch_game, game_file_answer};
+use crate::no_answer::NoAnswerError;
 use crate::status::Status;
 use crate::summing::answer_to_load;
-use crate::task::Way;
-use crate::ways::{plain_way, way_under};
+use crate::task::Job;
+use crate::ways::{job_under, plain_job};
 use card_set::Memory;
 use command_words::{Logs, Request, read_words};
 use host_io::{Failed, InFault, Shelf, Sink, Source, read_all, write_all};
@@ -86,11 +86,11 @@ pub fn run<S: Source, H: Shelf, K: Sink, D: Sink>(
     match read_words(alloc, words) {
         Ok(Some(request)) => run_request(alloc, request, input, shelf, out, diag),
         Ok(None) => {
-            tell(diag, USAGE);
+            print_line(diag, USAGE);
             Status::Usage
         }
         Err(memory) => {
-            tell(diag, b"out of memory\n");
+            print_line(diag, b"out of memory\n");
             Status::Memory
         }
     }
@@ -124,24 +124,24 @@ fn run_request<S: Source, H: Shelf, K: Sink, D: Sink>(
 {
     match reply(alloc, request, input, shelf) {
         Ok(answer) => deliver(&answer, out, diag),
-        Err(NoAnswer::ReadFault) => {
-            tell(diag, b"read fault\n");
+        Err(NoAnswerError::ReadFault) => {
+            print_line(diag, b"read fault\n");
             Status::ReadFault
         }
-        Err(NoAnswer::GameMissing) => {
-            tell(diag, b"game missing\n");
+        Err(NoAnswerError::GameMissing) => {
+            print_line(diag, b"game missing\n");
             Status::GameMissing
         }
-        Err(NoAnswer::FileMissing) => {
-            tell(diag, b"file missing\n");
+        Err(NoAnswerError::FileMissing) => {
+            print_line(diag, b"file missing\n");
             Status::FileMissing
         }
-        Err(NoAnswer::ShelfFault) => {
-            tell(diag, b"shelf fault\n");
+        Err(NoAnswerError::ShelfFault) => {
+            print_line(diag, b"shelf fault\n");
             Status::ShelfFault
         }
-        Err(NoAnswer::Memory(memory)) => {
-            tell(diag, b"out of memory\n");
+        Err(NoAnswerError::Memory(memory)) => {
+            print_line(diag, b"out of memory\n");
             Status::Memory
         }
     }
@@ -154,7 +154,7 @@ fn reply<S: Source, H: Shelf>(
     request: Request<'_>,
     input: &mut S,
     shelf: &mut H,
-) -> Result<Answer, NoAnswer>
+) -> Result<Answer, NoAnswerError>
     ensures answer { IfOk result (λ answer.
         WhereTold (request_in request.entry) (S.left input.old) (H.files shelf.old) (λ files bytes.
         IsAnswerIn (request_in request.entry) files bytes (answer_told answer))) }
@@ -170,9 +170,9 @@ fn reply<S: Source, H: Shelf>(
     match request {
         Request::Load { seed, hands } => match answer_to_load(alloc, seed, hands) {
             Ok(answer) => Ok(answer),
-            Err(memory) => Err(NoAnswer::Memory(memory)),
+            Err(memory) => Err(NoAnswerError::Memory(memory)),
         },
-        Request::Plain { from, task } => reply_with(alloc, plain_way(from, task), input),
+        Request::Plain { from, task } => reply_with(alloc, plain_job(from, task), input),
         Request::Under { game, logs } => reply_under(alloc, game, logs, input, shelf),
         Request::Compare { sides, file, notes } => {
             reply_to_comparison(alloc, sides, file, notes, input, shelf)
@@ -187,7 +187,7 @@ fn reply_under<S: Source, H: Shelf>(
     logs: Logs,
     input: &mut S,
     shelf: &mut H,
-) -> Result<Answer, NoAnswer>
+) -> Result<Answer, NoAnswerError>
     ensures answer { IfOk result (λ answer. IfSome (H.files shelf.old) (λ files.
         OfBytes (S.left input.old) (λ bytes.
         IsAnswerUnder (files name.now) logs bytes (answer_told answer)))) }
@@ -200,36 +200,36 @@ fn reply_under<S: Source, H: Shelf>(
         GivesNone (files name.now) → input.new ≡ input.old) }
 {
     match fetch_game(alloc, shelf, name) {
-        Ok(game) => reply_with(alloc, way_under(game, logs), input),
-        Err(NoGame::Lacking(lack)) => match answer_to_lack(alloc, lack) {
+        Ok(game) => reply_with(alloc, job_under(game, logs), input),
+        Err(NoGameError::Lacking(lack)) => match game_file_answer(alloc, lack) {
             Ok(answer) => Ok(answer),
-            Err(memory) => Err(NoAnswer::Memory(memory)),
+            Err(memory) => Err(NoAnswerError::Memory(memory)),
         },
-        Err(NoGame::Missing) => Err(NoAnswer::GameMissing),
-        Err(NoGame::ShelfFault) => Err(NoAnswer::ShelfFault),
-        Err(NoGame::Memory(memory)) => Err(NoAnswer::Memory(memory)),
+        Err(NoGameError::Missing) => Err(NoAnswerError::GameMissing),
+        Err(NoGameError::ShelfFault) => Err(NoAnswerError::ShelfFault),
+        Err(NoGameError::Memory(memory)) => Err(NoAnswerError::Memory(memory)),
     }
 }
 
 // The answer to all that the source has left, read and handled as `way` says.
-fn reply_with<S: Source>(alloc: Global, way: Way, input: &mut S) -> Result<Answer, NoAnswer>
+fn reply_with<S: Source>(alloc: Global, way: Job, input: &mut S) -> Result<Answer, NoAnswerError>
     ensures answer { IfOk result (λ answer. OfBytes (S.left input.old) (λ bytes.
         IsAnswerBy way bytes (answer_told answer))) }
-    ensures read_fault { IsErrOf result NoAnswer.ReadFault
+    ensures read_fault { IsErrOf result NoAnswerError.ReadFault
         → Rose (S.faults input.old) (S.faults input.new) }
     ensures read_alone { IfErr result (λ why. ComesFirst why → ⊥) }
 {
     match read_all(alloc, input, MOST_INPUT) {
         Ok(bytes) => match answer::answer_to(alloc, way.task, &way.reader, &bytes) {
             Ok(answer) => Ok(answer),
-            Err(memory) => Err(NoAnswer::Memory(memory)),
+            Err(memory) => Err(NoAnswerError::Memory(memory)),
         },
-        Err(InFault::TooLong) => match answer::answer_to_excess(alloc) {
+        Err(InFault::TooLong) => match answer::input_too_long(alloc) {
             Ok(answer) => Ok(answer),
-            Err(memory) => Err(NoAnswer::Memory(memory)),
+            Err(memory) => Err(NoAnswerError::Memory(memory)),
         },
-        Err(InFault::ReadFault) => Err(NoAnswer::ReadFault),
-        Err(InFault::Memory(memory)) => Err(NoAnswer::Memory(memory)),
+        Err(InFault::ReadFault) => Err(NoAnswerError::ReadFault),
+        Err(InFault::Memory(memory)) => Err(NoAnswerError::Memory(memory)),
     }
 }
 
@@ -253,19 +253,19 @@ fn deliver<K: Sink, D: Sink>(answer: &Answer, out: &mut K, diag: &mut D) -> Stat
         Status::Done => match write_all(out, &answer.output) {
             Ok(()) => Status::Done,
             Err(Failed) => {
-                tell(diag, b"write fault\n");
+                print_line(diag, b"write fault\n");
                 Status::WriteFault
             }
         },
         status => {
-            tell(diag, answer.line.as_bytes());
+            print_line(diag, answer.line.as_bytes());
             status
         }
     }
 }
 
 /// Prints a line, as far as the sink takes it.
-pub fn tell<D: Sink>(diag: &mut D, line: &[u8])
+pub fn print_line<D: Sink>(diag: &mut D, line: &[u8])
     ensures { TellsLine
         (D.faults diag.old) (D.faults diag.new) (D.held diag.old) (D.held diag.new) line.now }
 {

@@ -2,7 +2,7 @@
 ghost use Rattle.std.specs.Prelude.{◌≡◌, ◌≤◌, IfErr, IfOk, IfSome, IsErrOf, string_bytes};
 ghost use Rattle.host_io.specs.Faults.{Rose};
 ghost use Rattle.poker_cli.specs.Answer.{GivesGame};
-ghost use Rattle.poker_cli.specs.Lacking.{HasNoGame, IsLackTold};
+ghost use Rattle.poker_cli.specs.Lacking.{HasNoGame, IsGameFileErrorTold};
 ghost use Rattle.poker_cli.specs.AcpcFaults.{bad_game_line as bad_game_line_said};
 ghost use Rattle.poker_cli.specs.Told.{answer_told};
 
@@ -18,28 +18,28 @@ use std::alloc::Global;
 
 /// What is wrong with a game file: it is too long, or has no game that is supported.
 #[derive(Clone, Copy, Debug, PartialEq, Eq)]
-pub enum Lack {
+pub enum GameFileError {
     TooLong,
     Bad(AcpcFault),
 }
 
 /// Why there is no game.
 #[derive(Clone, Copy, Debug, PartialEq, Eq)]
-pub enum NoGame {
+pub enum NoGameError {
     /// The file is not there.
     Missing,
-    Lacking(Lack),
+    Lacking(GameFileError),
     ShelfFault,
     Memory(Memory),
 }
 
 /// The game in the file of this name.
-pub fn fetch_game<H: Shelf>(alloc: Global, shelf: &mut H, name: &str) -> Result<Game, NoGame>
+pub fn fetch_game<H: Shelf>(alloc: Global, shelf: &mut H, name: &str) -> Result<Game, NoGameError>
     ensures game { IfOk result (λ game.
         IfSome (H.files shelf.old) (λ files. GivesGame (files name.now) game)) }
     ensures none { IfErr result (λ reason.
         IfSome (H.files shelf.old) (λ files. HasNoGame (files name.now) reason)) }
-    ensures failed { IsErrOf result NoGame.ShelfFault
+    ensures failed { IsErrOf result NoGameError.ShelfFault
         → Rose (H.faults shelf.old) (H.faults shelf.new) }
     ensures asked { H.Asked shelf.old shelf.new name.now }
     ensures unchanged { H.files shelf.new ≡ H.files shelf.old }
@@ -48,26 +48,26 @@ pub fn fetch_game<H: Shelf>(alloc: Global, shelf: &mut H, name: &str) -> Result<
     match shelf.fetch(alloc, name, MOST_INPUT) {
         Ok(Fetched::Bytes(text)) => match read_game(alloc, &text) {
             Ok(game) => Ok(game),
-            Err(AcpcFault::Memory(memory)) => Err(NoGame::Memory(memory)),
-            Err(fault) => Err(NoGame::Lacking(Lack::Bad(fault))),
+            Err(AcpcFault::Memory(memory)) => Err(NoGameError::Memory(memory)),
+            Err(fault) => Err(NoGameError::Lacking(GameFileError::Bad(fault))),
         },
-        Ok(Fetched::Absent) => Err(NoGame::Missing),
-        Ok(Fetched::TooLong) => Err(NoGame::Lacking(Lack::TooLong)),
-        Err(ShelfFault::Failed) => Err(NoGame::ShelfFault),
-        Err(ShelfFault::Memory(memory)) => Err(NoGame::Memory(memory)),
+        Ok(Fetched::Absent) => Err(NoGameError::Missing),
+        Ok(Fetched::TooLong) => Err(NoGameError::Lacking(GameFileError::TooLong)),
+        Err(ShelfFault::Failed) => Err(NoGameError::ShelfFault),
+        Err(ShelfFault::Memory(memory)) => Err(NoGameError::Memory(memory)),
     }
 }
 
 /// The answer if this is wrong with the game file.
-pub fn answer_to_lack(alloc: Global, lack: Lack) -> Result<Answer, Memory>
-    ensures { IfOk result (λ answer. IsLackTold lack (answer_told answer)) }
+pub fn game_file_answer(alloc: Global, lack: GameFileError) -> Result<Answer, Memory>
+    ensures { IfOk result (λ answer. IsGameFileErrorTold lack (answer_told answer)) }
 {
     match lack {
-        Lack::TooLong => {
+        GameFileError::TooLong => {
             let line = excess_line(alloc, "game bytes", MOST_INPUT)?;
             Ok(refusal(alloc, Status::Limit, line))
         }
-        Lack::Bad(fault) => {
+        GameFileError::Bad(fault) => {
             let line = bad_game_line(alloc, &fault)?;
             Ok(refusal(alloc, Status::BadGame, line))
         }

@@ -8,7 +8,7 @@ ghost use Rattle.poker_cli.specs.Verdicts.{ArePrinted, IsJudged, judged_end};
 
 use crate::refusals::refusal_text;
 use card_set::Memory;
-use convert_core::{PlaysFault, Refusal, Taker, take_each};
+use convert_core::{PlaysFault, Refusal, VerdictVisitor, judge_all};
 use hand_records::{Play, Records};
 use std::alloc::Global;
 
@@ -19,14 +19,14 @@ struct VerdictLines {
     legal: usize,
 }
 
-impl Taker for VerdictLines {
-    ghost GOES_ON = { true };
+impl VerdictVisitor for VerdictLines {
+    ghost CONTINUES = { true };
 
     ghost KEEPS = { false };
 
     ghost Took = { λ _ it verdicts. ArePrinted (string_bytes it.text) it.legal verdicts };
 
-    fn goes_on(&self) -> bool {
+    fn continues(&self) -> bool {
         true
     }
 
@@ -67,7 +67,7 @@ pub fn judge_text(alloc: Global, records: Records) -> Result<String, Memory>
         text: String::new(alloc),
         legal: 0,
     };
-    match take_each(alloc, &mut lines, records) {
+    match judge_all(alloc, &mut lines, records) {
         Ok(_) => {}
         Err(PlaysFault::Memory(memory)) => return Err(memory),
         Err(PlaysFault::Refused { .. }) => unreachable!(),

@@ -4,7 +4,7 @@ use card_set::Memory;
 
 /// Why there is no answer.
 #[derive(Clone, Copy, Debug, PartialEq, Eq)]
-pub enum NoAnswer {
+pub enum NoAnswerError {
     /// The input could not be read.
     ReadFault,
     /// The game file is not there.

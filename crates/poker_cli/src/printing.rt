@@ -7,7 +7,7 @@ ghost use Rattle.hand_records.specs.SoundRecord.{IsSoundRecord};
 ghost use Rattle.poker_cli.specs.Printed.{IsPrintOf, end_of, lines_of};
 ghost use Rattle.printed_hands.specs.Check.{each_hand};
 
-use crate::play_taker::{PlayTaker, take_plays};
+use crate::hand_visitor::{HandVisitor, take_plays};
 use card_set::Memory;
 use convert_core::PlaysFault;
 use hand_records::{Play, Records};
@@ -30,7 +30,7 @@ struct PrintedLines {
     text: String,
 }
 
-impl PlayTaker for PrintedLines {
+impl HandVisitor for PrintedLines {
     ghost TookPlays = { λ start it plays. (it.lines ≡ start.lines)
         × (string_bytes it.text ≡ each_hand (lines_of it.lines) 1 plays) };
 

@@ -11,7 +11,7 @@ ghost use Rattle.poker_cli.specs.Run.{change_of};
 ghost use Rattle.poker_cli.specs.Status.{IsStatusNumber, status_number};
 ghost use Rattle.poker_cli.specs.declared.status.Status.{Status as AnyStatus};
 
-use crate::entry::{run, tell};
+use crate::entry::{print_line, run};
 use crate::status::Status;
 use card_set::Memory;
 use host_io::{FileShelf, Shelf, Sink, Source, StdSink, StdSource};
@@ -103,7 +103,7 @@ fn answer_to_words<S: Source, H: Shelf, K: Sink, D: Sink>(
     match words_behind_first(alloc, all) {
         Ok(words) => run(alloc, &words, input, shelf, out, diag),
         Err(memory) => {
-            tell(diag, b"out of memory\n");
+            print_line(diag, b"out of memory\n");
             Status::Memory
         }
     }

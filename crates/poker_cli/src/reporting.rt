@@ -7,14 +7,14 @@ ghost use Rattle.hand_records.specs.SoundRecord.{IsSoundRecord};
 ghost use Rattle.poker_cli.specs.Texts.{IsTextOf};
 ghost use Rattle.printed_report.specs.SoFar.{IsReportSoFar};
 
-use crate::play_taker::{PlayTaker, take_plays};
+use crate::hand_visitor::{HandVisitor, take_plays};
 use card_set::Memory;
 use convert_core::PlaysFault;
 use hand_records::{Play, Records};
 use printed_report::OpenReport;
 use std::alloc::Global;
 
-impl PlayTaker for OpenReport {
+impl HandVisitor for OpenReport {
     ghost TookPlays = { λ _ it plays. IsReportSoFar it plays };
 
     fn take_play(&mut self, alloc: Global, _: usize, play: &Play) -> Result<(), Memory> {

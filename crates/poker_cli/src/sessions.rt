@@ -7,14 +7,14 @@ ghost use Rattle.hand_records.specs.SoundRecord.{IsSoundRecord};
 ghost use Rattle.hand_session.specs.SoFar.{IsSessionSoFar};
 ghost use Rattle.poker_cli.specs.Texts.{IsTextOf};
 
-use crate::play_taker::{PlayTaker, take_plays};
+use crate::hand_visitor::{HandVisitor, take_plays};
 use card_set::Memory;
 use convert_core::PlaysFault;
 use hand_records::{Play, Records};
 use hand_session::{OpenSession, session_text};
 use std::alloc::Global;
 
-impl PlayTaker for OpenSession {
+impl HandVisitor for OpenSession {
     ghost TookPlays = { λ _ it plays. IsSessionSoFar it plays };
 
     fn take_play(&mut self, alloc: Global, _: usize, play: &Play) -> Result<(), Memory> {

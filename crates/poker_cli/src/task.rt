@@ -31,7 +31,7 @@ pub enum Format {
 
 /// How hands are read, and what is done with them.
 #[derive(Clone, Copy, Debug, PartialEq, Eq)]
-pub struct Way {
+pub struct Job {
     pub reader: Format,
     pub task: Task,
 }

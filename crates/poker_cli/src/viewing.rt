@@ -13,8 +13,8 @@ ghost use Rattle.poker_cli.specs.Seen.{AreSeen, AreViewsOf};
 ghost use Rattle.poker_cli.specs.Told.{answer_told};
 
 use crate::answer::{Answer, answer_to_fault, answer_to_refused, done, refusal};
+use crate::hand_visitor::{HandVisitor, take_plays};
 use crate::limits::excess_line;
-use crate::play_taker::{PlayTaker, take_plays};
 use crate::status::Status;
 use acpc_game::Game;
 use acpc_view::{views, views_len};
@@ -38,7 +38,7 @@ struct SeenLines {
     kept: bool,
 }
 
-impl PlayTaker for SeenLines {
+impl HandVisitor for SeenLines {
     ghost TookPlays = { λ start it plays. (it.game ≡ start.game) × (it.seat ≡ start.seat)
         × (AreSeen it.game it.seat it.kept it.lines.items plays) };
 

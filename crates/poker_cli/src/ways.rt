@@ -2,14 +2,14 @@
 ghost use Rattle.std.specs.Prelude.{◌≡◌};
 ghost use Rattle.poker_cli.specs.Ways as definition;
 
-use crate::task::{Format, Task, Way};
+use crate::task::{Format, Job, Task};
 use acpc_game::Game;
 use command_words::{Logs, NamedTask, NotationName, PlainNotation};
 use ohh_members::Dialect;
 
 /// How hands without a game are read, and what is done with them.
-pub fn plain_way(from: PlainNotation, task: NamedTask<PlainNotation>) -> Way
-    ensures { result ≡ definition.plain_way from task }
+pub fn plain_job(from: PlainNotation, task: NamedTask<PlainNotation>) -> Job
+    ensures { result ≡ definition.plain_job from task }
 {
     let task = match task {
         NamedTask::Ask(question) => Task::Ask(question),
@@ -20,29 +20,29 @@ pub fn plain_way(from: PlainNotation, task: NamedTask<PlainNotation>) -> Way
         },
     };
     let reader = plain_format(from);
-    Way { reader, task }
+    Job { reader, task }
 }
 
 /// How hands are read if logs are under a game, and what is done with them.
-pub fn way_under(game: Game, logs: Logs) -> Way
-    ensures { result ≡ definition.way_under game logs }
+pub fn job_under(game: Game, logs: Logs) -> Job
+    ensures { result ≡ definition.job_under game logs }
 {
     match logs {
         Logs::Read(task) => {
             let reader = Format::Acpc(game);
             let task = task_under(game, task);
-            Way { reader, task }
+            Job { reader, task }
         }
         Logs::Viewed { seat } => {
             let reader = Format::Acpc(game);
             let task = Task::Views { game, seat };
-            Way { reader, task }
+            Job { reader, task }
         }
         Logs::Written { from, keep } => {
             let reader = plain_format(from);
             let to = Format::Acpc(game);
             let task = Task::Convert { to, keep };
-            Way { reader, task }
+            Job { reader, task }
         }
     }
 }

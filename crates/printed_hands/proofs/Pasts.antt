@@ -8,7 +8,7 @@ use Rattle.play_event.specs.Past.{Move, Past, Resolved, moves_of}
 use Rattle.play_event.specs.Said as said
 use Rattle.play_event.specs.Said.{Said, said_of}
 use Rattle.play_event.specs.Due.{turn}
-use Rattle.play_event.specs.Mover.{mover}
+use Rattle.play_event.specs.PlayerToAct.{player_to_act}
 use Rattle.play_event.specs.Openers.{InTurn}
 use Rattle.play_event.specs.Scripts.{past_of, resolved_by, resolved_on, with_event}
 use Rattle.play_event.specs.Table.{up_cards}
@@ -119,7 +119,7 @@ pub by_move : (setup : Setup) (before : Past) (event : Said) → is_move event �
 unfolding with_event
 by_move setup before event is_so =
     let street = (turn setup before).0 in
-    let in_turn = mover setup (up_cards setup.code before) (moves_of before) street in
+    let in_turn = player_to_act setup (up_cards setup.code before) (moves_of before) street in
     let found = the_move (resolved_by setup (moves_of before) street in_turn event) (moved_by setup (moves_of before) street in_turn event is_so) in
     record { move = found.0; is = ap (λ newest. newest ∷ before) found.1 }
 

@@ -2,7 +2,7 @@
 use Rattle.std.specs.Prelude.{◌≡◌, Option, Some, None, Result, IfErr, IfOk, OnOk}
 use Rattle.betting_core.specs.Kept.{IsSameHand}
 use Rattle.betting_numbers.specs.LegalMoves.{past_with, reason_after}
-use Rattle.betting_numbers.specs.declared.running.RunningNumbers.{RunningNumbers}
+use Rattle.betting_numbers.specs.declared.betting_state.BettingState.{BettingState}
 use Rattle.card_places.specs.declared.card_state.CardState.{CardState}
 use Rattle.play_event.specs.Said.{Said}
 use Rattle.play_event.specs.declared.played.Move.{Move}
@@ -11,13 +11,13 @@ use Rattle.replay_core.specs.Together.{StandTogether}
 use Rattle.replay_core.specs.Told.{IsToldOf, WhereTogether}
 
 -- the hand is the same, and its cards have the same number of seats
-pub record IsHandOf (b next : RunningNumbers) (t after : CardState) : Type 0 where
+pub record IsHandOf (b next : BettingState) (t after : CardState) : Type 0 where
   pub hand : IsSameHand b next
   pub seats : after.seats ≡ t.seats
 
 -- The answer to an event, where `b` and `t` are the betting and the cards before it, and `next` and
 -- `after` those after it.
-pub record Advances (b next : RunningNumbers) (t after : CardState) (event : Said)
+pub record Advances (b next : BettingState) (t after : CardState) (event : Said)
     (answer : Result (Option Move) Illegal) : Type 0 where
   -- it is refused for the first reason that holds
   pub refused :

@@ -1,6 +1,6 @@
 -- A script was played to its end, and rows hold the state at that point.
 use Rattle.std.specs.Prelude.{◌≡◌, ◌≢◌, ℕ, ◌≤◌, false, List, [], map, filter, reverse}
-use Rattle.betting_numbers.specs.declared.running.RunningNumbers.{RunningNumbers}
+use Rattle.betting_numbers.specs.declared.betting_state.BettingState.{BettingState}
 use Rattle.card_places.specs.declared.card_state.CardState.{CardState}
 use Rattle.chip_ledger.specs.LiveRow.{flagged}
 use Rattle.chip_ledger.specs.SeatRow.{amount_of}
@@ -30,7 +30,7 @@ use Rattle.replay_core.specs.Together.{StandTogether}
 
 -- betting and cards describe the end of a script: its events are legal, and nothing but shows is
 -- due
-pub record StandAtEnd (setup : Setup) (rules : Rules) (script : List Said) (b : RunningNumbers)
+pub record StandAtEnd (setup : Setup) (rules : Rules) (script : List Said) (b : BettingState)
     (t : CardState) : Type 0 where
   pub same_setup : b.setup ≡ setup
   pub legal : AreLegal setup rules (reverse script)

@@ -1,7 +1,7 @@
 -- Where the events of a script lead, and which of them is the first illegal one.
 use Rattle.std.specs.Prelude.{◌≡◌, ℕ, ◌-◌, ◌≤◌, List, map, slice_get, Some}
 use Rattle.std.specs.Option.{option_map}
-use Rattle.betting_numbers.specs.declared.running.RunningNumbers.{RunningNumbers}
+use Rattle.betting_numbers.specs.declared.betting_state.BettingState.{BettingState}
 use Rattle.betting_numbers.specs.LegalMoves.{reason_after}
 use Rattle.play_event.specs.declared.event.Event.{Event}
 use Rattle.play_event.specs.declared.played.Move as rows
@@ -33,7 +33,7 @@ pub record IsIllegalAt (setup : Setup) (rules : Rules) (script : List Event) (ev
   pub action : option_map (λ (e : Event). e.at) (slice_get script (event - 1)) ≡ Some at
 
 -- an event is refused after a past: it is illegal, or there is no memory for its move
-abbrev pub IsRefusedEvent : RunningNumbers → Event → ℕ → Past → ReplayFault → Type 0
+abbrev pub IsRefusedEvent : BettingState → Event → ℕ → Past → ReplayFault → Type 0
 IsRefusedEvent b event number past (faults.Illegal told at reason) =
     (told ≡ number) × (at ≡ event.at) × (reason_after b past (said_of event) ≡ Some reason)
 IsRefusedEvent b event number past (faults.EndsEarly events) = ⊥

@@ -50,6 +50,6 @@ IsFaultOf setup rules script (faults.NoShownHand pot) = HasUnshownPot setup rule
 IsFaultOf setup rules script (faults.Memory memory) = Unit {0}
 
 -- the fault is that memory ran out
-abbrev pub IsWant : ReplayFault → Type 0
-IsWant (faults.Memory memory) = Unit {0}
-IsWant fault = ⊥
+abbrev pub IsOutOfMemory : ReplayFault → Type 0
+IsOutOfMemory (faults.Memory memory) = Unit {0}
+IsOutOfMemory fault = ⊥

@@ -1,6 +1,6 @@
 -- The betting and the cards of a hand describe the same past.
 use Rattle.std.specs.Prelude.{◌≡◌, true, false}
-use Rattle.betting_numbers.specs.declared.running.RunningNumbers.{RunningNumbers}
+use Rattle.betting_numbers.specs.declared.betting_state.BettingState.{BettingState}
 use Rattle.betting_numbers.specs.Standing as betting
 use Rattle.betting_numbers.specs.UpTo.{StandsUpTo}
 use Rattle.card_places.specs.declared.card_state.CardState.{CardState}
@@ -9,7 +9,7 @@ use Rattle.play_event.specs.Past.{Past}
 use Rattle.street_laws.specs.Done.{is_done}
 
 -- Both describe the past, in one game and with the same seats.
-pub record StandTogether (b : RunningNumbers) (t : CardState) (past : Past) : Type 0 where
+pub record StandTogether (b : BettingState) (t : CardState) (past : Past) : Type 0 where
   -- the cards are of the game of the betting
   pub code_is : b.setup.code ≡ t.table.code
   -- and have its seats
@@ -20,7 +20,7 @@ pub record StandTogether (b : RunningNumbers) (t : CardState) (past : Past) : Ty
   pub cards : cards.StandsFor t past
 
 -- The cards describe the past; the betting does so only up to what is due, if that is complete.
-pub record StandUpToDue (b : RunningNumbers) (t : CardState) (past : Past) : Type 0 where
+pub record StandUpToDue (b : BettingState) (t : CardState) (past : Past) : Type 0 where
   -- the cards are of the game of the betting
   pub code_is : b.setup.code ≡ t.table.code
   -- and have its seats

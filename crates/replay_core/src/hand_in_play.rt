@@ -126,7 +126,7 @@ impl<V: Variant> HandInPlay<V> {
         ensures ups { WhereTogether self.now.betting self.now.cards
             (HoldsOpeningUps self.now.betting result) }
     {
-        if self.betting.is_unmoved() {
+        if self.betting.nobody_acted() {
             match V::OPEN {
                 Opener::Blinds => UpRow::new(self.cards.seats()),
                 Opener::LowUp | Opener::HighUp => self.cards.up(),

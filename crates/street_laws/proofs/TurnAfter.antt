@@ -12,7 +12,7 @@ use Rattle.play_event.specs.Due.{turn, due_on, first_due, showdown, is_bring_in_
 use Rattle.play_event.specs.Games.{hole_cards_on, board_cards_on, street_count}
 use Rattle.play_event.specs.Laws.{IsFirstStreet}
 use Rattle.play_event.specs.Past.{Past, Move, Moved, moves_of, newest_street}
-use Rattle.play_event.specs.Price.{owed}
+use Rattle.play_event.specs.CurrentBet.{to_call}
 use Rattle.play_event.specs.Seats.{is_live, live_count, all_seats}
 use Rattle.play_event.specs.Streets.{has_draw}
 use Rattle.play_event.specs.declared.reason.Due.TheVariants as dues
@@ -88,9 +88,9 @@ dealt_still setup past move street are =
 pub one_live : (setup : Setup) (moves : List Move) → nat_le (live_count setup moves) 1 ≡ false → list_any (is_live moves) (all_seats setup) ≡ true
 one_live setup moves more = counted_some (is_live moves) (all_seats setup) (let two : 1 < live_count setup moves = leb-false (live_count setup moves) 1 more in omega (arith, two))
 
-pub nothing_owed_by : (live : Bool) (owed dealt : ℕ) → owed ≡ 0 → nat_lt 0 (if live then owed - dealt else 0) ≡ false
-nothing_owed_by true owed dealt none = let zero_left : owed - dealt ≡ 0 = omega (arith, none) in ap (nat_lt 0) zero_left
-nothing_owed_by false owed dealt none = refl
+pub nothing_owed_by : (live : Bool) (to_call dealt : ℕ) → to_call ≡ 0 → nat_lt 0 (if live then to_call - dealt else 0) ≡ false
+nothing_owed_by true to_call dealt none = let zero_left : to_call - dealt ≡ 0 = omega (arith, none) in ap (nat_lt 0) zero_left
+nothing_owed_by false to_call dealt none = refl
 
 -- on a street after all events the street's cards are due
 module _ (setup : Setup) (past : Past) (street next : ℕ) (early : has_nothing_later past street ≡ true) (later : street < next) (within : next ≤ street_count setup.code) (more : nat_le (live_count setup (moves_of past)) 1 ≡ false) where

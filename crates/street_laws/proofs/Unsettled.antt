@@ -5,11 +5,11 @@ use Rattle.std.specs.List.{list_any}
 use Rattle.list_laws.proofs.Any.{list_any-weaker}
 use Rattle.play_event.proofs.StreetLaws.{due_is_first}
 use Rattle.play_event.specs.Dealing.{is_draw_due}
-use Rattle.play_event.specs.Due.{is_bring_in_due, is_move_due, has_to_move, has_moved_since_rise, is_settled, has_able_seat_to_call, has_opened_betting, turn, due_on}
+use Rattle.play_event.specs.Due.{is_bring_in_due, is_move_due, has_to_move, has_acted_since_raise, is_settled, has_able_seat_to_call, has_opened_betting, turn, due_on}
 use Rattle.play_event.specs.Laws.{IsFirstStreet}
 use Rattle.play_event.specs.Past.{Move, moves_on, Past, moves_of, newest_street}
-use Rattle.play_event.specs.Price.{owed}
-use Rattle.play_event.specs.Seats.{is_able, live_count, able_count, all_seats}
+use Rattle.play_event.specs.CurrentBet.{to_call}
+use Rattle.play_event.specs.Seats.{can_act, live_count, able_count, all_seats}
 use Rattle.play_event.specs.Streets.{is_stud}
 use Rattle.play_event.specs.declared.reason.Due.TheVariants as dues
 use Rattle.play_event.specs.declared.reason.Due.{Due}
@@ -35,8 +35,8 @@ settled_by false few owes is = refl
 moving_by : (setup : Setup) (moves : List Move) (street : ℕ) (many : Bool) → nat_le 2 (able_count setup moves) ≡ many → is_move_due setup moves street ≡ true → (nat_le (able_count setup moves) 1 ≡ false) ⊎ (has_able_seat_to_call setup moves street ≡ true)
 moving_by setup moves street true many is = inl (many_not_few (able_count setup moves) many)
 moving_by setup moves street false many is =
-    inr (list_any-weaker (has_to_move setup moves street) (λ seat. is_able setup moves seat && nat_lt 0 (owed setup moves street seat))
-    (λ seat has. owes_by (is_able setup moves seat) (has_moved_since_rise setup moves street seat) (nat_lt 0 (owed setup moves street seat)) (nat_le 2 (able_count setup moves)) many has)
+    inr (list_any-weaker (has_to_move setup moves street) (λ seat. can_act setup moves seat && nat_lt 0 (to_call setup moves street seat))
+    (λ seat has. owes_by (can_act setup moves seat) (has_acted_since_raise setup moves street seat) (nat_lt 0 (to_call setup moves street seat)) (nat_le 2 (able_count setup moves)) many has)
     (all_seats setup) is)
 
 pub unsettled_by_move : (setup : Setup) (moves : List Move) (street : ℕ) → is_move_due setup moves street ≡ true → is_settled setup moves (street, dues.Move) ≡ false

@@ -10,7 +10,7 @@ use Rattle.chip_ledger.specs.SeatRow.{amount_of, total_of}
 use Rattle.chip_ledger.proofs.PotSums.{pot_chips, pots_sum}
 use Rattle.play_event.specs.declared.setup.Setup.{Setup}
 use Rattle.play_event.specs.Past.{Move, Past, moves_of}
-use Rattle.play_event.specs.Price.{all_chips_put}
+use Rattle.play_event.specs.CurrentBet.{all_chips_put}
 use Rattle.play_event.specs.Seats.{all_seats}
 use Rattle.play_event.specs.Stakes.{dead_antes_of, pots_after, returned_after, stake_after, stakes_after}
 use Rattle.hand_records.specs.declared.trace.Trace.{Trace}

@@ -13,7 +13,7 @@ use Rattle.play_event.specs.declared.setup.Setup.{Setup}
 use Rattle.play_event.specs.Chips.{chips_left, chips_put}
 use Rattle.play_event.specs.Laws.{AreLegal}
 use Rattle.play_event.specs.Past.{Past, moves_of}
-use Rattle.play_event.specs.Price.{all_chips_put}
+use Rattle.play_event.specs.CurrentBet.{all_chips_put}
 use Rattle.play_event.specs.Said.{Said}
 use Rattle.play_event.specs.Scripts.{past_of}
 use Rattle.play_event.specs.Seats.{all_seats}

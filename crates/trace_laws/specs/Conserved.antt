@@ -9,7 +9,7 @@ use Rattle.chip_ledger.specs.SeatRow.{total_of}
 use Rattle.hand_records.specs.declared.trace.Trace.{Trace}
 use Rattle.play_event.specs.declared.setup.Setup.{Setup}
 use Rattle.play_event.specs.Past.{Past, moves_of}
-use Rattle.play_event.specs.Price.{all_chips_put}
+use Rattle.play_event.specs.CurrentBet.{all_chips_put}
 
 -- the rakes of all pots of a trace, together
 abbrev pub rakes_taken : Setup → Trace → ℕ

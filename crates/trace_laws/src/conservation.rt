@@ -8,7 +8,7 @@ ghost use Rattle.chip_ledger.specs.Rakes.{nets_of};
 ghost use Rattle.chip_ledger.specs.SeatRow.{total_of};
 ghost use Rattle.play_event.specs.Laws.{AreLegal};
 ghost use Rattle.play_event.specs.Past.{Past, moves_of};
-ghost use Rattle.play_event.specs.Price.{all_chips_put};
+ghost use Rattle.play_event.specs.CurrentBet.{all_chips_put};
 ghost use Rattle.play_event.specs.Said.{Said};
 ghost use Rattle.play_event.specs.Scripts.{past_of};
 ghost use Rattle.play_event.specs.ValidSetup.{IsValid};

@@ -9,7 +9,7 @@ use Rattle.card_set.specs.UpCards.{up_high_class, low_class}
 use Rattle.play_event.specs.declared.limit.Opener.{Opener}
 use Rattle.play_event.specs.declared.limit.Opener.TheVariants.{Blinds, LowUp, HighUp}
 use Rattle.play_event.specs.Openers.{is_lower, is_opener_before, card_stands, razz_place}
-use Rattle.up_card_order.specs.Earliest.{is_as_high, is_as_low, is_as_early}
+use Rattle.up_card_order.specs.Earliest.{is_as_high, is_as_low, opens_no_later}
 use Rattle.play_event.proofs.OpenerOrder.{lower_step, worse_trans}
 use Rattle.list_laws.proofs.Tests.{second_fails}
 
@@ -59,7 +59,7 @@ low_late (x ∷ xs) (y ∷ ys) (z ∷ zs) p q =
     (or_cases (nat_lt y x) ((y == x) && not (is_as_low xs ys)) (turned x y (x == y) (y == x) (is_as_low xs ys) (eq-eqb x y) (λ same. eq-eqb y x (sym same)) p)) (or_cases (nat_lt x z) ((x == z) && is_lower xs zs) q)
 
 -- what the others open before is opened before by those that open as early
-pub early_opens : (opener : Opener) (first : Bool) (a b x : List Card) → is_as_early opener first a b ≡ true → is_opener_before opener first b x ≡ true → is_opener_before opener first a x ≡ true
+pub early_opens : (opener : Opener) (first : Bool) (a b x : List Card) → opens_no_later opener first a b ≡ true → is_opener_before opener first b x ≡ true → is_opener_before opener first a x ≡ true
 early_opens LowUp true a b x p q =
     let stand : List Card → ℕ = card_stands deck_place in
     lt-ltb (stand a) (stand x) (let one : stand a ≤ stand b = leb-true (stand a) (stand b) p in let two : stand b < stand x = ltb-true (stand b) (stand x) q in omega (arith, one, two))
@@ -75,7 +75,7 @@ early_opens HighUp false a b x p q =
 early_opens Blinds first a b x p q = absurd (true≢false (sym q))
 
 -- what is opened before by those that do not open as early is opened before by the others too
-pub late_opens : (opener : Opener) (first : Bool) (a b x : List Card) → is_as_early opener first a b ≡ false → is_opener_before opener first a x ≡ true → is_opener_before opener first b x ≡ true
+pub late_opens : (opener : Opener) (first : Bool) (a b x : List Card) → opens_no_later opener first a b ≡ false → is_opener_before opener first a x ≡ true → is_opener_before opener first b x ≡ true
 late_opens LowUp true a b x p q =
     let stand : List Card → ℕ = card_stands deck_place in
     lt-ltb (stand b) (stand x) (let one : stand b < stand a = leb-false (stand a) (stand b) p in let two : stand a < stand x = ltb-true (stand a) (stand x) q in omega (arith, one, two))

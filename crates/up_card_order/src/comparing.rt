@@ -114,8 +114,8 @@ fn lower(a: &[u8], b: &[u8]) -> bool
 
 /// The up-cards of one seat open before all up-cards that those of another open before. A seat that
 /// is as early as every other seat opens before each seat that some seat opens before.
-pub fn is_as_early(opener: Opener, first: bool, a: &CardRow, b: &CardRow) -> bool
-    ensures { result ≡ earliest.is_as_early opener first (cards_of a.now) (cards_of b.now) }
+pub fn opens_no_later(opener: Opener, first: bool, a: &CardRow, b: &CardRow) -> bool
+    ensures { result ≡ earliest.opens_no_later opener first (cards_of a.now) (cards_of b.now) }
 {
     match opener {
         Opener::Blinds => true,
@@ -148,7 +148,8 @@ fn deck_stand(cards: &CardRow) -> u8
 
 // The up-cards are better, with aces high, or open before all that the others open before.
 fn as_good_high(a: &CardRow, b: &CardRow) -> bool
-    ensures { result ≡ earliest.is_as_early openings.LowUp false (cards_of a.now) (cards_of b.now) }
+    ensures { result ≡ earliest.opens_no_later openings.LowUp false (cards_of a.now)
+        (cards_of b.now) }
 {
     let class = high_class_of(a);
     let other = high_class_of(b);
@@ -214,7 +215,7 @@ fn razz_stand(cards: &CardRow) -> u8
 // The up-cards are better in razz, or open before all that the others open before.
 fn as_good_low(a: &CardRow, b: &CardRow) -> bool
     ensures { result
-        ≡ earliest.is_as_early openings.HighUp false (cards_of a.now) (cards_of b.now) }
+        ≡ earliest.opens_no_later openings.HighUp false (cards_of a.now) (cards_of b.now) }
 {
     let class = low_class_of(a);
     let other = low_class_of(b);

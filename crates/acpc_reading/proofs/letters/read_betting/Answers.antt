@@ -35,5 +35,5 @@ loop-letter-init c =
     record {
       begins = none;
       place_is = refl;
-      read = ap (λ bets. bets_after c.args.no_limit bets c.args.at (scan c.args.text.now).1) c.begin.ensures ∙ begins_bare c.args.no_limit c.args.betting.now.file_moves c.args.at c.args.text.now none;
+      read = ap (λ bets. bets_after c.args.no_limit bets c.args.at (scan c.args.text.now).1) c.clear.ensures ∙ begins_bare c.args.no_limit c.args.betting.now.file_moves c.args.at c.args.text.now none;
     }

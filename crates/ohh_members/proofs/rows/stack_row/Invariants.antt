@@ -1,6 +1,6 @@
 use Rattle.std.proofs.Common.{◌≡◌, ℕ, ◌<◌, ◌≤◌, length, map, take, slice_index}
 use Rattle.chip_ledger.specs.declared.numbers.TheConstants.{MOST_CHIPS}
-use Rattle.ohh_members.specs.Front.{stacks_of}
+use Rattle.ohh_members.specs.Header.{stacks_of}
 use Rattle.ohh_members.specs.Players.{plain_player}
 use Rattle.ohh_members.proofs.rows.stack_row.Given as goal
 

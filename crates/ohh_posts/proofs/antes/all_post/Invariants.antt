@@ -1,6 +1,6 @@
 use Rattle.std.proofs.Common.{◌≡◌, ◌+◌, ◌-◌, List, is_some}
 use Rattle.std.specs.List.{list_all, range_with_len}
-use Rattle.ohh_posts.specs.Conditions.{has_all_antes}
+use Rattle.ohh_posts.specs.PostRules.{has_all_antes}
 use Rattle.ohh_posts.specs.Posts.{AreFirst, PlainPost, first_ante}
 use Rattle.ohh_posts.specs.NamedBlinds.{plain_named_blinds}
 use Rattle.ohh_posts.proofs.antes.all_post.Given as goal

@@ -1,5 +1,5 @@
 use Rattle.std.proofs.Common.{◌≡◌, [], map, take, drop}
-use Rattle.ohh_posts.specs.Conditions.{AreFacts, first_breaking}
+use Rattle.ohh_posts.specs.PostRules.{AreFacts, first_breaking}
 use Rattle.ohh_posts.specs.Posts.{AreFirst, plain_post}
 use Rattle.ohh_posts.specs.NamedBlinds.{plain_named_blinds}
 use Rattle.ohh_posts.proofs.checking.hold.Given as goal

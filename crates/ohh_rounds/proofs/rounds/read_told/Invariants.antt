@@ -2,7 +2,7 @@ use Rattle.std.proofs.Common.{◌≡◌, [], None, map, drop}
 use Rattle.serde_json.specs.View.{view}
 use Rattle.first_fault.specs.Reading.{added_from}
 use Rattle.ohh_rounds.specs.Rounds.{round_said}
-use Rattle.ohh_rounds.specs.Setting.{plain_setting}
+use Rattle.ohh_rounds.specs.HandContext.{plain_setting}
 use Rattle.ohh_rounds.specs.Steps.{plain_step}
 use Rattle.ohh_rounds.proofs.rounds.read_told.Given as goal
 

@@ -22,7 +22,7 @@ pub returns-in-Plain-clause-kept : goal.returns-in-Plain-clause-kept
 returns-in-Plain-clause-kept g c =
     let read = c.reply_with.ensures in
     keeps_read _ _ _ _ c.reply_with.result
-    (of_way (g.S.Source.left c.args.input.now) c.plain_way.result c.reply_with.result read.answer) read.read_fault read.read_alone
+    (of_way (g.S.Source.left c.args.input.now) c.plain_job.result c.reply_with.result read.answer) read.read_fault read.read_alone
 
 pub returns-in-Plain-clause-none : goal.returns-in-Plain-clause-none
 returns-in-Plain-clause-none g c =

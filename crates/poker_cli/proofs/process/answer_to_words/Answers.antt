@@ -62,4 +62,4 @@ returns-in-Ok-clause-no_text g c =
 
 pub returns-in-Err-clause-run : goal.returns-in-Err-clause-run
 returns-in-Err-clause-run g c =
-    inl (record { memory = refl; refused = c.in-Err.memory.refused; told = c.tell.ensures; unread = refl; unasked = refl; unwritten = refl })
+    inl (record { memory = refl; refused = c.in-Err.memory.refused; told = c.print_line.ensures; unread = refl; unasked = refl; unwritten = refl })

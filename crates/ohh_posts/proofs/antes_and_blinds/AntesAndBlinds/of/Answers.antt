@@ -4,7 +4,7 @@ use Rattle.std.specs.List.{list_any}
 use Rattle.chip_ledger.proofs.SeatLists.{any_seats}
 use Rattle.chip_ledger.specs.Seat.{seats_of}
 use Rattle.chip_ledger.specs.SeatRow.{amount_of, amounts_in}
-use Rattle.ohh_posts.specs.Conditions.{has_all_antes}
+use Rattle.ohh_posts.specs.PostRules.{has_all_antes}
 use Rattle.ohh_posts.specs.Posts.{PlainPost, plain_post}
 use Rattle.ohh_posts.specs.AntesAndBlinds.{PlainAntesAndBlinds, antes_and_blinds_said, held_ante, named_blind}
 use Rattle.ohh_posts.specs.NamedBlinds.{PlainNamedBlinds, plain_named_blinds, seat_count}
