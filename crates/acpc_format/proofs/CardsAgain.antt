@@ -9,11 +9,11 @@ use Rattle.card_set.specs.Known.{is_unknown, known_cards}
 use Rattle.card_set.specs.Spelling.{slot_spelling, spelling}
 use Rattle.card_set.specs.declared.card.Slot.{Slot}
 use Rattle.card_set.specs.declared.card.Slot.TheVariants as slots
-use Rattle.canon_script.specs.CanonScript.{dealt_slots}
+use Rattle.play_event.specs.CanonScript.{dealt_slots}
 use Rattle.play_event.specs.Said as said
 use Rattle.play_event.specs.Said.{Numbered}
 use Rattle.play_event.specs.Trace.{TracedPlace}
-use Rattle.acpc_text.specs.Parts.{parts_of}
+use Rattle.acpc_game.specs.Parts.{parts_of}
 use Rattle.acpc_writing.specs.Cards.{board_text, boards_text, cards_text, hole_text, holes_text}
 use Rattle.acpc_writing.specs.Names.{may_stand}
 use Rattle.acpc_writing.specs.PlayFacts.{is_part_known}

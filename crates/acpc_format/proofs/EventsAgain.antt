@@ -4,14 +4,14 @@ use Rattle.std.specs.List.{flat_map, list_any, range_with_len}
 use Rattle.std.proofs.lemmas.Bool.{eq-eqb}
 use Rattle.std.proofs.lemmas.List.{append-nil, length-map}
 use Rattle.std.proofs.lemmas.List.FromFn.{length-range_with_len}
-use Rattle.list_laws.proofs.Any.{nothing_kept}
-use Rattle.list_laws.proofs.NumbersOfRange.{flat_none}
+use Rattle.card_set.proofs.Any.{nothing_kept}
+use Rattle.card_set.proofs.NumbersOfRange.{flat_none}
 use Rattle.card_set.specs.Known.{is_unknown, known_cards}
 use Rattle.card_set.specs.Spelling.{spelling}
 use Rattle.card_set.specs.declared.card.Slot.{Slot}
-use Rattle.canon_script.specs.CanonScript as canon
-use Rattle.canon_script.specs.CanonScript.{deal_said, deals_said, dealt_slots, is_dealt_to}
-use Rattle.canon_script.specs.PlayedScript.{is_move}
+use Rattle.play_event.specs.CanonScript as canon
+use Rattle.play_event.specs.CanonScript.{deal_said, deals_said, dealt_slots, is_dealt_to}
+use Rattle.play_event.specs.PlayedScript.{is_move}
 use Rattle.play_event.specs.Past.{Act, BroughtIn, Called, Folded, Move, Raised, moves_on}
 use Rattle.play_event.specs.Said as said
 use Rattle.play_event.specs.Said.{Numbered, Said}
@@ -19,11 +19,11 @@ use Rattle.play_event.specs.Seats.{all_seats}
 use Rattle.play_event.specs.Trace.{TracedPlace}
 use Rattle.play_event.specs.declared.setup.Setup.{Setup}
 use Rattle.first_fault.specs.Reading.{◌>>=◌}
-use Rattle.acpc_text.specs.declared.fault.LineFault.{LineFault}
+use Rattle.acpc_game.specs.declared.fault.LineFault.{LineFault}
 use Rattle.acpc_writing.specs.Betting.{hand_total}
 use Rattle.acpc_writing.specs.Cards.{cards_text, hole_text, holes_text}
 use Rattle.acpc_writing.specs.Rounds.{further_streets, has_board}
-use Rattle.acpc_text.specs.Parts.{parts_of}
+use Rattle.acpc_game.specs.Parts.{parts_of}
 use Rattle.acpc_reading.specs.Cards.{Written, dealt, holes_after, next_round, script_said, step_after, steps_after, steps_said, without_rest}
 use Rattle.acpc_reading.specs.declared.step.BettingStep.{BettingStep}
 use Rattle.acpc_reading.specs.declared.step.BettingStep.TheVariants as steps

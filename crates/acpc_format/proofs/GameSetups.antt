@@ -11,8 +11,8 @@ use Rattle.hand_records.specs.declared.writing.Unspelled.TheVariants as facts
 use Rattle.acpc_game.specs.declared.game.Game.{Game}
 use Rattle.acpc_writing.specs.SetupFacts.{has_sizes_of, is_code_of, setup_conditions}
 use Rattle.acpc_reading.specs.RecordView.{IsSetupOf, code_of}
-use Rattle.list_laws.proofs.Any.{none_from_zeros, none_taken_from_zeros}
-use Rattle.list_laws.proofs.Tests.{not_true}
+use Rattle.card_set.proofs.Any.{none_from_zeros, none_taken_from_zeros}
+use Rattle.card_set.proofs.Tests.{not_true}
 use Rattle.chip_ledger.specs.SeatRow.{amounts_in}
 use Rattle.first_fault.specs.Conditions.{first_where}
 

@@ -12,7 +12,7 @@ use Rattle.acpc_writing.specs.Spelled.{unspelled}
 use Rattle.acpc_writing.specs.Texts.{HasTexts}
 use Rattle.acpc_reading.specs.Logs.{HandSaid, reading}
 use Rattle.acpc_reading.specs.RecordView.{IsOfGame, record_said}
-use Rattle.acpc_text.specs.declared.fault.AcpcFault.{AcpcFault}
+use Rattle.acpc_game.specs.declared.fault.AcpcFault.{AcpcFault}
 use Rattle.acpc_format.specs.Again.{hand_again, hands_again}
 use Rattle.hand_canon.specs.ReadAgain.{AreAgain}
 use Rattle.acpc_format.specs.KeptNotes.{kept_in_acpc}

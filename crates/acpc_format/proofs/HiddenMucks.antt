@@ -3,19 +3,19 @@
 use Rattle.std.proofs.Common.{◌≡◌, ℕ, ◌≤◌, Bool, true, false, ◌&&◌, ◌||◌, ◌==◌, not, nat_le, List, [], ◌∷◌, map, filter, Some, inl, inr, ◌⊎◌, refl, sym, ap, ◌∙◌, arith, true≢false}
 use Rattle.std.specs.List.{list_any}
 use Rattle.std.proofs.lemmas.Bool.{and_from, and_parts, cases_lt, eq-eqb, not-false, or_cases, or_left, or_right}
-use Rattle.canon_blocks.proofs.DiscardTests.{out_is}
-use Rattle.canon_blocks.proofs.TraceOrder.{finals_of, is_final}
-use Rattle.canon_blocks.proofs.TracedSlots.{discarded_same}
+use Rattle.canon_laws.proofs.DiscardTests.{out_is}
+use Rattle.canon_laws.proofs.TraceOrder.{finals_of, is_final}
+use Rattle.canon_laws.proofs.TracedSlots.{discarded_same}
 use Rattle.canon_laws.proofs.HeldSame.{held_script, slots_held}
-use Rattle.canon_script.specs.CanonScript.{held_slots, is_dealt_to, is_discard_of}
+use Rattle.play_event.specs.CanonScript.{held_slots, is_dealt_to, is_discard_of}
 use Rattle.card_set.specs.Known.{is_unknown}
 use Rattle.chip_ledger.proofs.Flags.{flag-from_flagged}
 use Rattle.chip_ledger.proofs.SeatLists.{none_at}
 use Rattle.chip_ledger.specs.LiveRow.{flag_of, flagged}
 use Rattle.chip_ledger.specs.Seat.{seats_of}
 use Rattle.chip_ledger.specs.declared.live_row.LiveRow.{LiveRow}
-use Rattle.list_laws.proofs.Any.{list_any-filter, list_any-map}
-use Rattle.list_laws.proofs.NumbersOfRange.{is_in}
+use Rattle.card_set.proofs.Any.{list_any-filter, list_any-map}
+use Rattle.card_set.proofs.NumbersOfRange.{is_in}
 use Rattle.play_event.specs.Games.{street_count}
 use Rattle.play_event.specs.Laws.{AreLegal, IsAmong}
 use Rattle.play_event.specs.Past.{moves_of}

@@ -2,8 +2,8 @@
 -- past: a letter names no seat, and a raise is written as the seat's chips in the whole hand, or by
 -- the unit.
 use Rattle.std.proofs.Common.{◌≡◌, ℕ, ◌≤◌, Bool, true, false, if◌then◌else◌, List, [], ◌∷◌, ◌++◌, Some, None, refl, sym, ap, subst, ◌∙◌, true≢false}
-use Rattle.canon_script.specs.CanonScript.{act_named, move_named}
-use Rattle.canon_script.specs.PlayedScript.{is_move}
+use Rattle.play_event.specs.CanonScript.{act_named, move_named}
+use Rattle.play_event.specs.PlayedScript.{is_move}
 use Rattle.play_event.proofs.SpellingLaws as spelling_laws
 use Rattle.play_event.specs.Amounts.{raise_target, unit_target}
 use Rattle.play_event.specs.Chips.{street_chips}
@@ -23,8 +23,8 @@ use Rattle.play_laws.proofs.MoveKinds.{call_said, fold_said, raise_said}
 use Rattle.play_laws.proofs.OneSpelling.{same_past, same_reason}
 use Rattle.acpc_writing.specs.Betting.{hand_total}
 use Rattle.acpc_format.specs.Again.{move_again}
-use Rattle.canon_ranges.proofs.RaiseUp.{named_in_turn, raise_up}
-use Rattle.canon_ranges.proofs.SameEvents.{AreSame, IsNewest, IsSame, newest, one_more, same_moves}
+use Rattle.canon_laws.proofs.RaiseUp.{named_in_turn, raise_up}
+use Rattle.canon_laws.proofs.SameEvents.{AreSame, IsNewest, IsSame, newest, one_more, same_moves}
 use Rattle.acpc_format.proofs.RaiseTotals.{same_target}
 
 -- The events of a canonical script (newest first) with its moves, and the same events in letters:

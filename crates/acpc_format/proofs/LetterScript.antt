@@ -3,7 +3,7 @@ use Rattle.std.proofs.Common.{◌≡◌, ℕ, ◌+◌, ◌<◌, Bool, true, fals
 use Rattle.std.specs.List.{flat_map, range_with_len}
 use Rattle.std.proofs.lemmas.Bool.{eqb-true, ltb-true, ne_eqb}
 use Rattle.std.proofs.lemmas.List.{append-nil}
-use Rattle.canon_script.specs.CanonScript.{move_named, street_said}
+use Rattle.play_event.specs.CanonScript.{move_named, street_said}
 use Rattle.play_event.specs.Past.{Act, BroughtIn, Called, Folded, Move, Raised, moves_before}
 use Rattle.play_event.specs.Said.{Said}
 use Rattle.play_event.specs.Streets.{has_draw}
@@ -11,8 +11,8 @@ use Rattle.play_event.specs.Trace.{TracedPlace}
 use Rattle.play_event.specs.declared.setup.Setup.{Setup}
 use Rattle.play_laws.proofs.DoneKept.{all_early}
 use Rattle.play_laws.specs.PastLaws.{AreReached}
-use Rattle.canon_blocks.proofs.StreetMoves.{AreFalling, moves_split, own_moves, none_own}
-use Rattle.canon_ranges.proofs.OtherWords.{all_streets, behind_both}
+use Rattle.canon_laws.proofs.StreetMoves.{AreFalling, moves_split, own_moves, none_own}
+use Rattle.canon_laws.proofs.OtherWords.{all_streets, behind_both}
 use Rattle.acpc_writing.specs.Betting.{hand_total}
 use Rattle.acpc_format.specs.Again.{move_again, moves_again, street_again}
 use Rattle.acpc_format.proofs.LetterEvents.{InLetters, letter, nothing, stays}

@@ -7,7 +7,7 @@ use Rattle.std.proofs.lemmas.List.FromFn.{length-range_with_len}
 use Rattle.chip_ledger.specs.SeatRow.{amount_of}
 use Rattle.chip_ledger.specs.declared.numbers.TheConstants.{MOST_CHIPS}
 use Rattle.card_set.specs.Spelling.{spelling}
-use Rattle.canon_script.specs.CanonScript.{dealt_slots, plain_move, plain_moves}
+use Rattle.play_event.specs.CanonScript.{dealt_slots, plain_move, plain_moves}
 use Rattle.hand_canon.specs.Agreement.{value_of}
 use Rattle.hand_records.specs.TraceRows.{core_said}
 use Rattle.first_fault.specs.declared.limits.TheConstants.{MOST_FILE_MOVES}
@@ -18,7 +18,7 @@ use Rattle.play_event.specs.Chips.{chips_put}
 use Rattle.play_event.specs.Past.{Act, BroughtIn, Called, Folded, Move, Raised}
 use Rattle.play_event.specs.Trace.{TracedMove, TracedPlace}
 use Rattle.play_event.specs.declared.setup.Setup.{Setup}
-use Rattle.acpc_text.specs.Parts.{parts_of}
+use Rattle.acpc_game.specs.Parts.{parts_of}
 use Rattle.acpc_game.specs.declared.game.Game.{Game}
 use Rattle.acpc_writing.specs.Betting.{betting_text, hand_total}
 use Rattle.acpc_writing.specs.Cards.{board_text, boards_text, cards_text, hole_text, holes_text}

@@ -7,9 +7,9 @@ use Rattle.std.proofs.lemmas.List.Sums.{sum_by-cons}
 use Rattle.first_fault.specs.declared.limits.TheConstants.{MOST_FILE_MOVES, MOST_HANDS}
 use Rattle.hand_records.specs.declared.trace.Play.{Play}
 use Rattle.first_fault.specs.Reading.{◌>>=◌}
-use Rattle.acpc_text.proofs.LineLaws.{line_and_more}
-use Rattle.acpc_text.specs.Parts.{lines_of, without_return}
-use Rattle.acpc_text.specs.declared.fault.AcpcFault.{AcpcFault}
+use Rattle.acpc_game.proofs.LineLaws.{line_and_more}
+use Rattle.acpc_game.specs.Parts.{lines_of, without_return}
+use Rattle.acpc_game.specs.declared.fault.AcpcFault.{AcpcFault}
 use Rattle.acpc_game.specs.declared.game.Game.{Game}
 use Rattle.acpc_writing.specs.Line.{lines_from, log_text}
 use Rattle.acpc_reading.specs.Logs.{HandSaid, Hands, hands_after, hands_after_line, is_passed_over, reading}

@@ -8,7 +8,7 @@ use Rattle.card_set.specs.Spelling.{slots_spelled}
 use Rattle.card_set.specs.declared.card.Slot.{Slot}
 use Rattle.card_set.specs.declared.card.Slot.TheVariants as slots
 use Rattle.chip_ledger.specs.declared.numbers.TheConstants.{MOST_CHIPS}
-use Rattle.canon_script.specs.declared.limits.TheConstants.{MOST_MOVES}
+use Rattle.play_event.specs.declared.hand_limits.TheConstants.{MOST_MOVES}
 use Rattle.first_fault.specs.Digits.{number_of}
 use Rattle.first_fault.specs.declared.limits.Quantity.TheVariants as quantities
 use Rattle.first_fault.specs.declared.limits.TheConstants.{MOST_FILE_MOVES, MOST_HANDS}
@@ -18,11 +18,11 @@ use Rattle.play_event.specs.declared.event.Event.{Event}
 use Rattle.play_event.specs.declared.event.Spelled.{Spelled}
 use Rattle.play_event.specs.declared.event.Spelled.TheVariants as spelled
 use Rattle.acpc_game.specs.declared.game.Game.{Game}
-use Rattle.acpc_text.specs.Faults.{in_line, wrong}
-use Rattle.acpc_text.specs.Letters.{Letter, scan}
-use Rattle.acpc_text.specs.Parts.{has_front, lines_of, parts_of}
-use Rattle.acpc_text.specs.declared.fault.LineFault.{LineFault}
-use Rattle.acpc_text.specs.declared.fault.LineFaultKind.TheVariants as whats
+use Rattle.acpc_game.specs.Faults.{in_line, wrong}
+use Rattle.acpc_game.specs.Letters.{Letter, scan}
+use Rattle.acpc_game.specs.Parts.{has_front, lines_of, parts_of}
+use Rattle.acpc_game.specs.declared.fault.LineFault.{LineFault}
+use Rattle.acpc_game.specs.declared.fault.LineFaultKind.TheVariants as whats
 use Rattle.acpc_reading.proofs.Checked.{after}
 use Rattle.acpc_reading.specs.Betting.{Bets, bare_said, bets_after, betting_said, letter_said, no_bets, raise_said, stroke_said, with_move}
 use Rattle.acpc_reading.specs.Cards.{Written, bad_cards, board_said, dealt, hole_after, hole_said, holes_after, known_said, next_round, only_known, script_said, step_after, steps_after, steps_said, without_rest}
@@ -31,8 +31,8 @@ use Rattle.acpc_reading.specs.Names.{hand_said, names_said}
 use Rattle.acpc_reading.specs.Values.{values_said}
 use Rattle.acpc_reading.specs.declared.step.BettingStep.{BettingStep}
 use Rattle.acpc_reading.specs.declared.step.BettingStep.TheVariants as steps
-use Rattle.list_laws.proofs.Entries.{all_push}
-use Rattle.list_laws.proofs.Results.{ok_anyway, ok_either, ok_where_found, ok_where_some}
+use Rattle.card_set.proofs.Entries.{all_push}
+use Rattle.card_set.proofs.Results.{ok_anyway, ok_either, ok_where_found, ok_where_some}
 
 -- two cards, both known or both unknown
 pub record AreWhole (cards : List Slot) : Type 0 where

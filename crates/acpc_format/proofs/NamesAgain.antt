@@ -9,7 +9,7 @@ use Rattle.std.proofs.lemmas.Str.{is_utf8-from_IsUtf8}
 use Rattle.hand_records.specs.AllowedNotes.{AreAllowed, IsName}
 use Rattle.first_fault.specs.declared.limits.TheConstants.{MOST_TEXT_BYTES}
 use Rattle.hand_records.specs.declared.notes.Notes.{Notes}
-use Rattle.acpc_text.specs.declared.fault.LineFault.{LineFault}
+use Rattle.acpc_game.specs.declared.fault.LineFault.{LineFault}
 use Rattle.acpc_writing.specs.Names.{is_spelled_name, name_or_default, name_text}
 use Rattle.acpc_reading.specs.Names.{name_said, names_after}
 use Rattle.acpc_reading.proofs.UsualNames.{default_again}

@@ -12,8 +12,8 @@ use Rattle.chip_ledger.specs.SeatRow.{amount_of}
 use Rattle.chip_ledger.specs.declared.seat_row.SeatRow.{SeatRow}
 use Rattle.chip_ledger.specs.declared.seat_row.TheConstants.{MOST_AMOUNT}
 use Rattle.first_fault.specs.Digits.{are_digits, number_of}
-use Rattle.acpc_text.specs.Parts.{parts_of}
-use Rattle.acpc_text.specs.declared.fault.LineFault.{LineFault}
+use Rattle.acpc_game.specs.Parts.{parts_of}
+use Rattle.acpc_game.specs.declared.fault.LineFault.{LineFault}
 use Rattle.acpc_writing.specs.Names.{hand_text, is_spelled_hand}
 use Rattle.acpc_writing.specs.Values.{value_text}
 use Rattle.acpc_reading.specs.Names.{hand_said, most_hand}
@@ -21,9 +21,9 @@ use Rattle.acpc_reading.specs.Values.{unsigned_said, value_said, values_after, w
 use Rattle.acpc_format.specs.Again.{kept_hand}
 use Rattle.acpc_format.proofs.Signs.{decimal_plain, digits_plain, is_plain}
 use Rattle.acpc_format.proofs.Splits.{Passes, whole}
-use Rattle.list_laws.proofs.Digits.{all_digits, own_digits}
-use Rattle.list_laws.proofs.Integers.{difference_above, difference_below}
-use Rattle.list_laws.proofs.Tests.{implied}
+use Rattle.card_set.proofs.Digits.{all_digits, own_digits}
+use Rattle.card_set.proofs.Integers.{difference_above, difference_below}
+use Rattle.card_set.proofs.Tests.{implied}
 use Rattle.first_fault.proofs.DecimalDigits.{decimal_digits}
 
 pub decimal_number : (most n : ℕ) → n ≤ most → n < 2 ^ 64 → number_of most (decimal n) ≡ Some n

@@ -31,7 +31,7 @@ use Rattle.hand_records.specs.declared.notes.Notes.{Notes}
 use Rattle.hand_records.specs.declared.trace.Play.{Play}
 use Rattle.hand_records.specs.declared.trace.Trace.{Trace}
 use Rattle.hand_records.specs.declared.writing.Keep.{Keep}
-use Rattle.list_laws.proofs.NumbersOfRange.{flat_same}
+use Rattle.card_set.proofs.NumbersOfRange.{flat_same}
 use Rattle.play_event.specs.Said.{Numbered}
 use Rattle.play_event.specs.ValidSetup.{IsValid}
 use Rattle.play_event.specs.declared.setup.Setup.{Setup}

@@ -7,7 +7,7 @@ use Rattle.chip_ledger.proofs.Same.{seat_row_same_by_seats}
 use Rattle.chip_ledger.specs.Greatest.{greatest}
 use Rattle.chip_ledger.specs.SeatRow.{amount_of, amounts_in}
 use Rattle.chip_ledger.specs.declared.seat_row.SeatRow.{SeatRow}
-use Rattle.list_laws.proofs.NumbersOfRange.{any_none}
+use Rattle.card_set.proofs.NumbersOfRange.{any_none}
 use Rattle.play_event.specs.declared.code.Code.{Code}
 use Rattle.play_event.specs.declared.code.Code.TheVariants as codes
 use Rattle.play_event.specs.declared.setup.Setup.{Setup}
@@ -21,8 +21,8 @@ use Rattle.acpc_writing.specs.SetupFacts.{is_code_of}
 use Rattle.acpc_writing.specs.Spelled.{unspelled}
 use Rattle.acpc_reading.specs.RecordView.{IsSetupOf, code_of}
 use Rattle.acpc_format.proofs.SpelledFacts.{HasSetupOf, spelled}
-use Rattle.list_laws.proofs.Any.{zero_from_none}
-use Rattle.list_laws.proofs.Entries.{index_taken_at}
+use Rattle.card_set.proofs.Any.{zero_from_none}
+use Rattle.card_set.proofs.Entries.{index_taken_at}
 use Rattle.acpc_writing.proofs.Making.{HasSizes}
 
 -- the code of a game

@@ -7,7 +7,7 @@ use Rattle.play_event.specs.Chips.{chips_added, posted, street_chips}
 use Rattle.play_event.specs.Past.{Move}
 use Rattle.play_event.specs.declared.event.Spelled.TheVariants as spelled
 use Rattle.play_event.specs.declared.setup.Setup.{Setup}
-use Rattle.canon_ranges.proofs.MoveRanges.{added_less, brought_less}
+use Rattle.canon_laws.proofs.MoveRanges.{added_less, brought_less}
 use Rattle.acpc_writing.specs.Betting.{hand_total}
 
 -- a raise adds the same chips to those of the hand and to those of the street

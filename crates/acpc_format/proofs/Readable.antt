@@ -3,8 +3,8 @@ use Rattle.std.proofs.Common.{◌≡◌, ℕ, ◌≤◌, true, false, List, [], 
 use Rattle.std.specs.List.{list_any}
 use Rattle.card_set.specs.Known.{is_unknown}
 use Rattle.chip_ledger.specs.declared.numbers.TheConstants.{MOST_CHIPS}
-use Rattle.canon_script.specs.CanonScript.{dealt_slots, plain_moves}
-use Rattle.canon_script.specs.declared.limits.TheConstants.{MOST_MOVES}
+use Rattle.play_event.specs.CanonScript.{dealt_slots, plain_moves}
+use Rattle.play_event.specs.declared.hand_limits.TheConstants.{MOST_MOVES}
 use Rattle.play_event.specs.Chips.{chips_put}
 use Rattle.play_event.specs.Past.{Move, moves_on}
 use Rattle.play_event.specs.Trace.{TracedPlace}

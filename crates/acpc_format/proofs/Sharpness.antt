@@ -5,13 +5,13 @@ use Rattle.std.specs.List.{AllByRecursion, list_any}
 use Rattle.std.proofs.lemmas.Bool.{and_from, and_parts, eq-eqb, le-ltb}
 use Rattle.std.proofs.lemmas.List.{reverse-append}
 use Rattle.std.proofs.lemmas.Result.{IfOk-at_ok}
-use Rattle.canon_blocks.proofs.TraceOrder.{a_seat}
+use Rattle.canon_laws.proofs.TraceOrder.{a_seat}
 use Rattle.canon_laws.proofs.StreetDeals.{group_is}
 use Rattle.canon_laws.specs.OtherRules as other_rules
 use Rattle.canon_laws.specs.OtherRules.{SuitsRules}
-use Rattle.canon_ranges.proofs.SuitedRules.{suits_own}
-use Rattle.canon_script.specs.CanonScript.{dealt_slots, plain_moves}
-use Rattle.canon_script.specs.TraceCore.{TraceCore, core_after}
+use Rattle.canon_laws.proofs.SuitedRules.{suits_own}
+use Rattle.play_event.specs.CanonScript.{dealt_slots, plain_moves}
+use Rattle.play_event.specs.TraceCore.{TraceCore, core_after}
 use Rattle.card_set.specs.Known.{is_unknown}
 use Rattle.card_set.specs.declared.card.Slot.{Slot}
 use Rattle.chip_ledger.proofs.Flags.{flagged-from_flag}
@@ -19,9 +19,9 @@ use Rattle.chip_ledger.specs.LiveRow.{flag_of, flagged}
 use Rattle.chip_ledger.specs.PotRow.{shares_in}
 use Rattle.chip_ledger.specs.Seat.{seats_of}
 use Rattle.chip_ledger.specs.declared.live_row.LiveRow.{LiveRow}
-use Rattle.list_laws.proofs.Any.{list_any-filter, list_any-map}
-use Rattle.list_laws.proofs.Finding.{list_any-push}
-use Rattle.list_laws.proofs.NumbersOfRange.{any_none, is_in}
+use Rattle.card_set.proofs.Any.{list_any-filter, list_any-map}
+use Rattle.card_set.proofs.Finding.{list_any-push}
+use Rattle.card_set.proofs.NumbersOfRange.{any_none, is_in}
 use Rattle.play_event.specs.Amounts.{unit_target}
 use Rattle.play_event.specs.Laws.{AreLegal}
 use Rattle.play_event.specs.Past.{Move, Past, is_raise, moves_of}
@@ -64,7 +64,7 @@ use Rattle.acpc_format.proofs.Holdem.{IsHoldem, holdem}
 use Rattle.acpc_format.proofs.LogEvents.{IsLogEvent, IsLogHand, log_hands, script_events}
 use Rattle.acpc_format.proofs.LogPasts.{AreByUnit, all_whole, any_among, by_unit, is_hidden_of, is_open_of, none_mucked, on_first}
 use Rattle.acpc_format.proofs.SuitsGame.{is_off, raises_said}
-use Rattle.list_laws.proofs.Tests.{not_both_still, not_true}
+use Rattle.card_set.proofs.Tests.{not_both_still, not_true}
 use Rattle.hand_canon.specs.Sharp.{IsOther, is_sharp}
 use Rattle.hand_records.specs.WriteRefusals.{or_behind}
 use Rattle.first_fault.specs.Conditions.{first_where}

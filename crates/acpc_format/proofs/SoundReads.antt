@@ -5,10 +5,10 @@ use Rattle.std.proofs.lemmas.Bool.{cases_lt}
 use Rattle.std.proofs.lemmas.List.{length-map, length-reverse}
 use Rattle.canon_laws.proofs.MoveCounts.{tidy_within}
 use Rattle.canon_laws.proofs.SameCore.{plain_again}
-use Rattle.canon_script.specs.CanonScript.{dealt_slots, is_dealt_to, plain_move, plain_moves}
-use Rattle.canon_script.specs.PlayedScript.{IsPlayed}
-use Rattle.canon_script.specs.Tidy.{IsTidy}
-use Rattle.canon_script.specs.TraceCore.{TraceCore, core_of}
+use Rattle.play_event.specs.CanonScript.{dealt_slots, is_dealt_to, plain_move, plain_moves}
+use Rattle.play_event.specs.PlayedScript.{IsPlayed}
+use Rattle.play_event.specs.Tidy.{IsTidy}
+use Rattle.play_event.specs.TraceCore.{TraceCore, core_of}
 use Rattle.chip_ledger.proofs.SeatLists.{none_at}
 use Rattle.chip_ledger.specs.SeatRow.{amount_of}
 use Rattle.chip_ledger.specs.declared.numbers.TheConstants.{MOST_CHIPS}
@@ -42,8 +42,8 @@ use Rattle.acpc_format.proofs.LogAgain.{plays_again}
 use Rattle.acpc_format.proofs.EventsAgain.{no_slots}
 use Rattle.acpc_format.proofs.Holdem.{IsHoldem, holdem}
 use Rattle.acpc_format.proofs.SpelledFacts.{spelled}
-use Rattle.canon_ranges.proofs.StreetsPlayed.{HasStreet, board_known, came_before, first_holes, four_streets, is_passed, few_on_board}
-use Rattle.list_laws.proofs.Lists.{none_from_length}
+use Rattle.canon_laws.proofs.StreetsPlayed.{HasStreet, board_known, came_before, first_holes, four_streets, is_passed, few_on_board}
+use Rattle.card_set.proofs.Lists.{none_from_length}
 use Rattle.hand_records.proofs.Refusals.{none_refused}
 use Rattle.play_event.proofs.ScriptLaws.{at_end}
 use Rattle.hand_records.specs.WriteRefusals.{refusal_from, first_refusal}

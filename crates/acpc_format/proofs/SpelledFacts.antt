@@ -14,8 +14,8 @@ use Rattle.acpc_game.specs.declared.game.Game.{Game}
 use Rattle.acpc_writing.specs.PlayFacts.{is_above_caps, is_free_fold, is_off_unit, is_open_muck, is_part_known, play_conditions}
 use Rattle.acpc_writing.specs.SetupFacts.{has_sizes_of, is_code_of, setup_conditions}
 use Rattle.acpc_writing.specs.Spelled.{unspelled, unspelled_note}
-use Rattle.list_laws.proofs.Options.{from_some_none}
-use Rattle.list_laws.proofs.Tests.{not_not}
+use Rattle.card_set.proofs.Options.{from_some_none}
+use Rattle.card_set.proofs.Tests.{not_not}
 use Rattle.chip_ledger.specs.SeatRow.{amounts_in}
 use Rattle.hand_records.proofs.Refusals.{both_none}
 use Rattle.hand_records.specs.WriteRefusals.{or_behind}

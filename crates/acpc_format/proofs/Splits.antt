@@ -4,10 +4,10 @@ use Rattle.std.specs.List.{flat_map, list_all, range_with_len}
 use Rattle.std.proofs.lemmas.Bool.{and_parts, eq-eqb, lt-ltb}
 use Rattle.std.proofs.lemmas.List.{append-nil}
 use Rattle.std.proofs.lemmas.List.Splits.{slice_split_at, slice_split_none}
-use Rattle.acpc_text.specs.Parts.{parts_of}
+use Rattle.acpc_game.specs.Parts.{parts_of}
 use Rattle.acpc_writing.specs.Seats.{bar_before, for_seats}
-use Rattle.list_laws.proofs.Entries.{never_at}
-use Rattle.list_laws.proofs.Tests.{both_true}
+use Rattle.card_set.proofs.Entries.{never_at}
+use Rattle.card_set.proofs.Tests.{both_true}
 
 -- the signs of a text pass a test
 pub record Passes (p : ℕ → Bool) (text : List ℕ) : Type 0 where

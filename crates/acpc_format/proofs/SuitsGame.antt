@@ -5,11 +5,11 @@ use Rattle.std.proofs.lemmas.Bool.{eqb-true, ltb-false, ne_eqb, not-false, or_pa
 use Rattle.canon_laws.specs.OtherRules as other_rules
 use Rattle.canon_laws.specs.OtherRules.{SuitsRules}
 use Rattle.canon_laws.proofs.AllStreets.{AreSince}
-use Rattle.canon_script.specs.CanonScript.{plain_move, plain_moves}
-use Rattle.list_laws.proofs.Any.{list_any-map}
-use Rattle.list_laws.proofs.Counting.{count_by-cons}
-use Rattle.list_laws.proofs.Finding.{list_any-push}
-use Rattle.list_laws.proofs.Reversed.{count_reversed, filter-reverse}
+use Rattle.play_event.specs.CanonScript.{plain_move, plain_moves}
+use Rattle.card_set.proofs.Any.{list_any-map}
+use Rattle.card_set.proofs.Counting.{count_by-cons}
+use Rattle.card_set.proofs.Finding.{list_any-push}
+use Rattle.card_set.proofs.Reversed.{count_reversed, filter-reverse}
 use Rattle.play_event.specs.Amounts.{unit_target}
 use Rattle.play_event.specs.Laws.{AreLegal}
 use Rattle.play_event.specs.Past.{Move, is_raise, moves_of, moves_on}

@@ -12,8 +12,8 @@ use Rattle.hand_records.specs.declared.trace.Trace.{Trace}
 use Rattle.hand_canon.specs.Agreement.{Comparison, finish_compared, first_difference, is_different, row_compared, total_compared, value_compared, value_of, win_compared}
 use Rattle.acpc_reading.specs.RecordView.{StatesValues}
 use Rattle.acpc_reading.specs.Views.{nets_in}
-use Rattle.list_laws.proofs.Integers.{not_different}
-use Rattle.list_laws.proofs.NumbersOfRange.{mapped_at}
+use Rattle.card_set.proofs.Integers.{not_different}
+use Rattle.card_set.proofs.NumbersOfRange.{mapped_at}
 
 -- if no number differs, no difference is found
 none_differ : (compared : ℕ → Comparison) (first count : ℕ) → ((seat : ℕ) → first ≤ seat → seat < first + count → is_different (compared seat) ≡ false) → find is_different (map compared (range_with_len first count)) ≡ None

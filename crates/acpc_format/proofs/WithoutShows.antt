@@ -16,17 +16,17 @@ use Rattle.play_event.specs.Seats.{all_seats, is_live, live_count}
 use Rattle.play_event.specs.Showing.{has_mucked, is_show_due}
 use Rattle.play_event.specs.Table.{places_of}
 use Rattle.play_event.specs.Trace.{has_unknown_card, is_mucked, is_shown, streets_of, traced_places}
-use Rattle.canon_script.specs.CanonScript.{plain_moves, street_said}
-use Rattle.canon_script.specs.PlayedScript.{IsPlayed}
-use Rattle.canon_script.specs.TraceCore.{TraceCore, core_after, core_of}
-use Rattle.list_laws.proofs.NumbersOfRange.{filter_range}
+use Rattle.play_event.specs.CanonScript.{plain_moves, street_said}
+use Rattle.play_event.specs.PlayedScript.{IsPlayed}
+use Rattle.play_event.specs.TraceCore.{TraceCore, core_after, core_of}
+use Rattle.card_set.proofs.NumbersOfRange.{filter_range}
 use Rattle.play_laws.proofs.LegalPlaces.{LegalPast, legal_past}
 use Rattle.play_laws.proofs.PlayedStreets.{IsReached}
-use Rattle.canon_blocks.proofs.FreeGroups.{is_out_by}
-use Rattle.canon_blocks.proofs.Mirrors.{AreMirrored}
-use Rattle.canon_blocks.proofs.Runs.{Runs, run_of_script}
-use Rattle.canon_blocks.proofs.SamePlaces.{same_places}
-use Rattle.canon_blocks.proofs.TraceOrder.{finals_of, is_final}
+use Rattle.canon_laws.proofs.FreeGroups.{is_out_by}
+use Rattle.canon_laws.proofs.Mirrors.{AreMirrored}
+use Rattle.canon_laws.proofs.Runs.{Runs, run_of_script}
+use Rattle.canon_laws.proofs.SamePlaces.{same_places}
+use Rattle.canon_laws.proofs.TraceOrder.{finals_of, is_final}
 use Rattle.canon_laws.proofs.AllStreets.{AtEnd, at_end}
 use Rattle.canon_laws.proofs.HeldSame.{held_same, held_script, unknown_same}
 use Rattle.canon_laws.proofs.SameCore.{plain_again, core_by, core_parts}

@@ -9,8 +9,8 @@ use Rattle.play_event.specs.Said as said
 use Rattle.play_event.specs.Said.{Numbered, Said}
 use Rattle.play_event.specs.Seats.{all_seats}
 use Rattle.play_event.specs.Trace.{TracedPlace}
-use Rattle.canon_script.specs.CanonScript.{deals_said, plain_moves}
-use Rattle.canon_script.specs.PlayedScript.{is_move}
+use Rattle.play_event.specs.CanonScript.{deals_said, plain_moves}
+use Rattle.play_event.specs.PlayedScript.{is_move}
 use Rattle.hand_canon.specs.Agreement.{value_of}
 use Rattle.hand_records.specs.TraceRows.{core_said}
 use Rattle.hand_records.specs.declared.notes.Notes.{Notes}

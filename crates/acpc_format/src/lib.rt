@@ -4,8 +4,7 @@
 
 mod laws;
 
-pub use acpc_game::{Game, read_game, write_game};
+pub use acpc_game::{AcpcFault, Game, read_game, write_game};
 pub use acpc_reading::read;
-pub use acpc_text::AcpcFault;
 pub use acpc_writing::{game_of, push_line, spells, write};
 pub use laws::{law_of_one_setup, law_of_reading_again, law_of_reading_back, law_of_sharpness};

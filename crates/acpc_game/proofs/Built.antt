@@ -11,7 +11,7 @@ use Rattle.acpc_game.specs.Games.{are_chips, has_fitting_sizes}
 use Rattle.acpc_game.proofs.Bounds.{chips_within}
 use Rattle.acpc_game.specs.Playable.{IsPlayable}
 use Rattle.chip_ledger.specs.declared.numbers.TheConstants.{MOST_CHIPS}
-use Rattle.list_laws.proofs.Numbers.{equal_by_test}
+use Rattle.card_set.proofs.Numbers.{equal_by_test}
 use Rattle.chip_ledger.specs.Sizes.{is_size}
 
 -- there are as many blinds as players

@@ -5,8 +5,8 @@ use Rattle.std.proofs.lemmas.Bool.Decides.{nat_tests}
 use Rattle.chip_ledger.specs.Greatest.{greatest}
 use Rattle.chip_ledger.specs.declared.numbers.TheConstants.{MOST_CHIPS}
 use Rattle.first_fault.specs.Reading.{◌>>=◌}
-use Rattle.acpc_text.specs.Parts.{lines_of}
-use Rattle.acpc_text.specs.declared.fault.AcpcFault.{AcpcFault}
+use Rattle.acpc_game.specs.Parts.{lines_of}
+use Rattle.acpc_game.specs.declared.fault.AcpcFault.{AcpcFault}
 use Rattle.acpc_game.specs.GameFile.{EntrySaid, GameSaid, entries_in, first_player, first_unsupported, game_at_end, game_by, game_said, has_short_stack, is_reversed, is_whole, says_no_limit}
 use Rattle.acpc_game.specs.GameText.{game_text}
 use Rattle.acpc_game.specs.Games.{has_fitting_sizes}

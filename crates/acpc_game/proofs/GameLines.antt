@@ -16,7 +16,7 @@ use Rattle.acpc_game.specs.GameText.{caps_text, chips_text, counts_text, ended, 
 use Rattle.acpc_game.specs.Keys.{card_key_named, chip_key_named, has_count, is_word, most_of}
 use Rattle.acpc_game.specs.SaidGames.{IsGame, are_caps}
 use Rattle.acpc_game.proofs.NumbersAgain.{are_within}
-use Rattle.list_laws.proofs.Tests.{both_true}
+use Rattle.card_set.proofs.Tests.{both_true}
 use Rattle.acpc_game.proofs.WrittenLines.{Names, Reads, WrittenLine, number_line, number_reads, text_of}
 
 -- ---- the lines of a game

@@ -11,9 +11,9 @@ use Rattle.chip_ledger.specs.AmountTexts.{spaced}
 use Rattle.first_fault.specs.Digits.{are_digits, number_of}
 use Rattle.first_fault.specs.Words.{is_space, words_of}
 use Rattle.first_fault.proofs.DecimalDigits.{decimal_digits}
-use Rattle.list_laws.proofs.Digits.{digit_least, digit_most, number_said as digits_say, of_digits}
-use Rattle.list_laws.proofs.Entries.{never_at}
-use Rattle.list_laws.proofs.Tests.{both_true}
+use Rattle.card_set.proofs.Digits.{digit_least, digit_most, number_said as digits_say, of_digits}
+use Rattle.card_set.proofs.Entries.{never_at}
+use Rattle.card_set.proofs.Tests.{both_true}
 use Rattle.acpc_game.specs.GameFile.{number_said, numbers_after}
 
 -- a sign is a decimal digit

@@ -7,7 +7,7 @@ use Rattle.first_fault.specs.declared.stop.ReadError.{ReadError}
 use Rattle.first_fault.specs.declared.stop.ReadError.TheVariants as stops
 use Rattle.first_fault.specs.Digits.{number_of}
 use Rattle.first_fault.specs.Reading.{◌>>=◌, Fails}
-use Rattle.acpc_text.specs.declared.fault.AcpcFault.{AcpcFault}
+use Rattle.acpc_game.specs.declared.fault.AcpcFault.{AcpcFault}
 use Rattle.acpc_game.specs.GameFile.{EntrySaid, number_said, numbers_after, entries_after, entries_after_line}
 
 -- what fails first fails as a whole

@@ -6,10 +6,10 @@ use Rattle.std.proofs.lemmas.List.{append-nil, length-map}
 use Rattle.std.proofs.lemmas.List.Folds.{list_all-append}
 use Rattle.std.proofs.lemmas.List.Splits.{slice_split_at, slice_split_none}
 use Rattle.chip_ledger.specs.AmountTexts.{spaced}
-use Rattle.list_laws.proofs.Entries.{never_at}
-use Rattle.list_laws.proofs.Tests.{both_true}
-use Rattle.acpc_text.proofs.LineLaws.{line_and_more}
-use Rattle.acpc_text.specs.Parts.{lines_of, parts_of, without_return}
+use Rattle.card_set.proofs.Entries.{never_at}
+use Rattle.card_set.proofs.Tests.{both_true}
+use Rattle.acpc_game.proofs.LineLaws.{line_and_more}
+use Rattle.acpc_game.specs.Parts.{lines_of, parts_of, without_return}
 use Rattle.acpc_game.specs.declared.key.GameKey.{GameKey}
 use Rattle.acpc_game.specs.Forms.{form_of, form_with, is_passed_over, is_unused, key_and_numbers, key_before, numbers_behind}
 use Rattle.acpc_game.specs.GameFile.{EntrySaid, entries_after, entries_after_line, entries_with, may_stand}

@@ -2,7 +2,7 @@
 use Rattle.std.specs.Prelude.{ℕ, ◌-◌, ◌==◌, Bool, true, false, nat_lt, ◌||◌, bytes_eq, if◌then◌else◌, List, [], ◌∷◌, length, slice_index, codes, Option, Some, None, option_and_then}
 use Rattle.std.specs.List.{list_all}
 use Rattle.first_fault.specs.Digits.{are_digits}
-use Rattle.acpc_text.specs.Parts.{parts_of}
+use Rattle.acpc_game.specs.Parts.{parts_of}
 use Rattle.acpc_game.specs.declared.key.GameKey.{GameKey}
 use Rattle.acpc_game.specs.declared.key.GameKey.TheVariants as keys
 use Rattle.acpc_game.specs.Keys.{is_word, key_named, has_count}

@@ -5,9 +5,9 @@ use Rattle.std.specs.Option.{option_map, option_map_or}
 use Rattle.chip_ledger.specs.Greatest.{greatest}
 use Rattle.first_fault.specs.Reading.{◌>>=◌}
 use Rattle.first_fault.specs.Digits.{number_of}
-use Rattle.acpc_text.specs.declared.fault.AcpcFault.{AcpcFault}
-use Rattle.acpc_text.specs.declared.fault.AcpcFault.TheVariants as faults
-use Rattle.acpc_text.specs.Parts.{lines_of}
+use Rattle.acpc_game.specs.declared.fault.AcpcFault.{AcpcFault}
+use Rattle.acpc_game.specs.declared.fault.AcpcFault.TheVariants as faults
+use Rattle.acpc_game.specs.Parts.{lines_of}
 use Rattle.acpc_game.specs.declared.key.GameKey.{GameKey}
 use Rattle.acpc_game.specs.declared.key.GameKey.TheVariants as keys
 use Rattle.acpc_game.specs.Keys.{is_word, key_place, most_of, or_else}

@@ -1,7 +1,7 @@
 //! Parses a line of a game file: a key alone, or a key, `=`, and numbers separated by spaces.
 ghost use Rattle.std.specs.Prelude.{◌≡◌, [], ◌∷◌, ◌-◌, length, slice_index, option_map, true, IfSome, if◌then◌else◌, Some, None};
 ghost use Rattle.std.specs.List.{list_all};
-ghost use Rattle.acpc_text.specs.Parts.{parts_of};
+ghost use Rattle.acpc_game.specs.Parts.{parts_of};
 ghost use Rattle.first_fault.specs.Words.{is_space, words_of};
 ghost use Rattle.first_fault.specs.Digits.{are_digits as are_digits_said};
 ghost use Rattle.acpc_game.specs.Entries.{form_said};
@@ -10,7 +10,7 @@ ghost use Rattle.acpc_game.specs.Forms.{form_of, form_with as form_with_said, is
 
 use crate::key::{GameKey, is_word, key_named};
 use crate::key_line::KeyLine;
-use acpc_text::cut_at;
+use crate::parts::cut_at;
 use first_fault::{are_digits, next_word};
 
 /// Whether a line of a game file is ignored: it is empty or begins with `#`.

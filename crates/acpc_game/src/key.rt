@@ -81,7 +81,7 @@ fn chip_key_named(word: &[u8]) -> Option<GameKey>
 }
 
 /// Whether the text is this word, in capitals or small letters.
-#[tactic(auto, unfolding(crate::specs::Keys::is_word), using(list_laws::proofs::Bytes::equal_by_test))]
+#[tactic(auto, unfolding(crate::specs::Keys::is_word), using(card_set::proofs::Bytes::equal_by_test))]
 pub fn is_word(name: &str, text: &[u8]) -> bool
     ensures { result ≡ is_word_said name.now text.now }
 {

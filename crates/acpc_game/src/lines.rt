@@ -3,18 +3,19 @@ ghost use Rattle.std.specs.Prelude.{◌≡◌, ◌≤◌, [], true, nat_le, leng
 ghost use Rattle.std.specs.List.{list_all};
 ghost use Rattle.first_fault.specs.Digits.{are_digits};
 ghost use Rattle.first_fault.specs.Reading.{Gives, Fails};
-ghost use Rattle.acpc_text.specs.Faults.{fault_in_line as fault_in_line_said};
-ghost use Rattle.acpc_text.specs.Parts.{lines_of};
+ghost use Rattle.acpc_game.specs.Faults.{fault_in_line as fault_in_line_said};
+ghost use Rattle.acpc_game.specs.Parts.{lines_of};
 ghost use Rattle.first_fault.specs.Words.{words_of};
 ghost use Rattle.acpc_game.specs.Entries.{entry_said};
 ghost use Rattle.acpc_game.specs.GameFile.{entries_after_line, entries_in, entries_said, may_stand as may_stand_said, number_said, numbers_after, says_no_limit as says_no_limit_said};
 ghost use Rattle.acpc_game.specs.Keys.{most_of};
 
 use crate::entry::Entry;
+use crate::fault::{AcpcFault, LineFault, LineFaultKind, fault_in_line};
 use crate::form::{is_passed_over, read_form};
 use crate::found::has_key;
 use crate::key::{GameKey, is_word};
-use acpc_text::{AcpcFault, LineFault, LineFaultKind, fault_in_line, next_line};
+use crate::parts::next_line;
 use first_fault::{ReadError, next_word, read_digits};
 use std::alloc::Global;
 

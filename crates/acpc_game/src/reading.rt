@@ -2,7 +2,7 @@
 ghost use Rattle.std.specs.Prelude.{◌≡◌, ◌≤◌, if◌then◌else◌, true, nat_le, None, length, map, option_map, slice_index, IfOk, IfErr};
 ghost use Rattle.std.specs.List.{list_all};
 ghost use Rattle.first_fault.specs.Reading.{Gives, IsOutOfMemory};
-ghost use Rattle.acpc_text.specs.Faults.{Answers};
+ghost use Rattle.acpc_game.specs.Faults.{Answers};
 ghost use Rattle.acpc_game.specs.declared.key.GameKey.TheVariants as keys;
 ghost use Rattle.acpc_game.specs.Entries.{entry_said};
 ghost use Rattle.acpc_game.specs.GameFile.{found, game_at_end, game_by, game_said, is_whole as is_whole_said, stacks_at};
@@ -12,12 +12,12 @@ ghost use Rattle.chip_ledger.specs.SeatRow.{amounts_in};
 ghost use Rattle.acpc_game.specs.Playable.{IsPlayable};
 
 use crate::entry::Entry;
+use crate::fault::{AcpcFault, LineFaultKind};
 use crate::found::{find_entry, has_key, line_at, numbers_at};
 use crate::game::Game;
 use crate::key::GameKey;
 use crate::lines::{fault_at, read_entries};
 use crate::supported::{end_line, first_unsupported, has_no_limit, is_whole};
-use acpc_text::{AcpcFault, LineFaultKind};
 use chip_ledger::SeatRow;
 use first_fault::ReadError;
 use std::alloc::Global;

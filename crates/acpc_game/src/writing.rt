@@ -126,7 +126,7 @@ fn push_caps(alloc: Global, out: &mut Vec<u8>, caps: Option<[u32; 4]>) -> Result
 }
 
 // The caps as 64-bit numbers.
-#[tactic(auto, using(list_laws::proofs::Entries::four_entries))]
+#[tactic(auto, using(card_set::proofs::Entries::four_entries))]
 fn wide_caps(caps: [u32; 4]) -> [u64; 4]
     ensures { result ≡ caps }
 {

@@ -2,9 +2,9 @@
 use Rattle.std.proofs.Common.{◌≡◌, ℕ, ◌+◌, Bool, List, [], ◌∷◌, length, Result, Ok, refl, sym, ap, ◌∙◌}
 use Rattle.first_fault.specs.declared.stop.ReadError.{ReadError}
 use Rattle.first_fault.specs.Reading.{◌>>=◌, Fails}
-use Rattle.acpc_text.specs.declared.fault.LineFault.{LineFault}
-use Rattle.acpc_text.specs.Letters.{Letter, scan}
-use Rattle.acpc_text.proofs.Scan.{letter_at}
+use Rattle.acpc_game.specs.declared.fault.LineFault.{LineFault}
+use Rattle.acpc_game.specs.Letters.{Letter, scan}
+use Rattle.acpc_game.proofs.Scan.{letter_at}
 use Rattle.acpc_game.proofs.Steps.{fails_first, fails_at}
 use Rattle.acpc_reading.specs.Betting.{Bets, betting_said, letter_said, bets_after, no_bets}
 

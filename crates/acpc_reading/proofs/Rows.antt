@@ -2,7 +2,7 @@
 use Rattle.std.proofs.Common.{◌≡◌, ℕ, ◌+◌, List, [], ◌∷◌, ◌++◌, length, Option, Result, Ok, ℤ, refl, sym, ap, ◌∙◌}
 use Rattle.first_fault.specs.declared.stop.ReadError.{ReadError}
 use Rattle.first_fault.specs.Reading.{Fails}
-use Rattle.acpc_text.specs.declared.fault.LineFault.{LineFault}
+use Rattle.acpc_game.specs.declared.fault.LineFault.{LineFault}
 use Rattle.acpc_game.proofs.Steps.{fails_first, fails_at}
 use Rattle.acpc_reading.specs.Values.{value_said, values_after}
 use Rattle.acpc_reading.specs.Names.{name_said, names_after}

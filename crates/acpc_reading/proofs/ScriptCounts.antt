@@ -2,24 +2,24 @@
 use Rattle.std.proofs.Common.{◌≡◌, ℕ, ◌+◌, ◌≤◌, Bool, true, false, not, cond, eqb, List, [], ◌∷◌, ◌++◌, length, map, count_by, None, Ok, IfOk, refl, sym, ap, ◌∙◌, arith}
 use Rattle.std.proofs.lemmas.Bool.Decides.{nat_tests}
 use Rattle.std.proofs.lemmas.Result.{IfOk-at_ok}
-use Rattle.list_laws.proofs.Counting.{count_by-push, count_by-cons}
-use Rattle.list_laws.proofs.Options.{along}
-use Rattle.canon_script.specs.PlayedScript.{is_move, IsWithinLimits}
+use Rattle.card_set.proofs.Counting.{count_by-push, count_by-cons}
+use Rattle.card_set.proofs.Options.{along}
+use Rattle.play_event.specs.PlayedScript.{is_move, IsWithinLimits}
 use Rattle.first_fault.specs.declared.limits.TheConstants.{MOST_FILE_MOVES}
 use Rattle.play_event.specs.declared.event.Event.{Event}
 use Rattle.play_event.specs.declared.event.Spelled.TheVariants as spelled
 use Rattle.play_event.specs.Said as said
 use Rattle.play_event.specs.Said.{Said, Numbered, numbered, said_of}
-use Rattle.acpc_text.specs.declared.fault.LineFaultKind.TheVariants as whats
-use Rattle.acpc_text.specs.Faults.{wrong}
-use Rattle.acpc_text.specs.Parts.{parts_of}
+use Rattle.acpc_game.specs.declared.fault.LineFaultKind.TheVariants as whats
+use Rattle.acpc_game.specs.Faults.{wrong}
+use Rattle.acpc_game.specs.Parts.{parts_of}
 use Rattle.acpc_reading.specs.declared.step.BettingStep.{BettingStep}
 use Rattle.acpc_reading.specs.declared.step.BettingStep.TheVariants as steps
 use Rattle.acpc_reading.specs.Betting.{Bets, betting_said}
 use Rattle.acpc_reading.specs.Cards.{Written, bad_cards, board_said, dealt, hole_said, hole_after, holes_after, next_round, script_said, step_after, steps_after, steps_said, without_rest}
 use Rattle.acpc_reading.proofs.Checked.{after}
 use Rattle.acpc_reading.proofs.BettingCounts.{AreCounted, betting_counted, is_letter, is_stroke}
-use Rattle.list_laws.proofs.Results.{ok_either, ok_where_some}
+use Rattle.card_set.proofs.Results.{ok_either, ok_where_some}
 
 -- the number of moves among events
 abbrev pub moves_in : List Numbered → ℕ

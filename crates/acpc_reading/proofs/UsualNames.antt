@@ -8,7 +8,7 @@ use Rattle.std.proofs.lemmas.Slice.Eq.{bytes_eq-Decides}
 use Rattle.std.proofs.lemmas.Str.{is_utf8-from_IsUtf8, IsUtf8-from_ascii}
 use Rattle.first_fault.specs.declared.limits.TheConstants.{MOST_TEXT_BYTES}
 use Rattle.acpc_reading.specs.Names.{name_said}
-use Rattle.list_laws.proofs.Bytes.{same_bytes}
+use Rattle.card_set.proofs.Bytes.{same_bytes}
 use Rattle.chip_ledger.specs.SeatsSaid.{default_name}
 
 -- no bytes read as no name

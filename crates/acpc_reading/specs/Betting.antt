@@ -2,15 +2,15 @@
 use Rattle.std.specs.Prelude.{ℕ, ◌+◌, ◌==◌, Bool, nat_lt, nat_le, if◌then◌else◌, List, [], ◌∷◌, ◌++◌, length, Result, Ok}
 use Rattle.std.specs.Option.{option_map_or}
 use Rattle.chip_ledger.specs.declared.numbers.TheConstants.{MOST_CHIPS}
-use Rattle.canon_script.specs.declared.limits.TheConstants.{MOST_MOVES}
+use Rattle.play_event.specs.declared.hand_limits.TheConstants.{MOST_MOVES}
 use Rattle.first_fault.specs.declared.limits.TheConstants.{MOST_FILE_MOVES}
 use Rattle.first_fault.specs.declared.limits.Quantity.TheVariants as quantities
 use Rattle.first_fault.specs.Reading.{◌>>=◌}
 use Rattle.first_fault.specs.Digits.{number_of}
-use Rattle.acpc_text.specs.declared.fault.LineFault.{LineFault}
-use Rattle.acpc_text.specs.declared.fault.LineFaultKind.TheVariants as whats
-use Rattle.acpc_text.specs.Faults.{wrong}
-use Rattle.acpc_text.specs.Letters.{Letter, scan}
+use Rattle.acpc_game.specs.declared.fault.LineFault.{LineFault}
+use Rattle.acpc_game.specs.declared.fault.LineFaultKind.TheVariants as whats
+use Rattle.acpc_game.specs.Faults.{wrong}
+use Rattle.acpc_game.specs.Letters.{Letter, scan}
 use Rattle.acpc_reading.specs.declared.step.BettingStep.{BettingStep}
 use Rattle.acpc_reading.specs.declared.step.BettingStep.TheVariants as steps
 

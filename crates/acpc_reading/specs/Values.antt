@@ -5,10 +5,10 @@ use Rattle.std.specs.Option.{option_map_or}
 use Rattle.chip_ledger.specs.declared.seat_row.TheConstants.{MOST_AMOUNT}
 use Rattle.first_fault.specs.Reading.{◌>>=◌}
 use Rattle.first_fault.specs.Digits.{are_digits, number_of}
-use Rattle.acpc_text.specs.declared.fault.LineFault.{LineFault}
-use Rattle.acpc_text.specs.declared.fault.LineFaultKind.TheVariants as whats
-use Rattle.acpc_text.specs.Faults.{wrong}
-use Rattle.acpc_text.specs.Parts.{parts_of}
+use Rattle.acpc_game.specs.declared.fault.LineFault.{LineFault}
+use Rattle.acpc_game.specs.declared.fault.LineFaultKind.TheVariants as whats
+use Rattle.acpc_game.specs.Faults.{wrong}
+use Rattle.acpc_game.specs.Parts.{parts_of}
 
 -- one or more zeros
 abbrev pub are_zeros : List ℕ → Bool

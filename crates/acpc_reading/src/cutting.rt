@@ -1,13 +1,13 @@
 //! Cuts a line of a hand at its colons into six fields.
 ghost use Rattle.std.specs.Prelude.{◌<◌, ◌^◌, length, IfOk};
 ghost use Rattle.first_fault.specs.Reading.{Gives};
-ghost use Rattle.acpc_text.specs.Parts.{parts_of};
+ghost use Rattle.acpc_game.specs.Parts.{parts_of};
 ghost use Rattle.acpc_reading.specs.Logs.{six_fields};
 ghost use Rattle.acpc_reading.specs.FieldsView.{HasRoom, fields_in};
 
 use crate::fields::Fields;
 use crate::letters::fault_at;
-use acpc_text::{LineFault, LineFaultKind, cut_at};
+use acpc_game::{LineFault, LineFaultKind, cut_at};
 use first_fault::ReadError;
 
 /// The six fields of a line.

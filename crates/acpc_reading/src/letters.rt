@@ -8,10 +8,10 @@ ghost use Rattle.acpc_reading.specs.Views.{bets_in};
 
 use crate::betting::ReadBetting;
 use crate::step::BettingStep;
-use acpc_text::{LineFault, LineFaultKind, cut_digits, cut_first};
-use canon_script::MOST_MOVES;
+use acpc_game::{LineFault, LineFaultKind, cut_digits, cut_first};
 use chip_ledger::MOST_CHIPS;
 use first_fault::{MOST_FILE_MOVES, Quantity, ReadError, read_digits};
+use play_event::MOST_MOVES;
 
 /// The betting field of the next hand, which begins at this byte.
 #[tactic(auto, unfolding(crate::specs::Betting::betting_said))]

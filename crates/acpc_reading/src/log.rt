@@ -3,7 +3,7 @@ ghost use Rattle.std.specs.Prelude.{◌≡◌, ℕ, ◌≤◌, ◌<◌, ◌^◌,
 ghost use Rattle.std.specs.List.{AllByRecursion};
 ghost use Rattle.first_fault.specs.declared.limits.TheConstants.{MOST_FILE_MOVES, MOST_HANDS};
 ghost use Rattle.first_fault.specs.Reading.{Fails, Gives};
-ghost use Rattle.acpc_text.specs.Faults.{Answers};
+ghost use Rattle.acpc_game.specs.Faults.{Answers};
 ghost use Rattle.acpc_reading.specs.Logs.{hands_after_line, is_passed_over as is_passed_over_said, line_said, reading, with_hand};
 ghost use Rattle.acpc_reading.specs.RecordView.{AreOfGame, IsOfGame, record_said};
 ghost use Rattle.hand_records.specs.Moves.{moves_of};
@@ -15,8 +15,7 @@ use crate::names::{read_hand, read_names};
 use crate::record::record_of;
 use crate::script::read_script;
 use crate::values::read_values;
-use acpc_game::Game;
-use acpc_text::{AcpcFault, LineFault, LineFaultKind, fault_in_line, has_prefix, next_line};
+use acpc_game::{AcpcFault, Game, LineFault, LineFaultKind, fault_in_line, has_prefix, next_line};
 use first_fault::{MOST_HANDS, Quantity, ReadError};
 use hand_records::Records;
 use std::alloc::Global;

@@ -8,7 +8,7 @@ ghost use Rattle.chip_ledger.specs.SeatsSaid.{default_name};
 
 use crate::letters::fault_at;
 use crate::parts::next_part;
-use acpc_text::{LineFault, LineFaultKind, count_parts};
+use acpc_game::{LineFault, LineFaultKind, count_parts};
 use chip_ledger::Seat;
 use first_fault::{MOST_TEXT_BYTES, Quantity, ReadError, Text, are_digits, read_digits};
 use std::alloc::Global;
@@ -107,7 +107,7 @@ fn read_name(
 }
 
 // The bytes as a text, if they are one.
-#[tactic(auto, using(list_laws::proofs::Bytes::is_text, list_laws::proofs::Bytes::is_no_text))]
+#[tactic(auto, using(card_set::proofs::Bytes::is_text, card_set::proofs::Bytes::is_no_text))]
 fn text_of(bytes: &[u8]) -> Option<&str>
     ensures text { IfSome result (λ text. text.now ≡ bytes.now) }
     ensures is { is_some result ≡ is_utf8 bytes.now }

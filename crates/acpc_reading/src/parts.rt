@@ -3,7 +3,7 @@ ghost use Rattle.std.specs.Prelude.{◌≡◌, ◌+◌, [], ◌∷◌, length, I
 ghost use Rattle.std.specs.Option.{option_map_or};
 ghost use Rattle.acpc_reading.specs.Left.{len_left, parts_left};
 
-use acpc_text::cut_at;
+use acpc_game::cut_at;
 
 /// The first part of the rest of a field, and what comes after its sign; `None` if nothing is left.
 pub fn next_part<'a>(rest: Option<&'a [u8]>, sign: u8) -> Option<(&'a [u8], Option<&'a [u8]>)>

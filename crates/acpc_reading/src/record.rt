@@ -1,6 +1,6 @@
 //! Makes a record of what a line says of a hand and of the setup and rules of its game.
 ghost use Rattle.std.specs.Prelude.{◌≡◌, ℕ, ◌-◌, ◌≤◌, None, map, take, slice_index_or, IfSome};
-ghost use Rattle.canon_script.specs.PlayedScript.{IsWithinLimits};
+ghost use Rattle.play_event.specs.PlayedScript.{IsWithinLimits};
 ghost use Rattle.hand_records.specs.AllowedNotes.{IsName, IsNoteText};
 ghost use Rattle.play_event.specs.Said.{numbered, said_of};
 ghost use Rattle.acpc_reading.specs.RecordView.{IsOfGame, NotesNames, StatesValues, record_said};

@@ -2,7 +2,7 @@
 ghost use Rattle.std.specs.Prelude.{◌≡◌, ℕ, ◌≤◌, ◌<◌, ◌+◌, ◌-◌, ◌^◌, None, length, map, Ok, OnOk, IfOk, IfErr, IfSome};
 ghost use Rattle.play_event.specs.Said.{kind_said, numbered};
 ghost use Rattle.first_fault.specs.Reading.{Fails, Gives};
-ghost use Rattle.acpc_text.specs.Parts.{parts_of};
+ghost use Rattle.acpc_game.specs.Parts.{parts_of};
 ghost use Rattle.acpc_reading.specs.Cards.{Written, dealt, hole_after, holes_after, next_round, script_said, step_after, steps_said, with_letter};
 ghost use Rattle.acpc_reading.specs.Left.{parts_left};
 ghost use Rattle.acpc_reading.specs.Scripts.{written_by};
@@ -12,8 +12,7 @@ use crate::letters::fault_at;
 use crate::parts::next_part;
 use crate::pending::Pending;
 use crate::step::BettingStep;
-use acpc_game::Game;
-use acpc_text::{LineFault, LineFaultKind, count_parts, cut_at, saturating_u32};
+use acpc_game::{Game, LineFault, LineFaultKind, count_parts, cut_at, saturating_u32};
 use chip_ledger::Seat;
 use first_fault::ReadError;
 use play_event::{Event, Kind, Script, Spelled};

@@ -2,13 +2,13 @@
 ghost use Rattle.std.specs.Prelude.{◌≡◌, ◌≤◌, ◌<◌, ◌+◌, ◌-◌, ◌^◌, ◌∷◌, length, slice_set, IfOk};
 ghost use Rattle.chip_ledger.specs.declared.seat_row.TheConstants.{MOST_AMOUNT};
 ghost use Rattle.first_fault.specs.Reading.{Gives};
-ghost use Rattle.acpc_text.specs.Parts.{parts_of};
+ghost use Rattle.acpc_game.specs.Parts.{parts_of};
 ghost use Rattle.acpc_reading.specs.Values.{are_zeros as are_zeros_said, signed as signed_said, unsigned_said, value_said, values_said, whole_said};
 ghost use Rattle.acpc_reading.specs.Views.{nets_in};
 
 use crate::letters::fault_at;
 use crate::parts::next_part;
-use acpc_text::{LineFault, LineFaultKind, count_parts, cut_at, cut_first};
+use acpc_game::{LineFault, LineFaultKind, count_parts, cut_at, cut_first};
 use chip_ledger::MOST_AMOUNT;
 use first_fault::{ReadError, are_digits, read_digits};
 use hand_records::NetRow;

@@ -4,7 +4,7 @@ use Rattle.std.specs.List.{list_any}
 use Rattle.std.specs.Option.{option_map_or}
 use Rattle.std.proofs.lemmas.List.{append-nil, length-map}
 use Rattle.std.proofs.lemmas.Bool.{lt-ltb}
-use Rattle.list_laws.proofs.Tests.{false_true}
+use Rattle.card_set.proofs.Tests.{false_true}
 use Rattle.play_event.specs.declared.setup.Rules.{Rules}
 use Rattle.play_event.specs.declared.setup.Setup.{Setup}
 use Rattle.play_event.specs.Dealing.{board_cards_dealt}
@@ -20,10 +20,10 @@ use Rattle.play_event.specs.Table.{places_of}
 use Rattle.play_event.specs.Trace.{TracedMove, TracedPlace, traced_move, traced_moves, traced_places}
 use Rattle.play_laws.proofs.PlayedStreets.{board_count}
 use Rattle.play_event.proofs.TracedMoves.{as_many}
-use Rattle.street_laws.specs.CardEvents.{is_card_event, is_card_said}
-use Rattle.street_laws.proofs.LegalCards.{at_street}
-use Rattle.canon_script.specs.CanonScript.{dealt_slots, is_dealt_to}
-use Rattle.canon_blocks.proofs.TraceOrder.{the_board}
+use Rattle.play_laws.specs.CardEvents.{is_card_event, is_card_said}
+use Rattle.play_laws.proofs.LegalCards.{at_street}
+use Rattle.play_event.specs.CanonScript.{dealt_slots, is_dealt_to}
+use Rattle.canon_laws.proofs.TraceOrder.{the_board}
 use Rattle.canon_laws.proofs.StreetDeals.{group_is}
 use Rattle.acpc_writing.specs.Rounds.{has_board}
 use Rattle.acpc_view.specs.View.{has_begun}

@@ -10,9 +10,9 @@ use Rattle.card_set.specs.Spelling.{spelling}
 use Rattle.play_event.specs.declared.setup.Setup.{Setup}
 use Rattle.play_event.specs.Past.{Move}
 use Rattle.play_event.specs.Trace.{TracedMove, TracedPlace}
-use Rattle.canon_script.specs.CanonScript.{dealt_slots, plain_move, plain_moves}
-use Rattle.canon_script.specs.TraceCore.{TraceCore}
-use Rattle.canon_script.specs.Tidy.{IsTidy}
+use Rattle.play_event.specs.CanonScript.{dealt_slots, plain_move, plain_moves}
+use Rattle.play_event.specs.TraceCore.{TraceCore}
+use Rattle.play_event.specs.Tidy.{IsTidy}
 use Rattle.canon_laws.proofs.MoveCounts.{tidy_within}
 use Rattle.hand_canon.specs.Sound.{IsSound}
 use Rattle.hand_records.specs.SoundRecord.{script_said}

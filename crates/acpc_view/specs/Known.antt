@@ -4,8 +4,8 @@ use Rattle.std.specs.Prelude.{◌≡◌, ◌<◌, ◌≤◌, ℕ, if◌then◌el
 use Rattle.card_set.specs.declared.card.Slot.{Slot}
 use Rattle.acpc_writing.specs.Names.{hand_text}
 use Rattle.acpc_writing.specs.Rounds.{has_board}
-use Rattle.canon_script.specs.CanonScript.{dealt_slots}
-use Rattle.canon_script.specs.TraceCore.{TraceCore}
+use Rattle.play_event.specs.CanonScript.{dealt_slots}
+use Rattle.play_event.specs.TraceCore.{TraceCore}
 use Rattle.hand_records.specs.TraceRows.{core_said}
 use Rattle.hand_records.specs.declared.trace.Play.{Play}
 use Rattle.acpc_view.specs.View.{has_begun}

@@ -6,8 +6,8 @@ use Rattle.card_set.specs.Known.{is_unknown}
 use Rattle.card_set.specs.Spelling.{spelling}
 use Rattle.acpc_writing.specs.Puts.{HaveFewChips}
 use Rattle.acpc_view.specs.View.{seen_places}
-use Rattle.canon_script.specs.CanonScript.{dealt_slots}
-use Rattle.canon_script.specs.declared.limits.TheConstants.{MOST_MOVES}
+use Rattle.play_event.specs.CanonScript.{dealt_slots}
+use Rattle.play_event.specs.declared.hand_limits.TheConstants.{MOST_MOVES}
 use Rattle.hand_records.specs.TraceRows.{core_said}
 use Rattle.hand_records.specs.declared.trace.Trace.{Trace}
 use Rattle.play_event.specs.Trace.{TracedPlace}

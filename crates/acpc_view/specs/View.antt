@@ -9,8 +9,8 @@ use Rattle.std.specs.Option.{option_map_or}
 use Rattle.acpc_writing.specs.Betting.{betting_text}
 use Rattle.acpc_writing.specs.Cards.{cards_text}
 use Rattle.acpc_writing.specs.Names.{hand_text}
-use Rattle.canon_script.specs.CanonScript.{plain_moves}
-use Rattle.canon_script.specs.TraceCore.{TraceCore}
+use Rattle.play_event.specs.CanonScript.{plain_moves}
+use Rattle.play_event.specs.TraceCore.{TraceCore}
 use Rattle.hand_records.specs.TraceRows.{core_said}
 use Rattle.hand_records.specs.declared.trace.Play.{Play}
 use Rattle.hand_records.specs.declared.trace.Trace.{Trace}

@@ -8,7 +8,7 @@ ghost use Rattle.acpc_writing.specs.Seats.{bar_before};
 ghost use Rattle.acpc_writing.specs.Puts.{HaveFewChips};
 ghost use Rattle.acpc_view.specs.Lengths.{IsLengthWithin, IsShort, hole_of, seen_by};
 ghost use Rattle.acpc_view.specs.View.{seen_text, view_line, views_text};
-ghost use Rattle.canon_script.specs.CanonScript.{dealt_slots, plain_move, plain_moves};
+ghost use Rattle.play_event.specs.CanonScript.{dealt_slots, plain_move, plain_moves};
 ghost use Rattle.card_set.specs.Spelling.{spelling};
 ghost use Rattle.hand_canon.specs.Sound.{IsSound};
 ghost use Rattle.hand_records.specs.TraceRows.{place_said};

@@ -14,7 +14,7 @@ ghost use Rattle.play_event.specs.Scripts.{past_of};
 ghost use Rattle.play_event.specs.Trace.{traced_moves, traced_places};
 ghost use Rattle.play_event.specs.declared.setup.Rules.{Rules};
 ghost use Rattle.play_event.specs.declared.setup.Setup.{Setup};
-ghost use Rattle.street_laws.specs.CardEvents.{is_card_said};
+ghost use Rattle.play_laws.specs.CardEvents.{is_card_said};
 
 /// The line of a seat before a move depends on nothing that the seat could not know: if two plays
 /// have the same setup and hand number, the same cards of that seat, the same moves so far and the

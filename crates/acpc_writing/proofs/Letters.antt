@@ -3,7 +3,7 @@ use Rattle.std.proofs.Common.{◌≡◌, ℕ, ◌+◌, ◌-◌, ◌≤◌, ◌<�
 use Rattle.std.proofs.lemmas.Bool.{eq-eqb}
 use Rattle.std.proofs.lemmas.List.{append-nil}
 use Rattle.chip_ledger.specs.declared.seat_row.TheConstants.{MOST_AMOUNT}
-use Rattle.canon_script.specs.CanonScript.{plain_move, plain_moves}
+use Rattle.play_event.specs.CanonScript.{plain_move, plain_moves}
 use Rattle.play_event.specs.Chips.{chips_put}
 use Rattle.play_event.specs.Past.{Move}
 use Rattle.play_event.specs.Played.{move_said}

@@ -3,7 +3,7 @@ use Rattle.std.proofs.Common.{◌≡◌, ◌≢◌, ℕ, ◌+◌, ◌-◌, ◌�
 use Rattle.std.proofs.lemmas.Bool.{cases_eq, eq-eqb}
 use Rattle.std.proofs.lemmas.Grind.{get_or-set_at}
 use Rattle.std.proofs.lemmas.List.{get_or-set_other}
-use Rattle.canon_script.specs.CanonScript.{plain_move}
+use Rattle.play_event.specs.CanonScript.{plain_move}
 use Rattle.play_event.specs.Chips.{chips_put, posted}
 use Rattle.play_event.specs.Past.{Move}
 use Rattle.play_event.specs.Played.{move_said}

@@ -2,8 +2,8 @@
 -- most their stacks.
 use Rattle.std.proofs.Common.{◌≡◌, ℕ, zero, suc, ◌+◌, ◌-◌, ◌≤◌, ◌<◌, List, [], ◌∷◌, ◌++◌, length, map, take, reverse, get_or, refl, sym, ap, ◌∙◌, arith}
 use Rattle.std.proofs.lemmas.Grind.{reverse_onto}
-use Rattle.canon_script.specs.CanonScript.{plain_move, plain_moves}
-use Rattle.canon_script.specs.TraceCore.{TraceCore}
+use Rattle.play_event.specs.CanonScript.{plain_move, plain_moves}
+use Rattle.play_event.specs.TraceCore.{TraceCore}
 use Rattle.canon_laws.proofs.SameCore.{plain_again}
 use Rattle.play_event.proofs.ChipLaws.{puts_within}
 use Rattle.play_event.specs.Chips.{chips_added, chips_put}

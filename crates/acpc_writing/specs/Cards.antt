@@ -5,7 +5,7 @@ use Rattle.std.specs.List.{flat_map, list_any}
 use Rattle.card_set.specs.Known.{is_unknown}
 use Rattle.card_set.specs.Spelling.{spelling}
 use Rattle.play_event.specs.Trace.{TracedPlace}
-use Rattle.canon_script.specs.CanonScript.{dealt_slots}
+use Rattle.play_event.specs.CanonScript.{dealt_slots}
 use Rattle.acpc_writing.specs.Rounds.{behind_stroke, further_streets}
 use Rattle.acpc_writing.specs.Seats.{for_seats}
 

@@ -2,7 +2,7 @@
 -- names, separated by colons and ended by a newline. A log is the lines of its plays, one after the
 -- other.
 use Rattle.std.specs.Prelude.{ℕ, ◌+◌, Bool, List, [], ◌∷◌, ◌++◌, codes, Option}
-use Rattle.canon_script.specs.CanonScript.{plain_moves}
+use Rattle.play_event.specs.CanonScript.{plain_moves}
 use Rattle.hand_records.specs.TraceRows.{core_said}
 use Rattle.hand_records.specs.declared.notes.Notes.{Notes}
 use Rattle.hand_records.specs.declared.trace.Play.{Play}

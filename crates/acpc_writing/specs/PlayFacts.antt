@@ -8,7 +8,7 @@ use Rattle.chip_ledger.specs.PotRow.{shares_in}
 use Rattle.chip_ledger.specs.Seat.{seats_of}
 use Rattle.chip_ledger.specs.declared.live_row.LiveRow.{LiveRow}
 use Rattle.chip_ledger.specs.declared.seat_row.SeatRow.{SeatRow}
-use Rattle.canon_script.specs.CanonScript.{dealt_slots}
+use Rattle.play_event.specs.CanonScript.{dealt_slots}
 use Rattle.canon_laws.specs.OtherRules as other_rules
 use Rattle.play_event.specs.Past.{is_raise}
 use Rattle.play_event.specs.Played.{act_said, move_said}

@@ -2,7 +2,7 @@
 use Rattle.std.specs.Prelude.{ℕ, Bool, if◌then◌else◌, List, [], ◌∷◌, None}
 use Rattle.std.specs.List.{list_any}
 use Rattle.play_event.specs.Trace.{TracedPlace}
-use Rattle.canon_script.specs.CanonScript.{is_dealt_to}
+use Rattle.play_event.specs.CanonScript.{is_dealt_to}
 
 -- cards of the board were dealt on a street
 abbrev pub has_board : List TracedPlace → ℕ → Bool

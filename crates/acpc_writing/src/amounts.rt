@@ -13,7 +13,7 @@ pub fn amounts_of(row: &SeatRow) -> &[u64]
 }
 
 /// Whether the amounts are the same.
-#[tactic(auto, using(list_laws::proofs::Bytes::equal_by_test))]
+#[tactic(auto, using(card_set::proofs::Bytes::equal_by_test))]
 pub fn are_same(amounts: &[u64], others: &[u64]) -> bool
     ensures { result ≡ bytes_eq amounts.now others.now }
 {

@@ -2,7 +2,7 @@
 ghost use Rattle.std.specs.Prelude.{◌≡◌, ◌++◌, map, OnOk};
 ghost use Rattle.play_event.specs.Past.{Raised};
 ghost use Rattle.play_event.specs.Played.{act_said, move_said};
-ghost use Rattle.canon_script.specs.CanonScript.{plain_move, plain_moves};
+ghost use Rattle.play_event.specs.CanonScript.{plain_move, plain_moves};
 ghost use Rattle.hand_records.specs.TraceRows.{place_said};
 ghost use Rattle.acpc_writing.specs.Betting.{betting_text, letter, letter_on, letters_on, round_text};
 ghost use Rattle.acpc_writing.specs.Puts.{HaveFewChips};

@@ -3,7 +3,7 @@ ghost use Rattle.std.specs.Prelude.{◌≡◌, ◌≤◌, ◌&&◌, ◌++◌, []
 ghost use Rattle.std.specs.List.{list_any};
 ghost use Rattle.card_set.specs.Known.{is_unknown};
 ghost use Rattle.card_set.specs.Spelling.{slot_spelling, spelling};
-ghost use Rattle.canon_script.specs.CanonScript.{dealt_slots, is_dealt_to};
+ghost use Rattle.play_event.specs.CanonScript.{dealt_slots, is_dealt_to};
 ghost use Rattle.play_event.specs.Places.{is_same_owner as is_same_owner_said};
 ghost use Rattle.play_event.specs.Said.{seat_named};
 ghost use Rattle.hand_records.specs.TraceRows.{place_said};

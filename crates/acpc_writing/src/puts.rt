@@ -1,7 +1,7 @@
 //! The chips that each seat has put, while the moves of a hand are walked through.
 ghost use Rattle.std.specs.Prelude.{◌≡◌, ◌≤◌, ◌<◌, ◌+◌, ◌-◌, [], ◌∷◌, List, slice_index};
 ghost use Rattle.chip_ledger.specs.declared.seat_row.TheConstants.{MOST_AMOUNT};
-ghost use Rattle.canon_script.specs.CanonScript.{plain_move};
+ghost use Rattle.play_event.specs.CanonScript.{plain_move};
 ghost use Rattle.play_event.specs.Chips.{posted as posted_said};
 ghost use Rattle.play_event.specs.Past.{Move as PlainMove};
 ghost use Rattle.play_event.specs.Played.{move_said};

@@ -2,9 +2,9 @@
 //! without these laws this crate does not prove.
 ghost use Rattle.std.specs.Prelude.{◌≡◌, ◌↔◌, ℕ, List, ◌+◌, sum_by, true, Some};
 ghost use Rattle.std.specs.List.{AllByRecursion};
-ghost use Rattle.canon_script.specs.CanonScript.{canon_of};
-ghost use Rattle.canon_script.specs.PlayedScript.{IsPlayed};
-ghost use Rattle.canon_script.specs.TraceCore.{core_after, core_of};
+ghost use Rattle.play_event.specs.CanonScript.{canon_of};
+ghost use Rattle.play_event.specs.PlayedScript.{IsPlayed};
+ghost use Rattle.play_event.specs.TraceCore.{core_after, core_of};
 ghost use Rattle.chip_ledger.specs.PotRow.{plain_shares, pots_in, shares_in};
 ghost use Rattle.chip_ledger.specs.Rakes.{nets_of};
 ghost use Rattle.chip_ledger.specs.SeatRow.{total_of};
@@ -31,9 +31,9 @@ ghost use Rattle.play_event.specs.declared.setup.Setup.{Setup};
 ghost use Rattle.trace_laws.specs.Conserved.{IsConserved};
 ghost use Rattle.trace_laws.specs.Winners.{AllGoToBest};
 
-use chip_laws::law_of_conserved_chips;
 use convert_core::{Notation, law_of_sharpness};
 use hand_records::Keep;
+use hand_session::law_of_conserved_chips;
 use trace_laws::{
     law_of_canonical_hands, law_of_finishing_stacks, law_of_one_trace, law_of_places,
     law_of_pots_and_returns, law_of_winners,

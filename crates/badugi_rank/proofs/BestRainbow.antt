@@ -23,7 +23,7 @@ use Rattle.badugi_rank.proofs.RainbowCards.{apart_different, none_made, suit_mad
 use Rattle.badugi_rank.proofs.RainbowRanks.{ShowsCards, points_shown, ranks_shown, once_high}
 use Rattle.badugi_rank.proofs.SuitRanks.{can_take, can_taken}
 use Rattle.badugi_rank.proofs.TakenRanks.{ranks_number}
-use Rattle.list_laws.proofs.Tests.{passes_or_not}
+use Rattle.card_set.proofs.Tests.{passes_or_not}
 
 -- a choice of one to four cards
 record IsChosen (cards choice : List Card) : Type 0 where

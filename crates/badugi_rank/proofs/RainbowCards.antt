@@ -23,7 +23,7 @@ use Rattle.hand_order.proofs.SetCounts.{height_below, rank_below}
 use Rattle.hand_order.proofs.SuitedHands.{every_filter, of_suit}
 use Rattle.badugi_rank.specs.Badugi.{has_in_common, has_nothing_in_common}
 use Rattle.badugi_rank.proofs.SuitRanks.{IsOneOf}
-use Rattle.list_laws.proofs.Tests.{passes_or_not, same_test, true_false}
+use Rattle.card_set.proofs.Tests.{passes_or_not, same_test, true_false}
 
 -- if one card has the suit, no other card has it
 none_of_suit : (s : ℕ) (card : Card) (rest : List Card) → of_suit s card ≡ true → list_all (λ other. not (has_in_common card other)) rest ≡ true → filter (of_suit s) rest ≡ []

@@ -7,8 +7,8 @@ use Rattle.std.proofs.lemmas.Nat.{and_le_l, or_lt}
 use Rattle.std.proofs.lemmas.Nat.Bits.{bit_at_and, bit_at-lt, bit_at_not, bit_at_set_other, bit_at_set_same, bit_at-zero}
 use Rattle.badugi_rank.specs.Rainbow.{CanTake, TakesOne}
 use Rattle.badugi_rank.proofs.Taking.{with_rank}
-use Rattle.list_laws.proofs.Tests.{passes_or_not}
-use Rattle.list_laws.proofs.Bits.{place_within}
+use Rattle.card_set.proofs.Tests.{passes_or_not}
+use Rattle.card_set.proofs.Bits.{place_within}
 
 -- the bits of a mask
 pub record AreBits (mask : ℕ) (f : ℕ → ℕ) : Type 0 where

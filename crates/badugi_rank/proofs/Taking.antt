@@ -5,8 +5,8 @@ use Rattle.std.proofs.Common.{◌≡◌, ℕ, ◌*◌, ◌^◌, ◌%◌, ◌≤�
 use Rattle.std.specs.Int.{bit_at}
 use Rattle.std.proofs.lemmas.Bool.{cases_lt}
 use Rattle.badugi_rank.specs.Rainbow.{CanTake, IsMost, TakesOne, taken_points}
-use Rattle.list_laws.proofs.Bits.{no_bit}
-use Rattle.list_laws.proofs.Tests.{passes_or_not}
+use Rattle.card_set.proofs.Bits.{no_bit}
+use Rattle.card_set.proofs.Tests.{passes_or_not}
 
 none_left : (left taken more : ℕ) → left ≡ 0 → TakesOne left taken more → more ≡ taken
 none_left left taken more none (inl same) = same

@@ -19,8 +19,8 @@ use Rattle.hand_order.proofs.Lawful.{greatest_of_holding, beats_exactly, lawful_
 use Rattle.hand_order.proofs.RankDigits.{AreDigits-ranks_of}
 use Rattle.hand_order.proofs.Ranked.{IsRanked, ranked_low_law}
 use Rattle.badugi_rank.specs.Badugi.{has_in_common, has_nothing_in_common, IsRainbow, IsWeakerChoice, candidates, IsHand, IsWeaker, choice_points, points}
-use Rattle.list_laws.proofs.Tests.{passes_or_not}
-use Rattle.list_laws.proofs.Options.{some_where}
+use Rattle.card_set.proofs.Tests.{passes_or_not}
+use Rattle.card_set.proofs.Options.{some_where}
 
 -- at most four cards
 abbrev pub AreFew : List Card → Type 0

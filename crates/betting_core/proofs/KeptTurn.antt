@@ -11,8 +11,8 @@ use Rattle.play_event.specs.Openers.{TheSeat, blinds_opener, in_turn}
 use Rattle.play_event.specs.Past.{Past}
 use Rattle.play_event.specs.Streets.{is_stud, is_opened_by_up_cards, opener_of}
 use Rattle.play_event.specs.TurnTargets.{is_bet_due}
-use Rattle.street_laws.specs.Dues.{is_move, is_before_moves}
-use Rattle.street_laws.proofs.Unsettled.{bring_in_is_due}
+use Rattle.play_laws.specs.Dues.{is_move, is_before_moves}
+use Rattle.play_laws.proofs.Unsettled.{bring_in_is_due}
 use Rattle.betting_numbers.specs.declared.betting_state.BettingState.{BettingState}
 use Rattle.betting_numbers.specs.LegalMoves.{IsTurn}
 use Rattle.chip_ledger.specs.SeatsSaid.{seat_said}

@@ -4,7 +4,7 @@ use Rattle.chip_ledger.specs.declared.numbers.Seat.{Seat}
 use Rattle.betting_numbers.specs.declared.betting_state.BettingState.{BettingState}
 use Rattle.betting_numbers.specs.Turn.{IsNextUp, KeepsSeat, KeepsTurn, StartsFresh}
 use Rattle.play_event.specs.declared.code.Code.{Code}
-use Rattle.street_laws.specs.Dues.{is_before_moves, is_of_street}
+use Rattle.play_laws.specs.Dues.{is_before_moves, is_of_street}
 
 -- the numbers of a hand of a game with this number of streets
 pub record AreKept (streets : ℕ) (b : BettingState) : Type 0 where

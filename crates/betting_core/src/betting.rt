@@ -15,7 +15,7 @@ ghost use Rattle.betting_core.specs.Seen.{moved_last};
 ghost use Rattle.betting_numbers.specs.Standing.{StandsFor};
 ghost use Rattle.betting_numbers.specs.LegalMoves.{IsTurn, WhereUps};
 ghost use Rattle.betting_numbers.specs.UpTo.{StandsUpTo};
-ghost use Rattle.street_laws.specs.Dues.{IsDueWithin};
+ghost use Rattle.play_laws.specs.Dues.{IsDueWithin};
 ghost use Rattle.betting_numbers.specs.Turn.{IsFirstBehind};
 ghost use Rattle.play_event.specs.ValidSetup.{IsValid};
 ghost use Rattle.betting_numbers.specs.Targeted.{AreEndsFor};

@@ -8,10 +8,10 @@ ghost use Rattle.betting_numbers.specs.Seen.{is_move_due_seen, player_to_act_see
 ghost use Rattle.betting_core.specs.Kept.{AreKept, IsOfTable, IsReadyToPass, IsSameHand};
 ghost use Rattle.betting_numbers.specs.Standing.{StandsFor};
 ghost use Rattle.betting_numbers.specs.UpTo.{StandsUpTo};
-ghost use Rattle.street_laws.specs.Done.{is_done};
-ghost use Rattle.street_laws.specs.Dues.{is_deal_or_draw, is_cards_due};
+ghost use Rattle.play_laws.specs.Done.{is_done};
+ghost use Rattle.play_laws.specs.Dues.{is_deal_or_draw, is_cards_due};
 ghost use Rattle.betting_numbers.specs.Turn.{IsDealtTo, IsNextUp, IsPassedTo};
-ghost use Rattle.street_laws.specs.Walk.{street_cards};
+ghost use Rattle.play_laws.specs.Walk.{street_cards};
 ghost use Rattle.chip_ledger.specs.SeatsSaid.{seat_said};
 
 use crate::betting::Betting;

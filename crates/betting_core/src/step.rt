@@ -9,7 +9,7 @@ ghost use Rattle.betting_numbers.specs.Seen.{all_in_seen};
 ghost use Rattle.betting_core.specs.Kept.{IsOfTable, IsSameHand};
 ghost use Rattle.betting_numbers.specs.Standing.{StandsFor};
 ghost use Rattle.betting_numbers.specs.LegalMoves.{IsLegalMove, IsInTurn, IsRefused, IsAllowed, IsOfHand, IsInReach, IsFit, WhereBets, WhereUps, reason_after, past_with};
-ghost use Rattle.street_laws.specs.CardEvents.{is_card_said};
+ghost use Rattle.play_laws.specs.CardEvents.{is_card_said};
 ghost use Rattle.betting_numbers.specs.Turn.{IsFirstBehind, may_come_at};
 ghost use Rattle.play_event.specs.Said.{Said, said_of};
 

@@ -2,7 +2,7 @@
 use Rattle.std.proofs.Common.{◌≡◌, ◌≢◌, ℕ, ◌+◌, ◌-◌, ◌*◌, Bool, true, false, ◌&&◌, ◌||◌, ◌==◌, not, nat_le, min, max, cond, if◌then◌else◌, inl, inr, List, ◌∷◌, count_by, refl, sym, ap, subst, ◌∙◌, arith}
 use Rattle.std.specs.List.{list_any}
 use Rattle.std.proofs.lemmas.Bool.{cases_eq, eq-eqb}
-use Rattle.list_laws.proofs.Counting.{count_by-cons}
+use Rattle.card_set.proofs.Counting.{count_by-cons}
 use Rattle.chip_ledger.specs.LiveRow.{flag_of}
 use Rattle.chip_ledger.specs.SeatRow.{amount_of}
 use Rattle.play_event.specs.Past.{Move, Act, moves_on, is_fold, is_raise, is_bring_in}
@@ -18,7 +18,7 @@ use Rattle.betting_numbers.specs.declared.betting_state.BettingState.{BettingSta
 use Rattle.betting_numbers.specs.Moving.{IsMoved, most_raises}
 use Rattle.betting_numbers.specs.Standing.{Standing, newest_seat}
 use Rattle.betting_numbers.proofs.Bridge.{current_bet_is}
-use Rattle.list_laws.proofs.Numbers.{different_number, same_number}
+use Rattle.card_set.proofs.Numbers.{different_number, same_number}
 use Rattle.chip_ledger.specs.Seat.{IsSeatOf}
 
 -- by cases: this seat, or another

@@ -6,8 +6,8 @@ use Rattle.std.proofs.lemmas.Bool.{eqb-true}
 use Rattle.std.proofs.lemmas.List.Folds.{find-append}
 use Rattle.chip_ledger.specs.declared.numbers.Seat.{Seat}
 use Rattle.chip_ledger.specs.SeatsSaid.{seat_said}
-use Rattle.list_laws.proofs.Finding.{range_split}
-use Rattle.list_laws.proofs.Options.{or_nothing}
+use Rattle.card_set.proofs.Finding.{range_split}
+use Rattle.card_set.proofs.Options.{or_nothing}
 use Rattle.play_event.specs.PlayerToAct.{seats_from}
 use Rattle.play_event.specs.Openers.{in_turn}
 use Rattle.betting_numbers.specs.declared.betting_state.BettingState.{BettingState}

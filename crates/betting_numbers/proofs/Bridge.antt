@@ -21,7 +21,7 @@ use Rattle.betting_numbers.specs.declared.betting_state.BettingState.{BettingSta
 use Rattle.betting_numbers.specs.Seen.{left_seen, can_act_seen, current_bet_seen, to_call_seen, all_in_seen, live_count_seen, able_count_seen, has_to_move_seen, is_move_due_seen, is_bring_in_due_seen, has_opponent_seen, after_last, last_seen, player_to_act_seen}
 use Rattle.betting_numbers.specs.Standing.{Standing, newest_seat}
 use Rattle.chip_ledger.proofs.SeatLists.{any_seats, count_seats}
-use Rattle.list_laws.proofs.Finding.{find_agree}
+use Rattle.card_set.proofs.Finding.{find_agree}
 use Rattle.chip_ledger.specs.Seat.{IsSeatOf}
 
 -- a seat to which the turn may be passed

@@ -11,11 +11,11 @@ use Rattle.play_event.specs.Due.{due_on, is_settled}
 use Rattle.play_event.proofs.StreetLaws.{first_is_due}
 use Rattle.betting_numbers.specs.declared.betting_state.BettingState.{BettingState}
 use Rattle.betting_numbers.specs.Standing.{Standing, StandsFor}
-use Rattle.street_laws.specs.Walk.{has_nothing_later}
+use Rattle.play_laws.specs.Walk.{has_nothing_later}
 use Rattle.betting_numbers.specs.UpTo.{StandsUpTo}
-use Rattle.street_laws.specs.Done.{HasCome, is_done}
-use Rattle.street_laws.specs.CardEvents.{is_card_event}
-use Rattle.street_laws.proofs.CardTurns.{moves_kept, several_live}
+use Rattle.play_laws.specs.Done.{HasCome, is_done}
+use Rattle.play_laws.specs.CardEvents.{is_card_event}
+use Rattle.play_laws.proofs.CardTurns.{moves_kept, several_live}
 
 -- an event of cards on the street of the state
 module _ (b : BettingState) (past : Past) (event : Resolved) (stands : StandsFor b past) (card : is_card_event event ≡ true) (at : street_of event ≡ b.street) (from_one : 1 ≤ b.street) (within : b.street ≤ street_count b.setup.code)

@@ -14,12 +14,12 @@ use Rattle.play_event.proofs.StreetLaws.{due_is_first}
 use Rattle.betting_numbers.specs.declared.betting_state.BettingState.{BettingState}
 use Rattle.betting_numbers.specs.Standing.{StandsFor}
 use Rattle.betting_numbers.specs.UpTo.{StandsUpTo}
-use Rattle.street_laws.specs.Done.{HasCome, is_done}
-use Rattle.street_laws.proofs.TurnAfter.{due_by, quiet_is_showdown}
-use Rattle.street_laws.specs.CardEvents.{is_card_event}
-use Rattle.street_laws.proofs.CardTurns.{moves_kept, dealt_more, deal_by, draw_by, none_dealt_in_draw}
+use Rattle.play_laws.specs.Done.{HasCome, is_done}
+use Rattle.play_laws.proofs.TurnAfter.{due_by, quiet_is_showdown}
+use Rattle.play_laws.specs.CardEvents.{is_card_event}
+use Rattle.play_laws.proofs.CardTurns.{moves_kept, dealt_more, deal_by, draw_by, none_dealt_in_draw}
 use Rattle.betting_numbers.proofs.CardEvents.{stands_still, stands_up_to, standing_now, early_now, more_now, unshown_now, someone_now}
-use Rattle.street_laws.proofs.Showdown.{nothing_by, show_over, show_is_last}
+use Rattle.play_laws.proofs.Showdown.{nothing_by, show_over, show_is_last}
 
 module _ (b : BettingState) (past : Past) (event : Resolved) (stands : StandsFor b past) (card : is_card_event event ≡ true) (at : street_of event ≡ b.street) (from_one : 1 ≤ b.street) (within : b.street ≤ street_count b.setup.code)
     (still : is_settled b.setup (moves_of past) (b.street, b.due) ≡ false → (seat : ℕ) → is_live (moves_of past) seat ≡ true → has_to_show (event ∷ past) seat ≡ true) where

@@ -20,19 +20,19 @@ use Rattle.play_event.specs.ValidSetup.{IsValid}
 use Rattle.betting_numbers.specs.declared.betting_state.BettingState.{BettingState}
 use Rattle.betting_numbers.specs.Seen.{is_move_due_seen}
 use Rattle.betting_numbers.specs.Standing.{Standing, StandsFor}
-use Rattle.street_laws.specs.Walk.{street_cards, betting_turn, has_no_move_later, walked}
+use Rattle.play_laws.specs.Walk.{street_cards, betting_turn, has_no_move_later, walked}
 use Rattle.betting_numbers.specs.Turn.{with_due, IsDealtTo}
 use Rattle.betting_numbers.specs.UpTo.{StandsUpTo}
-use Rattle.street_laws.specs.Done.{HasCome, is_done}
-use Rattle.list_laws.proofs.Any.{none_passes}
+use Rattle.play_laws.specs.Done.{HasCome, is_done}
+use Rattle.card_set.proofs.Any.{none_passes}
 use Rattle.betting_numbers.proofs.Bridge.{bring_in_due_is, move_due_is}
 use Rattle.betting_numbers.proofs.NextStreet.{standing_next, zero_greatest}
-use Rattle.street_laws.proofs.Later.{early_moves, early_up, none_on}
-use Rattle.street_laws.proofs.TurnAfter.{AreDealt, due_by, cards_come, quiet_is_showdown}
+use Rattle.play_laws.proofs.Later.{early_moves, early_up, none_on}
+use Rattle.play_laws.proofs.TurnAfter.{AreDealt, due_by, cards_come, quiet_is_showdown}
 use Rattle.betting_numbers.proofs.StandsAfter.{standing_with_turn}
-use Rattle.street_laws.proofs.Walk.{walk_on, due_here}
-use Rattle.street_laws.proofs.LiveSeats.{one_of_several}
-use Rattle.list_laws.proofs.Numbers.{two_or_more}
+use Rattle.play_laws.proofs.Walk.{walk_on, due_here}
+use Rattle.play_laws.proofs.LiveSeats.{one_of_several}
+use Rattle.card_set.proofs.Numbers.{two_or_more}
 
 -- the cards of a street are dealt if its deal or its draw is complete
 no_draw : (setup : Setup) (past : Past) (street : ℕ) → has_draw setup.code street ≡ false → is_draw_due setup past street ≡ false

@@ -7,9 +7,9 @@ use Rattle.std.proofs.lemmas.List.Folds.{find-append}
 use Rattle.chip_ledger.specs.declared.numbers.Seat.{Seat}
 use Rattle.chip_ledger.specs.LiveRow.{flag_of}
 use Rattle.chip_ledger.proofs.SeatLists.{any_seats, none_at}
-use Rattle.list_laws.proofs.Any.{none_passes}
-use Rattle.list_laws.proofs.Ranges.{find_here}
-use Rattle.list_laws.proofs.Tests.{second_fails}
+use Rattle.card_set.proofs.Any.{none_passes}
+use Rattle.card_set.proofs.Ranges.{find_here}
+use Rattle.card_set.proofs.Tests.{second_fails}
 use Rattle.play_event.specs.declared.setup.Setup.{Setup}
 use Rattle.play_event.specs.Past.{Past, Move, moves_of, moves_on}
 use Rattle.play_event.specs.CurrentBet.{current_bet}

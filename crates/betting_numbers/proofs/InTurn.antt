@@ -18,7 +18,7 @@ use Rattle.play_event.specs.PlayerToAct.{player_to_act, player_to_act_after, fir
 use Rattle.play_event.specs.Table.{up_cards}
 use Rattle.play_event.specs.Reasons.{why, first_reason, all_reasons}
 use Rattle.betting_numbers.specs.declared.betting_state.BettingState.{BettingState}
-use Rattle.street_laws.specs.Dues.{is_move}
+use Rattle.play_laws.specs.Dues.{is_move}
 use Rattle.play_event.specs.TurnTargets.{is_bet_due}
 use Rattle.betting_numbers.specs.TurnSaid.{turn_of}
 use Rattle.betting_numbers.specs.Seen.{after_last, last_seen, player_to_act_seen, has_to_move_seen, is_move_due_seen, to_call_seen, all_in_seen}
@@ -39,8 +39,8 @@ use Rattle.play_event.specs.declared.event.Spelled.{Spelled}
 use Rattle.play_event.specs.Said as said
 use Rattle.play_event.specs.declared.limit.Limit.{Limit}
 use Rattle.play_event.specs.declared.limit.Limit.TheVariants as limits
-use Rattle.list_laws.proofs.Finding.{some_found, range_split}
-use Rattle.street_laws.proofs.Unsettled.{move_is_due, bring_in_is_due}
+use Rattle.card_set.proofs.Finding.{some_found, range_split}
+use Rattle.play_laws.proofs.Unsettled.{move_is_due, bring_in_is_due}
 use Rattle.std.proofs.lemmas.List.Folds.{list_any-append}
 use Rattle.std.proofs.Math.Bool.{or_comm}
 use Rattle.chip_ledger.specs.SeatsSaid.{seat_said}

@@ -5,9 +5,9 @@ use Rattle.std.specs.List.{list_any, range_with_len}
 use Rattle.std.proofs.lemmas.Bool.{true≢false, and_parts, and_from, or_from, or_left, or_right, cases_lt, false_from_ne_true, true_from_ne_false, not-false}
 use Rattle.card_set.specs.declared.card.Card.{Card}
 use Rattle.card_set.specs.Known.{known_cards}
-use Rattle.list_laws.proofs.Finding.{any_agree, find_agree}
-use Rattle.list_laws.proofs.Any.{none_passes}
-use Rattle.list_laws.proofs.Tests.{second_fails}
+use Rattle.card_set.proofs.Finding.{any_agree, find_agree}
+use Rattle.card_set.proofs.Any.{none_passes}
+use Rattle.card_set.proofs.Tests.{second_fails}
 use Rattle.play_event.specs.declared.up_cards.UpRow.{UpRow}
 use Rattle.play_event.specs.declared.limit.Opener.{Opener}
 use Rattle.play_event.specs.Openers.{is_opener_before}

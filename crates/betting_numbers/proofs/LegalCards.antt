@@ -15,20 +15,20 @@ use Rattle.play_event.specs.Reasons.{why, may_come}
 use Rattle.play_event.specs.Scripts.{with_event, resolved_on}
 use Rattle.play_event.specs.TurnTargets.{is_bet_due}
 use Rattle.play_event.proofs.ReasonLaws.{no_reason_holds}
-use Rattle.street_laws.specs.CardEvents.{is_card_event, is_card_said, is_showing}
-use Rattle.street_laws.specs.Done.{is_done}
-use Rattle.street_laws.specs.Walk.{has_nothing_later}
-use Rattle.street_laws.proofs.CardTurns.{several_live, moves_kept}
-use Rattle.street_laws.proofs.Later.{reached_by}
-use Rattle.street_laws.proofs.LegalCards.{at_street, card_resolved, shows_kept, settled_at, betting_event, undrawn}
-use Rattle.street_laws.proofs.Showdown.{one_left, show_over}
-use Rattle.street_laws.proofs.TurnAfter.{few_is_over}
-use Rattle.street_laws.proofs.Unsettled.{unsettled}
+use Rattle.play_laws.specs.CardEvents.{is_card_event, is_card_said, is_showing}
+use Rattle.play_laws.specs.Done.{is_done}
+use Rattle.play_laws.specs.Walk.{has_nothing_later}
+use Rattle.play_laws.proofs.CardTurns.{several_live, moves_kept}
+use Rattle.play_laws.proofs.Later.{reached_by}
+use Rattle.play_laws.proofs.LegalCards.{at_street, card_resolved, shows_kept, settled_at, betting_event, undrawn}
+use Rattle.play_laws.proofs.Showdown.{one_left, show_over}
+use Rattle.play_laws.proofs.TurnAfter.{few_is_over}
+use Rattle.play_laws.proofs.Unsettled.{unsettled}
 use Rattle.betting_numbers.specs.declared.betting_state.BettingState.{BettingState}
 use Rattle.betting_numbers.specs.Standing.{Standing, StandsFor}
 use Rattle.betting_numbers.specs.UpTo.{StandsUpTo}
 use Rattle.betting_numbers.proofs.Carded.{deal_kept, deal_ended, draw_kept, draw_ended, show_kept, show_done}
-use Rattle.list_laws.proofs.Numbers.{two_or_more}
+use Rattle.card_set.proofs.Numbers.{two_or_more}
 
 -- a legal event may come
 pub comes : (b : BettingState) (rules : Rules) (past : Past) (event : Said) → StandsFor b past → why b.setup rules past event ≡ None → may_come b.setup past (b.street, b.due) event ≡ true

@@ -14,8 +14,8 @@ use Rattle.play_event.specs.Due.{has_acted_since_raise, has_opened_betting}
 use Rattle.betting_numbers.specs.declared.betting_state.BettingState.{BettingState}
 use Rattle.betting_numbers.specs.Moving.{IsNextStreet, most_raises}
 use Rattle.betting_numbers.specs.Standing.{Standing, newest_seat}
-use Rattle.street_laws.specs.Walk.{has_no_move_later}
-use Rattle.street_laws.proofs.Later.{newest_other, none_on}
+use Rattle.play_laws.specs.Walk.{has_no_move_later}
+use Rattle.play_laws.proofs.Later.{newest_other, none_on}
 use Rattle.chip_ledger.specs.Seat.{IsSeatOf}
 
 pub none_since : (setup : Setup) (moves : List Move) (street later seat : ℕ) → has_no_move_later moves street ≡ true → street < later → has_acted_since_raise setup moves later seat ≡ false

@@ -8,8 +8,8 @@ use Rattle.std.proofs.lemmas.Option.{same_Some}
 use Rattle.chip_ledger.specs.declared.numbers.Seat.{Seat}
 use Rattle.chip_ledger.specs.LiveRow.{flag_of}
 use Rattle.chip_ledger.specs.SeatRow.{amount_of}
-use Rattle.list_laws.proofs.Any.{none_passes}
-use Rattle.list_laws.proofs.Finding.{found_passes}
+use Rattle.card_set.proofs.Any.{none_passes}
+use Rattle.card_set.proofs.Finding.{found_passes}
 use Rattle.chip_ledger.proofs.SeatLists.{any_seats}
 use Rattle.play_event.specs.declared.setup.Setup.{Setup}
 use Rattle.play_event.specs.Past.{Act}

@@ -5,9 +5,9 @@ use Rattle.std.proofs.lemmas.Bool.{true≢false, cases_lt, eq-eqb, ne_eqb}
 use Rattle.std.proofs.lemmas.Bool.Decides.{nat_tests}
 use Rattle.std.proofs.lemmas.List.Sums.{sum_by-cons}
 use Rattle.chip_ledger.specs.Greatest.{greatest}
-use Rattle.list_laws.proofs.Counting.{count_by-cons}
-use Rattle.list_laws.proofs.Finding.{any_agree}
-use Rattle.list_laws.proofs.NumbersOfRange.{map_agree, sum_agree}
+use Rattle.card_set.proofs.Counting.{count_by-cons}
+use Rattle.card_set.proofs.Finding.{any_agree}
+use Rattle.card_set.proofs.NumbersOfRange.{map_agree, sum_agree}
 
 -- the sum
 pub sum_changed : (f g : ℕ → ℕ) (first n k : ℕ) → first ≤ k → k < first + n

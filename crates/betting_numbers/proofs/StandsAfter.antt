@@ -18,21 +18,21 @@ use Rattle.betting_numbers.specs.declared.betting_state.BettingState.{BettingSta
 use Rattle.betting_numbers.specs.Seen.{live_count_seen, is_move_due_seen}
 use Rattle.betting_numbers.specs.Moving.{IsMoved, IsNextStreet}
 use Rattle.betting_numbers.specs.Standing.{Standing, StandsFor}
-use Rattle.street_laws.specs.Walk.{has_nothing_later, street_cards, turn_after}
+use Rattle.play_laws.specs.Walk.{has_nothing_later, street_cards, turn_after}
 use Rattle.play_event.specs.ValidSetup.{IsValid}
-use Rattle.street_laws.specs.Dues.{is_move}
+use Rattle.play_laws.specs.Dues.{is_move}
 use Rattle.play_event.specs.TurnTargets.{is_bet_due}
 use Rattle.betting_numbers.specs.Turn.{may_come_at, with_turn, IsSettledTo}
 use Rattle.betting_numbers.proofs.Bridge.{live_count_is, move_due_is}
 use Rattle.betting_numbers.proofs.AfterMove.{the_move, standing_after, on_street}
-use Rattle.list_laws.proofs.Counting.{counts_fewer}
+use Rattle.card_set.proofs.Counting.{counts_fewer}
 use Rattle.betting_numbers.proofs.NextStreet.{standing_next}
-use Rattle.street_laws.proofs.Later.{early_moves, early_up}
-use Rattle.street_laws.proofs.TurnAfter.{cards_are_dealt, dealt_still, due_by}
-use Rattle.street_laws.proofs.Walk.{turn_after_move}
-use Rattle.street_laws.proofs.Unsettled.{due_after_cards, unsettled}
-use Rattle.street_laws.proofs.LiveSeats.{some_left}
-use Rattle.street_laws.proofs.CardTurns.{several_live}
+use Rattle.play_laws.proofs.Later.{early_moves, early_up}
+use Rattle.play_laws.proofs.TurnAfter.{cards_are_dealt, dealt_still, due_by}
+use Rattle.play_laws.proofs.Walk.{turn_after_move}
+use Rattle.play_laws.proofs.Unsettled.{due_after_cards, unsettled}
+use Rattle.play_laws.proofs.LiveSeats.{some_left}
+use Rattle.play_laws.proofs.CardTurns.{several_live}
 use Rattle.play_event.proofs.StillAble.{able_still, still_live}
 use Rattle.play_event.proofs.FloorLaws.{bet_unfinished}
 use Rattle.chip_ledger.specs.Seat.{IsSeatOf}

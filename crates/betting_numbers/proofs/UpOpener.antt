@@ -26,15 +26,15 @@ use Rattle.betting_numbers.specs.LegalMoves.{IsTurn}
 use Rattle.play_event.specs.TurnTargets.{is_bet_due}
 use Rattle.betting_numbers.specs.UpSeen.{HoldsUps, has_unknown_seen, has_unknown_up_card_seen, is_before_seen, is_opener_seen, known_opener_seen, up_opener_seen}
 use Rattle.betting_numbers.proofs.Leading.{opens_known}
-use Rattle.list_laws.proofs.Counting.{counted_some}
+use Rattle.card_set.proofs.Counting.{counted_some}
 use Rattle.betting_numbers.proofs.Bridge.{able_is, able_count_is, player_to_act_is, move_due_is, StartsIn}
-use Rattle.list_laws.proofs.Earliest.{first_exists}
+use Rattle.card_set.proofs.Earliest.{first_exists}
 use Rattle.play_event.proofs.OpenerOrder.{opens_not, opens_trans}
 use Rattle.betting_numbers.proofs.InTurn.{Passed, passed, nobody_by, found_turn}
 use Rattle.chip_ledger.proofs.SeatLists.{any_seats}
-use Rattle.list_laws.proofs.Finding.{find_agree, find-filter, found_passes}
-use Rattle.street_laws.proofs.Unsettled.{move_is_due, due_after_cards, bring_in_by}
-use Rattle.list_laws.proofs.Any.{list_any-filter, list_any-weaker}
+use Rattle.card_set.proofs.Finding.{find_agree, find-filter, found_passes}
+use Rattle.play_laws.proofs.Unsettled.{move_is_due, due_after_cards, bring_in_by}
+use Rattle.card_set.proofs.Any.{list_any-filter, list_any-weaker}
 use Rattle.betting_numbers.proofs.FirstMoves.{all_true, no_moves, none_since_start, opener_turn}
 use Rattle.chip_ledger.specs.SeatsSaid.{seat_said}
 use Rattle.chip_ledger.specs.Seat.{IsSeatOf}

@@ -4,8 +4,8 @@ use Rattle.std.specs.List.{list_any}
 use Rattle.std.proofs.lemmas.Bool.{true≢false}
 use Rattle.chip_ledger.specs.LiveRow.{flag_of, flagged}
 use Rattle.chip_ledger.specs.Seat.{seats_of}
-use Rattle.list_laws.proofs.Any.{list_any-from_nothing}
-use Rattle.list_laws.proofs.Counting.{counted_some}
+use Rattle.card_set.proofs.Any.{list_any-from_nothing}
+use Rattle.card_set.proofs.Counting.{counted_some}
 use Rattle.play_event.specs.Past.{Past, Move, moves_of}
 use Rattle.play_event.specs.Seats.{can_act, live_count, able_count, all_seats}
 use Rattle.play_event.specs.CurrentBet.{to_call}

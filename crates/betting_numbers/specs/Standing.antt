@@ -15,7 +15,7 @@ use Rattle.play_event.specs.Raising.{has_moved, raises_on}
 use Rattle.play_event.specs.Seats.{is_live, live_count}
 use Rattle.play_event.specs.Showing.{has_to_show}
 use Rattle.play_event.specs.ValidSetup.{IsValid}
-use Rattle.street_laws.specs.Walk.{has_nothing_later}
+use Rattle.play_laws.specs.Walk.{has_nothing_later}
 use Rattle.betting_numbers.specs.declared.betting_state.BettingState.{BettingState}
 use Rattle.betting_numbers.specs.Moving.{most_raises}
 use Rattle.betting_numbers.specs.Seen.{last_seen}

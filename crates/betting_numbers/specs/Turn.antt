@@ -11,8 +11,8 @@ use Rattle.betting_numbers.specs.declared.betting_state.BettingState.{BettingSta
 use Rattle.chip_ledger.specs.SeatsSaid.{seat_said}
 use Rattle.betting_numbers.specs.Seen.{first_behind_seen, has_to_move_seen, live_count_seen, is_bring_in_due_seen, is_move_due_seen, player_to_act_seen}
 use Rattle.betting_numbers.specs.Moving.{IsNextStreet}
-use Rattle.street_laws.specs.Walk.{betting_turn, turn_after}
-use Rattle.street_laws.specs.Dues.{is_move}
+use Rattle.play_laws.specs.Walk.{betting_turn, turn_after}
+use Rattle.play_laws.specs.Dues.{is_move}
 use Rattle.chip_ledger.specs.Seat.{IsSeatOf}
 
 -- the same numbers, with something else due

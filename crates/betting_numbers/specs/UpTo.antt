@@ -8,8 +8,8 @@ use Rattle.play_event.specs.Due.{due_on, is_settled}
 use Rattle.play_event.specs.ValidSetup.{IsValid}
 use Rattle.betting_numbers.specs.declared.betting_state.BettingState.{BettingState}
 use Rattle.betting_numbers.specs.Standing.{Standing}
-use Rattle.street_laws.specs.Walk.{has_nothing_later}
-use Rattle.street_laws.specs.Done.{is_done, HasCome}
+use Rattle.play_laws.specs.Walk.{has_nothing_later}
+use Rattle.play_laws.specs.Done.{is_done, HasCome}
 
 -- The deal, the draw or the show that is due is complete in the past, but not yet ended in the
 -- state.

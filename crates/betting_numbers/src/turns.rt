@@ -49,7 +49,7 @@ impl BettingState {
     }
 
     // The first of `count` seats, from seat `first` on, with a move to make.
-    #[tactic(auto, using(list_laws::proofs::Finding::find_step))]
+    #[tactic(auto, using(card_set::proofs::Finding::find_step))]
     fn first_to_move(&self, first: u8, count: u8) -> Option<Seat>
         requires from_one { 1 ≤ first }
         requires within { first + count ≤ self.now.setup.stacks.seats + 1 }

@@ -12,8 +12,8 @@ use Rattle.play_event.specs.Due.{turn, is_unfinished}
 use Rattle.play_event.specs.Trace.{traced_places, streets_of}
 use Rattle.play_event.specs.Scripts.{past_of, with_event}
 use Rattle.play_event.specs.Laws.{AreLegal}
-use Rattle.canon_script.specs.CanonScript.{street_said}
-use Rattle.canon_blocks.proofs.Runs.{Runs, run_append}
+use Rattle.play_event.specs.CanonScript.{street_said}
+use Rattle.canon_laws.proofs.Runs.{Runs, run_append}
 use Rattle.play_laws.proofs.DueAtEvents.{turn_reaches}
 use Rattle.play_laws.proofs.LegalEvents.{Stepped, stepped, deals, boards, mucks, shows, discards, moves}
 use Rattle.play_laws.proofs.LegalPlaces.{legal_past}

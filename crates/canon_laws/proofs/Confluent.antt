@@ -9,11 +9,11 @@ use Rattle.play_event.specs.Seats.{all_seats}
 use Rattle.play_event.specs.Due.{turn, is_unfinished}
 use Rattle.play_event.specs.Trace.{traced_places, is_shown}
 use Rattle.play_event.specs.Scripts.{past_of}
-use Rattle.canon_script.specs.TraceCore.{core_of}
-use Rattle.canon_script.specs.CanonScript.{script_of, canonical_script}
-use Rattle.canon_script.specs.PlayedScript.{IsPlayed}
+use Rattle.play_event.specs.TraceCore.{core_of}
+use Rattle.play_event.specs.CanonScript.{script_of, canonical_script}
+use Rattle.play_event.specs.PlayedScript.{IsPlayed}
 use Rattle.canon_laws.specs.Confluence.{HasTraceOf, IsConfluent}
-use Rattle.canon_blocks.proofs.Runs.{run_of_script}
+use Rattle.canon_laws.proofs.Runs.{run_of_script}
 use Rattle.canon_laws.proofs.LastPast.{IsLast, last_past}
 use Rattle.canon_laws.proofs.SameCore.{plain_again, same_core}
 use Rattle.play_event.proofs.ScriptLaws.{at_end}

@@ -19,18 +19,18 @@ use Rattle.play_event.specs.Table.{places_of}
 use Rattle.play_event.specs.Trace.{traced_places, streets_of, is_shown, is_contested, has_unknown_card}
 use Rattle.play_event.specs.Scripts.{past_of}
 use Rattle.play_event.specs.Laws.{AreLegal}
-use Rattle.canon_script.specs.CanonScript.{street_said, showdown_said, showing_said, script_of, held_slots}
-use Rattle.canon_blocks.proofs.Mirrors.{AreMirrored}
-use Rattle.canon_blocks.proofs.Runs.{Runs, run_append}
+use Rattle.play_event.specs.CanonScript.{street_said, showdown_said, showing_said, script_of, held_slots}
+use Rattle.canon_laws.proofs.Mirrors.{AreMirrored}
+use Rattle.canon_laws.proofs.Runs.{Runs, run_append}
 use Rattle.play_laws.proofs.DueAtEvents.{turned_by}
 use Rattle.play_laws.proofs.DoneKept.{all_early}
 use Rattle.play_laws.proofs.LegalPlaces.{legal_past, LegalPast}
 use Rattle.play_laws.proofs.PlayedStreets.{IsReached}
-use Rattle.canon_blocks.proofs.FreeGroups.{is_out_by}
-use Rattle.canon_blocks.proofs.TraceOrder.{finals_of}
-use Rattle.canon_blocks.proofs.TracedSlots.{discarded_same}
-use Rattle.list_laws.proofs.NumbersOfRange.{is_in, map_same}
-use Rattle.canon_blocks.proofs.CleanShow.{HoldsKnown, held_cards}
+use Rattle.canon_laws.proofs.FreeGroups.{is_out_by}
+use Rattle.canon_laws.proofs.TraceOrder.{finals_of}
+use Rattle.canon_laws.proofs.TracedSlots.{discarded_same}
+use Rattle.card_set.proofs.NumbersOfRange.{is_in, map_same}
+use Rattle.canon_laws.proofs.CleanShow.{HoldsKnown, held_cards}
 use Rattle.canon_laws.proofs.HeldSame.{slots_held, held_same, held_script, unknown_same, holds_known}
 use Rattle.canon_laws.proofs.ShowdownRun.{AtShow, turn_shows, show_word, shows_run}
 use Rattle.canon_laws.proofs.AllStreets.{AtEnd, at_end}

@@ -13,14 +13,14 @@ use Rattle.play_event.specs.Table.{places_of}
 use Rattle.play_event.specs.Trace.{traced_move, traced_moves, traced_places, is_shown, is_mucked, has_unknown_card, TracedPlace}
 use Rattle.play_event.specs.Scripts.{past_of}
 use Rattle.play_event.specs.Laws.{AreLegal}
-use Rattle.canon_script.specs.TraceCore.{TraceCore, core_of}
+use Rattle.play_event.specs.TraceCore.{TraceCore, core_of}
 use Rattle.play_event.specs.Stakes.{pots_after, returned_after}
-use Rattle.canon_script.specs.CanonScript.{plain_move, plain_moves}
+use Rattle.play_event.specs.CanonScript.{plain_move, plain_moves}
 use Rattle.play_laws.proofs.LegalPlaces.{legal_past}
-use Rattle.canon_blocks.proofs.TraceOrder.{is_final}
-use Rattle.list_laws.proofs.NumbersOfRange.{filter_range}
+use Rattle.canon_laws.proofs.TraceOrder.{is_final}
+use Rattle.card_set.proofs.NumbersOfRange.{filter_range}
 use Rattle.canon_laws.proofs.HeldSame.{held_same, held_script, unknown_same}
-use Rattle.canon_blocks.proofs.SamePlaces.{same_places}
+use Rattle.canon_laws.proofs.SamePlaces.{same_places}
 use Rattle.canon_laws.proofs.LastPast.{IsLast}
 
 -- the moves of a trace are the moves

@@ -22,11 +22,11 @@ use Rattle.play_event.specs.Table.{places_of, up_cards}
 use Rattle.play_event.specs.CardReasons.{is_seat, may_show, may_show_so_many, is_not_held}
 use Rattle.play_event.specs.Reasons.{why}
 use Rattle.play_event.specs.Scripts.{with_event}
-use Rattle.canon_blocks.proofs.Runs.{Runs}
+use Rattle.canon_laws.proofs.Runs.{Runs}
 use Rattle.play_laws.proofs.DueAtEvents.{turned_by}
-use Rattle.canon_blocks.proofs.CardEvents.{show_legal, muck_legal}
+use Rattle.canon_laws.proofs.CardEvents.{show_legal, muck_legal}
 use Rattle.play_laws.proofs.SeatRanges.{any_seat}
-use Rattle.canon_blocks.proofs.CleanShow.{HoldsKnown, held_cards, clean_show}
+use Rattle.canon_laws.proofs.CleanShow.{HoldsKnown, held_cards, clean_show}
 use Rattle.play_event.specs.Taken.{has_misplaced_card}
 use Rattle.play_event.proofs.DueStreets.{first_quiet}
 

@@ -14,22 +14,22 @@ use Rattle.play_event.specs.Table.{places_of}
 use Rattle.play_event.specs.Scripts.{past_of}
 use Rattle.play_event.specs.Showing.{has_shown, has_mucked}
 use Rattle.play_event.specs.Laws.{AreLegal}
-use Rattle.canon_blocks.proofs.Mirrors.{AreMirrored}
-use Rattle.canon_blocks.proofs.CardEvents.{HasCome}
-use Rattle.canon_blocks.proofs.MovesRun.{IsLed}
+use Rattle.canon_laws.proofs.Mirrors.{AreMirrored}
+use Rattle.canon_laws.proofs.CardEvents.{HasCome}
+use Rattle.canon_laws.proofs.MovesRun.{IsLed}
 use Rattle.play_laws.proofs.LegalPlaces.{legal_past}
 use Rattle.play_laws.proofs.InDeck.{legal_cards}
 use Rattle.play_laws.proofs.PlaceLists.{rising}
 use Rattle.play_laws.proofs.UnknownOrder.{legal_sorted, street_out}
 use Rattle.play_laws.proofs.PlayedStreets.{IsReached}
-use Rattle.canon_blocks.proofs.StreetOrder.{street_pieces_out}
-use Rattle.canon_blocks.proofs.DiscardTests.{out_is, before_first}
-use Rattle.canon_blocks.proofs.TraceOrderCounts.{legal_owned}
-use Rattle.canon_blocks.proofs.TraceOrder.{finals_of, is_final, on_street_is}
-use Rattle.canon_blocks.proofs.FreeGroups.{is_out_by}
-use Rattle.canon_blocks.proofs.DiscardsRun.{is_out_to, mirrored_as, IsDrawn}
+use Rattle.canon_laws.proofs.StreetOrder.{street_pieces_out}
+use Rattle.canon_laws.proofs.DiscardTests.{out_is, before_first}
+use Rattle.canon_laws.proofs.TraceOrderCounts.{legal_owned}
+use Rattle.canon_laws.proofs.TraceOrder.{finals_of, is_final, on_street_is}
+use Rattle.canon_laws.proofs.FreeGroups.{is_out_by}
+use Rattle.canon_laws.proofs.DiscardsRun.{is_out_to, mirrored_as, IsDrawn}
 use Rattle.play_laws.proofs.DrawTables.{IsDrawStreet}
-use Rattle.canon_blocks.proofs.DrawRun.{AreDiscarded, discards_run, with_discards, out_slots}
+use Rattle.canon_laws.proofs.DrawRun.{AreDiscarded, discards_run, with_discards, out_slots}
 use Rattle.play_event.specs.Trace.{places_on, owners}
 
 -- the canonical past when a street begins; the street before it has this number

@@ -21,31 +21,31 @@ use Rattle.play_event.specs.Trace.{traced_places, places_on}
 use Rattle.play_event.specs.Scripts.{past_of}
 use Rattle.play_event.specs.Laws.{AreLegal, IsAmong}
 use Rattle.play_event.proofs.ClashLaws.{IsOneOf, among_append}
-use Rattle.canon_script.specs.CanonScript.{deals_said, deal_said, board_said, dealt_slots}
-use Rattle.canon_blocks.proofs.Mirrors.{AreMirrored}
+use Rattle.play_event.specs.CanonScript.{deals_said, deal_said, board_said, dealt_slots}
+use Rattle.canon_laws.proofs.Mirrors.{AreMirrored}
 use Rattle.play_laws.specs.LegalPlaces.{AreLawful}
-use Rattle.canon_blocks.proofs.Runs.{Runs, run_append}
-use Rattle.canon_blocks.proofs.CardEvents.{HasCome}
+use Rattle.canon_laws.proofs.Runs.{Runs, run_append}
+use Rattle.canon_laws.proofs.CardEvents.{HasCome}
 use Rattle.play_laws.proofs.LegalPlaces.{legal_past, PlacesOf}
 use Rattle.play_laws.proofs.InDeck.{legal_cards, lawful}
 use Rattle.play_laws.proofs.PlaceLists.{rising}
 use Rattle.play_laws.proofs.DonePasts.{legal_done}
 use Rattle.play_laws.proofs.PlayedStreets.{IsDone, folded_group, hole_group, board_group}
-use Rattle.canon_blocks.proofs.TraceOrderCounts.{legal_owned, as_late}
-use Rattle.canon_blocks.proofs.TraceOrder.{finals_of, is_final, finals_group, finals_more, street_pieces, IsOwner, a_seat, the_board}
+use Rattle.canon_laws.proofs.TraceOrderCounts.{legal_owned, as_late}
+use Rattle.canon_laws.proofs.TraceOrder.{finals_of, is_final, finals_group, finals_more, street_pieces, IsOwner, a_seat, the_board}
 use Rattle.play_laws.proofs.UnknownOrder.{among_flat}
-use Rattle.canon_blocks.proofs.FreeGroups.{is_out_by, IsBefore, group_not_taken}
+use Rattle.canon_laws.proofs.FreeGroups.{is_out_by, IsBefore, group_not_taken}
 use Rattle.play_laws.proofs.PlaceGroups.{group_slots, passed}
-use Rattle.canon_blocks.proofs.CleanShow.{one_of_map, known_length}
-use Rattle.canon_blocks.proofs.DealsRun.{with_deal, with_deals, street_deals, hole_street, draw_street, AllFree}
-use Rattle.canon_blocks.proofs.DealtGroups.{AreDealt, dealt_out, deal_more, no_cards}
-use Rattle.canon_blocks.proofs.BoardRun.{with_board, board_run, known_again}
+use Rattle.canon_laws.proofs.CleanShow.{one_of_map, known_length}
+use Rattle.canon_laws.proofs.DealsRun.{with_deal, with_deals, street_deals, hole_street, draw_street, AllFree}
+use Rattle.canon_laws.proofs.DealtGroups.{AreDealt, dealt_out, deal_more, no_cards}
+use Rattle.canon_laws.proofs.BoardRun.{with_board, board_run, known_again}
 use Rattle.play_laws.proofs.KnownBoard.{board_known}
 use Rattle.play_laws.proofs.DrawTables.{draw_tables}
-use Rattle.canon_blocks.proofs.StreetCounts.{IsAside, aside_more, aside_deals, aside_board, deals_out, deals_drawn, deals_board, deals_holes, board_holes, board_out, board_drawn, board_own}
-use Rattle.canon_blocks.proofs.StreetLists.{IsBlock, block_more, deals_block, board_block}
-use Rattle.canon_blocks.proofs.TracedSlots.{dealt_same}
-use Rattle.list_laws.proofs.NumbersOfRange.{flat_same, any_none, find_no}
+use Rattle.canon_laws.proofs.StreetCounts.{IsAside, aside_more, aside_deals, aside_board, deals_out, deals_drawn, deals_board, deals_holes, board_holes, board_out, board_drawn, board_own}
+use Rattle.canon_laws.proofs.StreetLists.{IsBlock, block_more, deals_block, board_block}
+use Rattle.canon_laws.proofs.TracedSlots.{dealt_same}
+use Rattle.card_set.proofs.NumbersOfRange.{flat_same, any_none, find_no}
 use Rattle.canon_laws.proofs.StreetDiscards.{AtDeals}
 use Rattle.play_event.proofs.OwnerLaws.{is_same_owner-true}
 

@@ -19,27 +19,27 @@ use Rattle.play_event.specs.Table.{places_of}
 use Rattle.play_event.specs.Trace.{traced_places}
 use Rattle.play_event.specs.Scripts.{past_of}
 use Rattle.play_event.specs.Laws.{AreLegal}
-use Rattle.canon_script.specs.CanonScript.{street_said, discards_said, deals_said, move_named}
-use Rattle.canon_blocks.proofs.Mirrors.{Mirrors, AreMirrored}
+use Rattle.play_event.specs.CanonScript.{street_said, discards_said, deals_said, move_named}
+use Rattle.canon_laws.proofs.Mirrors.{Mirrors, AreMirrored}
 use Rattle.play_laws.specs.PastLaws.{DoneLaw}
-use Rattle.canon_blocks.proofs.Runs.{Runs, run_append}
-use Rattle.canon_blocks.proofs.CardEvents.{HasCome}
+use Rattle.canon_laws.proofs.Runs.{Runs, run_append}
+use Rattle.canon_laws.proofs.CardEvents.{HasCome}
 use Rattle.play_laws.proofs.LegalPlaces.{legal_past}
 use Rattle.play_laws.proofs.InDeck.{legal_cards}
 use Rattle.play_laws.proofs.PlaceLists.{rising}
 use Rattle.play_laws.proofs.DonePasts.{legal_done}
 use Rattle.play_laws.proofs.PlayedStreets.{IsReached, IsDone, reached_done, reached_closed}
 use Rattle.play_laws.proofs.UnknownOrder.{legal_sorted}
-use Rattle.canon_blocks.proofs.TraceOrderCounts.{legal_owned, ups_finals}
-use Rattle.canon_blocks.proofs.TraceOrder.{finals_of}
-use Rattle.canon_blocks.proofs.FreeGroups.{is_out_by}
+use Rattle.canon_laws.proofs.TraceOrderCounts.{legal_owned, ups_finals}
+use Rattle.canon_laws.proofs.TraceOrder.{finals_of}
+use Rattle.canon_laws.proofs.FreeGroups.{is_out_by}
 use Rattle.play_laws.proofs.MovesLaw.{is_up_by, ups_by, MovesLaw}
 use Rattle.play_laws.proofs.FittingPasts.{legal_moves}
-use Rattle.canon_blocks.proofs.MovesRun.{IsLed, led_on, with_moves, moves_with, AreAllOn, still_none, newest_with, moves_run}
+use Rattle.canon_laws.proofs.MovesRun.{IsLed, led_on, with_moves, moves_with, AreAllOn, still_none, newest_with, moves_run}
 use Rattle.canon_laws.proofs.HeldSame.{slots_mirrored}
-use Rattle.canon_blocks.proofs.StreetMoves.{legal_falling, own_moves, moves_split, moves_mirrored}
-use Rattle.canon_blocks.proofs.StreetLists.{law_before, own_on, IsBlock, block_more, moves_block}
-use Rattle.canon_blocks.proofs.StreetCounts.{IsAside, aside_more}
+use Rattle.canon_laws.proofs.StreetMoves.{legal_falling, own_moves, moves_split, moves_mirrored}
+use Rattle.canon_laws.proofs.StreetLists.{law_before, own_on, IsBlock, block_more, moves_block}
+use Rattle.canon_laws.proofs.StreetCounts.{IsAside, aside_more}
 use Rattle.canon_laws.proofs.StreetDiscards.{AtDeals, undrawn, all_drawn}
 use Rattle.canon_laws.proofs.StreetDeals.{come_block, with_cards, all_dealt}
 use Rattle.canon_laws.proofs.Street.{AtStreet, at_come}

@@ -4,9 +4,9 @@ use Rattle.std.specs.Prelude.{◌≡◌, List}
 use Rattle.play_event.specs.declared.setup.Setup.{Setup}
 use Rattle.play_event.specs.declared.setup.Rules.{Rules}
 use Rattle.play_event.specs.Said.{Said}
-use Rattle.canon_script.specs.TraceCore.{core_after}
-use Rattle.canon_script.specs.CanonScript.{canon_of}
-use Rattle.canon_script.specs.PlayedScript.{IsPlayed}
+use Rattle.play_event.specs.TraceCore.{core_after}
+use Rattle.play_event.specs.CanonScript.{canon_of}
+use Rattle.play_event.specs.PlayedScript.{IsPlayed}
 
 -- the other script is played to its end, and leaves the trace of this one
 pub record HasTraceOf (setup : Setup) (rules : Rules) (script other : List Said) : Type 0 where

@@ -6,8 +6,8 @@ use Rattle.play_event.specs.Raising.{raises_on}
 use Rattle.play_event.specs.Trace.{TracedMove}
 use Rattle.play_event.specs.declared.setup.Reopen.TheVariants as reopens
 use Rattle.play_event.specs.declared.setup.Rules.{Rules}
-use Rattle.canon_script.specs.CanonScript.{plain_moves}
-use Rattle.canon_script.specs.TraceCore.{TraceCore}
+use Rattle.play_event.specs.CanonScript.{plain_moves}
+use Rattle.play_event.specs.TraceCore.{TraceCore}
 
 -- a fold of a seat that owes nothing
 abbrev pub is_free_fold : TracedMove → Bool

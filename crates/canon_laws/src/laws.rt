@@ -4,11 +4,11 @@ ghost use Rattle.play_event.specs.Said.{Said};
 ghost use Rattle.play_event.specs.ValidSetup.{IsValid};
 ghost use Rattle.play_event.specs.declared.setup.Rules.{Rules};
 ghost use Rattle.play_event.specs.declared.setup.Setup.{Setup};
-ghost use Rattle.canon_script.specs.TraceCore.{core_after};
-ghost use Rattle.canon_script.specs.Tidy.{IsTidy};
-ghost use Rattle.canon_script.specs.PlayedScript.{IsPlayed, is_move};
-ghost use Rattle.canon_script.specs.declared.limits.TheConstants.{MOST_MOVES};
-ghost use Rattle.canon_script.specs.CanonScript.{canon_of};
+ghost use Rattle.play_event.specs.TraceCore.{core_after};
+ghost use Rattle.play_event.specs.Tidy.{IsTidy};
+ghost use Rattle.play_event.specs.PlayedScript.{IsPlayed, is_move};
+ghost use Rattle.play_event.specs.declared.hand_limits.TheConstants.{MOST_MOVES};
+ghost use Rattle.play_event.specs.CanonScript.{canon_of};
 ghost use Rattle.canon_laws.specs.Confluence.{IsConfluent};
 ghost use Rattle.canon_laws.specs.OtherRules.{SuitsRules};
 

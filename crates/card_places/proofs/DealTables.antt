@@ -10,7 +10,7 @@ use Rattle.play_event.specs.declared.street.Street.{Street}
 use Rattle.variant_table.specs.declared.table.GameTable.{GameTable}
 use Rattle.variant_table.specs.Tables.{no_street, IsTableOf, street_at}
 use Rattle.card_places.specs.Marks.{IsStreetOf}
-use Rattle.list_laws.proofs.Entries.{past_end}
+use Rattle.card_set.proofs.Entries.{past_end}
 
 -- a street that is read from those of the game has what they deal
 same_street : (code : Code) (number : ℕ) (row : Street) (found : Option Street) → slice_get (game_of code).streets (number - 1) ≡ found → row ≡ unwrap_or found no_street → IsStreetOf code number row

@@ -16,13 +16,13 @@ use Rattle.play_event.specs.Taken.{has_taken_card}
 use Rattle.card_places.specs.declared.card_state.CardState.{CardState}
 use Rattle.card_places.specs.declared.draws.Draws.{Draws}
 use Rattle.card_places.specs.Drawn.{named_at}
-use Rattle.street_laws.specs.Dues.{IsDueWithin}
+use Rattle.play_laws.specs.Dues.{IsDueWithin}
 use Rattle.card_places.specs.DueStreet.{due_street}
 use Rattle.card_places.specs.Placed.{placed}
 use Rattle.card_places.specs.Refusals.{owed_of, owed_in, board_owed_in, illegal_hole_deal_on, illegal_board_deal_on, illegal_hole_deal, illegal_board_deal}
 use Rattle.card_places.specs.Room.{is_seat_of, is_street, hole_most, most_of, AreNamedWithin, IsOwed}
 use Rattle.card_places.proofs.Rooms.{seat_parts, street_parts}
-use Rattle.list_laws.proofs.Tests.{first_holds}
+use Rattle.card_set.proofs.Tests.{first_holds}
 use Rattle.play_event.proofs.StreetLaws.{few_streets}
 
 count_at : (zero_count over : Bool) (wrong taken : Bool) → (if wrong then Some reasons.WrongSeat else if (zero_count || over) then Some reasons.WrongCount else if taken then Some reasons.CardTaken else None) ≡ None → (wrong ≡ false) × (zero_count ≡ false) × (over ≡ false)

@@ -1,7 +1,7 @@
 -- How many cards an owner has on the table after a deal, a fold, a discard or a show.
 use Rattle.std.proofs.Common.{◌≡◌, ℕ, zero, suc, ◌+◌, ◌≤◌, Bool, true, false, ◌&&◌, cond, if◌then◌else◌, is_none, Option, None, List, [], ◌∷◌, ◌++◌, map, filter, length, count_by, refl, ◌∙◌, arith}
 use Rattle.std.proofs.lemmas.Bool.{ltb-false}
-use Rattle.list_laws.proofs.Counting.{count_by-cons}
+use Rattle.card_set.proofs.Counting.{count_by-cons}
 use Rattle.card_set.specs.declared.card.Card.{Card}
 use Rattle.card_set.specs.declared.card.Slot.{Slot}
 use Rattle.card_set.specs.declared.card.Slot.TheVariants as slots

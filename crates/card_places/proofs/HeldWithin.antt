@@ -13,8 +13,8 @@ use Rattle.card_places.specs.declared.draws.Draws.{Draws}
 use Rattle.card_places.specs.Drawn.{named_at}
 use Rattle.play_event.specs.Held.{is_held}
 use Rattle.card_places.specs.Room.{may_come, sum_from, held_most, is_owner, AreHeldWithin, IsOwed}
-use Rattle.street_laws.proofs.Groups.{still_group}
-use Rattle.street_laws.specs.Groups.{AreStill}
+use Rattle.play_laws.proofs.Groups.{still_group}
+use Rattle.play_laws.specs.Groups.{AreStill}
 use Rattle.card_places.proofs.HeldCards.{deal_held}
 use Rattle.card_places.proofs.Rooms.{group_more, seat_parts, street_parts}
 use Rattle.card_places.proofs.Sums.{sum_least, sum_more, sum_most_more}

@@ -15,8 +15,8 @@ use Rattle.card_places.specs.Placed.{placed}
 use Rattle.card_places.specs.Refusals.{has_to_draw, next_to_draw_in, is_next_in, illegal_discard_on}
 use Rattle.card_places.specs.Room.{is_seat_of}
 use Rattle.card_places.proofs.HeldCards.{discard_takes}
-use Rattle.list_laws.proofs.NumbersOfRange.{found_in_range}
-use Rattle.list_laws.proofs.Options.{found_number}
+use Rattle.card_set.proofs.NumbersOfRange.{found_in_range}
+use Rattle.card_set.proofs.Options.{found_number}
 
 chain_parts : (next over taken lacking : Bool) → (if not next then Some reasons.WrongSeat else if over then Some reasons.WrongCount else if taken then Some reasons.CardTaken else if lacking then Some reasons.NotHeld else None) ≡ None → (next ≡ true) × (lacking ≡ false)
 chain_parts false over taken lacking is = absurd cc

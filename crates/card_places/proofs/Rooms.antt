@@ -2,7 +2,7 @@
 use Rattle.std.proofs.Common.{◌≡◌, ℕ, suc, ◌+◌, ◌*◌, ◌≤◌, Bool, true, false, ◌&&◌, ◌==◌, nat_le, cond, inl, inr, if◌then◌else◌, Option, Some, None, List, [], ◌∷◌, ◌++◌, length, count_by, refl, ap, subst, ◌∙◌, arith, length-append}
 use Rattle.std.proofs.lemmas.Bool.{and_parts, leb-true, eqb-true, eq-eqb}
 use Rattle.std.proofs.lemmas.List.Sums.{length-filter}
-use Rattle.list_laws.proofs.Counting.{count_by-cons}
+use Rattle.card_set.proofs.Counting.{count_by-cons}
 use Rattle.card_set.specs.declared.card.Slot.{Slot}
 use Rattle.play_event.specs.declared.code.Code.{Code}
 use Rattle.play_event.specs.declared.code.Code.TheVariants as games
@@ -11,9 +11,9 @@ use Rattle.play_event.specs.Places.{Place, is_same_owner, is_in_group, places_de
 use Rattle.play_event.proofs.OwnerLaws.{is_same_owner-self, is_same_owner-true}
 use Rattle.play_event.specs.Laws.{IsAmong}
 use Rattle.card_places.specs.Room.{is_seat_of, is_street, hole_most, most_of, IsWithin, sum_from, is_owner}
-use Rattle.street_laws.proofs.Groups.{deal_group}
+use Rattle.play_laws.proofs.Groups.{deal_group}
 use Rattle.card_places.proofs.Sums.{sum_least, sum_more, sum_most}
-use Rattle.list_laws.proofs.Tests.{if_most}
+use Rattle.card_set.proofs.Tests.{if_most}
 
 -- all cards of a street, by owner
 abbrev pub on_street : ℕ → List Place → ℕ → ℕ

@@ -11,7 +11,7 @@ use Rattle.card_places.specs.declared.draws.Draws.{Draws}
 use Rattle.card_places.specs.Drawn.{named_at}
 use Rattle.play_event.specs.Held.{is_held}
 use Rattle.card_places.specs.Room.{is_seat_of, IsWithin, AreNamedWithin, AreHeldWithin}
-use Rattle.street_laws.specs.Groups.{AreStill}
+use Rattle.play_laws.specs.Groups.{AreStill}
 use Rattle.card_places.proofs.HeldCards.{discard_fewer, show_fewer, fold_fewer}
 use Rattle.card_places.proofs.HeldWithin.{held_still, held_discard}
 use Rattle.card_places.proofs.StillWithin.{within_still, discard_still, show_still, folded_still}

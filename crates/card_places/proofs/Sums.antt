@@ -2,7 +2,7 @@
 use Rattle.std.proofs.Common.{◌≡◌, ◌≢◌, ℕ, zero, suc, ◌+◌, ◌*◌, ◌<◌, ◌≤◌, Bool, true, false, nat_eq, refl, sym, subst, arith}
 use Rattle.std.proofs.lemmas.Bool.{eqb-true}
 use Rattle.card_places.specs.Room.{sum_from}
-use Rattle.list_laws.proofs.Numbers.{next_above, unequal}
+use Rattle.card_set.proofs.Numbers.{next_above, unequal}
 
 pub sum_least : (f g : ℕ → ℕ) (first n : ℕ) → ((k : ℕ) → first ≤ k → g k ≤ f k) → sum_from g first n ≤ sum_from f first n
 sum_least f g first zero less = omega arith

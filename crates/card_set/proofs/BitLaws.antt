@@ -12,7 +12,7 @@ use Rattle.card_set.specs.declared.set.CardSet.{CardSet}
 use Rattle.card_set.specs.CardSet.{bit_place, count_of, every_card, is_in}
 use Rattle.card_set.specs.Deck.{ranks_below}
 use Rattle.card_set.proofs.DeckLaws.{ranks_same, suits_before-few, suits_same}
-use Rattle.list_laws.proofs.Bits.{bit_counts, first_sum, first_sum-agree, ones_sum}
+use Rattle.card_set.proofs.Bits.{bit_counts, first_sum, first_sum-agree, ones_sum}
 
 pub ranks_below-few : (rank : Rank) → ranks_below rank < 13
 ranks_below-few ranks.Two = omega arith

@@ -13,9 +13,9 @@ use Rattle.card_set.specs.Deck.{suits_before, all_ranks}
 use Rattle.card_set.specs.Ranks.{high_ace, low_ace, falling_heights, times, occurring, ranks_occurring, ranks_of, is_one_suit}
 use Rattle.card_set.proofs.DeckLaws.{suits_same}
 use Rattle.card_set.specs.Different.{Lacks, AllDifferent}
-use Rattle.list_laws.proofs.Counting.{count_by-cons, count_by-none, counts-le-sum, sum_by-values}
-use Rattle.list_laws.proofs.Sums.{sum_by-plus, sum_by-same}
-use Rattle.list_laws.proofs.Tests.{and_true, passes_or_not}
+use Rattle.card_set.proofs.Counting.{count_by-cons, count_by-none, counts-le-sum, sum_by-values}
+use Rattle.card_set.proofs.Sums.{sum_by-plus, sum_by-same}
+use Rattle.card_set.proofs.Tests.{and_true, passes_or_not}
 
 -- no card has this height
 pub times-none : (height : Rank → ℕ) (h : ℕ) → times height [] h ≡ 0

@@ -16,10 +16,10 @@ use Rattle.card_set.specs.Filler.{filler_card}
 use Rattle.card_set.specs.Ranks.{falling_heights, occurring, ranks_of, times}
 use Rattle.card_set.proofs.BitLaws.{ranks_below-few}
 use Rattle.card_set.proofs.DeckLaws.{deck_place-same, is_same_card-true, suits_before-few}
-use Rattle.list_laws.proofs.Counting.{count_by-cons, count_by-map, counted_never, range_once}
-use Rattle.list_laws.proofs.Lists.{filter-agree}
-use Rattle.list_laws.proofs.Sums.{sum_by-plus, sum_by-same}
-use Rattle.list_laws.proofs.Tests.{and_false, passes_or_not, true_false}
+use Rattle.card_set.proofs.Counting.{count_by-cons, count_by-map, counted_never, range_once}
+use Rattle.card_set.proofs.Lists.{filter-agree}
+use Rattle.card_set.proofs.Sums.{sum_by-plus, sum_by-same}
+use Rattle.card_set.proofs.Tests.{and_false, passes_or_not, true_false}
 
 -- the places of the 52 cards are all places
 places : map deck_place every_card ≡ range_with_len 0 52

@@ -10,7 +10,7 @@ use Rattle.card_set.specs.Filler.{filler_card}
 use Rattle.card_set.specs.Row.{cards_of}
 use Rattle.card_set.proofs.DeckLaws.{is_same_card-true, is_same_card-self}
 use Rattle.card_set.proofs.Listing.{deck_at, deck_length}
-use Rattle.list_laws.proofs.Tests.{or_assoc, or_false, or_right, passes_or_not, true_false}
+use Rattle.card_set.proofs.Tests.{or_assoc, or_false, or_right, passes_or_not, true_false}
 
 -- a card at the end
 pub is_one_of-more : (card other : Card) (cards : List Card) → is_one_of card (cards ++ other ∷ []) ≡ (is_one_of card cards || is_same_card other card)

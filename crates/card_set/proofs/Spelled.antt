@@ -14,8 +14,8 @@ use Rattle.card_set.specs.declared.spelling.CardFault.TheVariants as faults
 use Rattle.card_set.specs.Deck.{all_ranks, all_suits}
 use Rattle.card_set.specs.Spelling.{rank_letter, suit_letter, slot_spelling, spelling, rank_lettered, suit_lettered, slot_spelled, slots_spelled, HasFault, PairFault, BeginsSlot, SpellsSlot, FirstBadPair}
 use Rattle.card_set.proofs.Letters.{each_rank}
-use Rattle.list_laws.proofs.Lists.{pair_more}
-use Rattle.list_laws.proofs.Tests.{chosen_either}
+use Rattle.card_set.proofs.Lists.{pair_more}
+use Rattle.card_set.proofs.Tests.{chosen_either}
 
 -- one more slot is its two letters more
 pub spelling-push : (row : List Slot) (slot : Slot) → spelling (row ++ slot ∷ []) ≡ spelling row ++ slot_spelling slot

@@ -4,10 +4,10 @@ use Rattle.std.specs.Option.{option_map_or}
 use Rattle.std.specs.List.{list_any, All}
 use Rattle.std.proofs.lemmas.Bool.{ltb-true, eqb-true, lt-ltb}
 use Rattle.std.proofs.lemmas.List.Elements.{All-head, All-tail}
-use Rattle.list_laws.proofs.Rising.{Rising}
-use Rattle.list_laws.proofs.Lists.{first_of_kept}
-use Rattle.list_laws.proofs.Numbers.{above_from_tests}
-use Rattle.list_laws.proofs.Tests.{or_again, or_swap, or_regroup, or_false}
+use Rattle.card_set.proofs.Rising.{Rising}
+use Rattle.card_set.proofs.Lists.{first_of_kept}
+use Rattle.card_set.proofs.Numbers.{above_from_tests}
+use Rattle.card_set.proofs.Tests.{or_again, or_swap, or_regroup, or_false}
 use Rattle.chip_ledger.specs.Pots.{with_number, different}
 
 -- the three places of a new number: at an equal one, before the first, or further on

@@ -3,7 +3,7 @@ use Rattle.std.proofs.Common.{◌≡◌, ◌≢◌, ℕ, zero, suc, ◌+◌, ◌
 use Rattle.std.proofs.lemmas.Bool.{cases_lt}
 use Rattle.chip_ledger.specs.Seat.{seats_of}
 use Rattle.chip_ledger.proofs.Seats.{sum_of_seats_more}
-use Rattle.list_laws.proofs.Tests.{one_if}
+use Rattle.card_set.proofs.Tests.{one_if}
 
 sum_of_next : (f : ℕ → ℕ) (n : ℕ) → sum_by f (seats_of (suc n)) ≡ sum_by f (seats_of n) + f (suc n)
 sum_of_next f n = let e : suc n ≡ n + 1 = omega arith in ap (λ m. sum_by f (seats_of m)) e ∙ sum_of_seats_more f n ∙ ap (λ m. sum_by f (seats_of n) + f m) (sym e)

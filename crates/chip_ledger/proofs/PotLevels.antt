@@ -6,8 +6,8 @@ use Rattle.std.proofs.lemmas.Bool.Decides.{nat_tests}
 use Rattle.std.proofs.lemmas.List.{length-map}
 use Rattle.std.proofs.lemmas.List.Sums.{count_by-le-length, length-filter}
 use Rattle.std.proofs.lemmas.List.Elements.{All-map, All-weaker, filter_passes}
-use Rattle.list_laws.proofs.Rising.{Rising}
-use Rattle.list_laws.proofs.Any.{list_any-map, list_any-filter, list_any-same, list_any-weaker, list_any-from_nothing}
+use Rattle.card_set.proofs.Rising.{Rising}
+use Rattle.card_set.proofs.Any.{list_any-map, list_any-filter, list_any-same, list_any-weaker, list_any-from_nothing}
 use Rattle.chip_ledger.specs.Pots.{Stake, levels}
 use Rattle.chip_ledger.proofs.Different.{Rising-different, length-different, list_any-different}
 

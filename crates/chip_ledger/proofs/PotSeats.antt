@@ -4,9 +4,9 @@ use Rattle.std.specs.List.{All, AllPairs, list_any}
 use Rattle.std.proofs.lemmas.Bool.{cond_both, leb-true, le-leb, and_parts, and_from, true≢false}
 use Rattle.std.proofs.lemmas.List.Elements.{All-nil, All-cons, All-head, All-tail, All-filter}
 use Rattle.std.proofs.lemmas.List.Kept.{AllPairs-cons, AllPairs-filter}
-use Rattle.list_laws.proofs.Rising.{Rising, above_first, filter-Rising}
-use Rattle.list_laws.proofs.Any.{list_any-map, list_any-filter, list_any-weaker, list_any-from_nothing}
-use Rattle.list_laws.proofs.Lists.{map_nothing}
+use Rattle.card_set.proofs.Rising.{Rising, above_first, filter-Rising}
+use Rattle.card_set.proofs.Any.{list_any-map, list_any-filter, list_any-weaker, list_any-from_nothing}
+use Rattle.card_set.proofs.Lists.{map_nothing}
 use Rattle.chip_ledger.specs.Pots.{Stake, PlainPot, after_return, is_reached_by_all, between, joining, kept, layers, levels, may_win, pots_at, pots_of, reaching, with_dead}
 use Rattle.chip_ledger.proofs.PotLevels.{Rising-levels, level_reached}
 use Rattle.chip_ledger.proofs.PotSums.{stake_chips}

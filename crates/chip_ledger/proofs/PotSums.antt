@@ -2,8 +2,8 @@
 use Rattle.std.proofs.Common.{◌≡◌, ℕ, ◌+◌, ◌-◌, ◌<◌, Bool, true, false, ◌&&◌, if◌then◌else◌, List, [], ◌∷◌, refl, ◌∙◌, arith, nat_lt, map, filter, sum_by, min}
 use Rattle.std.proofs.lemmas.Bool.{cond_both, ltb-false}
 use Rattle.std.proofs.lemmas.List.Sums.{sum_by-cons}
-use Rattle.list_laws.proofs.Rising.{above_first, filter-Rising}
-use Rattle.list_laws.proofs.Sums.{sum_by-agree, sum_by-filter, sum_by-map, sum_by-plus, sum_by-same}
+use Rattle.card_set.proofs.Rising.{above_first, filter-Rising}
+use Rattle.card_set.proofs.Sums.{sum_by-agree, sum_by-filter, sum_by-map, sum_by-plus, sum_by-same}
 use Rattle.chip_ledger.specs.Pots.{Stake, PlainPot, after_return, is_reached_by_all, between, folded_above, joining, kept, layers, levels, pots_at, pots_of, reaching, returned, with_dead, greatest_other}
 use Rattle.chip_ledger.proofs.PotLevels.{Rising-levels, no_live_above}
 

@@ -1,6 +1,6 @@
 -- A row, and the rakes of a hand without rake, as lists of numbers.
 use Rattle.std.proofs.Common.{◌≡◌, ℕ, ◌+◌, ◌-◌, ◌≤◌, map, slice_index, sym, subst, ◌∙◌, ap, arith, take}
-use Rattle.list_laws.proofs.NumbersOfRange.{taken_index_along}
+use Rattle.card_set.proofs.NumbersOfRange.{taken_index_along}
 use Rattle.chip_ledger.specs.declared.rakes.RakeRow.{RakeRow}
 use Rattle.chip_ledger.specs.declared.seat_row.SeatRow.{SeatRow}
 use Rattle.chip_ledger.specs.Fillers.{index-replicate}

@@ -9,7 +9,7 @@ use Rattle.chip_ledger.specs.declared.live_row.LiveRow.{LiveRow}
 use Rattle.chip_ledger.specs.declared.seat_row.TheConstants.{MOST_AMOUNT}
 use Rattle.chip_ledger.specs.SeatRow.{amount_of}
 use Rattle.chip_ledger.specs.LiveRow.{flag_of}
-use Rattle.list_laws.proofs.Entries.{same_entries}
+use Rattle.card_set.proofs.Entries.{same_entries}
 
 pub seat_same : (a b : Seat) → a.number ≡ b.number → a ≡ b
 seat_same a b e =

@@ -6,8 +6,8 @@ use Rattle.std.specs.List.{list_any}
 use Rattle.chip_ledger.proofs.Seats.{seats_of_more}
 use Rattle.chip_ledger.specs.Greatest.{greatest}
 use Rattle.chip_ledger.specs.Seat.{seats_of}
-use Rattle.list_laws.proofs.Counting.{count_by-push, count_agree}
-use Rattle.list_laws.proofs.Finding.{list_any-push, any_agree}
+use Rattle.card_set.proofs.Counting.{count_by-push, count_agree}
+use Rattle.card_set.proofs.Finding.{list_any-push, any_agree}
 use Rattle.chip_ledger.proofs.Stakes.{greatest-push}
 
 -- one more seat

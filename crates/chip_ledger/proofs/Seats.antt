@@ -3,7 +3,7 @@ use Rattle.std.proofs.Common.{◌≡◌, ℕ, ◌+◌, ◌≤◌, Bool, cond, �
 use Rattle.std.proofs.lemmas.List.{map-append}
 use Rattle.std.proofs.lemmas.List.Elements.{filter-append}
 use Rattle.std.proofs.lemmas.List.Sums.{sum-map, sum_by_push}
-use Rattle.list_laws.proofs.Ranges.{range_more}
+use Rattle.card_set.proofs.Ranges.{range_more}
 use Rattle.chip_ledger.specs.Seat.{seats_of}
 
 pub seats_of_more : (n : ℕ) → seats_of (n + 1) ≡ seats_of n ++ (n + 1) ∷ []

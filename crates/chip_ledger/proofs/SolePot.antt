@@ -5,13 +5,13 @@ use Rattle.std.proofs.lemmas.Bool.{and_parts, le-leb}
 use Rattle.std.proofs.lemmas.List.{length-map}
 use Rattle.std.proofs.lemmas.List.Sums.{length-filter, sum_by-cons}
 use Rattle.chip_ledger.specs.Pots.{Stake, PlainPot, after_return, is_reached_by_all, between, folded_above, kept, layers, levels, may_win, pots_at, pots_of, reaching, with_chips}
-use Rattle.list_laws.proofs.Any.{list_any-filter, list_any-map, list_any-same}
-use Rattle.list_laws.proofs.Rising.{filter-Rising}
-use Rattle.list_laws.proofs.Sums.{sum_by-map}
+use Rattle.card_set.proofs.Any.{list_any-filter, list_any-map, list_any-same}
+use Rattle.card_set.proofs.Rising.{filter-Rising}
+use Rattle.card_set.proofs.Sums.{sum_by-map}
 use Rattle.chip_ledger.proofs.Different.{length-different}
 use Rattle.chip_ledger.proofs.PotLevels.{Rising-levels, level_reached, makes_level}
 use Rattle.chip_ledger.proofs.PotSums.{pot_chips, pots_at_levels, stake_chips}
-use Rattle.list_laws.proofs.Counting.{count_by-cons}
+use Rattle.card_set.proofs.Counting.{count_by-cons}
 
 -- how many of the seats are live
 abbrev pub live_stakes : List Stake → ℕ

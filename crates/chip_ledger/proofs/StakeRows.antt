@@ -3,9 +3,9 @@ use Rattle.std.proofs.Common.{◌≡◌, ◌≢◌, ℕ, ◌-◌, ◌≤◌, Boo
 use Rattle.std.specs.List.{list_any}
 use Rattle.std.proofs.lemmas.Bool.{true_from_ne_false}
 use Rattle.std.proofs.lemmas.Simd.{map-map}
-use Rattle.list_laws.proofs.Sums.{sum_by-map}
-use Rattle.list_laws.proofs.Numbers.{and_zero}
-use Rattle.list_laws.proofs.Any.{nothing_kept, list_any-map}
+use Rattle.card_set.proofs.Sums.{sum_by-map}
+use Rattle.card_set.proofs.Numbers.{and_zero}
+use Rattle.card_set.proofs.Any.{nothing_kept, list_any-map}
 use Rattle.chip_ledger.specs.declared.live_row.LiveRow.{LiveRow}
 use Rattle.chip_ledger.specs.declared.seat_row.SeatRow.{SeatRow}
 use Rattle.chip_ledger.specs.LiveRow.{flag_of, flagged}

@@ -20,7 +20,7 @@ use Rattle.command_words.specs.Options.{GivenOptions, is_complete, is_flag, is_o
 use Rattle.command_words.specs.Parser.{are_taken, flag_rule, handref, option_rule}
 use Rattle.command_words.proofs.Finds.{Hold, Named, at_row-end, given, has_row-named, hold_given, row_named}
 use Rattle.command_words.proofs.Walking.{IsBetween, IsFlag, IsOption, alone, alone_taken, apart, first, first_taken, joined, joined_taken, option_taken, value_taken}
-use Rattle.list_laws.proofs.Options.{followed, none_from_not}
+use Rattle.card_set.proofs.Options.{followed, none_from_not}
 use Rattle.std.proofs.lemmas.Option.{same_Some}
 
 -- the rows that it finds in words

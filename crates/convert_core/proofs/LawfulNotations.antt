@@ -16,7 +16,7 @@ use Rattle.hand_records.specs.declared.trace.Trace.{Trace}
 use Rattle.hand_records.specs.declared.writing.Keep.{Keep}
 use Rattle.hand_records.specs.declared.writing.Keep.TheVariants as keeps
 use Rattle.hand_records.specs.declared.writing.Unspelled.{Unspelled}
-use Rattle.list_laws.proofs.NumbersOfRange.{map_agree}
+use Rattle.card_set.proofs.NumbersOfRange.{map_agree}
 use Rattle.play_event.specs.declared.setup.Rules.{Rules}
 use Rattle.convert_core.specs.Conversion.{ReadAsPlays, ReadAsRefused}
 use Rattle.convert_core.specs.Judged.{ArePlaysOf}

@@ -8,7 +8,7 @@ use Rattle.hand_canon.specs.Sound.{IsSound}
 use Rattle.hand_records.specs.Moves.{moves_of}
 use Rattle.hand_records.specs.declared.record.Record.{Record}
 use Rattle.hand_records.specs.declared.trace.Play.{Play}
-use Rattle.list_laws.proofs.Sums.{sum_by-map}
+use Rattle.card_set.proofs.Sums.{sum_by-map}
 use Rattle.convert_core.specs.Conversion.{IsConversion}
 use Rattle.convert_core.specs.Judged.{ArePlaysOf}
 use Rattle.convert_core.specs.Records.{AreFew}

@@ -18,10 +18,10 @@ use Rattle.acpc_writing.specs.Spelled as facts
 use Rattle.acpc_writing.specs.Texts.{HasTexts}
 use Rattle.acpc_reading.specs.Logs.{reading}
 use Rattle.acpc_reading.specs.RecordView.{IsOfGame, record_said, rules_of}
-use Rattle.canon_script.specs.TraceCore.{TraceCore}
+use Rattle.play_event.specs.TraceCore.{TraceCore}
 use Rattle.canon_laws.proofs.MoveCounts.{move_count}
-use Rattle.list_laws.proofs.Reversed.{count_reversed}
-use Rattle.canon_script.specs.PlayedScript.{is_move}
+use Rattle.card_set.proofs.Reversed.{count_reversed}
+use Rattle.play_event.specs.PlayedScript.{is_move}
 use Rattle.play_event.specs.Past.{moves_of}
 use Rattle.play_event.specs.Scripts.{past_at_end}
 use Rattle.first_fault.specs.declared.limits.TheConstants.{MOST_FILE_MOVES}

@@ -3,12 +3,12 @@
 use Rattle.std.proofs.Common.{◌≡◌, ◌+◌, ℕ, Bool, true, false, cond, nat_le, List, [], ◌∷◌, length, Result, Ok, Err, IfErr, refl, subst}
 use Rattle.acpc_game.specs.declared.game.Game.{Game}
 use Rattle.acpc_reading.specs.Logs.{HandSaid, Hands, hands_after, hands_after_line, is_passed_over, line_said, reading, with_hand}
-use Rattle.acpc_text.specs.Faults.{fault_of, in_line, wrong}
-use Rattle.acpc_text.specs.Parts.{lines_of}
-use Rattle.acpc_text.specs.declared.fault.AcpcFault.{AcpcFault}
-use Rattle.acpc_text.specs.declared.fault.LineFault.{LineFault}
-use Rattle.acpc_text.specs.declared.fault.LineFaultKind.{LineFaultKind}
-use Rattle.acpc_text.specs.declared.fault.LineFaultKind.TheVariants as whats
+use Rattle.acpc_game.specs.Faults.{fault_of, in_line, wrong}
+use Rattle.acpc_game.specs.Parts.{lines_of}
+use Rattle.acpc_game.specs.declared.fault.AcpcFault.{AcpcFault}
+use Rattle.acpc_game.specs.declared.fault.LineFault.{LineFault}
+use Rattle.acpc_game.specs.declared.fault.LineFaultKind.{LineFaultKind}
+use Rattle.acpc_game.specs.declared.fault.LineFaultKind.TheVariants as whats
 use Rattle.convert_core.specs.Faults.{is_out_of_memory_in_acpc}
 use Rattle.first_fault.specs.Numbers.{kept_number}
 use Rattle.first_fault.specs.Reading.{◌>>=◌}

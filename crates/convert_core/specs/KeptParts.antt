@@ -8,7 +8,7 @@ use Rattle.acpc_format.specs.KeptNotes.{kept_in_acpc, number_spelled}
 use Rattle.acpc_writing.specs.Names.{is_spelled_hand, is_spelled_name}
 use Rattle.hand_records.specs.SaidNotes.{SaidNotes}
 use Rattle.hand_records.specs.declared.notes.Clock.{Clock}
-use Rattle.list_laws.proofs.Options.{from_none_some}
+use Rattle.card_set.proofs.Options.{from_none_some}
 use Rattle.ohh_format.specs.KeptNotes.{kept_in_ohh, moment_in_notes, numbers_round}
 use Rattle.ohh_writing.specs.Moment.{moment_said}
 use Rattle.ohh_writing.specs.Seating.{is_circular}

@@ -32,3 +32,8 @@ pub mod AcpcLaws
 pub mod AcpcTold
 pub mod AcpcReads
 pub mod KeptParts
+-- Passed on to the crates above.
+pub use Rattle.acpc_format.specs.KeptNotes as AcpcKeptNotes
+pub use Rattle.ohh_format.specs.KeptNotes as OhhKeptNotes
+pub use Rattle.phh_format.specs.KeptNotes as PhhKeptNotes
+pub use Rattle.phh_format.specs.SameTables as PhhSameTables

@@ -32,7 +32,7 @@ use Rattle.deal_core.proofs.StandsShow.{show_stands, muck_stands}
 use Rattle.deal_core.proofs.WhyDeal.{why_hole, why_board, hole_turn, board_turn}
 use Rattle.deal_core.proofs.WhyDiscard.{why_discard}
 use Rattle.deal_core.proofs.WhyShow.{why_show, why_muck}
-use Rattle.list_laws.proofs.Results.{on_ok}
+use Rattle.card_set.proofs.Results.{on_ok}
 
 -- the reason of the rules is this one, which the state also gives
 answered_by : (t next : CardState) (due : Due) (live : LiveRow) (asks : Setup → Past → Type 0) (event : Said) (answer : Result (Unit {0}) Illegal) (reason : Option Illegal)

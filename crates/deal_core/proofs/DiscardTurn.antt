@@ -12,8 +12,8 @@ use Rattle.card_places.specs.declared.card_state.CardState.{CardState}
 use Rattle.deal_core.specs.Standing.{IsNow}
 use Rattle.card_places.specs.Refusals.{illegal_discard}
 use Rattle.card_places.proofs.Legal.{drawer_is}
-use Rattle.street_laws.proofs.DueStreets.{draw_street}
-use Rattle.list_laws.proofs.Options.{from_some_none}
+use Rattle.play_laws.proofs.DueStreets.{draw_street}
+use Rattle.card_set.proofs.Options.{from_some_none}
 
 pub record IsDrawing (setup : Setup) (past : Past) (due : Due) (seat : ℕ) : Type 0 where
   pub draws : due ≡ dues.Draw (turn setup past).0

@@ -34,9 +34,9 @@ use Rattle.deal_core.specs.Standing.{IsNow}
 use Rattle.card_places.specs.Refusals.{owed_of, owed_in, board_owed_in, deal_chain, illegal_hole_deal_on, illegal_board_deal_on, illegal_hole_deal, illegal_board_deal}
 use Rattle.card_places.specs.Room.{is_seat_of}
 use Rattle.card_places.specs.DueStreet.{due_street}
-use Rattle.street_laws.proofs.Groups.{group_count}
-use Rattle.street_laws.proofs.DueStreets.{deal_street, draw_street}
-use Rattle.list_laws.proofs.Options.{from_some_none}
+use Rattle.play_laws.proofs.Groups.{group_count}
+use Rattle.play_laws.proofs.DueStreets.{deal_street, draw_street}
+use Rattle.card_set.proofs.Options.{from_some_none}
 use Rattle.chip_ledger.specs.Seat.{IsSeatOf}
 
 -- a kind that may come

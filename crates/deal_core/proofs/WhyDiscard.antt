@@ -26,8 +26,8 @@ use Rattle.card_places.specs.declared.card_state.CardState.{CardState}
 use Rattle.card_places.specs.Placed.{placed}
 use Rattle.deal_core.specs.Standing.{IsNow}
 use Rattle.card_places.specs.Refusals.{has_to_draw, next_to_draw_in, discard_chain, illegal_discard_on, illegal_discard}
-use Rattle.list_laws.proofs.Finding.{find_agree}
-use Rattle.street_laws.proofs.DueStreets.{draw_street}
+use Rattle.card_set.proofs.Finding.{find_agree}
+use Rattle.play_laws.proofs.DueStreets.{draw_street}
 
 module _ (t : CardState) (due : Due) (live : LiveRow) (setup : Setup) (past : Past) (now : IsNow t due live setup past) where
   pub next_is : (on : ℕ) → next_to_draw setup past on ≡ next_to_draw_in t live on

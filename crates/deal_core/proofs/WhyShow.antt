@@ -26,7 +26,7 @@ use Rattle.deal_core.specs.Standing.{IsNow}
 use Rattle.card_places.specs.Refusals.{may_show_in, may_show_many, show_chain, illegal_show_on, illegal_show, illegal_muck}
 use Rattle.card_places.specs.Room.{is_seat_of}
 use Rattle.deal_core.proofs.WhyDeal.{seat_in}
-use Rattle.list_laws.proofs.Tests.{and_same}
+use Rattle.card_set.proofs.Tests.{and_same}
 
 at_over : (may : Bool) (rest : Option Illegal) → (if not may then Some reasons.HandOver else rest) ≡ (if may then rest else Some reasons.HandOver)
 at_over true rest = refl

@@ -5,7 +5,7 @@ use Rattle.std.specs.List.{list_all}
 use Rattle.std.specs.Str.Parse.{digits_value, digits_value_after}
 use Rattle.std.proofs.lemmas.Bool.{lt-leb, and_parts}
 use Rattle.std.proofs.lemmas.List.{drop_more}
-use Rattle.list_laws.proofs.Numbers.{more_digits}
+use Rattle.card_set.proofs.Numbers.{more_digits}
 use Rattle.first_fault.specs.Digits.{number_of}
 
 -- digits whose first ones already say too much do not say a number within the greatest

@@ -7,7 +7,7 @@ use Rattle.chip_ledger.specs.declared.live_row.LiveRow.{LiveRow}
 use Rattle.chip_ledger.specs.LiveRow.{flag_of, flagged}
 use Rattle.chip_ledger.specs.Seat.{seats_of}
 use Rattle.chip_ledger.proofs.Flags.{flag-from_flagged, flagged-from_flag}
-use Rattle.list_laws.proofs.Tests.{if_both, if_not, not_both, same_test}
+use Rattle.card_set.proofs.Tests.{if_both, if_not, not_both, same_test}
 use Rattle.play_event.specs.declared.hands.HandRow.{HandRow}
 use Rattle.play_event.specs.declared.setup.Setup.{Setup}
 use Rattle.play_event.specs.Past.{Move, moves_before}
@@ -16,12 +16,12 @@ use Rattle.play_event.specs.SeatSlots.{slots_of_hand}
 use Rattle.play_event.specs.Seats.{all_seats, is_live, live_count}
 use Rattle.play_event.specs.Streets.{has_draw}
 use Rattle.play_event.specs.Trace.{TracedPlace}
-use Rattle.canon_script.specs.CanonScript.{board_said, deal_said, deals_said, dealt_slots, discarded_slots, discards_said, held_slots, showdown_said, showing_said}
+use Rattle.play_event.specs.CanonScript.{board_said, deal_said, deals_said, dealt_slots, discarded_slots, discards_said, held_slots, showdown_said, showing_said}
 use Rattle.hand_canon.specs.RowTests.{discards_from, showings_from, unfolded_count}
 use Rattle.hand_canon.proofs.OneByOne.{flat_agree}
 use Rattle.hand_canon.proofs.MoveRows.{AreFolded, live_are}
-use Rattle.list_laws.proofs.FlatMaps.{kept_flat}
-use Rattle.list_laws.proofs.Numbers.{few_by_test, many_by_test}
+use Rattle.card_set.proofs.FlatMaps.{kept_flat}
+use Rattle.card_set.proofs.Numbers.{few_by_test, many_by_test}
 
 -- nor if fewer than two seats are live
 pub not_reached : (setup : Setup) (placed : List TracedPlace) (moves : List Move) (street : ℕ) (folded : LiveRow) → AreFolded (moves_before street moves) folded

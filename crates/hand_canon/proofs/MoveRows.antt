@@ -4,18 +4,18 @@ use Rattle.std.specs.List.{flat_map, list_any}
 use Rattle.std.proofs.lemmas.List.{reverse-reverse}
 use Rattle.chip_ledger.specs.declared.live_row.LiveRow.{LiveRow}
 use Rattle.chip_ledger.specs.LiveRow.{flag_of}
-use Rattle.list_laws.proofs.Any.{list_any-filter, list_any-map}
-use Rattle.list_laws.proofs.Counting.{count_agree}
+use Rattle.card_set.proofs.Any.{list_any-filter, list_any-map}
+use Rattle.card_set.proofs.Counting.{count_agree}
 use Rattle.play_event.specs.declared.played.Move as rows
 use Rattle.play_event.specs.declared.setup.Setup.{Setup}
 use Rattle.play_event.specs.Past.{Move, moves_before}
 use Rattle.play_event.specs.Played.{move_said}
 use Rattle.play_event.specs.Seats as moved
 use Rattle.play_event.specs.Seats.{is_live, live_count}
-use Rattle.canon_script.specs.CanonScript.{plain_move, plain_moves, moves_named, move_named}
+use Rattle.play_event.specs.CanonScript.{plain_move, plain_moves, moves_named, move_named}
 use Rattle.hand_canon.specs.RowTests.{is_fold_before, is_fold_of, said_on, unfolded_count}
-use Rattle.list_laws.proofs.FlatMaps.{flat_map-map, kept_flat}
-use Rattle.list_laws.proofs.Reversed.{filter-reverse, list_any-reverse}
+use Rattle.card_set.proofs.FlatMaps.{flat_map-map, kept_flat}
+use Rattle.card_set.proofs.Reversed.{filter-reverse, list_any-reverse}
 
 -- the seats whose flag is set are those that are not live
 pub record AreFolded (moves : List Move) (folded : LiveRow) : Type 0 where

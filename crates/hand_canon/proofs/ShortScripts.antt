@@ -10,12 +10,12 @@ use Rattle.play_event.specs.Seats.{all_seats, is_live, live_count}
 use Rattle.play_event.specs.Streets.{has_draw}
 use Rattle.play_event.specs.Games.{street_count}
 use Rattle.play_event.specs.Trace.{TracedPlace, streets_of}
-use Rattle.canon_script.specs.TraceCore.{TraceCore}
-use Rattle.canon_script.specs.CanonScript.{board_said, canonical_script, deal_said, deals_said, dealt_slots, discarded_slots, discards_said, drawing_seats, is_reached, move_named, moves_named, plain_move, plain_moves, showdown_said, showing_said, street_said}
-use Rattle.list_laws.proofs.Lists.{kept_few, maybe_few}
-use Rattle.list_laws.proofs.FlatMaps.{flat_few}
+use Rattle.play_event.specs.TraceCore.{TraceCore}
+use Rattle.play_event.specs.CanonScript.{board_said, canonical_script, deal_said, deals_said, dealt_slots, discarded_slots, discards_said, drawing_seats, is_reached, move_named, moves_named, plain_move, plain_moves, showdown_said, showing_said, street_said}
+use Rattle.card_set.proofs.Lists.{kept_few, maybe_few}
+use Rattle.card_set.proofs.FlatMaps.{flat_few}
 use Rattle.first_fault.specs.Numbers.{kept_number}
-use Rattle.canon_script.proofs.Deals.{one_board, one_deal}
+use Rattle.play_event.proofs.Deals.{one_board, one_deal}
 
 -- what the seats that pass a test say, one event each
 each_few : {X : Type 0} (setup : Setup) (p : ℕ → Bool) (f : ℕ → X) → length (map f (filter p (all_seats setup))) ≤ 10

@@ -8,9 +8,9 @@ use Rattle.play_event.specs.declared.setup.Rules.{Rules}
 use Rattle.play_event.specs.Said.{Said}
 use Rattle.play_event.specs.Trace.{streets_of}
 use Rattle.variant_table.specs.Shares.{Showdown, first_unshown}
-use Rattle.canon_script.specs.TraceCore.{TraceCore, core_after}
-use Rattle.canon_script.specs.CanonScript.{dealt_slots, held_slots}
-pub use Rattle.canon_script.specs.PlayedScript.{IsPlayed, IsWithinLimits, is_move}
+use Rattle.play_event.specs.TraceCore.{TraceCore, core_after}
+use Rattle.play_event.specs.CanonScript.{dealt_slots, held_slots}
+pub use Rattle.play_event.specs.PlayedScript.{IsPlayed, IsWithinLimits, is_move}
 
 -- what is seen at the end of a hand with this trace: the shown seats, the cards that each seat
 -- holds, and the board

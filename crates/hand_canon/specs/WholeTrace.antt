@@ -10,8 +10,8 @@ use Rattle.play_event.specs.Past.{Past}
 use Rattle.play_event.specs.Stakes.{finishing_stack}
 use Rattle.variant_table.specs.Shares.{AllShared}
 use Rattle.hand_records.specs.declared.trace.Trace.{Trace}
-use Rattle.canon_script.specs.TraceCore.{TraceCore, core_of}
-use Rattle.canon_script.specs.CanonScript.{plain_moves}
+use Rattle.play_event.specs.TraceCore.{TraceCore, core_of}
+use Rattle.play_event.specs.CanonScript.{plain_moves}
 use Rattle.hand_records.specs.TraceRows.{core_said}
 use Rattle.hand_canon.specs.LegalHand.{showdown_in}
 

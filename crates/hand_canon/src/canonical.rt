@@ -5,9 +5,9 @@ ghost use Rattle.std.specs.List.{flat_map, range_with_len};
 ghost use Rattle.play_event.specs.Played.{move_said};
 ghost use Rattle.play_event.specs.Said.{kind_said, said_of};
 ghost use Rattle.card_set.specs.Row.{slots_of};
-ghost use Rattle.canon_script.specs.CanonScript.{board_said, canonical_script, deal_said, deals_said, discards_said, move_named, plain_move, plain_moves, showdown_said};
+ghost use Rattle.play_event.specs.CanonScript.{board_said, canonical_script, deal_said, deals_said, discards_said, move_named, plain_move, plain_moves, showdown_said};
 ghost use Rattle.hand_canon.specs.RowTests.{discards_from, said_on, showings_from};
-ghost use Rattle.canon_script.specs.Tidy.{HasTidyCards, IsTidy};
+ghost use Rattle.play_event.specs.Tidy.{HasTidyCards, IsTidy};
 ghost use Rattle.hand_records.specs.TraceRows.{core_said};
 ghost use Rattle.hand_canon.specs.SaidSoFar.{words_of};
 

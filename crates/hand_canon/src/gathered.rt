@@ -3,7 +3,7 @@
 ghost use Rattle.std.specs.Prelude.{◌≡◌, ◌≤◌, ℕ, ◌+◌, ◌++◌, Some, None, length, map};
 ghost use Rattle.card_set.specs.Row.{slots_of};
 ghost use Rattle.play_event.specs.SeatSlots.{slots_of_hand};
-ghost use Rattle.canon_script.specs.CanonScript.{dealt_slots, discarded_slots, held_slots};
+ghost use Rattle.play_event.specs.CanonScript.{dealt_slots, discarded_slots, held_slots};
 ghost use Rattle.hand_canon.specs.RowTests.{slot_for};
 ghost use Rattle.hand_records.specs.TraceRows.{place_said};
 

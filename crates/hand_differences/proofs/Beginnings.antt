@@ -2,8 +2,8 @@
 use Rattle.std.proofs.Common.{◌≡◌, ℕ, ◌≤◌, List, [], ◌∷◌, ◌++◌, drop, length, map, reverse, Some, refl, sym, ap, subst, ◌∙◌, inl, inr}
 use Rattle.std.proofs.lemmas.Bool.{cases_lt}
 use Rattle.std.proofs.lemmas.List.{map-append}
-use Rattle.canon_script.specs.PlayedScript.{IsPlayed}
-use Rattle.canon_script.specs.TraceCore.{TraceCore}
+use Rattle.play_event.specs.PlayedScript.{IsPlayed}
+use Rattle.play_event.specs.TraceCore.{TraceCore}
 use Rattle.hand_canon.specs.Sound.{IsSound}
 use Rattle.hand_canon.specs.WholeTrace.{IsTraceOf}
 use Rattle.hand_records.specs.SoundRecord.{script_said}

@@ -3,9 +3,9 @@ use Rattle.std.proofs.Common.{◌≡◌, ℕ, Bool, true, false, ◌&&◌, ◌==
 use Rattle.std.proofs.lemmas.Bool.{and_parts, and_from, eq-eqb, eqb-true}
 use Rattle.std.proofs.lemmas.Option.{same_Some}
 use Rattle.std.proofs.lemmas.Slice.Eq.{bytes_eq-Decides}
-use Rattle.list_laws.proofs.Bytes.{same_bytes}
-use Rattle.list_laws.proofs.Options.{options_same}
-use Rattle.list_laws.proofs.Tests.{false_true}
+use Rattle.card_set.proofs.Bytes.{same_bytes}
+use Rattle.card_set.proofs.Options.{options_same}
+use Rattle.card_set.proofs.Tests.{false_true}
 use Rattle.card_set.proofs.DeckLaws.{is_same_card-self, is_same_card-true}
 use Rattle.card_set.specs.declared.card.Slot.{Slot}
 use Rattle.card_set.specs.declared.card.Slot.TheVariants as slots

@@ -4,9 +4,9 @@ use Rattle.std.specs.List.{range_with_len}
 use Rattle.std.proofs.lemmas.Bool.{cases_lt, false_from_ne_true, true≢false}
 use Rattle.std.proofs.lemmas.List.{append-nil, take-append-drop, take_all}
 use Rattle.std.proofs.lemmas.Option.{same_Some}
-use Rattle.list_laws.proofs.NumbersOfRange.{found_in_range}
-use Rattle.list_laws.proofs.Options.{some_is_none}
-use Rattle.list_laws.proofs.Tests.{not_not}
+use Rattle.card_set.proofs.NumbersOfRange.{found_in_range}
+use Rattle.card_set.proofs.Options.{some_is_none}
+use Rattle.card_set.proofs.Tests.{not_not}
 use Rattle.hand_differences.proofs.ExactTests.{IsExact, exact_options}
 use Rattle.hand_differences.specs.FirstNumbers.{DifferFirstAt, first_other_number, is_same_at}
 use Rattle.hand_differences.specs.SameParts.{is_same_option}

@@ -1,10 +1,10 @@
 -- Lists without a first number at which they differ are equal.
 use Rattle.std.proofs.Common.{◌≡◌, ℕ, zero, suc, ◌+◌, ◌-◌, ◌<◌, max, Bool, true, false, not, cond, ◌&&◌, List, [], ◌∷◌, length, map, find, slice_get, Option, Some, None, refl, sym, ap, ◌∙◌, arith}
 use Rattle.std.specs.List.{range_with_len}
-use Rattle.list_laws.proofs.Finding.{find_step}
-use Rattle.list_laws.proofs.NumbersOfRange.{find_nothing}
-use Rattle.list_laws.proofs.Options.{some_is_none}
-use Rattle.list_laws.proofs.Tests.{not_not}
+use Rattle.card_set.proofs.Finding.{find_step}
+use Rattle.card_set.proofs.NumbersOfRange.{find_nothing}
+use Rattle.card_set.proofs.Options.{some_is_none}
+use Rattle.card_set.proofs.Tests.{not_not}
 use Rattle.hand_differences.proofs.ExactTests.{IsExact, exact_options}
 use Rattle.hand_differences.specs.FirstNumbers.{first_other_number, is_same_at}
 use Rattle.hand_differences.specs.SameParts.{are_same_entries}

@@ -1,7 +1,7 @@
 -- Which of two things is reported first.
 use Rattle.std.proofs.Common.{◌≡◌, true, false, is_some, option_map, IfNone, Option, Some, None, sym, ap, ◌∙◌}
 use Rattle.std.specs.Option.{option_or}
-use Rattle.list_laws.proofs.Tests.{false_true}
+use Rattle.card_set.proofs.Tests.{false_true}
 
 -- what was found comes before what follows
 pub or_first : {A B : Type 0} (said : A → B) (found : Option A) (first second : Option B) → option_map said found ≡ first → is_some found ≡ true → option_map said found ≡ option_or first second

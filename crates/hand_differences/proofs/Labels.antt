@@ -5,8 +5,8 @@ use Rattle.std.proofs.lemmas.Bool.{cases_lt, ne_eqb}
 use Rattle.std.proofs.lemmas.Fmt.{decimal_digit, decimal_step}
 use Rattle.std.proofs.lemmas.List.{get_or_push, length-append, take_all, take_at, take_more}
 use Rattle.std.proofs.lemmas.Slice.Eq.{bytes_eq-Decides}
-use Rattle.list_laws.proofs.Bytes.{different_bytes, same_bytes}
-use Rattle.list_laws.proofs.Tests.{same_test}
+use Rattle.card_set.proofs.Bytes.{different_bytes, same_bytes}
+use Rattle.card_set.proofs.Tests.{same_test}
 
 -- if lists with one more byte each are the same, so were the lists
 more_same : (front other : List ℕ) (last : ℕ) → front ++ last ∷ [] ≡ other ++ last ∷ [] → front ≡ other

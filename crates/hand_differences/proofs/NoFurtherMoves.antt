@@ -3,11 +3,11 @@
 use Rattle.std.proofs.Common.{◌≡◌, ℕ, ◌+◌, ◌≤◌, false, nat_le, List, [], ◌∷◌, ◌++◌, map, reverse, length, refl, sym, ap, subst, ◌∙◌, arith}
 use Rattle.std.proofs.lemmas.Bool.{both_ways}
 use Rattle.std.proofs.lemmas.List.{length-map, length-reverse, map-append, reverse-append}
-use Rattle.canon_blocks.proofs.StreetMoves.{AreFalling, legal_falling}
+use Rattle.canon_laws.proofs.StreetMoves.{AreFalling, legal_falling}
 use Rattle.canon_laws.proofs.AllStreets.{legal_since}
 use Rattle.play_laws.proofs.PastLawKept.{reached_more}
 use Rattle.canon_laws.proofs.SameCore.{plain_again}
-use Rattle.canon_script.specs.CanonScript.{plain_move, plain_moves}
+use Rattle.play_event.specs.CanonScript.{plain_move, plain_moves}
 use Rattle.play_event.specs.Due.{is_bring_in_due, is_move_due, is_unfinished, turn}
 use Rattle.play_event.specs.Games.{street_count}
 use Rattle.play_event.specs.Laws.{AreLegal}

@@ -6,12 +6,12 @@ use Rattle.std.specs.List.{AllByRecursion, flat_map, list_any, range_with_len}
 use Rattle.std.proofs.lemmas.Bool.{and_from, and_right, both_ways, eq-eqb, false_from_ne_true, ne_eqb}
 use Rattle.std.proofs.lemmas.List.{append-nil, length-append, length-map}
 use Rattle.std.proofs.lemmas.List.Elements.{filter-append}
-use Rattle.canon_blocks.proofs.StreetLists.{IsUnplayed, unplayed}
-use Rattle.canon_blocks.proofs.TraceOrder.{IsOwner, a_seat, finals_from, finals_group, finals_of, is_final, on_street_is, the_board}
-use Rattle.canon_blocks.proofs.TraceOrderCounts.{legal_owned}
-use Rattle.canon_blocks.proofs.TracedSlots.{dealt_same, discarded_same}
+use Rattle.canon_laws.proofs.StreetLists.{IsUnplayed, unplayed}
+use Rattle.canon_laws.proofs.TraceOrder.{IsOwner, a_seat, finals_from, finals_group, finals_of, is_final, on_street_is, the_board}
+use Rattle.canon_laws.proofs.TraceOrderCounts.{legal_owned}
+use Rattle.canon_laws.proofs.TracedSlots.{dealt_same, discarded_same}
 use Rattle.canon_laws.proofs.StreetDiscards.{out_finals}
-use Rattle.canon_script.specs.CanonScript.{dealt_slots, discarded_slots, is_dealt_to, is_discard_of}
+use Rattle.play_event.specs.CanonScript.{dealt_slots, discarded_slots, is_dealt_to, is_discard_of}
 use Rattle.card_set.specs.declared.card.Slot.{Slot}
 use Rattle.play_event.proofs.ClashLaws.{among_append}
 use Rattle.play_event.proofs.OwnerLaws.{is_same_owner-self}

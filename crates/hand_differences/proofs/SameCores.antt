@@ -3,8 +3,8 @@
 use Rattle.std.proofs.Common.{◌≡◌, ℕ, ◌≤◌, ◌<◌, ◌+◌, ◌&&◌, ◌==◌, nat_le, not, List, map, filter, sym, ap, subst, ◌∙◌}
 use Rattle.std.specs.List.{list_any}
 use Rattle.canon_laws.proofs.SameCore.{core_by, core_parts, plain_again}
-use Rattle.canon_script.specs.CanonScript.{plain_moves}
-use Rattle.canon_script.specs.TraceCore.{TraceCore, core_of}
+use Rattle.play_event.specs.CanonScript.{plain_moves}
+use Rattle.play_event.specs.TraceCore.{TraceCore, core_of}
 use Rattle.chip_ledger.specs.LiveRow.{flagged}
 use Rattle.hand_canon.specs.Sound.{IsSound}
 use Rattle.hand_canon.specs.WholeTrace.{IsTraceOf}
@@ -12,7 +12,7 @@ use Rattle.hand_records.specs.SoundRecord.{script_said}
 use Rattle.hand_records.specs.TraceRows.{place_said}
 use Rattle.hand_records.specs.declared.trace.Play.{Play}
 use Rattle.hand_records.specs.declared.trace.Trace.{Trace}
-use Rattle.list_laws.proofs.NumbersOfRange.{filter_range, is_in}
+use Rattle.card_set.proofs.NumbersOfRange.{filter_range, is_in}
 use Rattle.play_event.specs.Past.{Move, Past, moves_of}
 use Rattle.play_event.specs.Played.{move_said}
 use Rattle.play_event.specs.Scripts.{past_at_end}

@@ -2,10 +2,10 @@
 use Rattle.std.proofs.Common.{◌≡◌, ◌↔◌, ℕ, ◌-◌, Bool, true, false, not, cond, ◌==◌, max, List, [], ◌∷◌, length, slice_get, find, Option, Some, None, option_map, option_and_then, bytes_eq, refl, sym, ap, subst, ◌∙◌, arith}
 use Rattle.std.specs.List.{range_with_len}
 use Rattle.std.specs.Option.{option_or}
-use Rattle.list_laws.proofs.Finding.{found_passes}
-use Rattle.list_laws.proofs.NumbersOfRange.{find_nothing}
-use Rattle.list_laws.proofs.Options.{some_is_none}
-use Rattle.list_laws.proofs.Tests.{not_not}
+use Rattle.card_set.proofs.Finding.{found_passes}
+use Rattle.card_set.proofs.NumbersOfRange.{find_nothing}
+use Rattle.card_set.proofs.Options.{some_is_none}
+use Rattle.card_set.proofs.Tests.{not_not}
 use Rattle.chip_ledger.proofs.Same.{live_row_same_by_seats}
 use Rattle.chip_ledger.specs.LiveRow.{flag_of}
 use Rattle.chip_ledger.specs.Seat.{seats_of}

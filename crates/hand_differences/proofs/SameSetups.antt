@@ -1,9 +1,9 @@
 -- Setups that differ in no row are equal.
 use Rattle.std.proofs.Common.{◌≡◌, ℕ, Bool, true, false, not, ◌&&◌, ◌==◌, List, bytes_eq, cond, Option, Some, None, refl, ap}
 use Rattle.std.proofs.lemmas.Bool.{and_parts, and_from, eq-eqb, eqb-true}
-use Rattle.list_laws.proofs.Bytes.{same_bytes}
-use Rattle.list_laws.proofs.Options.{some_is_none}
-use Rattle.list_laws.proofs.Tests.{not_not}
+use Rattle.card_set.proofs.Bytes.{same_bytes}
+use Rattle.card_set.proofs.Options.{some_is_none}
+use Rattle.card_set.proofs.Tests.{not_not}
 use Rattle.chip_ledger.specs.SeatRow.{amounts_in}
 use Rattle.hand_canon.proofs.SameSetups.{amounts_same, rakes_same, setups_same}
 use Rattle.play_event.specs.Code.{code_text}

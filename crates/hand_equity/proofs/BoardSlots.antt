@@ -2,8 +2,8 @@
 use Rattle.std.proofs.Common.{◌≡◌, ◌+◌, ◌≤◌, ℕ, zero, suc, List, ◌++◌, length, None, inl, inr, sym, ◌∙◌, ap, subst, arith, length-append}
 use Rattle.std.proofs.lemmas.Bool.{cases_lt}
 use Rattle.card_set.specs.declared.card.Slot.{Slot}
-use Rattle.canon_script.specs.CanonScript.{dealt_slots}
-use Rattle.list_laws.proofs.NumbersOfRange.{flat_more}
+use Rattle.play_event.specs.CanonScript.{dealt_slots}
+use Rattle.card_set.proofs.NumbersOfRange.{flat_more}
 use Rattle.play_event.specs.Trace.{TracedPlace}
 use Rattle.hand_equity.specs.Street.{board_slots}
 

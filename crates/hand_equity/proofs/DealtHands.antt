@@ -5,12 +5,12 @@ use Rattle.std.specs.List.{range_with_len}
 use Rattle.std.proofs.lemmas.Bool.{and_from, and_left, and_parts, cases_lt, eq-eqb, eqb-true, lt-ltb}
 use Rattle.std.proofs.lemmas.List.{length-map, map-append}
 use Rattle.card_set.specs.declared.card.Slot.{Slot}
-use Rattle.canon_script.specs.CanonScript.{dealt_slots, held_slots}
-use Rattle.canon_blocks.proofs.TraceOrder.{finals_group, finals_of, the_board}
-use Rattle.canon_blocks.proofs.TraceOrderCounts.{legal_owned, seat_same}
-use Rattle.canon_blocks.proofs.TracedSlots.{dealt_same, discarded_same}
+use Rattle.play_event.specs.CanonScript.{dealt_slots, held_slots}
+use Rattle.canon_laws.proofs.TraceOrder.{finals_group, finals_of, the_board}
+use Rattle.canon_laws.proofs.TraceOrderCounts.{legal_owned, seat_same}
+use Rattle.canon_laws.proofs.TracedSlots.{dealt_same, discarded_same}
 use Rattle.canon_laws.proofs.AllStreets.{legal_since, none_first}
-use Rattle.list_laws.proofs.NumbersOfRange.{flat_more}
+use Rattle.card_set.proofs.NumbersOfRange.{flat_more}
 use Rattle.play_event.specs.declared.setup.Rules.{Rules}
 use Rattle.play_event.specs.declared.setup.Setup.{Setup}
 use Rattle.play_event.specs.Games.{board_cards_on, game_of, street_count}
@@ -31,7 +31,7 @@ use Rattle.play_laws.proofs.PlaceGroups.{passed}
 use Rattle.play_laws.proofs.PlaceLists.{rising}
 use Rattle.play_laws.proofs.PlayedStreets.{board_count}
 use Rattle.play_laws.proofs.UnknownOrder.{legal_sorted}
-use Rattle.showdown_laws.proofs.StreetSplits.{by_streets, is_before, none_before, split}
+use Rattle.play_laws.proofs.StreetSplits.{by_streets, is_before, none_before, split}
 use Rattle.hand_equity.specs.Street.{board_slots}
 use Rattle.hand_equity.proofs.BoardSlots.{fewer}
 use Rattle.hand_equity.proofs.FlopGames.{IsFlopGame}

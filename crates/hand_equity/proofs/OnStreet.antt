@@ -9,7 +9,7 @@ use Rattle.card_set.specs.declared.set.CardSet.{CardSet}
 use Rattle.card_set.specs.CardSet.{is_in, is_one_of}
 use Rattle.card_set.specs.Known.{is_unknown, known_cards}
 use Rattle.card_set.specs.Row.{cards_of}
-use Rattle.canon_script.specs.CanonScript.{dealt_slots, held_slots}
+use Rattle.play_event.specs.CanonScript.{dealt_slots, held_slots}
 use Rattle.chip_ledger.specs.declared.live_row.LiveRow.{LiveRow}
 use Rattle.chip_ledger.specs.LiveRow.{flag_of}
 use Rattle.chip_ledger.specs.Seat.{seats_of}
@@ -17,7 +17,7 @@ use Rattle.chip_ledger.proofs.SeatLists.{any_seats}
 use Rattle.hand_canon.specs.RowTests.{is_fold_before}
 use Rattle.hand_records.specs.declared.trace.Trace.{Trace}
 use Rattle.hand_records.specs.TraceRows.{place_said}
-use Rattle.list_laws.proofs.Finding.{find_agree}
+use Rattle.card_set.proofs.Finding.{find_agree}
 use Rattle.play_event.specs.declared.hands.HandRow.{HandRow}
 use Rattle.play_event.specs.declared.played.Move as rows
 use Rattle.play_event.specs.declared.played.Place as places

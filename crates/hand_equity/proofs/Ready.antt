@@ -8,13 +8,13 @@ use Rattle.card_set.specs.Different.{AllDifferent}
 use Rattle.card_set.specs.Known.{is_unknown, known_cards}
 use Rattle.card_set.proofs.KnownCards.{all_known_length}
 use Rattle.canon_laws.proofs.TidyTraces.{tidy_cards}
-use Rattle.canon_script.specs.CanonScript.{dealt_slots, held_slots}
-use Rattle.canon_script.specs.TraceCore.{TraceCore}
+use Rattle.play_event.specs.CanonScript.{dealt_slots, held_slots}
+use Rattle.play_event.specs.TraceCore.{TraceCore}
 use Rattle.chip_ledger.specs.Seat.{IsSeatOf}
 use Rattle.hand_canon.specs.Sound.{IsSound}
 use Rattle.hand_records.specs.SoundRecord.{script_said}
 use Rattle.hand_records.specs.declared.trace.Play.{Play}
-use Rattle.list_laws.proofs.NumbersOfRange.{find_none}
+use Rattle.card_set.proofs.NumbersOfRange.{find_none}
 use Rattle.play_event.specs.declared.setup.Setup.{Setup}
 use Rattle.play_event.specs.Games.{game_of}
 use Rattle.play_event.specs.Laws.{IsAmong}
@@ -30,9 +30,9 @@ use Rattle.play_laws.proofs.DiscardCounts.{is_out_of}
 use Rattle.play_laws.proofs.InDeck.{legal_cards}
 use Rattle.play_laws.proofs.PlaceGroups.{passed}
 use Rattle.play_laws.proofs.PlaceLists.{rising}
-use Rattle.showdown_laws.proofs.ApartCards.{both_different}
-use Rattle.showdown_laws.proofs.DealtOnce.{dealt_once}
-use Rattle.showdown_laws.proofs.StreetSplits.{is_before}
+use Rattle.play_laws.proofs.ApartCards.{both_different}
+use Rattle.play_laws.proofs.DealtOnce.{dealt_once}
+use Rattle.play_laws.proofs.StreetSplits.{is_before}
 use Rattle.hand_equity.specs.Equity.{plays_board}
 use Rattle.hand_equity.specs.LiveHands.{IsLive}
 use Rattle.hand_equity.specs.Street.{IsReady, board_slots, deals_board, first_unknown, is_live_on, is_unknown_seat, standing_on, traced}

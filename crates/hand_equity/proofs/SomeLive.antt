@@ -5,13 +5,13 @@ use Rattle.std.proofs.lemmas.Bool.{leb-false}
 use Rattle.std.proofs.lemmas.List.{length-map}
 use Rattle.card_set.specs.declared.card.Slot.{Slot}
 use Rattle.canon_laws.proofs.SameCore.{plain_again}
-use Rattle.canon_script.specs.CanonScript.{dealt_slots, plain_move, plain_moves}
+use Rattle.play_event.specs.CanonScript.{dealt_slots, plain_move, plain_moves}
 use Rattle.chip_ledger.specs.Seat.{IsSeatOf, seats_of}
 use Rattle.hand_canon.specs.RowTests.{is_fold_before}
-use Rattle.list_laws.proofs.Any.{list_any-filter, list_any-map}
-use Rattle.list_laws.proofs.Counting.{counted_some}
-use Rattle.list_laws.proofs.NumbersOfRange.{some_in_range}
-use Rattle.list_laws.proofs.Reversed.{list_any-reverse}
+use Rattle.card_set.proofs.Any.{list_any-filter, list_any-map}
+use Rattle.card_set.proofs.Counting.{counted_some}
+use Rattle.card_set.proofs.NumbersOfRange.{some_in_range}
+use Rattle.card_set.proofs.Reversed.{list_any-reverse}
 use Rattle.play_event.specs.declared.played.Move as rows
 use Rattle.play_event.specs.declared.setup.Rules.{Rules}
 use Rattle.play_event.specs.declared.setup.Setup.{Setup}

@@ -6,7 +6,7 @@ use Rattle.card_set.specs.declared.card.Slot.{Slot}
 use Rattle.card_set.specs.CardSet.{is_one_of}
 use Rattle.card_set.specs.Known.{is_unknown, known_cards}
 use Rattle.chip_ledger.specs.Seat.{seats_of}
-use Rattle.canon_script.specs.CanonScript.{dealt_slots, held_slots}
+use Rattle.play_event.specs.CanonScript.{dealt_slots, held_slots}
 use Rattle.hand_canon.specs.RowTests.{is_fold_before}
 use Rattle.hand_records.specs.declared.trace.Trace.{Trace}
 use Rattle.hand_records.specs.TraceRows.{place_said}

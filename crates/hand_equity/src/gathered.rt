@@ -4,7 +4,7 @@ ghost use Rattle.std.specs.List.{list_any};
 ghost use Rattle.card_set.specs.Known.{known_cards};
 ghost use Rattle.card_set.specs.Row.{cards_of};
 ghost use Rattle.chip_ledger.specs.LiveRow.{flag_of};
-ghost use Rattle.canon_script.specs.CanonScript.{dealt_slots};
+ghost use Rattle.play_event.specs.CanonScript.{dealt_slots};
 ghost use Rattle.hand_canon.specs.RowTests.{is_fold_before};
 ghost use Rattle.hand_records.specs.TraceRows.{place_said};
 ghost use Rattle.hand_equity.specs.Street.{board_slots};

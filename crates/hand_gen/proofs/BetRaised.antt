@@ -4,7 +4,7 @@ use Rattle.std.proofs.Common.{◌≡◌, ℕ, ◌+◌, ◌-◌, ◌≤◌, ◌<�
 use Rattle.std.specs.List.{list_any}
 use Rattle.std.proofs.lemmas.Bool.{eq-eqb, eqb-true, leb-false}
 use Rattle.chip_ledger.specs.Greatest.{greatest}
-use Rattle.list_laws.proofs.Tests.{false_true, neither}
+use Rattle.card_set.proofs.Tests.{false_true, neither}
 use Rattle.play_event.specs.declared.setup.Setup.{Setup}
 use Rattle.play_event.specs.Chips.{brought, chips_added, street_chips}
 use Rattle.play_event.specs.Due.{has_acted_since_raise}

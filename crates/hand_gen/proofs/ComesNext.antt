@@ -7,8 +7,8 @@ use Rattle.std.proofs.lemmas.Bool.{and_parts, eq-eqb, eqb-true, le-ltb, ltb-true
 use Rattle.card_set.specs.declared.card.Slot.{Slot}
 use Rattle.card_set.specs.declared.card.Slot.TheVariants as slots
 use Rattle.card_set.specs.Known.{is_unknown}
-use Rattle.list_laws.proofs.Any.{none_passes}
-use Rattle.list_laws.proofs.Tests.{false_true}
+use Rattle.card_set.proofs.Any.{none_passes}
+use Rattle.card_set.proofs.Tests.{false_true}
 use Rattle.play_event.specs.declared.event.Spelled.TheVariants as spelled
 use Rattle.play_event.specs.declared.limit.Opener.{Opener}
 use Rattle.play_event.specs.declared.limit.Opener.TheVariants as openers
@@ -43,8 +43,8 @@ use Rattle.play_laws.proofs.DueAtEvents as due_at
 use Rattle.play_laws.proofs.DueAtEvents.{IsDue, unfinished_due}
 use Rattle.play_laws.proofs.FittingPasts.{has_movers, legal_moves}
 use Rattle.play_event.proofs.FloorLaws.{bet_unfinished}
-use Rattle.canon_blocks.proofs.CardEvents.{legal_at}
-use Rattle.canon_ranges.proofs.PlayerToActSeats.{player_to_act_in_hand}
+use Rattle.canon_laws.proofs.CardEvents.{legal_at}
+use Rattle.canon_laws.proofs.PlayerToActSeats.{player_to_act_in_hand}
 use Rattle.hand_gen.specs.Coming.{call_of, ends_of, move_by, raise_of}
 use Rattle.hand_gen.specs.HandSource.{HandSource}
 use Rattle.hand_gen.proofs.CardsOut.{IsStreet}

@@ -5,7 +5,7 @@ use Rattle.std.specs.List.{list_any}
 use Rattle.std.proofs.lemmas.Bool.{eq-eqb}
 use Rattle.card_places.specs.Room.{sum_from}
 use Rattle.card_places.proofs.Sums.{sum_least, sum_more, sum_most}
-use Rattle.list_laws.proofs.Tests.{false_true, or_right}
+use Rattle.card_set.proofs.Tests.{false_true, or_right}
 use Rattle.play_event.specs.declared.setup.Setup.{Setup}
 use Rattle.play_event.specs.Chips.{chips_left}
 use Rattle.play_event.specs.Due.{has_opened_betting}

@@ -7,7 +7,7 @@ use Rattle.card_set.specs.declared.card.Slot.TheVariants as slots
 use Rattle.card_set.specs.Deck.{is_same_card}
 use Rattle.card_set.specs.Known.{known_slots}
 use Rattle.card_set.proofs.DeckLaws.{is_same_card-self}
-use Rattle.list_laws.proofs.Counting.{count_by-cons}
+use Rattle.card_set.proofs.Counting.{count_by-cons}
 use Rattle.play_event.specs.declared.code.Code.{Code}
 use Rattle.play_event.specs.Places.{Place, is_past_deck}
 use Rattle.play_event.specs.Taken.{has_repeat, has_taken_card, slot_is_card, is_in_deck, is_taken}

@@ -8,8 +8,8 @@ use Rattle.card_set.specs.declared.card.Slot.{Slot}
 use Rattle.card_set.specs.declared.card.Slot.TheVariants as slots
 use Rattle.card_set.specs.Deck.{is_same_card}
 use Rattle.card_set.specs.Known.{known_slots}
-use Rattle.canon_script.specs.PlayedScript.{is_move}
-use Rattle.list_laws.proofs.Counting.{count_both, count_by-cons, count_by-joined}
+use Rattle.play_event.specs.PlayedScript.{is_move}
+use Rattle.card_set.proofs.Counting.{count_both, count_by-cons, count_by-joined}
 use Rattle.play_event.specs.declared.reason.Due.{Due}
 use Rattle.play_event.specs.declared.reason.Due.TheVariants as dues
 use Rattle.play_event.specs.declared.setup.Setup.{Setup}
@@ -34,7 +34,7 @@ use Rattle.play_event.proofs.StreetLaws.{few_streets}
 use Rattle.play_laws.proofs.DueAtEvents.{turn_reaches}
 use Rattle.play_laws.proofs.LegalPlaces.{LegalPast, legal_past}
 use Rattle.play_laws.proofs.PastLawKept.{DrawsNext, is_next_to_draw}
-use Rattle.canon_blocks.proofs.CardEvents.{board_legal, board_placed, deal_legal, deal_placed, discard_legal, discard_placed}
+use Rattle.canon_laws.proofs.CardEvents.{board_legal, board_placed, deal_legal, deal_placed, discard_legal, discard_placed}
 use Rattle.hand_gen.specs.Coming.{held_by}
 use Rattle.hand_gen.specs.HandSource.{HandSource, after_cards, draw_of, full_deck, next_cards}
 use Rattle.hand_gen.proofs.CardsOut.{IsFewDealt, IsStreet, all_drawn, board_few, board_fits, cards_out, deal_few, deck_enough, discard_few, discards, move_few, none_dealt, one_drawn, owed_fits}

@@ -12,7 +12,7 @@ use Rattle.hand_gen.specs.Load.{AreCountsOf, IsLoadTo, IsSummaryOf}
 use Rattle.hand_gen.specs.Loaded.{IsWithCounts}
 use Rattle.hand_gen.specs.Made.{AreMadeFrom, IsMade, number_behind, number_behind_all}
 use Rattle.hand_gen.proofs.MadeLaws.{number_more, one_hand_more}
-use Rattle.list_laws.proofs.Entries.{zip_push}
+use Rattle.card_set.proofs.Entries.{zip_push}
 use Rattle.hand_records.specs.Plays.{hands_of}
 
 -- one more summand

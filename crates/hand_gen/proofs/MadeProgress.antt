@@ -3,8 +3,8 @@ use Rattle.std.proofs.Common.{◌+◌, ◌≡◌, ℕ, ◌≤◌, true, ◌&&◌
 use Rattle.std.proofs.lemmas.Bool.{and_parts, le-ltb}
 use Rattle.std.proofs.lemmas.List.{length-map, reverse-reverse}
 use Rattle.canon_laws.proofs.MoveCounts.{move_count}
-use Rattle.canon_script.specs.PlayedScript.{is_move}
-use Rattle.canon_script.specs.TraceCore.{core_of}
+use Rattle.play_event.specs.PlayedScript.{is_move}
+use Rattle.play_event.specs.TraceCore.{core_of}
 use Rattle.card_set.specs.declared.card.Card.{Card}
 use Rattle.card_set.specs.declared.card.Slot.{Slot}
 use Rattle.card_set.specs.declared.card.Slot.TheVariants as slots
@@ -13,12 +13,12 @@ use Rattle.chip_ledger.specs.Pots.{PlainPot}
 use Rattle.chip_ledger.specs.RakeRow.{rake_of}
 use Rattle.chip_ledger.specs.Rakes.{chips_in, first_rake_above}
 use Rattle.hand_canon.specs.LegalHand.{IsLegalHand}
-use Rattle.list_laws.proofs.Counting.{count_both}
-use Rattle.list_laws.proofs.Finding.{none_stronger}
-use Rattle.list_laws.proofs.NumbersOfRange.{find_no}
-use Rattle.list_laws.proofs.Options.{none_from_not}
-use Rattle.list_laws.proofs.Reversed.{count_reversed}
-use Rattle.list_laws.proofs.Tests.{all_four}
+use Rattle.card_set.proofs.Counting.{count_both}
+use Rattle.card_set.proofs.Finding.{none_stronger}
+use Rattle.card_set.proofs.NumbersOfRange.{find_no}
+use Rattle.card_set.proofs.Options.{none_from_not}
+use Rattle.card_set.proofs.Reversed.{count_reversed}
+use Rattle.card_set.proofs.Tests.{all_four}
 use Rattle.play_event.specs.declared.code.Code.{Code}
 use Rattle.play_event.specs.declared.code.Code.TheVariants as games
 use Rattle.play_event.specs.declared.setup.Setup.{Setup}

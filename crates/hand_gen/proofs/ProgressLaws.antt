@@ -5,10 +5,10 @@ use Rattle.std.specs.List.{list_any}
 use Rattle.std.proofs.lemmas.Bool.{and_parts, lt-ltb, ltb-true}
 use Rattle.std.proofs.lemmas.Option.{same_Some}
 use Rattle.card_set.specs.Known.{known_slots}
-use Rattle.list_laws.proofs.Finding.{some_found}
-use Rattle.list_laws.proofs.NumbersOfRange.{found_in_range}
-use Rattle.list_laws.proofs.Options.{some_is_none}
-use Rattle.list_laws.proofs.Tests.{false_true}
+use Rattle.card_set.proofs.Finding.{some_found}
+use Rattle.card_set.proofs.NumbersOfRange.{found_in_range}
+use Rattle.card_set.proofs.Options.{some_is_none}
+use Rattle.card_set.proofs.Tests.{false_true}
 use Rattle.play_event.specs.declared.reason.Due.{Due}
 use Rattle.play_event.specs.declared.reason.Due.TheVariants as dues
 use Rattle.play_event.specs.declared.setup.Setup.{Setup}
@@ -25,8 +25,8 @@ use Rattle.play_event.specs.Seats.{all_seats, is_live}
 use Rattle.play_event.specs.Streets.{has_draw}
 use Rattle.play_event.specs.ValidSetup.{IsValid}
 use Rattle.play_event.proofs.StreetLaws.{due_is_first}
-use Rattle.street_laws.proofs.CardTurns.{deal_by, draw_by, none_dealt_in_draw}
-use Rattle.street_laws.proofs.DueStreets.{deal_street, draw_street}
+use Rattle.play_laws.proofs.CardTurns.{deal_by, draw_by, none_dealt_in_draw}
+use Rattle.play_laws.proofs.DueStreets.{deal_street, draw_street}
 use Rattle.deal_core.specs.NextDeal.{first_owed}
 use Rattle.betting_numbers.specs.TurnSaid.{in_turn_on}
 use Rattle.hand_gen.specs.Coming.{Coming, bring_in_comes, coming, comes_at, deal_comes, deal_of, discard_or, draw_comes, held_by, move_by, move_comes, nothing_comes}

@@ -14,7 +14,7 @@ use Rattle.hand_canon.specs.Sound.{IsSound}
 use Rattle.hand_records.specs.StatedFacts.{IsNothingStated}
 use Rattle.hand_gen.specs.Sound.{IsSoundHand}
 use Rattle.hand_gen.specs.HandSource.{HandSource}
-use Rattle.list_laws.proofs.Options.{for_none, if_none}
+use Rattle.card_set.proofs.Options.{for_none, if_none}
 
 -- if nothing is stated, it fits
 pub nothing_fits : (seats : ℕ) (stated : Stated) → IsNothingStated stated → IsStatedFor seats stated

@@ -12,7 +12,7 @@ use Rattle.play_event.specs.ValidSetup.{IsSizeWhere, IsValid, is_fixed}
 use Rattle.hand_gen.specs.Draws.{number_after}
 use Rattle.hand_gen.specs.Progress.{IsSmall}
 use Rattle.hand_gen.specs.Setups.{IsMadeSetup, blind_in, blind_of, seats_drawn, stack_drawn}
-use Rattle.list_laws.proofs.Tests.{if_most}
+use Rattle.card_set.proofs.Tests.{if_most}
 
 -- each game has at least four seats
 four_seats : (code : Code) → 4 ≤ (game_of code).seats

@@ -7,8 +7,8 @@ use Rattle.std.proofs.lemmas.List.Edits.{length-remove}
 use Rattle.std.proofs.lemmas.Nat.{mod_below}
 use Rattle.card_set.specs.declared.card.Card.{Card}
 use Rattle.card_set.specs.Deck.{card_placed, deck_place, is_same_card}
-use Rattle.list_laws.proofs.Counting.{count_agree, count_by-cons, count_by-map, count_one}
-use Rattle.list_laws.proofs.NumbersOfRange.{all_at}
+use Rattle.card_set.proofs.Counting.{count_agree, count_by-cons, count_by-map, count_one}
+use Rattle.card_set.proofs.NumbersOfRange.{all_at}
 use Rattle.play_event.specs.declared.code.Code.{Code}
 use Rattle.play_event.specs.declared.code.Code.TheVariants as games
 use Rattle.play_event.specs.Streets.{deck_of}

@@ -4,7 +4,7 @@ use Rattle.std.proofs.lemmas.List.{append_assoc, map-append}
 use Rattle.std.proofs.lemmas.List.Elements.{filter-append}
 use Rattle.std.specs.List.{range_with_len}
 use Rattle.card_set.specs.Deck.{card_placed}
-use Rattle.list_laws.proofs.Ranges.{range_more}
+use Rattle.card_set.proofs.Ranges.{range_more}
 use Rattle.play_event.specs.declared.code.Code.{Code}
 use Rattle.play_event.specs.Taken.{is_in_deck}
 use Rattle.card_set.specs.declared.card.Card.{Card}

@@ -11,7 +11,7 @@ use Rattle.play_event.specs.Table.{up_cards}
 use Rattle.play_event.specs.Targets.{greatest_target, least_target}
 use Rattle.play_event.specs.TurnTargets.{AreTargets, has_targets, has_targets_at, is_bet_due, may_raise_now}
 use Rattle.play_event.proofs.TargetLaws.{targets_end}
-use Rattle.list_laws.proofs.Tests.{false_true}
+use Rattle.card_set.proofs.Tests.{false_true}
 use Rattle.betting_numbers.specs.declared.betting_state.BettingState.{BettingState}
 use Rattle.betting_numbers.specs.declared.targeting.Targets.{Targets}
 use Rattle.betting_numbers.specs.LegalMoves.{IsTurn}

@@ -4,10 +4,10 @@ use Rattle.std.proofs.Common.{◌≡◌, ◌<◌, List, [], length, map, Some, N
 use Rattle.std.proofs.lemmas.List.{length-map}
 use Rattle.betting_numbers.specs.LegalMoves.{reason_after}
 use Rattle.betting_numbers.specs.declared.betting_state.BettingState.{BettingState}
-use Rattle.canon_script.specs.PlayedScript.{IsWithinLimits}
+use Rattle.play_event.specs.PlayedScript.{IsWithinLimits}
 use Rattle.card_places.specs.declared.card_state.CardState.{CardState}
 use Rattle.hand_canon.specs.LegalHand.{IsLegalHand}
-use Rattle.list_laws.proofs.Options.{some_is_none}
+use Rattle.card_set.proofs.Options.{some_is_none}
 use Rattle.play_event.specs.declared.event.Event.{Event}
 use Rattle.play_event.specs.declared.reason.Illegal.{Illegal}
 use Rattle.play_event.specs.declared.setup.Rules.{Rules}

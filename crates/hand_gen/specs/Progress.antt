@@ -1,8 +1,8 @@
 -- A made hand makes progress: every next event is legal, the hand ends, and when nothing comes next
 -- it is legal and complete.
 use Rattle.std.specs.Prelude.{◌≡◌, ℕ, ◌+◌, ◌≤◌, ◌<◌, List, length, reverse, None, IfSome}
-use Rattle.canon_script.specs.PlayedScript.{IsWithinLimits}
-use Rattle.canon_script.specs.declared.limits.TheConstants.{MOST_MOVES, MOST_OTHER_EVENTS}
+use Rattle.play_event.specs.PlayedScript.{IsWithinLimits}
+use Rattle.play_event.specs.declared.hand_limits.TheConstants.{MOST_MOVES, MOST_OTHER_EVENTS}
 use Rattle.chip_ledger.specs.RakeRow.{rake_of}
 use Rattle.chip_ledger.specs.SeatRow.{amount_of}
 use Rattle.hand_canon.specs.LegalHand.{IsLegalHand}

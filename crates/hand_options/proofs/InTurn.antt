@@ -3,7 +3,7 @@ use Rattle.std.proofs.Common.{◌≡◌, ℕ, ◌-◌, ◌≤◌, min, Bool, tru
 use Rattle.std.specs.Prelude.{option_and_then}
 use Rattle.std.specs.Option.{option_map_or}
 use Rattle.std.proofs.lemmas.Bool.{eq-eqb}
-use Rattle.list_laws.proofs.Tests.{false_true}
+use Rattle.card_set.proofs.Tests.{false_true}
 use Rattle.chip_ledger.specs.declared.numbers.Seat.{Seat}
 use Rattle.chip_ledger.specs.SeatRow.{amount_of}
 use Rattle.play_event.specs.declared.limit.Limit.{Limit}
@@ -23,7 +23,7 @@ use Rattle.play_event.specs.Said.{BringIn, Call, Fold}
 use Rattle.play_event.specs.Streets.{limit_of}
 use Rattle.play_event.specs.Targets.{is_legal_target}
 use Rattle.play_event.specs.TurnTargets.{has_targets, is_bet_due}
-use Rattle.street_laws.specs.Dues.{is_move}
+use Rattle.play_laws.specs.Dues.{is_move}
 use Rattle.betting_numbers.specs.declared.betting_state.BettingState.{BettingState}
 use Rattle.betting_numbers.specs.declared.targeting.Targets.{Targets}
 use Rattle.betting_numbers.specs.LegalMoves.{IsTurn}

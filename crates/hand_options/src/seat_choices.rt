@@ -5,7 +5,7 @@ ghost use Rattle.hand_options.specs.Legal.{AreOptions};
 ghost use Rattle.hand_options.specs.Sets.{no_options as no_options_said};
 ghost use Rattle.play_event.specs.Openers.{TheSeat};
 ghost use Rattle.play_event.specs.TurnTargets.{is_bet_due};
-ghost use Rattle.street_laws.specs.Dues.{is_move as is_move_said};
+ghost use Rattle.play_laws.specs.Dues.{is_move as is_move_said};
 
 use crate::choices::{Options, RaiseSet};
 use crate::targets::raise_set;

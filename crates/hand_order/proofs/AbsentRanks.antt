@@ -5,7 +5,7 @@ use Rattle.std.specs.Int.{bit_at, trailing_zeros}
 use Rattle.std.proofs.lemmas.Bool.{cases_lt, ne_eqb}
 use Rattle.std.proofs.lemmas.Nat.Bits.{bit_at-trailing_zeros, bit_at-zero}
 use Rattle.hand_order.specs.Lowest.{has_height}
-use Rattle.list_laws.proofs.Bits.{moved}
+use Rattle.card_set.proofs.Bits.{moved}
 
 -- the bits below the lowest are not set
 below_lowest : (n k : ℕ) → n < 2 ^ 16 → k < trailing_zeros w16 n → bit_at n k ≡ 0

@@ -11,7 +11,7 @@ use Rattle.card_set.specs.Different.{Every, AllDifferent}
 use Rattle.card_set.specs.Ranks.{is_one_suit, ranks_occurring, ranks_of}
 use Rattle.card_set.proofs.Listing.{occurring-same, ranks_of-same}
 use Rattle.hand_order.proofs.SameChoices.{every_one_of, one_of_every}
-use Rattle.list_laws.proofs.Tests.{same_test}
+use Rattle.card_set.proofs.Tests.{same_test}
 
 -- what passes a test
 abbrev pub Passes : (Card → Bool) → Card → Type 0

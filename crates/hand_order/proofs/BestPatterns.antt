@@ -16,9 +16,9 @@ use Rattle.hand_order.proofs.OwnRanks.{InRange-high_ace}
 use Rattle.hand_order.proofs.PlainHands.{pattern_cases, four_and_one, three_and_two, three_alone, two_and_two, two_alone, ones_alone}
 use Rattle.hand_order.proofs.ShownRanks.{top_shown, tops_picked}
 use Rattle.hand_order.specs.Patterns.{without, Fits, IsPicked, OfRanks, AreSome, pattern, IsPattern, IsBestNumber, IsBestPattern, AreCounts}
-use Rattle.list_laws.proofs.Numbers.{positive}
-use Rattle.list_laws.proofs.Sums.{once_sum, some_sum}
-use Rattle.list_laws.proofs.Tests.{passes_or_not}
+use Rattle.card_set.proofs.Numbers.{positive}
+use Rattle.card_set.proofs.Sums.{once_sum, some_sum}
+use Rattle.card_set.proofs.Tests.{passes_or_not}
 
 -- a mask without any bit shows nothing
 pub nothing_shown : (mask n h : ℕ) (T : ℕ → ℕ) → Shows mask n T → mask ≡ 0 → n ≤ T h → ⊥

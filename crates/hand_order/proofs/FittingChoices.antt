@@ -11,9 +11,9 @@ use Rattle.hand_order.specs.Choices.{choices, IsAmong}
 use Rattle.hand_order.proofs.Fits.{needs, fits_needs, needs_fit, fits-within}
 use Rattle.hand_order.proofs.Wanted.{wanted_chosen}
 use Rattle.hand_order.specs.Patterns.{without, Fits, IsOfRank, OfRanks, total, AreSome, among_numbers}
-use Rattle.list_laws.proofs.Counting.{count-le-sum}
-use Rattle.list_laws.proofs.Sums.{sum_by-at, sum_by-none, sum_by-plus, sum_by-same}
-use Rattle.list_laws.proofs.Tests.{passes_or_not}
+use Rattle.card_set.proofs.Counting.{count-le-sum}
+use Rattle.card_set.proofs.Sums.{sum_by-at, sum_by-none, sum_by-plus, sum_by-same}
+use Rattle.card_set.proofs.Tests.{passes_or_not}
 
 pub times_of_ranks : (height : Rank → ℕ) (cards : List Card) → OfRanks height (times height cards)
 times_of_ranks height [] h some = absurd (omega (arith, times-none height h))

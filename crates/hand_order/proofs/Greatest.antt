@@ -8,7 +8,7 @@ use Rattle.std.proofs.lemmas.Bool.{cases_lt}
 use Rattle.card_set.specs.declared.card.Card.{Card}
 use Rattle.hand_order.specs.Choices.{IsAmong}
 use Rattle.hand_order.specs.Points.{better, greatest}
-use Rattle.list_laws.proofs.Numbers.{max_assoc}
+use Rattle.card_set.proofs.Numbers.{max_assoc}
 
 -- the better of three is found in any order
 better_assoc : (a b c : Option ℕ) → better (better a b) c ≡ better a (better b c)

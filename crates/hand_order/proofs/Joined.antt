@@ -15,7 +15,7 @@ use Rattle.hand_order.specs.Choices.{choices}
 use Rattle.card_set.specs.Row.{cards_of}
 use Rattle.card_set.specs.declared.row.CardRow.{CardRow}
 use Rattle.hand_order.proofs.Held.{different_both}
-use Rattle.list_laws.proofs.Tests.{or_false, or_right, passes_or_not, true_false}
+use Rattle.card_set.proofs.Tests.{or_false, or_right, passes_or_not, true_false}
 
 -- a set takes one more card
 pub record TakesCard (before after : CardSet) (card : Card) : Type 0 where

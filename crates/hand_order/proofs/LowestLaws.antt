@@ -5,7 +5,7 @@ use Rattle.hand_order.specs.Digits.{with_digits, AreDigits}
 use Rattle.hand_order.specs.Lowest.{lowest}
 use Rattle.hand_order.proofs.Digits.{with_digits-append, with_digits-cons, with_digits-nil}
 use Rattle.hand_order.proofs.FallingRanks.{FallingFrom}
-use Rattle.list_laws.proofs.Numbers.{one_less}
+use Rattle.card_set.proofs.Numbers.{one_less}
 
 -- each height passes the test, and is not below another
 abbrev pub Pass : (ℕ → Bool) → ℕ → List ℕ → Type 0

@@ -21,7 +21,7 @@ use Rattle.hand_order.proofs.FittingChoices.{times_of_ranks}
 use Rattle.hand_order.specs.Tops.{Shows}
 use Rattle.hand_order.proofs.OwnRanks.{InRange-high_ace}
 use Rattle.hand_order.proofs.SuitedHands.{of_suit}
-use Rattle.list_laws.proofs.Tests.{passes_or_not}
+use Rattle.card_set.proofs.Tests.{passes_or_not}
 
 -- the height of a rank is two more than the ranks below it
 pub height_below : (rank : Rank) → high_ace rank ≡ ranks_below rank + 2

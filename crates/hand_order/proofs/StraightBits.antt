@@ -12,8 +12,8 @@ use Rattle.hand_order.specs.Straights.{is_run, is_low_straight, straight_top}
 use Rattle.hand_order.specs.Tops.{Shows}
 use Rattle.hand_order.proofs.FallingRanks.{FallingFrom, fits_below}
 use Rattle.hand_order.proofs.OwnRanks.{several}
-use Rattle.list_laws.proofs.Bits.{moved}
-use Rattle.list_laws.proofs.Tests.{all_five, all_four, five_all}
+use Rattle.card_set.proofs.Bits.{moved}
+use Rattle.card_set.proofs.Tests.{all_five, all_four, five_all}
 
 without-le : (T : ℕ → ℕ) (h k : ℕ) → without T h k ≤ T k
 without-le T h k = by_test (h == k)

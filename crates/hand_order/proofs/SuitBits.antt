@@ -23,7 +23,7 @@ use Rattle.hand_order.proofs.OwnRanks.{several}
 use Rattle.hand_order.proofs.PlainHands.{ones_alone}
 use Rattle.hand_order.proofs.ShownRanks.{different_heights, different_without, lowered_shows, top_shown, tops_picked}
 use Rattle.hand_order.proofs.StraightBits.{has_list}
-use Rattle.list_laws.proofs.Bits.{top_set}
+use Rattle.card_set.proofs.Bits.{top_set}
 
 -- the highest bits are at most as many as the different heights
 tops_few : (T : ℕ → ℕ) (n mask : ℕ) → OfRanks high_ace T → Shows mask 1 T → length (tops n mask) ≤ different_heights T

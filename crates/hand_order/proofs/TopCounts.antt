@@ -5,7 +5,7 @@ use Rattle.std.proofs.Math.Dec.{eqb-suc-suc, eqb-suc-zero, eqb-zero-suc}
 use Rattle.std.proofs.lemmas.Bool.{cases_lt, ne_eqb}
 use Rattle.std.proofs.lemmas.Nat.{and_le_l}
 use Rattle.hand_order.specs.Tops.{highest, lowered, tops}
-use Rattle.list_laws.proofs.Bits.{cleared, first_sum, first_sum-agree, no_ones, ones_sum, top_set}
+use Rattle.card_set.proofs.Bits.{cleared, first_sum, first_sum-agree, no_ones, ones_sum, top_set}
 
 -- a sum without one of its values
 first_sum_without : (f : ℕ → ℕ) (j p : ℕ) → p < j → first_sum f j ≡ f p + first_sum (λ k. cond (p == k) 0 (f k)) j

@@ -5,7 +5,7 @@ use Rattle.std.proofs.lemmas.Bool.{ne_eqb}
 use Rattle.hand_order.specs.Digits.{with_digits}
 use Rattle.hand_order.specs.Tops.{highest, lowered, tops}
 use Rattle.hand_order.proofs.Digits.{with_digits-cons, with_digits-more, with_digits-nil}
-use Rattle.list_laws.proofs.Numbers.{one_less}
+use Rattle.card_set.proofs.Numbers.{one_less}
 
 -- nothing more is written
 pub digits_none : (number mask need : ℕ) → need ≡ 0 → number ≡ with_digits number (tops need mask)

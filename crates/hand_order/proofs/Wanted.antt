@@ -9,7 +9,7 @@ use Rattle.card_set.proofs.Counted.{IsHeight, times-none, times-cons}
 use Rattle.hand_order.specs.Choices.{choices, IsAmong}
 use Rattle.hand_order.proofs.SameChoices.{none_chosen, with_first, without_first}
 use Rattle.hand_order.specs.Patterns.{Within}
-use Rattle.list_laws.proofs.Sums.{sum_by-zero}
+use Rattle.card_set.proofs.Sums.{sum_by-zero}
 
 -- a choice of this number of cards that has exactly the wanted heights
 pub record IsWanted (height : Rank → ℕ) (wanted : ℕ → ℕ) (n : ℕ) (cards : List Card) : Type 0 where

@@ -8,9 +8,9 @@ use Rattle.std.proofs.lemmas.Slice.Eq.{bytes_eq-Decides}
 use Rattle.chip_ledger.specs.Seat.{seats_of}
 use Rattle.hand_records.specs.AllowedNotes.{non_default_seats}
 use Rattle.hand_records.specs.declared.notes.Clock.{Clock}
-use Rattle.list_laws.proofs.Bytes.{different_bytes}
-use Rattle.list_laws.proofs.NumbersOfRange.{map_agree}
-use Rattle.list_laws.proofs.Tests.{neither}
+use Rattle.card_set.proofs.Bytes.{different_bytes}
+use Rattle.card_set.proofs.NumbersOfRange.{map_agree}
+use Rattle.card_set.proofs.Tests.{neither}
 use Rattle.hand_records.specs.SaidNotes.{SaidNotes, kept_label, name_said, numbers_said}
 
 -- ---- notes of their parts

@@ -5,7 +5,7 @@ use Rattle.std.specs.Option.{ForSome}
 use Rattle.chip_ledger.specs.declared.seat_row.TheConstants.{MOST_AMOUNT}
 use Rattle.play_event.specs.Said.{Said, said_of}
 use Rattle.play_event.specs.ValidSetup.{IsValid}
-use Rattle.canon_script.specs.PlayedScript.{IsWithinLimits}
+use Rattle.play_event.specs.PlayedScript.{IsWithinLimits}
 use Rattle.hand_records.specs.declared.record.Record.{Record}
 use Rattle.hand_records.specs.declared.record.Stated.{Stated}
 use Rattle.hand_records.specs.AllowedNotes.{AreAllowed}

@@ -8,7 +8,7 @@ use Rattle.play_event.specs.Played.{move_said}
 use Rattle.play_event.specs.Seats.{all_seats}
 use Rattle.play_event.specs.Trace.{TracedPlace}
 use Rattle.hand_records.specs.declared.trace.Trace.{Trace}
-use Rattle.canon_script.specs.TraceCore.{TraceCore}
+use Rattle.play_event.specs.TraceCore.{TraceCore}
 
 -- what a trace says of a dealt card
 abbrev pub place_said : Place → TracedPlace

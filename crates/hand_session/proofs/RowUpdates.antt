@@ -6,15 +6,15 @@ use Rattle.std.proofs.lemmas.Bool.{or_parts, true≢false}
 use Rattle.std.proofs.lemmas.List.{append-nil}
 use Rattle.std.proofs.lemmas.List.Concat.{flat_map-append}
 use Rattle.std.proofs.lemmas.List.Sums.{fold-append}
-use Rattle.list_laws.proofs.Bytes.{same_bytes}
-use Rattle.name_index.specs.Names.{with_name}
-use Rattle.name_index.proofs.Placed.{with_known, with_new}
+use Rattle.card_set.proofs.Bytes.{same_bytes}
+use Rattle.report_layout.specs.Names.{with_name}
+use Rattle.report_layout.proofs.Placed.{with_known, with_new}
 use Rattle.hand_session.specs.declared.session_rows.SessionRow.{SessionRow}
 use Rattle.hand_session.specs.declared.visits.Visit.{Visit}
 use Rattle.hand_session.specs.Hands.{Hand, Seated}
 use Rattle.hand_session.specs.Sessions.{is_named, names_among}
 use Rattle.hand_session.specs.Visits.{row_at, row_names, rows_after_seat, steps_of_names, steps_of_seat, visit_in, visit_steps, with_names, with_row, with_visit}
-use Rattle.name_index.proofs.Distinct.{AreDistinct, bytes_flip}
+use Rattle.report_layout.proofs.Distinct.{AreDistinct, bytes_flip}
 use Rattle.hand_session.proofs.SeatNames.{any_names, names_more}
 use Rattle.hand_session.proofs.RowPlaces.{names_after}
 

@@ -1,7 +1,7 @@
 -- What a ledger of rows and steps needs before one more hand, and what it has after it.
 use Rattle.std.specs.Prelude.{◌≡◌, ◌≤◌, ◌++◌, ℕ, List}
 use Rattle.first_fault.specs.declared.limits.TheConstants.{MOST_HANDS}
-use Rattle.name_index.specs.Indexed.{AreIndexed}
+use Rattle.report_layout.specs.Indexed.{AreIndexed}
 use Rattle.hand_session.specs.declared.ledger.Ledger.{Ledger}
 use Rattle.hand_session.specs.declared.session_rows.SessionRow.{SessionRow}
 use Rattle.hand_session.specs.declared.steps.Step.{Step}

@@ -2,7 +2,7 @@
 ghost use Rattle.std.specs.Prelude.{◌≡◌, ◌-◌, ◌+◌, ℕ, List, false, [], bytes_eq, map, Some, IfOk, OnOk};
 ghost use Rattle.std.specs.List.{list_any, position_from};
 ghost use Rattle.chip_ledger.specs.Seat.{seats_of};
-ghost use Rattle.name_index.specs.Indexed.{AreIndexed};
+ghost use Rattle.report_layout.specs.Indexed.{AreIndexed};
 ghost use Rattle.hand_session.specs.Hands.{hand_of, seated_in};
 ghost use Rattle.hand_session.specs.Ledgers.{HasGrown, TakesHand};
 ghost use Rattle.hand_session.specs.Sessions.{is_named, names_among};
@@ -15,7 +15,7 @@ use crate::visits::{Visit, visit_of};
 use card_set::Memory;
 use chip_ledger::Seat;
 use hand_records::{Play, name_of};
-use name_index::NameIndex;
+use report_layout::NameIndex;
 use std::alloc::Global;
 
 /// The rows of names in the order in which they are first seen, an index of these names, and the

@@ -2,8 +2,8 @@
 use crate::facts::{difference_text, fits, stated_of};
 use crate::hands::{hand_of, is_short};
 use crate::traces::{fault_text, script_text, trace_text};
+use crate::words::first_and_rest;
 use hand_canon::{canon, check_stated};
-use hand_rows::first_and_rest;
 use replay_core::replay;
 use std::alloc::{AllocError, Global};
 use variant_table::is_valid;

@@ -4,12 +4,14 @@
 ghost use Rattle.std.specs.Prelude.{◌≡◌, false};
 ghost use Rattle.play_event.specs.Said.{kind_said};
 ghost use Rattle.play_event.specs.ValidSetup.{IsValid};
-ghost use Rattle.street_laws.specs.CardEvents.{is_card_said};
+ghost use Rattle.play_laws.specs.CardEvents.{is_card_said};
 
+use crate::event_words::move_of;
+use crate::setup_words::setup_of;
+use crate::words::{first_and_rest, seat_of};
 use betting_core::{Betting, Moved};
 use card_set::read_slots;
 use chip_ledger::Seat;
-use hand_rows::{first_and_rest, move_of, seat_of, setup_of};
 use play_event::{Code, Due, Event, Illegal, Kind, Rules, Setup, UpRow};
 use std::alloc::{AllocError, Global};
 use variant_table::{F2L3D, F7S, F7S8, FB, FO8, FR, FT, N2L1D, NS, NT, PO, Variant, is_valid};

@@ -5,14 +5,14 @@
 ghost use Rattle.std.specs.Prelude.{◌≡◌, ◌≤◌, true, IsTrue};
 ghost use Rattle.card_places.specs.CardEvents.{is_deal, is_discard};
 ghost use Rattle.play_event.specs.Said.{kind_said};
-ghost use Rattle.street_laws.specs.CardEvents.{is_showing};
-ghost use Rattle.street_laws.specs.Dues.{IsDueWithin};
+ghost use Rattle.play_laws.specs.CardEvents.{is_showing};
+ghost use Rattle.play_laws.specs.Dues.{IsDueWithin};
 
 use crate::traces::seats_text;
+use crate::words::{first_and_rest, seat_of};
 use card_set::{CardRow, Slot, SlotRow, read_slots, slot_text};
 use chip_ledger::{LiveRow, Seat};
 use deal_core::Cards;
-use hand_rows::{first_and_rest, seat_of};
 use play_event::{Code, Due, Event, Illegal, Kind};
 use std::alloc::{AllocError, Global};
 use variant_table::{F2L3D, F7S, F7S8, FB, FO8, FR, FT, N2L1D, NS, NT, PO, Variant};

@@ -4,10 +4,10 @@ ghost use Rattle.std.specs.Option.{ForSome};
 ghost use Rattle.chip_ledger.specs.declared.seat_row.TheConstants.{MOST_AMOUNT};
 ghost use Rattle.hand_records.specs.SoundRecord.{IsStatedFor};
 
+use crate::words::row_of;
 use chip_ledger::{MOST_AMOUNT, Seat, SeatRow};
 use hand_canon::{FactDiffers, Which};
 use hand_records::{NetRow, Stated};
-use hand_rows::row_of;
 use std::alloc::{AllocError, Global};
 
 /// The facts that the words state.

@@ -1,10 +1,11 @@
 //! The hand of a row: its setup and rules, and after a colon its events, each numbered as an
 //! action.
 ghost use Rattle.std.specs.Prelude.{◌≤◌, IsTrue};
-ghost use Rattle.canon_script.specs.PlayedScript.{IsWithinLimits};
+ghost use Rattle.play_event.specs.PlayedScript.{IsWithinLimits};
 ghost use Rattle.replay_core.specs.Events.{said_by};
 
-use hand_rows::{kind_of, setup_of};
+use crate::event_words::kind_of;
+use crate::setup_words::setup_of;
 use play_event::{Event, Rules, Script, Setup};
 use std::alloc::{AllocError, Global};
 

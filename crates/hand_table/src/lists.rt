@@ -1,8 +1,10 @@
 //! What a list or a text holds after one item is put into it.
+use crate::card_words::slots_text;
+use crate::event_words::{event_text, kind_of};
+use crate::setup_words::setup_of;
 use chip_ledger::Seat;
 use first_fault::Text;
 use hand_records::{Moves, Notes, Places, Record, Records, Stated};
-use hand_rows::{event_text, kind_of, setup_of, slots_text};
 use play_event::{Act, Event, Kind, Move, Place, Rules, Script, Setup};
 use std::alloc::{AllocError, Global};
 

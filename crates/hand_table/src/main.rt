@@ -4,13 +4,17 @@
 
 mod answers;
 mod betting;
+mod card_words;
 mod cards;
+mod event_words;
 mod facts;
 mod hands;
 mod lists;
+mod setup_words;
 mod traces;
+mod words;
 
-use hand_rows::first_and_rest;
+use crate::words::first_and_rest;
 use std::alloc::{AllocError, Global};
 use std::io;
 

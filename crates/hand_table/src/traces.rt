@@ -1,7 +1,8 @@
 //! Traces, scripts and faults as text.
+use crate::event_words::event_text;
+use crate::words::row_text;
 use chip_ledger::{LiveRow, Seat};
 use hand_records::Trace;
-use hand_rows::{event_text, row_text};
 use play_event::{Illegal, Script};
 use replay_core::ReplayFault;
 use std::alloc::{AllocError, Global};

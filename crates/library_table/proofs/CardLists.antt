@@ -7,7 +7,7 @@ use Rattle.card_set.specs.Deck.{is_same_card}
 use Rattle.card_set.specs.Different.{Lacks, AllDifferent}
 use Rattle.card_set.proofs.DeckLaws.{is_same_card-self, is_same_card-true}
 use Rattle.card_set.proofs.SetLaws.{is_one_of-more}
-use Rattle.list_laws.proofs.Tests.{passes_or_not, true_false}
+use Rattle.card_set.proofs.Tests.{passes_or_not, true_false}
 
 lacks_more : (other card : Card) (cards : List Card) → Lacks other cards → other ≢ card → Lacks other (cards ++ card ∷ [])
 lacks_more other card [] lacks apart = (apart, tt)

@@ -5,7 +5,7 @@ use Rattle.std.proofs.lemmas.Nat.{and_le_l}
 use Rattle.std.proofs.lemmas.Nat.Bits.{bit_at_and, bit_at-lt}
 use Rattle.hand_order.specs.Lowest.{has_height, lowest}
 use Rattle.hand_order.proofs.LowestLaws.{lowest_some}
-use Rattle.list_laws.proofs.Bits.{bit_counts, first_sum, first_sum-agree, ones_sum}
+use Rattle.card_set.proofs.Bits.{bit_counts, first_sum, first_sum-agree, ones_sum}
 
 -- one for a height that passes
 abbrev pub passing : (ℕ → Bool) → ℕ → ℕ

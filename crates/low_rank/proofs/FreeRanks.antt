@@ -8,7 +8,7 @@ use Rattle.hand_order.specs.Lowest.{lowest}
 use Rattle.hand_order.proofs.Digits.{AreDigits, same_before}
 use Rattle.hand_order.proofs.FallingRanks.{FallingFrom}
 use Rattle.hand_order.proofs.LowestLaws.{IsLeast, Pass, digits_within, few_lowest, lowest_least, lowest_passes, lowest_some}
-use Rattle.list_laws.proofs.Tests.{and_false, and_true}
+use Rattle.card_set.proofs.Tests.{and_false, and_true}
 use Rattle.low_rank.specs.RazzBest.{both_ranks, class_ranks, first_ranks, is_free, is_height_of, lowest_ranks, often, often_ranks, seldom, seldom_ranks}
 use Rattle.hand_order.proofs.RankDigits.{AreDigits-append}
 

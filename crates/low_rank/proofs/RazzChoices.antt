@@ -27,8 +27,8 @@ use Rattle.hand_order.proofs.PlainHands.{choice_within}
 use Rattle.hand_order.proofs.SameChoices.{none_chosen, with_first}
 use Rattle.hand_order.proofs.Shapes.{by_counts}
 use Rattle.hand_order.proofs.Wanted.{wanted_chosen}
-use Rattle.list_laws.proofs.Sums.{sum_by-plus, sum_by-same, sum_by-cond}
-use Rattle.list_laws.proofs.Tests.{passes_or_not}
+use Rattle.card_set.proofs.Sums.{sum_by-plus, sum_by-same, sum_by-cond}
+use Rattle.card_set.proofs.Tests.{passes_or_not}
 use Rattle.low_rank.specs.Low.{low_points, low_table}
 use Rattle.low_rank.specs.Razz.{points}
 use Rattle.low_rank.specs.RazzBest.{HasClass, class_ranks, first_ranks, is_free, is_height_of, lowest_ranks, often, often_ranks, seldom, seldom_ranks}

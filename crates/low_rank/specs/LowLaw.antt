@@ -24,7 +24,7 @@ use Rattle.low_rank.specs.Low.{low_points, low_table}
 use Rattle.low_rank.specs.Razz as razz
 use Rattle.low_rank.specs.EightLow as eight
 use Rattle.low_rank.specs.DeuceSeven as deuce
-use Rattle.list_laws.proofs.Options.{some_where}
+use Rattle.card_set.proofs.Options.{some_where}
 
 -- in each class, the number of cards minus the number of ranks that decide
 abbrev pub low_missing : List ℕ

@@ -7,8 +7,8 @@ use Rattle.std.proofs.lemmas.Bool.Decides.{nat_tests}
 use Rattle.std.proofs.lemmas.List.{length-take-le}
 use Rattle.hand_records.specs.AllowedNotes.{AreSeatNumbers, IsWithin}
 use Rattle.ohh_writing.specs.Seating.{fall, falls, first_or, has_no_repeat, is_circular, number_among}
-use Rattle.list_laws.proofs.Any.{not_among}
-use Rattle.list_laws.proofs.Entries.{any_default, past_default, zero_taken_at}
+use Rattle.card_set.proofs.Any.{not_among}
+use Rattle.card_set.proofs.Entries.{any_default, past_default, zero_taken_at}
 
 -- the numbers of this many seats go round: they differ, and rise except after one seat
 pub record IsCircle (count : ℕ) (number : ℕ → ℕ) : Type 0 where

@@ -10,15 +10,15 @@ use Rattle.play_event.specs.Chips.{blind_posted, chips_left, posted}
 use Rattle.play_event.specs.Past.{Act, BroughtIn, Called, Folded, Move, Raised}
 use Rattle.play_event.specs.Seats.{all_seats}
 use Rattle.play_event.specs.Trace.{TracedMove, TracedPlace}
-use Rattle.canon_script.specs.CanonScript.{dealt_slots, held_slots, plain_move}
+use Rattle.play_event.specs.CanonScript.{dealt_slots, held_slots, plain_move}
 use Rattle.hand_records.specs.TraceRows.{core_said}
 use Rattle.hand_records.specs.declared.trace.Trace.{Trace}
 use Rattle.ohh_members.specs.declared.dialect.Dialect.{Dialect}
 use Rattle.ohh_members.specs.declared.words.Word.{Word}
 use Rattle.ohh_members.specs.declared.words.Word.TheVariants as words
 use Rattle.ohh_writing.specs.Actions.{PlainAction, act_written, alone, ante_post, big_blind_seat, blind_post, call_written, deal_written, deals, has_known, move_written, moves_written, posts, raise_amount, raise_written, showing, showings, small_blind_seat, straddle_post, with_cards, with_chips}
-use Rattle.ohh_posts.specs.declared.post.PostKind.{PostKind}
-use Rattle.ohh_posts.specs.declared.post.PostKind.TheVariants as kinds
+use Rattle.ohh_rounds.specs.declared.post.PostKind.{PostKind}
+use Rattle.ohh_rounds.specs.declared.post.PostKind.TheVariants as kinds
 
 -- what is done
 pub data ActionEffect : Type 0 where

@@ -10,13 +10,13 @@ use Rattle.std.proofs.lemmas.List.Folds.{find-append, list_any-append}
 use Rattle.card_set.specs.Known.{known_cards}
 use Rattle.card_set.specs.declared.card.Slot.{Slot}
 use Rattle.card_set.specs.declared.card.Slot.TheVariants as slots
-use Rattle.canon_script.specs.CanonScript.{deal_said}
+use Rattle.play_event.specs.CanonScript.{deal_said}
 use Rattle.play_event.specs.declared.event.Spelled.TheVariants as spelled
 use Rattle.play_event.specs.Said as said
 use Rattle.play_event.specs.Said.{Numbered, Said}
 use Rattle.ohh_members.specs.declared.dialect.Dialect.{Dialect}
 use Rattle.ohh_writing.specs.Actions.{has_known}
-use Rattle.ohh_posts.specs.Posts.{PlainPost}
+use Rattle.ohh_rounds.specs.Posts.{PlainPost}
 use Rattle.ohh_rounds.specs.Actions.{raise_by}
 use Rattle.ohh_rounds.specs.Play.{event_in, events_in, hole_cards, hole_deal, post_in, posts_in}
 use Rattle.ohh_rounds.specs.Steps.{PlainStep, dealt_in, dealt_to, has_folded, is_deal_to, is_fold_of}

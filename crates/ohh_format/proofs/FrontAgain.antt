@@ -23,14 +23,14 @@ use Rattle.ohh_writing.specs.Actions.{big_blind_seat, small_blind_seat}
 use Rattle.ohh_writing.specs.Games.{is_spelled_game}
 use Rattle.ohh_writing.specs.Spelled.{big_blind, greatest_ante, has_no_ante, has_spelled_antes, has_spelled_blinds, has_spelled_sizes, has_spelled_straddles, has_two_blinds, is_covered_straddle, is_whole_ante}
 use Rattle.ohh_writing.specs.Tree.{whole}
-use Rattle.ohh_posts.specs.NamedBlinds.{PlainNamedBlinds}
-use Rattle.ohh_posts.proofs.Stacks.{seats_in}
+use Rattle.ohh_rounds.specs.NamedBlinds.{PlainNamedBlinds}
+use Rattle.ohh_rounds.proofs.Stacks.{seats_in}
 use Rattle.ohh_reading.specs.Sizes.{sizes_of}
 use Rattle.ohh_format.proofs.PostsAgain.{IsTableOf}
 use Rattle.ohh_format.proofs.SeatingAgain.{players_from}
 use Rattle.ohh_format.proofs.WinsAgain.{ids_written}
-use Rattle.list_laws.proofs.Entries.{at_taken}
-use Rattle.list_laws.proofs.NumbersOfRange.{all_at}
+use Rattle.card_set.proofs.Entries.{at_taken}
+use Rattle.card_set.proofs.NumbersOfRange.{all_at}
 use Rattle.chip_ledger.proofs.RowLists.{row_listed}
 
 -- what holds of a setup that can be written

@@ -6,7 +6,7 @@ use Rattle.std.proofs.lemmas.List.{length-map}
 use Rattle.std.proofs.lemmas.List.FromFn.{length-range_with_len}
 use Rattle.serde_json.specs.Data.{Data, object, string}
 use Rattle.chip_ledger.specs.Seat.{seats_of}
-use Rattle.canon_script.specs.CanonScript.{plain_moves, showdown_said}
+use Rattle.play_event.specs.CanonScript.{plain_moves, showdown_said}
 use Rattle.first_fault.specs.declared.limits.TheConstants.{MOST_FILE_MOVES, MOST_HANDS}
 use Rattle.hand_records.specs.AllowedNotes.{AreAllowed, AreSeatNumbers}
 use Rattle.hand_records.specs.TraceRows.{core_said}
@@ -27,7 +27,7 @@ use Rattle.ohh_writing.specs.Moment.{moment_of}
 use Rattle.ohh_writing.specs.Rounds.{hand_rounds}
 use Rattle.ohh_writing.specs.Seating.{is_circular, number_among, numbers_spelled}
 use Rattle.ohh_writing.specs.Tree.{hand_members, round_trees, whole}
-use Rattle.ohh_posts.specs.AntesAndBlinds.{PlainAntesAndBlinds}
+use Rattle.ohh_rounds.specs.AntesAndBlinds.{PlainAntesAndBlinds}
 use Rattle.ohh_rounds.specs.Play.{rounds_said}
 use Rattle.ohh_rounds.specs.Rounds.{rounds_listed, steps_said}
 use Rattle.ohh_rounds.specs.HandContext.{PlainHandContext}

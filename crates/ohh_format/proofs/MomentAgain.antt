@@ -13,8 +13,8 @@ use Rattle.ohh_facts.specs.MomentRanges.{IsMoment}
 use Rattle.ohh_facts.specs.Moments.{clock_said, day_said, digits_in_front, digits_said, fraction_of, fraction_said, moment_in, nine_of, parts_said, zoned}
 use Rattle.hand_records.specs.declared.notes.Moment.{Moment}
 use Rattle.ohh_writing.specs.Moment.{by_digits, moment_text}
-use Rattle.list_laws.proofs.Digits.{digit_good, digit_is, value_more}
-use Rattle.list_laws.proofs.Lists.{take_front}
+use Rattle.card_set.proofs.Digits.{digit_good, digit_is, value_more}
+use Rattle.card_set.proofs.Lists.{take_front}
 
 -- ---- digits
 

@@ -11,7 +11,7 @@ use Rattle.hand_records.specs.declared.trace.Trace.{Trace}
 use Rattle.hand_records.specs.declared.writing.Keep.{Keep}
 use Rattle.hand_records.specs.declared.writing.Keep.TheVariants as keeps
 use Rattle.hand_records.specs.declared.writing.Unspelled.TheVariants as facts
-use Rattle.list_laws.proofs.Options.{from_none_some}
+use Rattle.card_set.proofs.Options.{from_none_some}
 use Rattle.ohh_format.proofs.SoundPlays.{fact_holds}
 use Rattle.ohh_writing.specs.Moment.{moment_of, moment_said}
 use Rattle.ohh_writing.specs.Seating.{is_circular, numbers_spelled}

@@ -28,9 +28,9 @@ use Rattle.ohh_writing.specs.Tree.{whole}
 use Rattle.ohh_format.specs.Again.{notes_again}
 use Rattle.ohh_format.proofs.MomentAgain.{moment_again}
 use Rattle.ohh_format.proofs.SeatingAgain.{players_from}
-use Rattle.list_laws.proofs.Bytes.{same_bytes}
-use Rattle.list_laws.proofs.Entries.{zero_taken_at}
-use Rattle.list_laws.proofs.Options.{from_none_some, none_anyway}
+use Rattle.card_set.proofs.Bytes.{same_bytes}
+use Rattle.card_set.proofs.Entries.{zero_taken_at}
+use Rattle.card_set.proofs.Options.{from_none_some, none_anyway}
 use Rattle.hand_records.proofs.NoteTexts.{not_empty, noted_again}
 use Rattle.chip_ledger.specs.SeatsSaid.{default_name}
 use Rattle.hand_records.specs.SaidNotes.{kept_label}

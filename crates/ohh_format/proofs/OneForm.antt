@@ -16,7 +16,7 @@ use Rattle.hand_records.specs.declared.notes.Notes.{Notes}
 use Rattle.hand_records.specs.declared.trace.Play.{Play}
 use Rattle.hand_records.specs.declared.trace.Trace.{Trace}
 use Rattle.hand_records.specs.declared.writing.Keep.{Keep}
-use Rattle.list_laws.proofs.NumbersOfRange.{map_agree}
+use Rattle.card_set.proofs.NumbersOfRange.{map_agree}
 use Rattle.ohh_format.proofs.ReadBack.{events_said, play_again}
 use Rattle.hand_canon.proofs.SamePlay.{setup_same}
 use Rattle.ohh_format.proofs.SoundPlays.{sound_again}

@@ -1,13 +1,13 @@
 -- The rounds of a hand that was written fit, one after the other.
 use Rattle.std.proofs.Common.{◌≡◌, ℕ, zero, suc, ◌+◌, ◌≤◌, Bool, true, false, if◌then◌else◌, List, [], ◌∷◌, ◌++◌, length, count_by, pos, Option, Some, None, refl, sym, ap, ap₂, subst, ◌∙◌, arith, true≢false}
 use Rattle.std.specs.List.{AllByRecursion, flat_map, list_any, range_with_len}
-use Rattle.list_laws.proofs.Counting.{count_by-push}
-use Rattle.list_laws.proofs.Finding.{list_any-push}
+use Rattle.card_set.proofs.Counting.{count_by-push}
+use Rattle.card_set.proofs.Finding.{list_any-push}
 use Rattle.card_set.specs.Known.{is_unknown}
 use Rattle.card_set.specs.declared.card.Slot.{Slot}
 use Rattle.chip_ledger.specs.LiveRow.{flag_of}
-use Rattle.canon_script.specs.CanonScript.{dealt_slots, held_slots}
-use Rattle.canon_script.specs.declared.limits.TheConstants.{MOST_MOVES}
+use Rattle.play_event.specs.CanonScript.{dealt_slots, held_slots}
+use Rattle.play_event.specs.declared.hand_limits.TheConstants.{MOST_MOVES}
 use Rattle.first_fault.specs.declared.limits.TheConstants.{MOST_FILE_MOVES}
 use Rattle.hand_records.specs.TraceRows.{core_said}
 use Rattle.hand_records.specs.declared.trace.Trace.{Trace}
@@ -16,7 +16,7 @@ use Rattle.play_event.specs.Trace.{TracedMove, TracedPlace}
 use Rattle.ohh_members.specs.Values.{seat_of}
 use Rattle.ohh_members.specs.declared.dialect.Dialect.{Dialect}
 use Rattle.ohh_writing.specs.Actions.{has_known}
-use Rattle.ohh_posts.specs.NamedBlinds.{seat_count}
+use Rattle.ohh_rounds.specs.NamedBlinds.{seat_count}
 use Rattle.ohh_rounds.specs.HandContext.{PlainHandContext}
 use Rattle.ohh_rounds.specs.Steps.{PlainStep, has_folded, is_action, is_fold_of, is_move_effect, is_other_effect, moves_in, others_in}
 use Rattle.ohh_rounds.specs.Streets.{has_board_cards, street_after}

@@ -6,8 +6,8 @@ use Rattle.std.specs.Option.{option_map_or, option_or}
 use Rattle.std.proofs.lemmas.Bool.{and_parts, eq-eqb, eqb-true, le-ltb, lt-leb, lt-ltb, ltb-false, ltb-true, ne_eqb}
 use Rattle.std.proofs.lemmas.Bool.Decides.{nat_tests}
 use Rattle.std.proofs.lemmas.List.{length-append}
-use Rattle.list_laws.proofs.Finding.{any_agree}
-use Rattle.list_laws.proofs.NumbersOfRange.{map_agree, some_in_range, all_of, any_none}
+use Rattle.card_set.proofs.Finding.{any_agree}
+use Rattle.card_set.proofs.NumbersOfRange.{map_agree, some_in_range, all_of, any_none}
 use Rattle.chip_ledger.specs.Greatest.{greatest}
 use Rattle.chip_ledger.specs.Seat.{seats_of}
 use Rattle.chip_ledger.specs.SeatRow.{amount_of, amounts_in}
@@ -16,18 +16,18 @@ use Rattle.play_event.specs.Seats.{all_seats}
 use Rattle.play_event.specs.declared.setup.Setup.{Setup}
 use Rattle.ohh_writing.specs.Actions.{big_blind_seat, small_blind_seat}
 use Rattle.ohh_writing.specs.Spelled.{greatest_ante}
-use Rattle.ohh_posts.specs.declared.checking.PostRule.{PostRule}
-use Rattle.ohh_posts.specs.declared.checking.PostRule.TheVariants as conditions
-use Rattle.ohh_posts.specs.declared.post.PostKind.{PostKind}
-use Rattle.ohh_posts.specs.declared.post.PostKind.TheVariants as kinds
-use Rattle.ohh_posts.specs.PostRules as conditions_of
-use Rattle.ohh_posts.specs.PostRules.{at_first, first_breaking, has_all_antes, holds, is_breaking, posts_checked}
-use Rattle.ohh_posts.specs.Posts.{PlainPost, ante_of, first_ante, first_straddle, has_big_blind, has_small_blind, is_ante, is_big_blind, is_small_blind, is_straddle}
-use Rattle.ohh_posts.specs.AntesAndBlinds.{antes_and_blinds_said, are_dead, held_ante, named_blind}
-use Rattle.ohh_posts.specs.NamedBlinds as tables
-use Rattle.ohh_posts.specs.NamedBlinds.{PlainNamedBlinds, seat_count, stack_of}
+use Rattle.ohh_rounds.specs.declared.checking.PostRule.{PostRule}
+use Rattle.ohh_rounds.specs.declared.checking.PostRule.TheVariants as conditions
+use Rattle.ohh_rounds.specs.declared.post.PostKind.{PostKind}
+use Rattle.ohh_rounds.specs.declared.post.PostKind.TheVariants as kinds
+use Rattle.ohh_rounds.specs.PostRules as conditions_of
+use Rattle.ohh_rounds.specs.PostRules.{at_first, first_breaking, has_all_antes, holds, is_breaking, posts_checked}
+use Rattle.ohh_rounds.specs.Posts.{PlainPost, ante_of, first_ante, first_straddle, has_big_blind, has_small_blind, is_ante, is_big_blind, is_small_blind, is_straddle}
+use Rattle.ohh_rounds.specs.AntesAndBlinds.{antes_and_blinds_said, are_dead, held_ante, named_blind}
+use Rattle.ohh_rounds.specs.NamedBlinds as tables
+use Rattle.ohh_rounds.specs.NamedBlinds.{PlainNamedBlinds, seat_count, stack_of}
 use Rattle.ohh_format.proofs.PutsAgain.{Put, first_both, first_is, first_put, has_both, has_is, has_no, has_put, no_kind, of_seat, other_put, post_at, posts_at, posts_both, puts_of}
-use Rattle.list_laws.proofs.Options.{or_nothing}
+use Rattle.card_set.proofs.Options.{or_nothing}
 use Rattle.chip_ledger.proofs.RowLists.{row_listed}
 
 -- a seat has an ante, and a straddle

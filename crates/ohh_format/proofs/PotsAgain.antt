@@ -8,7 +8,7 @@ use Rattle.std.proofs.lemmas.List.Elements.{filter-append}
 use Rattle.std.proofs.lemmas.List.FromFn.{length-range_with_len}
 use Rattle.std.proofs.lemmas.List.Sums.{sum_by-append, sum_by-cons}
 use Rattle.serde_json.specs.Data.{Data}
-use Rattle.list_laws.proofs.NumbersOfRange.{map_agree}
+use Rattle.card_set.proofs.NumbersOfRange.{map_agree}
 use Rattle.chip_ledger.specs.Fillers.{no_amounts}
 use Rattle.chip_ledger.specs.PotRow.{pots_in}
 use Rattle.chip_ledger.specs.RakeRow.{rake_of}

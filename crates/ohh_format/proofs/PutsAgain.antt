@@ -5,10 +5,10 @@ use Rattle.std.specs.List.{flat_map, list_any, range_with_len}
 use Rattle.std.specs.Option.{option_or}
 use Rattle.std.proofs.lemmas.Bool.Decides.{nat_tests}
 use Rattle.std.proofs.lemmas.List.Folds.{find-append}
-use Rattle.list_laws.proofs.Tests.{and_false}
-use Rattle.ohh_posts.specs.declared.post.PostKind.{PostKind}
-use Rattle.ohh_posts.specs.Posts.{PlainPost, first_post}
-use Rattle.list_laws.proofs.Options.{or_nothing}
+use Rattle.card_set.proofs.Tests.{and_false}
+use Rattle.ohh_rounds.specs.declared.post.PostKind.{PostKind}
+use Rattle.ohh_rounds.specs.Posts.{PlainPost, first_post}
+use Rattle.card_set.proofs.Options.{or_nothing}
 
 -- a post: its kind, its seat and its chips
 pub record Put : Type 0 where

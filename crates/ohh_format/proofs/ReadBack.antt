@@ -3,15 +3,15 @@
 use Rattle.std.proofs.Common.{◌≡◌, ℕ, ◌+◌, ◌≤◌, Bool, true, false, not, List, [], ◌∷◌, length, map, sum_by, None, Ok, if◌then◌else◌, refl, sym, ap, subst, ◌∙◌}
 use Rattle.std.specs.List.{AllByRecursion, list_any}
 use Rattle.std.proofs.lemmas.Bool.{not-true}
-use Rattle.list_laws.proofs.Any.{list_any-map}
+use Rattle.card_set.proofs.Any.{list_any-map}
 use Rattle.play_event.specs.HistoryRules.{history_rules}
 use Rattle.play_event.specs.Played.{move_said}
 use Rattle.play_event.specs.Said.{Numbered, Said}
 use Rattle.play_event.specs.Scripts.{past_at_end}
 use Rattle.play_event.specs.declared.setup.Rules.{Rules}
 use Rattle.play_event.specs.declared.setup.Setup.{Setup}
-use Rattle.canon_script.specs.PlayedScript.{IsPlayed}
-use Rattle.canon_script.specs.TraceCore.{TraceCore, core_after}
+use Rattle.play_event.specs.PlayedScript.{IsPlayed}
+use Rattle.play_event.specs.TraceCore.{TraceCore, core_after}
 use Rattle.canon_laws.specs.Confluence.{HasTraceOf}
 use Rattle.canon_laws.specs.OtherRules.{SuitsRules}
 use Rattle.canon_laws.proofs.SuitedMoves.{played_by}

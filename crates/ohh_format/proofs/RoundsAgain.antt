@@ -2,17 +2,17 @@
 use Rattle.std.proofs.Common.{◌≡◌, ℕ, ◌+◌, ◌<◌, ◌≤◌, Bool, true, false, List, [], ◌∷◌, ◌++◌, length, map, count_by, Option, Some, Ok, refl, arith, true≢false}
 use Rattle.std.specs.List.{list_any}
 use Rattle.std.proofs.lemmas.Bool.{lt-leb, ne_eqb}
-use Rattle.list_laws.proofs.Counting.{count_by-push}
+use Rattle.card_set.proofs.Counting.{count_by-push}
 use Rattle.card_set.specs.Known.{is_unknown, known_cards}
 use Rattle.card_set.specs.declared.card.Slot.{Slot}
 use Rattle.card_set.specs.declared.card.Slot.TheVariants as slots
-use Rattle.canon_script.specs.declared.limits.TheConstants.{MOST_OTHER_EVENTS}
+use Rattle.play_event.specs.declared.hand_limits.TheConstants.{MOST_OTHER_EVENTS}
 use Rattle.play_event.specs.Said as said
 use Rattle.ohh_members.specs.declared.fault.RoundMember.TheVariants as members
 use Rattle.ohh_members.specs.Values.{list_said, object_said, required, text_said}
 use Rattle.ohh_writing.specs.Rounds.{round}
 use Rattle.ohh_writing.specs.Tree.{action_trees, round_tree}
-use Rattle.ohh_posts.specs.NamedBlinds.{seat_count}
+use Rattle.ohh_rounds.specs.NamedBlinds.{seat_count}
 use Rattle.ohh_rounds.specs.Actions.{event_counted}
 use Rattle.ohh_rounds.specs.Rounds.{at_round, board_dealt, board_said, no_cards, opening_said, round_said, street_said}
 use Rattle.ohh_rounds.specs.HandContext.{PlainHandContext}

@@ -8,10 +8,10 @@ use Rattle.card_set.specs.declared.card.Slot.{Slot}
 use Rattle.chip_ledger.specs.LiveRow.{flag_of}
 use Rattle.chip_ledger.specs.Seat.{seats_of}
 use Rattle.chip_ledger.specs.SeatRow.{amount_of}
-use Rattle.canon_script.specs.CanonScript.{board_said, deal_said, deals_said, dealt_slots, held_slots, plain_moves, showdown_said}
+use Rattle.play_event.specs.CanonScript.{board_said, deal_said, deals_said, dealt_slots, held_slots, plain_moves, showdown_said}
 use Rattle.hand_records.specs.TraceRows.{core_said}
 use Rattle.hand_records.specs.declared.trace.Trace.{Trace}
-use Rattle.list_laws.proofs.NumbersOfRange.{flat_none}
+use Rattle.card_set.proofs.NumbersOfRange.{flat_none}
 use Rattle.play_event.specs.Chips.{blind_posted}
 use Rattle.play_event.specs.Said as said
 use Rattle.play_event.specs.Said.{Numbered, Said}
@@ -20,8 +20,8 @@ use Rattle.play_event.specs.Trace.{TracedMove, TracedPlace}
 use Rattle.play_event.specs.declared.setup.Setup.{Setup}
 use Rattle.ohh_members.specs.declared.dialect.Dialect.{Dialect}
 use Rattle.ohh_writing.specs.Actions.{big_blind_seat, has_known, posts, small_blind_seat}
-use Rattle.ohh_posts.specs.Posts.{PlainPost}
-use Rattle.ohh_posts.specs.declared.post.PostKind.TheVariants as kinds
+use Rattle.ohh_rounds.specs.Posts.{PlainPost}
+use Rattle.ohh_rounds.specs.declared.post.PostKind.TheVariants as kinds
 use Rattle.ohh_rounds.specs.Play.{events_in, hole_deal, posts_in, script_said}
 use Rattle.ohh_rounds.specs.HandContext.{PlainHandContext}
 use Rattle.ohh_rounds.specs.Steps.{PlainStep}

@@ -9,7 +9,7 @@ use Rattle.std.proofs.lemmas.List.{length-map, map-append}
 use Rattle.std.proofs.lemmas.List.FromFn.{length-range_with_len}
 use Rattle.serde_json.specs.Data.{Data}
 use Rattle.serde_json.specs.View.{items_of}
-use Rattle.list_laws.proofs.Ranges.{range_more}
+use Rattle.card_set.proofs.Ranges.{range_more}
 use Rattle.chip_ledger.specs.declared.numbers.TheConstants.{MOST_CHIPS}
 use Rattle.chip_ledger.specs.declared.seat_row.SeatRow.{SeatRow}
 use Rattle.chip_ledger.specs.Seat.{seats_of}
@@ -26,7 +26,7 @@ use Rattle.ohh_writing.specs.Tree.{player_tree, players, whole}
 use Rattle.ohh_format.proofs.CardLists.{listed_again}
 use Rattle.ohh_format.proofs.SameNumbers.{other_number}
 use Rattle.ohh_format.proofs.Circle.{IsCircle, after_top, next_higher, one_seat, top_is}
-use Rattle.list_laws.proofs.Integers.{same_whole}
+use Rattle.card_set.proofs.Integers.{same_whole}
 use Rattle.chip_ledger.specs.SeatsSaid.{default_name}
 
 module _ (count : ℕ) (stacks : SeatRow) (notes : Notes) (numbers : Option (List ℕ)) where

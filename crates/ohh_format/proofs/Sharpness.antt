@@ -3,12 +3,12 @@
 use Rattle.std.proofs.Common.{◌≡◌, Bool, true, false, not, if◌then◌else◌, List, [], ◌∷◌, map, Option, Some, None, ℕ, Ok, refl, sym, ap, subst, ◌∙◌, true≢false}
 use Rattle.std.specs.List.{AllByRecursion, list_any}
 use Rattle.std.proofs.lemmas.Result.{IfOk-at_ok}
-use Rattle.list_laws.proofs.Any.{list_any-map}
+use Rattle.card_set.proofs.Any.{list_any-map}
 use Rattle.play_event.specs.HistoryRules.{history_rules}
 use Rattle.play_event.specs.Played.{move_said}
 use Rattle.play_event.specs.declared.setup.Setup.{Setup}
-use Rattle.canon_script.specs.TraceCore.{TraceCore}
-use Rattle.canon_ranges.proofs.SuitedRules.{suits_own}
+use Rattle.play_event.specs.TraceCore.{TraceCore}
+use Rattle.canon_laws.proofs.SuitedRules.{suits_own}
 use Rattle.hand_canon.specs.Judged.{IsTraceOfLegal}
 use Rattle.hand_records.specs.SoundRecord.{script_said}
 use Rattle.hand_records.specs.declared.record.Record.{Record}

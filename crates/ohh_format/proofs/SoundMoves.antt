@@ -2,8 +2,8 @@
 use Rattle.std.proofs.Common.{◌≡◌, ℕ, ◌≤◌, Bool, true, false, not, ◌&&◌, ◌||◌, ◌==◌, cond, List, [], ◌∷◌, pos, Some, refl, sym, ap, ◌∙◌, arith, true≢false}
 use Rattle.std.specs.List.{AllByRecursion, list_any}
 use Rattle.std.proofs.Math.Nat.{min-le_left}
-use Rattle.list_laws.proofs.Entries.{all_push}
-use Rattle.canon_ranges.proofs.MoveRanges.{IsMoveInRange}
+use Rattle.card_set.proofs.Entries.{all_push}
+use Rattle.canon_laws.proofs.MoveRanges.{IsMoveInRange}
 use Rattle.play_event.specs.Chips.{all_in}
 use Rattle.play_event.specs.MoveReasons.{actor_of}
 use Rattle.play_event.specs.Openers.{TheSeat}

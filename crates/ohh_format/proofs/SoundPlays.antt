@@ -3,13 +3,13 @@ use Rattle.std.proofs.Common.{◌≡◌, ℕ, zero, suc, ◌+◌, ◌-◌, ◌�
 use Rattle.std.specs.List.{AllByRecursion, flat_map, list_any, range_with_len}
 use Rattle.std.proofs.lemmas.List.Sums.{sum_by-cons}
 use Rattle.canon_laws.proofs.MoveCounts.{move_count, tidy_within}
-use Rattle.canon_ranges.proofs.MoveRanges.{moves_in_range}
+use Rattle.canon_laws.proofs.MoveRanges.{moves_in_range}
 use Rattle.card_set.specs.Known.{is_unknown}
-use Rattle.canon_script.specs.CanonScript.{dealt_slots, held_slots}
-use Rattle.canon_script.specs.PlayedScript.{IsPlayed, is_move}
-use Rattle.canon_script.specs.Tidy.{IsTidy}
-use Rattle.canon_script.specs.TraceCore.{TraceCore, core_of}
-use Rattle.canon_script.specs.declared.limits.TheConstants.{MOST_MOVES}
+use Rattle.play_event.specs.CanonScript.{dealt_slots, held_slots}
+use Rattle.play_event.specs.PlayedScript.{IsPlayed, is_move}
+use Rattle.play_event.specs.Tidy.{IsTidy}
+use Rattle.play_event.specs.TraceCore.{TraceCore, core_of}
+use Rattle.play_event.specs.declared.hand_limits.TheConstants.{MOST_MOVES}
 use Rattle.chip_ledger.specs.LiveRow.{flag_of}
 use Rattle.chip_ledger.specs.SeatRow.{amount_of}
 use Rattle.chip_ledger.specs.declared.numbers.TheConstants.{MOST_CHIPS}
@@ -23,7 +23,7 @@ use Rattle.hand_records.specs.declared.trace.Play.{Play}
 use Rattle.hand_records.specs.declared.trace.Trace.{Trace}
 use Rattle.hand_records.specs.declared.writing.Keep.{Keep}
 use Rattle.hand_records.specs.declared.writing.Unspelled.{Unspelled}
-use Rattle.list_laws.proofs.Reversed.{count_reversed}
+use Rattle.card_set.proofs.Reversed.{count_reversed}
 use Rattle.play_event.proofs.ChipLaws.{puts_within}
 use Rattle.play_event.specs.Chips.{blind_posted}
 use Rattle.play_event.specs.Due.{is_unfinished, turn}
@@ -45,8 +45,8 @@ use Rattle.ohh_writing.specs.Actions.{big_blind_seat, small_blind_seat}
 use Rattle.ohh_writing.specs.Games.{is_spelled_game}
 use Rattle.ohh_writing.specs.Lines.{Spells}
 use Rattle.ohh_writing.specs.Spelled.{first_unspelled, has_spelled_antes, has_spelled_blinds, has_spelled_sizes, kept_facts, trace_facts, unspelled}
-use Rattle.ohh_posts.proofs.Stacks.{seats_in}
-use Rattle.ohh_posts.specs.declared.post.PostKind.TheVariants as kinds
+use Rattle.ohh_rounds.proofs.Stacks.{seats_in}
+use Rattle.ohh_rounds.specs.declared.post.PostKind.TheVariants as kinds
 use Rattle.ohh_reading.specs.Reading.{reading}
 use Rattle.ohh_rounds.specs.HandContext.{PlainHandContext}
 use Rattle.ohh_format.specs.Again.{hands_again}
@@ -61,11 +61,11 @@ use Rattle.ohh_format.proofs.PlayAgain.{CanBePlayed}
 use Rattle.ohh_format.proofs.SoundMoves.{live_folds, no_moves_on, written_moves}
 use Rattle.ohh_format.proofs.SoundPots.{has_pots}
 use Rattle.ohh_format.proofs.SoundShows.{mucked_live, showdown_is}
-use Rattle.canon_ranges.proofs.StreetsPlayed.{HasStreet, board_known, came_before, first_holes, four_streets, is_passed, few_on_board}
+use Rattle.canon_laws.proofs.StreetsPlayed.{HasStreet, board_known, came_before, first_holes, four_streets, is_passed, few_on_board}
 use Rattle.ohh_format.proofs.ToldEffects.{IsGoodPost}
 use Rattle.ohh_format.proofs.WinsAgain.{seat_again}
-use Rattle.list_laws.proofs.Lists.{none_from_length}
-use Rattle.list_laws.proofs.Options.{from_some_none}
+use Rattle.card_set.proofs.Lists.{none_from_length}
+use Rattle.card_set.proofs.Options.{from_some_none}
 use Rattle.hand_records.specs.Moves.{moves_played}
 use Rattle.hand_records.specs.WriteRefusals.{refusal_from, first_refusal}
 use Rattle.play_event.proofs.ScriptLaws.{at_end}

@@ -11,8 +11,8 @@ use Rattle.hand_records.specs.declared.record.NetRow.{NetRow}
 use Rattle.hand_records.specs.declared.record.Stated.{Stated}
 use Rattle.hand_records.specs.declared.trace.Trace.{Trace}
 use Rattle.hand_canon.specs.Agreement.{Comparison, finish_compared, first_difference, is_different, pot_total_of, pots_compared, row_compared, total_compared, value_compared, win_compared, win_of}
-use Rattle.list_laws.proofs.Integers.{not_different_whole}
-use Rattle.list_laws.proofs.NumbersOfRange.{mapped_at}
+use Rattle.card_set.proofs.Integers.{not_different_whole}
+use Rattle.card_set.proofs.NumbersOfRange.{mapped_at}
 
 -- if no number differs, nothing is found except later
 none_differ : (compared : ℕ → Comparison) (first count : ℕ) (rest : List Comparison) → ((seat : ℕ) → first ≤ seat → seat < first + count → is_different (compared seat) ≡ false)

@@ -4,13 +4,13 @@ use Rattle.std.specs.List.{list_any}
 use Rattle.std.proofs.lemmas.Bool.{eq-eqb, le-leb, lt-leb, lt-ltb}
 use Rattle.std.proofs.lemmas.List.{append-nil, length-map}
 use Rattle.serde_json.specs.Data.{Data, string}
-use Rattle.list_laws.proofs.Counting.{count_by-push}
+use Rattle.card_set.proofs.Counting.{count_by-push}
 use Rattle.card_set.specs.Known.{is_unknown, known_cards}
 use Rattle.card_set.specs.Spelling.{slot_spelling}
 use Rattle.card_set.specs.declared.card.Slot.{Slot}
 use Rattle.chip_ledger.specs.declared.numbers.TheConstants.{MOST_CHIPS}
-use Rattle.canon_script.specs.PlayedScript.{is_move}
-use Rattle.canon_script.specs.declared.limits.TheConstants.{MOST_MOVES, MOST_OTHER_EVENTS}
+use Rattle.play_event.specs.PlayedScript.{is_move}
+use Rattle.play_event.specs.declared.hand_limits.TheConstants.{MOST_MOVES, MOST_OTHER_EVENTS}
 use Rattle.first_fault.specs.declared.limits.TheConstants.{MOST_FILE_MOVES}
 use Rattle.first_fault.specs.Reading.{◌>>=◌, added_from}
 use Rattle.play_event.specs.declared.event.Spelled.TheVariants as spelled
@@ -23,10 +23,10 @@ use Rattle.ohh_members.specs.declared.fault.Path.{Path}
 use Rattle.ohh_members.specs.Values.{integer_said, number_said, object_said, player_said, required, seat_of, text_said}
 use Rattle.ohh_writing.specs.Actions.{PlainAction}
 use Rattle.ohh_writing.specs.Tree.{action_tree, action_trees}
-use Rattle.ohh_posts.specs.declared.post.ActionPlace.{ActionPlace}
-use Rattle.ohh_posts.specs.declared.post.PostKind.{PostKind}
-use Rattle.ohh_posts.specs.declared.post.PostKind.TheVariants as kinds
-use Rattle.ohh_posts.specs.NamedBlinds.{seat_count}
+use Rattle.ohh_rounds.specs.declared.post.ActionPlace.{ActionPlace}
+use Rattle.ohh_rounds.specs.declared.post.PostKind.{PostKind}
+use Rattle.ohh_rounds.specs.declared.post.PostKind.TheVariants as kinds
+use Rattle.ohh_rounds.specs.NamedBlinds.{seat_count}
 use Rattle.ohh_rounds.specs.Actions.{at_action, called, chips_said, dealt_cards, effect_said, event_counted, listed_cards, members_said, posted, raise_by, raised, seat_said, shown, step_said, word_said}
 use Rattle.ohh_rounds.specs.Rounds.{action_added}
 use Rattle.ohh_rounds.specs.HandContext.{PlainHandContext}

@@ -5,17 +5,17 @@ use Rattle.std.specs.List.{AllByRecursion, flat_map, list_any, range_with_len}
 use Rattle.std.proofs.lemmas.Bool.{lt-ltb, ne_eqb}
 use Rattle.std.proofs.lemmas.Grind.{flat_map-append}
 use Rattle.std.proofs.lemmas.List.{append-nil}
-use Rattle.list_laws.proofs.Finding.{list_any-push}
-use Rattle.list_laws.proofs.Counting.{count_by-cons, count_by-push}
+use Rattle.card_set.proofs.Finding.{list_any-push}
+use Rattle.card_set.proofs.Counting.{count_by-cons, count_by-push}
 use Rattle.card_set.specs.Known.{is_unknown}
 use Rattle.card_set.specs.declared.card.Slot.{Slot}
 use Rattle.chip_ledger.specs.declared.numbers.TheConstants.{MOST_CHIPS}
-use Rattle.canon_script.specs.declared.limits.TheConstants.{MOST_MOVES, MOST_OTHER_EVENTS}
+use Rattle.play_event.specs.declared.hand_limits.TheConstants.{MOST_MOVES, MOST_OTHER_EVENTS}
 use Rattle.first_fault.specs.declared.limits.TheConstants.{MOST_FILE_MOVES}
 use Rattle.ohh_members.specs.declared.dialect.Dialect.{Dialect}
 use Rattle.ohh_members.specs.Values.{seat_of}
-use Rattle.ohh_posts.specs.NamedBlinds.{seat_count}
-use Rattle.ohh_posts.specs.declared.post.ActionPlace.{ActionPlace}
+use Rattle.ohh_rounds.specs.NamedBlinds.{seat_count}
+use Rattle.ohh_rounds.specs.declared.post.ActionPlace.{ActionPlace}
 use Rattle.ohh_rounds.specs.HandContext.{PlainHandContext}
 use Rattle.ohh_rounds.specs.Steps.{PlainStep, dealt_in, dealt_to, has_folded, is_action, is_fold_of, is_move_effect, is_other_effect, moves_in, others_in}
 use Rattle.ohh_format.proofs.Effects.{ActionEffect, Bets, Calls, Checks, Deals, Folds, Mucks, Posts, Raises, Shows}

@@ -28,12 +28,12 @@ use Rattle.ohh_members.specs.declared.fault.Path.TheVariants as paths
 use Rattle.ohh_members.specs.declared.fault.MemberFaultKind.{MemberFaultKind}
 use Rattle.ohh_members.specs.declared.fault.MemberFaultKind.TheVariants as whats
 use Rattle.ohh_writing.specs.Games.{is_spelled_game}
-use Rattle.ohh_posts.specs.PostRules.{posts_checked}
-use Rattle.ohh_posts.specs.Posts.{PlainPost}
-use Rattle.ohh_posts.specs.AntesAndBlinds.{PlainAntesAndBlinds, antes_and_blinds_said}
-use Rattle.ohh_posts.specs.NamedBlinds.{PlainNamedBlinds, seat_count}
-use Rattle.ohh_posts.specs.declared.post.PostFault.{PostFault}
-use Rattle.ohh_posts.specs.declared.post.PostFault.TheVariants as post_faults
+use Rattle.ohh_rounds.specs.PostRules.{posts_checked}
+use Rattle.ohh_rounds.specs.Posts.{PlainPost}
+use Rattle.ohh_rounds.specs.AntesAndBlinds.{PlainAntesAndBlinds, antes_and_blinds_said}
+use Rattle.ohh_rounds.specs.NamedBlinds.{PlainNamedBlinds, seat_count}
+use Rattle.ohh_rounds.specs.declared.post.PostFault.{PostFault}
+use Rattle.ohh_rounds.specs.declared.post.PostFault.TheVariants as post_faults
 use Rattle.ohh_rounds.specs.Play.{PlainPlay, at_posts, posts_in, rounds_said, script_said}
 use Rattle.ohh_rounds.specs.HandContext.{PlainHandContext}
 use Rattle.ohh_rounds.specs.Steps.{PlainStep, moves_in}

@@ -6,13 +6,13 @@ use Rattle.std.specs.List.{AllByRecursion}
 use Rattle.std.specs.Option.{option_map_or}
 use Rattle.std.proofs.lemmas.Bool.{and_parts, eqb-true, ltb-false, not-false}
 use Rattle.first_fault.specs.Reading.{◌>>=◌}
-use Rattle.ohh_posts.specs.PostRules.{at_first, first_breaking, greatest_ante, has_all_antes, has_blinds, holds, is_breaking, left_of, posts_checked}
-use Rattle.ohh_posts.specs.Posts.{PlainPost, ante_of, first_ante, first_post, first_straddle, is_ante, is_straddle}
-use Rattle.ohh_posts.specs.NamedBlinds.{PlainNamedBlinds, stack_of}
-use Rattle.ohh_posts.specs.declared.checking.PostRule.{PostRule}
-use Rattle.ohh_posts.specs.declared.checking.PostRule.TheVariants as conditions
-use Rattle.ohh_posts.specs.declared.post.ActionPlace.{ActionPlace}
-use Rattle.ohh_posts.specs.declared.post.PostKind.{PostKind}
+use Rattle.ohh_rounds.specs.PostRules.{at_first, first_breaking, greatest_ante, has_all_antes, has_blinds, holds, is_breaking, left_of, posts_checked}
+use Rattle.ohh_rounds.specs.Posts.{PlainPost, ante_of, first_ante, first_post, first_straddle, is_ante, is_straddle}
+use Rattle.ohh_rounds.specs.NamedBlinds.{PlainNamedBlinds, stack_of}
+use Rattle.ohh_rounds.specs.declared.checking.PostRule.{PostRule}
+use Rattle.ohh_rounds.specs.declared.checking.PostRule.TheVariants as conditions
+use Rattle.ohh_rounds.specs.declared.post.ActionPlace.{ActionPlace}
+use Rattle.ohh_rounds.specs.declared.post.PostKind.{PostKind}
 
 -- the first result, if all was read
 then_ok : {A B F : Type 0} (first : Result A F) (next : A → Result B F) (b : B) → (first >>= next) ≡ Ok b → (a : A) × ((first ≡ Ok a) × (next a ≡ Ok b))

@@ -3,7 +3,7 @@ use Rattle.std.proofs.Common.{◌≡◌, ℕ, zero, suc, ◌+◌, ◌-◌, ◌*�
 use Rattle.std.specs.List.{list_all, list_any, range_with_len}
 use Rattle.std.specs.Option.{option_map_or}
 use Rattle.std.proofs.lemmas.Bool.{and_from, eq-eqb, le-leb, leb-false, lt-ltb, ltb-false, ne_eqb}
-use Rattle.list_laws.proofs.NumbersOfRange.{at_range, map_agree, all_at, all_of, some_other, mapped_at}
+use Rattle.card_set.proofs.NumbersOfRange.{at_range, map_agree, all_at, all_of, some_other, mapped_at}
 use Rattle.chip_ledger.specs.Greatest.{greatest}
 use Rattle.chip_ledger.specs.Seat.{seats_of}
 use Rattle.chip_ledger.specs.SeatRow.{amount_of, amounts_in}
@@ -13,16 +13,16 @@ use Rattle.play_event.specs.Streets.{limit_of}
 use Rattle.play_event.specs.ValidSetup.{is_fixed}
 use Rattle.play_event.specs.declared.setup.Setup.{Setup}
 use Rattle.ohh_writing.specs.Spelled.{big_blind, greatest_ante, has_no_ante, has_spelled_antes, has_spelled_blinds, has_spelled_sizes, has_spelled_straddles, has_two_blinds, is_covered_straddle, is_whole_ante}
-use Rattle.ohh_posts.proofs.Stacks.{seats_in}
-use Rattle.ohh_posts.specs.PostRules as conditions_of
-use Rattle.ohh_posts.specs.PostRules.{has_all_antes}
-use Rattle.ohh_posts.specs.Posts.{PlainPost, ante_of, first_ante, first_straddle}
-use Rattle.ohh_posts.specs.AntesAndBlinds.{PlainAntesAndBlinds, antes_and_blinds_said, are_dead, held_ante, named_blind}
-use Rattle.ohh_posts.specs.NamedBlinds.{PlainNamedBlinds, seat_count, stack_of}
+use Rattle.ohh_rounds.proofs.Stacks.{seats_in}
+use Rattle.ohh_rounds.specs.PostRules as conditions_of
+use Rattle.ohh_rounds.specs.PostRules.{has_all_antes}
+use Rattle.ohh_rounds.specs.Posts.{PlainPost, ante_of, first_ante, first_straddle}
+use Rattle.ohh_rounds.specs.AntesAndBlinds.{PlainAntesAndBlinds, antes_and_blinds_said, are_dead, held_ante, named_blind}
+use Rattle.ohh_rounds.specs.NamedBlinds.{PlainNamedBlinds, seat_count, stack_of}
 use Rattle.hand_records.specs.declared.sizes.Sizes.{Sizes}
 use Rattle.ohh_format.proofs.ToldHands.{IsToldSetup}
 use Rattle.ohh_format.proofs.ToldPosts.{ante_even, ante_within, straddle_few}
-use Rattle.list_laws.proofs.Entries.{at_taken}
+use Rattle.card_set.proofs.Entries.{at_taken}
 use Rattle.hand_records.specs.PlainHands.{plain_setup}
 
 -- ---- ranges

@@ -16,7 +16,7 @@ use Rattle.ohh_facts.specs.Pots.{summed, win_added, win_said}
 use Rattle.ohh_facts.specs.Won.{PlainWin, won_by}
 use Rattle.ohh_format.proofs.SameNumbers.{other_number}
 use Rattle.ohh_writing.specs.Tree.{win_object, win_tree}
-use Rattle.list_laws.proofs.Integers.{same_whole}
+use Rattle.card_set.proofs.Integers.{same_whole}
 
 -- the ids that are written: 1, 2 and so on
 abbrev pub ids_written : ℕ → List ℤ

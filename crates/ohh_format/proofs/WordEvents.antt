@@ -4,8 +4,8 @@
 use Rattle.std.proofs.Common.{◌≡◌, ℕ, ◌-◌, ◌≤◌, Bool, true, false, ◌&&◌, ◌||◌, ◌==◌, not, if◌then◌else◌, List, [], ◌∷◌, ◌++◌, Option, Some, None, refl, sym, ap, ◌∙◌, arith, true≢false}
 use Rattle.std.specs.List.{AllByRecursion}
 use Rattle.std.proofs.lemmas.Bool.{eq-eqb, not_from_true}
-use Rattle.canon_script.specs.CanonScript.{act_named, move_named, plain_move}
-use Rattle.canon_script.specs.PlayedScript.{is_move}
+use Rattle.play_event.specs.CanonScript.{act_named, move_named, plain_move}
+use Rattle.play_event.specs.PlayedScript.{is_move}
 use Rattle.play_event.specs.Amounts.{call_target, raise_target}
 use Rattle.play_event.specs.Chips.{street_chips}
 use Rattle.play_event.specs.Due.{turn}
@@ -33,8 +33,8 @@ use Rattle.play_laws.proofs.OneSpelling.{equal_past, equal_reason}
 use Rattle.ohh_members.specs.declared.dialect.Dialect.{Dialect}
 use Rattle.ohh_members.specs.declared.dialect.Dialect.TheVariants as dialects
 use Rattle.ohh_format.specs.Again.{move_again, raise_again, raise_by_dialect}
-use Rattle.canon_ranges.proofs.RaiseUp.{raise_up}
-use Rattle.canon_ranges.proofs.SameEvents.{AreSame, IsNewest, IsSame, newest, one_more, same_moves}
+use Rattle.canon_laws.proofs.RaiseUp.{raise_up}
+use Rattle.canon_laws.proofs.SameEvents.{AreSame, IsNewest, IsSame, newest, one_more, same_moves}
 
 -- The events of a canonical script, the newest first, with its moves, and the same events in words:
 -- an event that is not a move stays, and a move has its word.

@@ -3,14 +3,14 @@
 use Rattle.std.proofs.Common.{◌≡◌, false, List, [], ◌∷◌, ◌++◌, map, reverse, refl, sym, ap, subst, ◌∙◌}
 use Rattle.std.specs.List.{AllByRecursion, flat_map, range_with_len}
 use Rattle.std.proofs.lemmas.List.{map-append, reverse-append, reverse-reverse}
-use Rattle.canon_blocks.proofs.StreetMoves.{AreFalling, legal_falling}
+use Rattle.canon_laws.proofs.StreetMoves.{AreFalling, legal_falling}
 use Rattle.canon_laws.proofs.AllStreets.{legal_since, none_first}
 use Rattle.canon_laws.proofs.Confluent.{confluent}
 use Rattle.canon_laws.proofs.SameCore.{plain_again, moves_kept}
 use Rattle.canon_laws.specs.Confluence.{HasTraceOf}
-use Rattle.canon_script.specs.CanonScript.{canon_of, canonical_script, plain_move, plain_moves, script_of, showdown_said, street_said}
-use Rattle.canon_script.specs.PlayedScript.{IsPlayed}
-use Rattle.canon_script.specs.TraceCore.{TraceCore, core_after, core_of}
+use Rattle.play_event.specs.CanonScript.{canon_of, canonical_script, plain_move, plain_moves, script_of, showdown_said, street_said}
+use Rattle.play_event.specs.PlayedScript.{IsPlayed}
+use Rattle.play_event.specs.TraceCore.{TraceCore, core_after, core_of}
 use Rattle.play_event.specs.Due.{is_unfinished, turn}
 use Rattle.play_event.specs.Laws.{AreLegal}
 use Rattle.play_event.specs.Past.{Move, Past, moves_before, moves_of}

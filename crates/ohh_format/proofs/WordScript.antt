@@ -4,8 +4,8 @@ use Rattle.std.specs.List.{flat_map, list_any, range_with_len}
 use Rattle.std.proofs.lemmas.Bool.{eqb-true, ltb-true, ne_eqb}
 use Rattle.std.proofs.lemmas.List.{append-nil, flat_map_more, reverse-append}
 use Rattle.card_set.specs.Known.{known_cards}
-use Rattle.canon_script.specs.CanonScript.{held_slots, move_named, plain_move, showdown_said, showing_said, street_said}
-use Rattle.canon_script.specs.PlayedScript.{is_move}
+use Rattle.play_event.specs.CanonScript.{held_slots, move_named, plain_move, showdown_said, showing_said, street_said}
+use Rattle.play_event.specs.PlayedScript.{is_move}
 use Rattle.play_event.specs.Past.{Act, BroughtIn, Called, Folded, Move, Raised, moves_before}
 use Rattle.play_event.specs.Said.{Muck, Said, Show}
 use Rattle.play_event.specs.Seats.{all_seats, is_live, live_count}
@@ -13,8 +13,8 @@ use Rattle.play_event.specs.Streets.{has_draw}
 use Rattle.play_event.specs.Trace.{TracedMove, TracedPlace}
 use Rattle.play_event.specs.declared.setup.Setup.{Setup}
 use Rattle.play_laws.specs.PastLaws.{AreReached}
-use Rattle.canon_blocks.proofs.StreetMoves.{AreFalling, own_moves, none_own}
-use Rattle.canon_ranges.proofs.OtherWords.{NoMoves, all_streets, behind_both, quiet_stay}
+use Rattle.canon_laws.proofs.StreetMoves.{AreFalling, own_moves, none_own}
+use Rattle.canon_laws.proofs.OtherWords.{NoMoves, all_streets, behind_both, quiet_stay}
 use Rattle.ohh_members.specs.declared.dialect.Dialect.{Dialect}
 use Rattle.ohh_format.specs.Again.{move_again, move_on, moves_again, street_again}
 use Rattle.ohh_format.proofs.WordEvents.{InWords, nothing, stays, word}

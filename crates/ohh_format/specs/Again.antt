@@ -13,7 +13,7 @@ use Rattle.play_event.specs.Said as said
 use Rattle.play_event.specs.Said.{Numbered, Said}
 use Rattle.play_event.specs.Seats.{all_seats}
 use Rattle.play_event.specs.Trace.{TracedMove, TracedPlace}
-use Rattle.canon_script.specs.CanonScript.{deals_said, plain_moves, showdown_said}
+use Rattle.play_event.specs.CanonScript.{deals_said, plain_moves, showdown_said}
 use Rattle.hand_canon.specs.Agreement.{pot_total_of, win_of}
 use Rattle.hand_records.specs.TraceRows.{core_said}
 use Rattle.hand_records.specs.declared.notes.Notes.{Notes}

@@ -3,7 +3,7 @@ use Rattle.std.proofs.Common.{◌≡◌, ℕ, ◌+◌, ◌-◌, ◌<◌, ◌≤�
 use Rattle.first_fault.specs.declared.stop.ReadError.{ReadError}
 use Rattle.first_fault.specs.Reading.{Fails, each_from}
 use Rattle.first_fault.proofs.EachItem.{with_front, goes_on, ends, is_done}
-use Rattle.list_laws.proofs.Numbers.{plus_one_less_one}
+use Rattle.card_set.proofs.Numbers.{plus_one_less_one}
 use Rattle.ohh_members.specs.declared.fault.MemberFault.{MemberFault}
 
 -- the items from an index on

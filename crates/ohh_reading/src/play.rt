@@ -1,14 +1,14 @@
 //! Reads the rounds of a hand, with what comes before them.
 ghost use Rattle.std.specs.Prelude.{◌≡◌, ◌≤◌, ◌+◌, count_by, length, map, IfOk};
 ghost use Rattle.serde_json.specs.View.{view};
-ghost use Rattle.canon_script.specs.PlayedScript.{IsWithinLimits, is_move};
+ghost use Rattle.play_event.specs.PlayedScript.{IsWithinLimits, is_move};
 ghost use Rattle.first_fault.specs.declared.limits.TheConstants.{MOST_FILE_MOVES};
 ghost use Rattle.play_event.specs.Said.{said_of};
 ghost use Rattle.first_fault.specs.Reading.{Gives};
 ghost use Rattle.ohh_members.specs.Header.{IsFront, ids_of, plain_front, stacks_of};
 ghost use Rattle.chip_ledger.specs.SeatRow.{amounts_in};
 ghost use Rattle.ohh_members.specs.Players.{plain_player};
-ghost use Rattle.ohh_posts.specs.AntesAndBlinds.{AreAntesAndBlindsFor};
+ghost use Rattle.ohh_rounds.specs.AntesAndBlinds.{AreAntesAndBlindsFor};
 ghost use Rattle.ohh_rounds.specs.Play.{plain_play, rounds_said};
 ghost use Rattle.ohh_reading.specs.Hand.{setting_of};
 
@@ -17,8 +17,7 @@ use first_fault::ReadError;
 use ohh_members::Dialect;
 use ohh_members::fault::MemberFault;
 use ohh_members::header::Header;
-use ohh_posts::NamedBlinds;
-use ohh_rounds::{HandContext, RoundsPlay, read_rounds};
+use ohh_rounds::{HandContext, NamedBlinds, RoundsPlay, read_rounds};
 use serde_json::Value;
 use std::alloc::Global;
 

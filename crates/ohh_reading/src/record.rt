@@ -1,6 +1,6 @@
 //! Makes the record of a hand from its parts.
 ghost use Rattle.std.specs.Prelude.{◌≡◌, ◌<◌, ℕ, length, map, slice_index};
-ghost use Rattle.canon_script.specs.PlayedScript.{IsWithinLimits};
+ghost use Rattle.play_event.specs.PlayedScript.{IsWithinLimits};
 ghost use Rattle.hand_records.specs.AllowedNotes.{AreAllowed};
 ghost use Rattle.play_event.specs.Said.{said_of};
 ghost use Rattle.play_event.specs.ValidSetup.{IsSize};
@@ -8,7 +8,7 @@ ghost use Rattle.ohh_facts.specs.Pots.{IsPaid, plain_paid};
 ghost use Rattle.ohh_members.specs.Header.{IsFront, plain_front, stacks_of};
 ghost use Rattle.chip_ledger.specs.SeatRow.{amounts_in};
 ghost use Rattle.ohh_members.specs.Players.{plain_player};
-ghost use Rattle.ohh_posts.specs.AntesAndBlinds.{AreAntesAndBlindsFor};
+ghost use Rattle.ohh_rounds.specs.AntesAndBlinds.{AreAntesAndBlindsFor};
 ghost use Rattle.ohh_rounds.specs.Play.{plain_play};
 ghost use Rattle.ohh_reading.specs.Hand.{hand_of};
 ghost use Rattle.hand_records.specs.Histories.{IsHistory};

@@ -2,8 +2,8 @@
 use Rattle.std.proofs.Common.{◌≡◌, ℕ, ◌+◌, Bool, not, cond, List, [], ◌∷◌, ◌++◌, length, map, count_by, refl, ap, ◌∙◌, arith}
 use Rattle.std.proofs.lemmas.List.{map-append}
 use Rattle.std.proofs.lemmas.List.FromFn.{length-range_with_len}
-use Rattle.list_laws.proofs.Counting.{count_by-cons, count_by-joined}
-use Rattle.canon_script.specs.PlayedScript.{is_move}
+use Rattle.card_set.proofs.Counting.{count_by-cons, count_by-joined}
+use Rattle.play_event.specs.PlayedScript.{is_move}
 use Rattle.chip_ledger.specs.Seat.{seats_of}
 use Rattle.play_event.specs.declared.event.Event.{Event}
 use Rattle.play_event.specs.Said.{Said, Numbered, numbered, said_of}

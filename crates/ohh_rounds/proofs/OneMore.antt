@@ -6,16 +6,16 @@ use Rattle.std.proofs.lemmas.Bool.{cases_lt}
 use Rattle.std.proofs.lemmas.Grind.{flat_map-append}
 use Rattle.std.proofs.lemmas.List.{append-nil}
 use Rattle.std.proofs.lemmas.List.Folds.{find-append}
-use Rattle.list_laws.proofs.Finding.{list_any-push}
-use Rattle.list_laws.proofs.Tests.{or_false}
+use Rattle.card_set.proofs.Finding.{list_any-push}
+use Rattle.card_set.proofs.Tests.{or_false}
 use Rattle.card_set.specs.declared.card.Slot.{Slot}
 use Rattle.card_set.specs.Row.{slots_of}
 use Rattle.ohh_rounds.specs.declared.seat_so_far.SeatSoFar.{SeatSoFar}
 use Rattle.ohh_rounds.specs.Kept.{IsToldOf}
 use Rattle.ohh_rounds.specs.Steps.{PlainActionEffect, PlainStep, Posted, Dealt, Happened, Passed, IsFoldBy, dealt_in, dealt_to, first_deal, has_folded, is_deal_to, is_fold_of, is_seat}
-use Rattle.list_laws.proofs.Entries.{at_other, at_set}
-use Rattle.list_laws.proofs.Numbers.{different_number, same_number}
-use Rattle.list_laws.proofs.Options.{or_nothing}
+use Rattle.card_set.proofs.Entries.{at_other, at_set}
+use Rattle.card_set.proofs.Numbers.{different_number, same_number}
+use Rattle.card_set.proofs.Options.{or_nothing}
 
 -- one more step folds the seat, or does not
 pub folds : (seat : ℕ) (steps : List PlainStep) (step : PlainStep) → has_folded seat (steps ++ step ∷ []) ≡ (has_folded seat steps || is_fold_of seat step.effect)

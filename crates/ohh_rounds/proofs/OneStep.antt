@@ -1,7 +1,7 @@
 -- How one more step counts.
 use Rattle.std.proofs.Common.{◌≡◌, ℕ, ◌+◌, ◌≤◌, Bool, true, false, not, cond, List, arith}
-use Rattle.canon_script.specs.declared.limits.TheConstants.{MOST_MOVES, MOST_OTHER_EVENTS}
-use Rattle.canon_script.specs.PlayedScript.{is_move}
+use Rattle.play_event.specs.declared.hand_limits.TheConstants.{MOST_MOVES, MOST_OTHER_EVENTS}
+use Rattle.play_event.specs.PlayedScript.{is_move}
 use Rattle.first_fault.specs.declared.limits.TheConstants.{MOST_FILE_MOVES}
 use Rattle.ohh_rounds.specs.Steps.{HasRoom, IsWithin, PlainActionEffect, PlainStep, Posted, Dealt, Happened, Passed, is_move_effect, is_other_effect, moves_in, others_in}
 

@@ -2,8 +2,8 @@
 use Rattle.std.specs.Prelude.{⊤, ℕ, ◌+◌, ◌==◌, nat_le, Bool, not, ◌&&◌, if◌then◌else◌, List, [], length, Some, None, Result, Ok}
 use Rattle.serde_json.specs.Data.{Data}
 use Rattle.chip_ledger.specs.declared.numbers.TheConstants.{MOST_CHIPS}
-use Rattle.canon_script.specs.declared.limits.TheConstants.{MOST_MOVES, MOST_OTHER_EVENTS}
-use Rattle.canon_script.specs.PlayedScript.{is_move}
+use Rattle.play_event.specs.declared.hand_limits.TheConstants.{MOST_MOVES, MOST_OTHER_EVENTS}
+use Rattle.play_event.specs.PlayedScript.{is_move}
 use Rattle.first_fault.specs.declared.limits.TheConstants.{MOST_FILE_MOVES}
 use Rattle.first_fault.specs.declared.limits.Quantity.TheVariants as quantities
 use Rattle.play_event.specs.declared.event.Spelled.{Spelled}
@@ -21,10 +21,10 @@ use Rattle.ohh_members.specs.declared.fault.Path.TheVariants as paths
 use Rattle.ohh_members.specs.declared.fault.MemberFaultKind.TheVariants as whats
 use Rattle.ohh_members.specs.declared.fault.MemberFault.{MemberFault}
 use Rattle.ohh_members.specs.Values.{cards_said, few_said, field, number_said, object_said, or_wrong, player_said, required, slots_said, text_said, wrong}
-use Rattle.ohh_posts.specs.declared.post.ActionPlace.{ActionPlace}
-use Rattle.ohh_posts.specs.declared.post.PostKind.{PostKind}
-use Rattle.ohh_posts.specs.declared.post.PostKind.TheVariants as kinds
-use Rattle.ohh_posts.specs.NamedBlinds.{seat_count}
+use Rattle.ohh_rounds.specs.declared.post.ActionPlace.{ActionPlace}
+use Rattle.ohh_rounds.specs.declared.post.PostKind.{PostKind}
+use Rattle.ohh_rounds.specs.declared.post.PostKind.TheVariants as kinds
+use Rattle.ohh_rounds.specs.NamedBlinds.{seat_count}
 use Rattle.ohh_members.specs.declared.words.Word.{Word}
 use Rattle.ohh_members.specs.declared.words.Word.TheVariants as words
 use Rattle.ohh_members.specs.Words.{is_deal, word_named}

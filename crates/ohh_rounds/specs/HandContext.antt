@@ -1,7 +1,7 @@
 -- What is known before the rounds of a hand are read.
 use Rattle.std.specs.Prelude.{ℕ, ℤ, List}
 use Rattle.ohh_members.specs.declared.dialect.Dialect.{Dialect}
-use Rattle.ohh_posts.specs.NamedBlinds.{PlainNamedBlinds, plain_named_blinds}
+use Rattle.ohh_rounds.specs.NamedBlinds.{PlainNamedBlinds, plain_named_blinds}
 use Rattle.ohh_rounds.specs.declared.hand_context.HandContext.{HandContext}
 
 -- the players' ids by seat, stacks and blinds, how many hole cards a seat is dealt, the dialect,

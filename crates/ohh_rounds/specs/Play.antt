@@ -14,12 +14,12 @@ use Rattle.ohh_members.specs.declared.fault.Path.TheVariants as paths
 use Rattle.ohh_members.specs.declared.fault.MemberFaultKind.TheVariants as whats
 use Rattle.ohh_members.specs.declared.fault.MemberFault.{MemberFault}
 use Rattle.ohh_members.specs.Values.{wrong}
-use Rattle.ohh_posts.specs.declared.post.PostFault.{PostFault}
-use Rattle.ohh_posts.specs.declared.post.PostFault.TheVariants as post_faults
-use Rattle.ohh_posts.specs.Posts.{PlainPost}
-use Rattle.ohh_posts.specs.PostRules.{posts_checked}
-use Rattle.ohh_posts.specs.AntesAndBlinds.{PlainAntesAndBlinds, antes_and_blinds_said, plain_antes_and_blinds}
-use Rattle.ohh_posts.specs.NamedBlinds.{seat_count}
+use Rattle.ohh_rounds.specs.declared.post.PostFault.{PostFault}
+use Rattle.ohh_rounds.specs.declared.post.PostFault.TheVariants as post_faults
+use Rattle.ohh_rounds.specs.Posts.{PlainPost}
+use Rattle.ohh_rounds.specs.PostRules.{posts_checked}
+use Rattle.ohh_rounds.specs.AntesAndBlinds.{PlainAntesAndBlinds, antes_and_blinds_said, plain_antes_and_blinds}
+use Rattle.ohh_rounds.specs.NamedBlinds.{seat_count}
 use Rattle.ohh_rounds.specs.declared.play.RoundsPlay.{RoundsPlay}
 use Rattle.ohh_rounds.specs.Steps.{PlainActionEffect, PlainStep, Posted, Dealt, Happened, Passed, dealt_to, first_deal, moves_in}
 use Rattle.ohh_rounds.specs.HandContext.{PlainHandContext}

@@ -3,12 +3,12 @@ use Rattle.std.specs.Prelude.{◌≡◌, ℕ, ◌+◌, ◌<◌, ◌≤◌, ◌==
 use Rattle.std.specs.List.{list_any}
 use Rattle.card_set.specs.declared.card.Slot.{Slot}
 use Rattle.card_set.specs.Row.{slots_of}
-use Rattle.canon_script.specs.declared.limits.TheConstants.{MOST_MOVES, MOST_OTHER_EVENTS}
-use Rattle.canon_script.specs.PlayedScript.{is_move}
+use Rattle.play_event.specs.declared.hand_limits.TheConstants.{MOST_MOVES, MOST_OTHER_EVENTS}
+use Rattle.play_event.specs.PlayedScript.{is_move}
 use Rattle.first_fault.specs.declared.limits.TheConstants.{MOST_FILE_MOVES}
 use Rattle.play_event.specs.Said as said
 use Rattle.play_event.specs.Said.{Said, kind_said}
-use Rattle.ohh_posts.specs.Posts.{PlainPost, plain_post}
+use Rattle.ohh_rounds.specs.Posts.{PlainPost, plain_post}
 use Rattle.ohh_rounds.specs.declared.step.ActionEffect.{ActionEffect}
 use Rattle.ohh_rounds.specs.declared.step.ActionEffect.TheVariants as effects
 use Rattle.ohh_rounds.specs.declared.step.RoundStep.{RoundStep}

@@ -3,16 +3,16 @@ ghost use Rattle.std.specs.Prelude.{◌≡◌, ◌≤◌, ◌+◌, IfOk, length,
 ghost use Rattle.serde_json.specs.View.{view};
 ghost use Rattle.card_set.specs.Row.{slots_of};
 ghost use Rattle.play_event.specs.Said.{kind_said};
-ghost use Rattle.canon_script.specs.PlayedScript.{is_move as is_move_said};
+ghost use Rattle.play_event.specs.PlayedScript.{is_move as is_move_said};
 ghost use Rattle.first_fault.specs.Reading.{Gives};
 ghost use Rattle.ohh_rounds.specs.Actions.{at_action, called, chips_said, dealt_cards, effect_counted, effect_said, event_counted, mucked, posted, raise_by, raised, seat_said, shown, step_said, word_said};
 ghost use Rattle.ohh_rounds.specs.HandContext.{plain_setting};
-ghost use Rattle.ohh_posts.specs.Posts.{plain_post};
+ghost use Rattle.ohh_rounds.specs.Posts.{plain_post};
 ghost use Rattle.ohh_rounds.specs.Steps.{Dealt, Happened, HasRoom, IsWithin, LeavesFew, Posted, dealt_to, plain_effect, plain_step};
 
+use crate::post::{ActionPlace, Post, PostKind};
 use crate::rounds_so_far::RoundsSoFar;
 use crate::step::{ActionEffect, RoundStep, is_move};
-use canon_script::{MOST_MOVES, MOST_OTHER_EVENTS};
 use card_set::SlotRow;
 use chip_ledger::{Chips, MOST_CHIPS, Seat};
 use first_fault::{MOST_FILE_MOVES, Quantity, ReadError};
@@ -23,8 +23,7 @@ use ohh_members::values::{
     read_text, required,
 };
 use ohh_members::words::{Word, is_deal, word_named};
-use ohh_posts::{ActionPlace, Post, PostKind};
-use play_event::{Kind, Spelled};
+use play_event::{Kind, MOST_MOVES, MOST_OTHER_EVENTS, Spelled};
 use serde_json::Value;
 
 /// Reads an action after the steps before it, and checks the limits.

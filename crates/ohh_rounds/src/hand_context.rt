@@ -2,8 +2,8 @@
 ghost use Rattle.std.specs.Prelude.{◌≤◌, length};
 ghost use Rattle.first_fault.specs.declared.limits.TheConstants.{MOST_FILE_MOVES};
 
+use crate::named_blinds::NamedBlinds;
 use ohh_members::dialect::Dialect;
-use ohh_posts::NamedBlinds;
 
 /// What the rounds of a hand are read with.
 #[derive(Clone, Copy, Debug, PartialEq, Eq)]

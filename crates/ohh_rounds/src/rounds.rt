@@ -9,6 +9,7 @@ ghost use Rattle.ohh_rounds.specs.Steps.{plain_step};
 
 use crate::actions::{count_event, read_step};
 use crate::hand_context::HandContext;
+use crate::post::ActionPlace;
 use crate::rounds_so_far::RoundsSoFar;
 use crate::step::{ActionEffect, RoundStep};
 use crate::street::{has_board_cards, street_after};
@@ -19,7 +20,6 @@ use ohh_members::street::StreetName;
 use ohh_members::values::{
     fault_at, field, read_cards, read_list, read_object, read_text, required,
 };
-use ohh_posts::ActionPlace;
 use play_event::Kind;
 use serde_json::Value;
 use std::alloc::Global;

@@ -1,6 +1,6 @@
 //! State while reading rounds: what later actions need to know.
 ghost use Rattle.std.specs.Prelude.{◌≡◌, ◌≤◌, ◌+◌, length, map};
-ghost use Rattle.canon_script.specs.declared.limits.TheConstants.{MOST_MOVES, MOST_OTHER_EVENTS};
+ghost use Rattle.play_event.specs.declared.hand_limits.TheConstants.{MOST_MOVES, MOST_OTHER_EVENTS};
 ghost use Rattle.first_fault.specs.declared.limits.TheConstants.{MOST_FILE_MOVES};
 ghost use Rattle.ohh_rounds.specs.Kept.{AreTold, IsToldOf};
 ghost use Rattle.ohh_rounds.specs.Steps.{next_number, moves_in, others_in, plain_step};

@@ -1,12 +1,12 @@
 //! One step of a hand: what an action did, or a deal to the board, and how it counts.
 ghost use Rattle.std.specs.Prelude.{◌≡◌, ◌+◌, cond, min};
-ghost use Rattle.canon_script.specs.PlayedScript.{is_move as is_move_said};
+ghost use Rattle.play_event.specs.PlayedScript.{is_move as is_move_said};
 ghost use Rattle.play_event.specs.Said.{kind_said};
 ghost use Rattle.ohh_rounds.specs.Steps.{is_action, is_move_effect, is_other_effect, plain_effect, plain_step};
 
+use crate::post::Post;
 use card_set::SlotRow;
 use chip_ledger::Seat;
-use ohh_posts::Post;
 use play_event::Kind;
 
 /// What was done.

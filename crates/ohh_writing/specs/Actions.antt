@@ -12,7 +12,7 @@ use Rattle.play_event.specs.Chips.{blind_posted, chips_left, posted}
 use Rattle.play_event.specs.Past.{Move, Act, Folded, Called, Raised, BroughtIn}
 use Rattle.play_event.specs.Seats.{all_seats}
 use Rattle.play_event.specs.Trace.{TracedMove, TracedPlace}
-use Rattle.canon_script.specs.CanonScript.{dealt_slots, held_slots, plain_move}
+use Rattle.play_event.specs.CanonScript.{dealt_slots, held_slots, plain_move}
 use Rattle.hand_records.specs.declared.trace.Trace.{Trace}
 use Rattle.hand_records.specs.TraceRows.{core_said}
 use Rattle.ohh_members.specs.declared.dialect.Dialect.{Dialect}

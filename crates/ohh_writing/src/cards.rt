@@ -3,7 +3,7 @@ ghost use Rattle.std.specs.Prelude.{◌≡◌, ◌≤◌, ◌+◌, ◌&&◌, not
 ghost use Rattle.card_set.specs.Known.{is_unknown};
 ghost use Rattle.card_set.specs.Row.{slots_of};
 ghost use Rattle.play_event.specs.Places.{is_same_owner};
-ghost use Rattle.canon_script.specs.CanonScript.{dealt_slots, held_slots};
+ghost use Rattle.play_event.specs.CanonScript.{dealt_slots, held_slots};
 ghost use Rattle.hand_records.specs.TraceRows.{place_said};
 ghost use Rattle.ohh_writing.specs.Actions.{has_known as has_known_said};
 

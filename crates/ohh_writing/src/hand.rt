@@ -5,7 +5,7 @@ ghost use Rattle.serde_json.specs.Data.{object, string, put as put_said};
 ghost use Rattle.serde_json.specs.View.{view, members_view};
 ghost use Rattle.chip_ledger.specs.SeatRow.{amount_of};
 ghost use Rattle.hand_records.specs.TraceRows.{core_said};
-ghost use Rattle.canon_script.specs.Tidy.{IsTidy};
+ghost use Rattle.play_event.specs.Tidy.{IsTidy};
 ghost use Rattle.ohh_writing.specs.Actions.{small_blind_seat as small_blind_seat_said};
 ghost use Rattle.ohh_writing.specs.Games.{game_word as game_said};
 ghost use Rattle.ohh_writing.specs.Rounds.{hand_rounds as hand_rounds_said};

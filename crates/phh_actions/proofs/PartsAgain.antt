@@ -20,7 +20,7 @@ use Rattle.phh_actions.proofs.CardLaws.{slots_read}
 use Rattle.phh_actions.proofs.WordsAgain.{IsWord, is_plain}
 use Rattle.card_set.proofs.KnownCards.{all_known}
 use Rattle.card_set.proofs.Letters.{each_rank, each_suit}
-use Rattle.list_laws.proofs.Digits.{of_digits}
+use Rattle.card_set.proofs.Digits.{of_digits}
 use Rattle.chip_ledger.specs.SeatsSaid.{default_name}
 
 -- digits are bytes of a word

@@ -16,9 +16,9 @@ use Rattle.phh_writing.specs.HandFields.{hand_fields, script_of}
 use Rattle.phh_writing.proofs.Puts.{field_at, get_member-table_of}
 use Rattle.phh_format.specs.Again.{hand_again, hands_again}
 use Rattle.phh_format.proofs.EventsAgain.{HaveRoom, counts_with, one_more}
-use Rattle.list_laws.proofs.Counting.{count_by-cons}
+use Rattle.card_set.proofs.Counting.{count_by-cons}
 use Rattle.std.proofs.lemmas.List.Sums.{sum_by-cons}
-use Rattle.canon_script.specs.PlayedScript.{is_move}
+use Rattle.play_event.specs.PlayedScript.{is_move}
 use Rattle.play_event.specs.Said.{Said}
 use Rattle.phh_reading.specs.declared.events.EventCounts.{EventCounts}
 use Rattle.phh_format.proofs.Readable.{IsReadable, moves_written}

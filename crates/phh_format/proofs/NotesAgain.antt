@@ -11,13 +11,13 @@ use Rattle.first_fault.specs.Reading.{read_if, or_none}
 use Rattle.first_fault.specs.declared.limits.TheConstants.{MOST_TEXT_BYTES}
 use Rattle.hand_records.specs.declared.notes.Clock.{Clock}
 use Rattle.hand_records.specs.AllowedNotes.{IsNoteText, IsTime, IsWithin, days_in_month}
-use Rattle.phh_fields.specs.declared.fault.FieldPlace.{FieldPlace}
-use Rattle.phh_fields.specs.Fields.{number_said, text_said}
-use Rattle.phh_fields.specs.NoteFields.{clock_said, is_in_calendar, label_said, note_said, or_zero, text_note_said, time_said}
+use Rattle.phh_reading.specs.declared.field_fault.FieldPlace.{FieldPlace}
+use Rattle.phh_reading.specs.Fields.{number_said, text_said}
+use Rattle.phh_reading.specs.NoteFields.{clock_said, is_in_calendar, label_said, note_said, or_zero, text_note_said, time_said}
 use Rattle.phh_writing.specs.HandFields.{hand_field, label, local_time, number_field, number_written}
-use Rattle.list_laws.proofs.Tests.{implied}
-use Rattle.list_laws.proofs.Digits.{all_digits, own_digits}
-use Rattle.list_laws.proofs.Options.{from_none_some}
+use Rattle.card_set.proofs.Tests.{implied}
+use Rattle.card_set.proofs.Digits.{all_digits, own_digits}
+use Rattle.card_set.proofs.Options.{from_none_some}
 use Rattle.hand_records.specs.SaidNotes.{kept_label}
 use Rattle.hand_records.proofs.NoteTexts.{not_empty, noted_again}
 

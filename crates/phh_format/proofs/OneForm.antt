@@ -18,7 +18,7 @@ use Rattle.hand_records.specs.declared.notes.Notes.{Notes}
 use Rattle.hand_records.specs.declared.trace.Play.{Play}
 use Rattle.hand_records.specs.declared.trace.Trace.{Trace}
 use Rattle.hand_records.specs.declared.writing.Unspelled.TheVariants as unspellables
-use Rattle.list_laws.proofs.NumbersOfRange.{map_agree}
+use Rattle.card_set.proofs.NumbersOfRange.{map_agree}
 use Rattle.phh_format.proofs.SoundPlays.{same_script, sound_again}
 use Rattle.phh_format.specs.Again.{hand_again, hands_again}
 use Rattle.phh_reading.specs.Reading.{reading}

@@ -17,8 +17,8 @@ use Rattle.hand_records.specs.declared.trace.Play.{Play}
 use Rattle.phh_reading.specs.Order.{Entry, is_multi_hand, in_order, is_table, key_cmp, placed, placed_all, tables_among}
 use Rattle.phh_writing.specs.Members.{put, table_of}
 use Rattle.phh_writing.specs.Document.{hand_table, numbered_hands}
-use Rattle.list_laws.proofs.Digits.{number_said}
-use Rattle.list_laws.proofs.Orderings.{less_not_equal}
+use Rattle.card_set.proofs.Digits.{number_said}
+use Rattle.card_set.proofs.Orderings.{less_not_equal}
 use Rattle.first_fault.proofs.DecimalDigits.{decimal_digits}
 
 number_total : IsTotalOrder (λ (k l : List ℕ). nat_cmp (digits_value 10 k) (digits_value 10 l))

@@ -3,7 +3,7 @@
 use Rattle.std.proofs.Common.{◌≡◌, ℕ, ◌+◌, true, false, Bool, pos, List, [], ◌∷◌, ◌++◌, length, map, find, sum_by, Some, None, Ok, refl, sym, ap, ap₂, subst, ◌∙◌, ◌≤◌}
 use Rattle.std.specs.List.{AllByRecursion, list_any}
 use Rattle.std.proofs.lemmas.Bool.Decides.{Decides-int_eq}
-use Rattle.list_laws.proofs.Any.{list_any-map}
+use Rattle.card_set.proofs.Any.{list_any-map}
 use Rattle.chip_ledger.specs.PotRow.{plain_shares}
 use Rattle.chip_ledger.specs.SeatRow.{amount_of}
 use Rattle.play_event.specs.HistoryRules.{history_rules}
@@ -13,9 +13,9 @@ use Rattle.play_event.specs.Scripts.{past_at_end}
 use Rattle.play_event.specs.Seats.{all_seats}
 use Rattle.play_event.specs.declared.setup.Rules.{Rules}
 use Rattle.play_event.specs.declared.setup.Setup.{Setup}
-use Rattle.canon_script.specs.CanonScript.{canon_of}
-use Rattle.canon_script.specs.PlayedScript.{IsPlayed}
-use Rattle.canon_script.specs.TraceCore.{TraceCore, core_after}
+use Rattle.play_event.specs.CanonScript.{canon_of}
+use Rattle.play_event.specs.PlayedScript.{IsPlayed}
+use Rattle.play_event.specs.TraceCore.{TraceCore, core_after}
 use Rattle.canon_laws.specs.OtherRules.{SuitsRules}
 use Rattle.canon_laws.proofs.SuitedMoves.{played_by}
 use Rattle.first_fault.specs.declared.limits.TheConstants.{MOST_FILE_MOVES, MOST_HANDS}

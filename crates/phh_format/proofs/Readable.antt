@@ -1,7 +1,7 @@
 -- What a reader needs of a play, so that it reads back after it was written.
 use Rattle.std.specs.Prelude.{◌≡◌, ℕ, ◌<◌, count_by}
 use Rattle.std.specs.List.{AllByRecursion}
-use Rattle.canon_script.specs.PlayedScript.{IsWithinLimits, is_move}
+use Rattle.play_event.specs.PlayedScript.{IsWithinLimits, is_move}
 use Rattle.chip_ledger.specs.RakeRow.{rake_of}
 use Rattle.play_event.specs.ValidSetup.{IsValid}
 use Rattle.hand_records.specs.declared.trace.Play.{Play}

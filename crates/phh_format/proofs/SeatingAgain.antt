@@ -11,16 +11,16 @@ use Rattle.first_fault.specs.Reading.{each_from, or_none}
 use Rattle.first_fault.specs.declared.limits.TheConstants.{MOST_TEXT_BYTES}
 use Rattle.hand_records.specs.declared.notes.Notes.{Notes}
 use Rattle.hand_records.specs.AllowedNotes.{AreSeatNumbers, IsName, IsSeatCount, IsWithin, name_written, non_default_seats}
-use Rattle.phh_fields.specs.declared.fault.FieldKey.TheVariants as keys
-use Rattle.phh_fields.specs.declared.fault.FieldPlace.{FieldPlace}
-use Rattle.phh_fields.specs.Fields.{at_item, at_key, items_said, list_said, number_said, text_said}
-use Rattle.phh_fields.specs.NoteFields.{names_said, note_said, seat_count_said, seats_said, text_note_said}
+use Rattle.phh_reading.specs.declared.field_fault.FieldKey.TheVariants as keys
+use Rattle.phh_reading.specs.declared.field_fault.FieldPlace.{FieldPlace}
+use Rattle.phh_reading.specs.Fields.{at_item, at_key, items_said, list_said, number_said, text_said}
+use Rattle.phh_reading.specs.NoteFields.{names_said, note_said, seat_count_said, seats_said, text_note_said}
 use Rattle.phh_writing.specs.HandFields.{names_field, number_field, numbers, texts}
 use Rattle.phh_format.proofs.RowsAgain.{items_again, listed_again, number_data}
 use Rattle.phh_format.proofs.NotesAgain.{note_again, number_again}
-use Rattle.list_laws.proofs.Bytes.{different_bytes}
-use Rattle.list_laws.proofs.Entries.{taken_within}
-use Rattle.list_laws.proofs.Options.{none_anyway}
+use Rattle.card_set.proofs.Bytes.{different_bytes}
+use Rattle.card_set.proofs.Entries.{taken_within}
+use Rattle.card_set.proofs.Options.{none_anyway}
 use Rattle.chip_ledger.specs.SeatsSaid.{default_name}
 
 -- the name that a seat has, if it has one

@@ -4,16 +4,16 @@ use Rattle.std.proofs.Common.{◌≡◌, ℕ, ◌+◌, ◌-◌, nat_lt, Bool, tr
 use Rattle.std.specs.List.{AllByRecursion, list_any}
 use Rattle.toml.specs.Data.{Data, Members}
 use Rattle.chip_ledger.specs.declared.seat_row.TheConstants.{MOST_AMOUNT}
-use Rattle.phh_fields.specs.declared.fault.FieldKey.TheVariants as keys
-use Rattle.phh_fields.specs.Fields.{at_key, field, list_said, required}
-use Rattle.phh_fields.specs.NoteFields.{notes_said}
-use Rattle.phh_fields.specs.Rows.{row_said}
-use Rattle.phh_fields.specs.SetupFields.{setup_said}
+use Rattle.phh_reading.specs.declared.field_fault.FieldKey.TheVariants as keys
+use Rattle.phh_reading.specs.Fields.{at_key, field, list_said, required}
+use Rattle.phh_reading.specs.NoteFields.{notes_said}
+use Rattle.phh_reading.specs.Rows.{row_said}
+use Rattle.phh_reading.specs.SetupFields.{setup_said}
 use Rattle.phh_reading.specs.Events.{counts_after, events_said}
 use Rattle.phh_reading.specs.declared.events.EventCounts.{EventCounts}
 use Rattle.play_event.specs.Said.{Numbered}
-use Rattle.list_laws.proofs.Any.{list_any-map}
-use Rattle.list_laws.proofs.Tests.{false_true}
+use Rattle.card_set.proofs.Any.{list_any-map}
+use Rattle.card_set.proofs.Tests.{false_true}
 use Rattle.first_fault.specs.Reading.{◌>>=◌, read_if, thread_from}
 use Rattle.play_event.specs.HistoryRules.{history_rules}
 use Rattle.play_event.specs.Played.{move_said}
@@ -23,13 +23,13 @@ use Rattle.hand_records.specs.declared.trace.Play.{Play}
 use Rattle.hand_records.specs.declared.writing.Unspelled.{Unspelled}
 use Rattle.hand_records.specs.declared.writing.Unspelled.TheVariants as facts
 use Rattle.hand_canon.specs.Judged.{IsTraceOfLegal}
-use Rattle.canon_ranges.proofs.SuitedRules.{suits_own}
+use Rattle.canon_laws.proofs.SuitedRules.{suits_own}
 use Rattle.phh_reading.specs.Hand.{finish_stated, hand_said, rakes_at}
 use Rattle.phh_reading.specs.Reading.{Wrong, at_variant, document_of, document_said, hands_of, hands_said, in_hand, numbered_hand, reading, records_said, spelled_fault, those_said}
 use Rattle.phh_reading.specs.declared.fault.PhhHandFault.{PhhHandFault}
-use Rattle.phh_fields.specs.declared.fault.FieldFault.{FieldFault}
-use Rattle.phh_fields.specs.declared.fault.FieldFaultKind.{FieldFaultKind}
-use Rattle.phh_fields.specs.declared.fault.FieldFaultKind.TheVariants as whats
+use Rattle.phh_reading.specs.declared.field_fault.FieldFault.{FieldFault}
+use Rattle.phh_reading.specs.declared.field_fault.FieldFaultKind.{FieldFaultKind}
+use Rattle.phh_reading.specs.declared.field_fault.FieldFaultKind.TheVariants as whats
 use Rattle.first_fault.specs.declared.limits.Quantity.TheVariants as quantities
 use Rattle.first_fault.specs.declared.limits.TheConstants.{MOST_HANDS}
 use Rattle.phh_writing.specs.Spelled.{unspelled}

@@ -11,10 +11,10 @@ use Rattle.play_event.specs.Said.{Said}
 use Rattle.play_event.specs.Scripts.{past_at_end}
 use Rattle.play_event.specs.ValidSetup.{IsValid}
 use Rattle.play_event.specs.declared.setup.Setup.{Setup}
-use Rattle.canon_script.specs.CanonScript.{canon_of, canonical_script}
-use Rattle.canon_script.specs.PlayedScript.{IsWithinLimits, is_move}
-use Rattle.canon_ranges.proofs.EventRanges.{events_in_range}
-use Rattle.canon_ranges.proofs.SameMoves.{canon_within, same_moves}
+use Rattle.play_event.specs.CanonScript.{canon_of, canonical_script}
+use Rattle.play_event.specs.PlayedScript.{IsWithinLimits, is_move}
+use Rattle.canon_laws.proofs.EventRanges.{events_in_range}
+use Rattle.canon_laws.proofs.SameMoves.{canon_within, same_moves}
 use Rattle.hand_records.specs.AllowedNotes.{AreAllowed}
 use Rattle.hand_canon.specs.Sound.{IsSound}
 use Rattle.hand_records.specs.SoundRecord.{script_said}

@@ -10,8 +10,8 @@ use Rattle.std.specs.Ordering.{ordering_then}
 use Rattle.std.specs.Str.Parse.{digits_value, digits_value_after}
 use Rattle.first_fault.specs.Digits.{are_digits}
 use Rattle.phh_reading.specs.Stripped.{number_digits}
-use Rattle.list_laws.proofs.Digits.{digit_least, digit_most, zeros_say}
-use Rattle.list_laws.proofs.Orderings.{equal, greater, less, then_assoc, then_equal}
+use Rattle.card_set.proofs.Digits.{digit_least, digit_most, zeros_say}
+use Rattle.card_set.proofs.Orderings.{equal, greater, less, then_assoc, then_equal}
 
 -- a digit
 abbrev IsDigit : ℕ → Type 0

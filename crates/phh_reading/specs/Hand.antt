@@ -5,12 +5,12 @@ use Rattle.chip_ledger.specs.declared.seat_row.TheConstants.{MOST_AMOUNT}
 use Rattle.hand_records.specs.PlainHands.{PlainHand, PlainStated}
 use Rattle.play_event.specs.HistoryRules.{history_rules}
 use Rattle.first_fault.specs.Reading.{◌>>=◌, read_if}
-use Rattle.phh_fields.specs.declared.fault.FieldKey.TheVariants as keys
-use Rattle.phh_fields.specs.declared.fault.FieldFault.{FieldFault}
-use Rattle.phh_fields.specs.Fields.{at_key, field, required, list_said}
-use Rattle.phh_fields.specs.Rows.{row_said, rakes_said}
-use Rattle.phh_fields.specs.SetupFields.{setup_said}
-use Rattle.phh_fields.specs.NoteFields.{notes_said}
+use Rattle.phh_reading.specs.declared.field_fault.FieldKey.TheVariants as keys
+use Rattle.phh_reading.specs.declared.field_fault.FieldFault.{FieldFault}
+use Rattle.phh_reading.specs.Fields.{at_key, field, required, list_said}
+use Rattle.phh_reading.specs.Rows.{row_said, rakes_said}
+use Rattle.phh_reading.specs.SetupFields.{setup_said}
+use Rattle.phh_reading.specs.NoteFields.{notes_said}
 use Rattle.phh_reading.specs.Events.{counts_after, events_said}
 
 -- finishing stacks are all that is stated

@@ -2,20 +2,19 @@
 ghost use Rattle.std.specs.Prelude.{◌≡◌, ◌≤◌, ◌+◌, ◌++◌, map, IfOk, OnOk, option_map};
 ghost use Rattle.toml.specs.View.{view};
 ghost use Rattle.first_fault.specs.declared.limits.TheConstants.{MOST_FILE_MOVES};
-ghost use Rattle.canon_script.specs.PlayedScript.{is_move as is_move_said};
+ghost use Rattle.play_event.specs.PlayedScript.{is_move as is_move_said};
 ghost use Rattle.play_event.specs.Said.{kind_said, numbered};
 ghost use Rattle.first_fault.specs.Reading.{Gives};
 ghost use Rattle.phh_actions.specs.Action.{action_said};
 ghost use Rattle.phh_reading.specs.Events.{AreCounted, AreFew, IsAfter, IsOneMore, action_fault, at_place, counted, counts_after, event_said, events_said, listed_event, one_event};
 ghost use Rattle.first_fault.specs.Numbers.{kept_number};
 
-use canon_script::{MOST_MOVES, MOST_OTHER_EVENTS};
+use crate::field_fault::{FieldFault, FieldFaultKind, FieldKey, FieldPlace};
+use crate::values::{field_fault_at, read_text};
 use card_set::Memory;
 use first_fault::{MOST_FILE_MOVES, Quantity, ReadError};
 use phh_actions::{ActionFault, read_action};
-use phh_fields::fault::{FieldFault, FieldFaultKind, FieldKey, FieldPlace};
-use phh_fields::values::{field_fault_at, read_text};
-use play_event::{Event, Kind, Script};
+use play_event::{Event, Kind, MOST_MOVES, MOST_OTHER_EVENTS, Script};
 use std::alloc::Global;
 use toml::Value;
 

@@ -1,8 +1,8 @@
 //! Why bytes cannot be read as hands in the Poker Hand History format: their first fault, with its
 //! hand and its key.
+use crate::field_fault::FieldFault;
 use card_set::Memory;
 use first_fault::{Quantity, Text};
-use phh_fields::fault::FieldFault;
 
 /// The first fault of bytes, in the order in which fields are examined. `hand` counts from 1 in the
 /// order of reading. `key` is the key of the field, and for an item of a list the key, a space and

@@ -4,19 +4,19 @@ ghost use Rattle.std.specs.Prelude.{◌≡◌, ◌≤◌, map, [], ◌∷◌, If
 ghost use Rattle.toml.specs.View.{table_view};
 ghost use Rattle.first_fault.specs.declared.limits.TheConstants.{MOST_FILE_MOVES, MOST_HANDS};
 ghost use Rattle.first_fault.specs.Reading.{Gives};
-ghost use Rattle.phh_fields.specs.declared.fault.FieldKey.TheVariants as keys;
-ghost use Rattle.phh_fields.specs.Fields.{at_key};
+ghost use Rattle.phh_reading.specs.declared.field_fault.FieldKey.TheVariants as keys;
+ghost use Rattle.phh_reading.specs.Fields.{at_key};
 ghost use Rattle.phh_reading.specs.Reading.{hands_of, hands_said, numbered_hand, records_said, those_said};
 ghost use Rattle.hand_records.specs.Histories.{AreHistories, IsNextHand};
 ghost use Rattle.hand_records.specs.PlainHands.{plain};
 
 use crate::fault::PhhHandFault;
+use crate::field_fault::{FieldFault, FieldFaultKind, FieldKey, FieldPlace};
 use crate::hand::read_hand;
 use crate::order::{is_multi_hand, tables_in_order};
+use crate::values::field;
 use first_fault::{MOST_HANDS, Quantity, ReadError};
 use hand_records::{Record, Records};
-use phh_fields::fault::{FieldFault, FieldFaultKind, FieldKey, FieldPlace};
-use phh_fields::values::field;
 use std::alloc::Global;
 use toml::Table;
 

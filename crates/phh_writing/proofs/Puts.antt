@@ -9,8 +9,8 @@ use Rattle.toml.specs.Data.{Data, Members, no_members, member, get_member}
 use Rattle.toml.specs.View.{view, members_view}
 use Rattle.toml.specs.declared.value.Value.{Value}
 use Rattle.phh_writing.specs.Members.{put, Field, table_of}
-use Rattle.list_laws.proofs.Bytes.{different_by_test}
-use Rattle.list_laws.proofs.Orderings.{same_text}
+use Rattle.card_set.proofs.Bytes.{different_by_test}
+use Rattle.card_set.proofs.Orderings.{same_text}
 
 abbrev pub Entry : Type 0
 Entry = String Global × Value

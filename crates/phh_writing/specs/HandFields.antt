@@ -16,7 +16,7 @@ use Rattle.hand_records.specs.declared.notes.Notes.{Notes}
 use Rattle.hand_records.specs.declared.trace.Play.{Play}
 use Rattle.hand_records.specs.declared.trace.Trace.{Trace}
 use Rattle.hand_records.specs.AllowedNotes.{name_written}
-use Rattle.canon_script.specs.CanonScript.{canonical_script}
+use Rattle.play_event.specs.CanonScript.{canonical_script}
 use Rattle.hand_records.specs.TraceRows.{core_said}
 use Rattle.phh_actions.specs.Written.{event_text}
 use Rattle.phh_writing.specs.Members.{Field}

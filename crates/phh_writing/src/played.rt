@@ -4,7 +4,7 @@ ghost use Rattle.std.specs.List.{list_all, list_any};
 ghost use Rattle.toml.specs.View.{table_view};
 ghost use Rattle.play_event.specs.Said.{said_of};
 ghost use Rattle.play_event.specs.ValidSetup.{IsValid};
-ghost use Rattle.canon_script.specs.Tidy.{IsTidy};
+ghost use Rattle.play_event.specs.Tidy.{IsTidy};
 ghost use Rattle.hand_records.specs.TraceRows.{core_said};
 ghost use Rattle.phh_actions.specs.Written.{event_text as text_said, has_words};
 ghost use Rattle.phh_writing.specs.Members.{put as put_said, put_if, with_fields};

@@ -3,8 +3,8 @@ use Rattle.std.proofs.Common.{◌≡◌, ◌≢◌, ℕ, ◌+◌, ◌≤◌, ◌
 use Rattle.std.specs.List.{list_any}
 use Rattle.std.proofs.lemmas.Bool.{or_parts, le-leb}
 use Rattle.std.proofs.Math.Bool.{or_comm}
-use Rattle.list_laws.proofs.Numbers.{different_number, eq_true_both}
-use Rattle.list_laws.proofs.Tests.{and_false, false_true}
+use Rattle.card_set.proofs.Numbers.{different_number, eq_true_both}
+use Rattle.card_set.proofs.Tests.{and_false, false_true}
 use Rattle.card_set.specs.declared.card.Slot.{Slot}
 use Rattle.card_set.specs.declared.card.Slot.TheVariants as slots
 use Rattle.card_set.specs.Deck.{deck_place}

@@ -3,7 +3,7 @@ use Rattle.std.proofs.Common.{None, Option, Some, ap, arith, inl, inr, refl, suc
 use Rattle.std.specs.Option.{option_map}
 use Rattle.play_event.specs.declared.reason.Due.{Due}
 use Rattle.play_event.specs.Due.{first_due, found_or}
-use Rattle.list_laws.proofs.Options.{some_is_none}
+use Rattle.card_set.proofs.Options.{some_is_none}
 use Rattle.std.proofs.lemmas.Bool.{cases_lt}
 
 -- if nothing is found, nothing is due on any of the streets

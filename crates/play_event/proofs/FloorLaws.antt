@@ -5,8 +5,8 @@ use Rattle.std.specs.List.{list_any, range_with_len}
 use Rattle.std.proofs.lemmas.Bool.{and_parts, cases_lt, eq-eqb, eqb-true, le-leb, leb-true, ltb-false, ltb-true, not-false, or_cases, or_left, or_right}
 use Rattle.std.proofs.lemmas.List.Folds.{list_any-append}
 use Rattle.std.proofs.lemmas.Option.{same_Some}
-use Rattle.list_laws.proofs.Options.{some_is_none}
-use Rattle.list_laws.proofs.Tests.{false_true, holds_by_both}
+use Rattle.card_set.proofs.Options.{some_is_none}
+use Rattle.card_set.proofs.Tests.{false_true, holds_by_both}
 use Rattle.chip_ledger.specs.Greatest.{greatest}
 use Rattle.play_event.specs.declared.code.Code.{Code}
 use Rattle.play_event.specs.declared.code.Code.TheVariants as games
@@ -46,8 +46,8 @@ use Rattle.play_event.proofs.PlayerToActLaws.{player_to_act_can_act, found_in_tu
 use Rattle.play_event.proofs.ReasonLaws.{no_reason_holds}
 use Rattle.play_event.proofs.StreetLaws.{due_is_first}
 use Rattle.play_event.proofs.TargetLaws.{greatest_is_legal}
-use Rattle.list_laws.proofs.NumbersOfRange.{any_in_range}
-use Rattle.list_laws.proofs.Finding.{found_among}
+use Rattle.card_set.proofs.NumbersOfRange.{any_in_range}
+use Rattle.card_set.proofs.Finding.{found_among}
 
 -- the greatest of some numbers, if each is bounded by another or by one bound
 greatest_within : (f g : ℕ → ℕ) (bound : ℕ) → ((x : ℕ) → g x ≤ max (f x) bound) → (xs : List ℕ) → greatest (map g xs) ≤ max (greatest (map f xs)) bound

@@ -2,8 +2,8 @@
 -- known; so they make no two known cards clash.
 use Rattle.std.proofs.Common.{◌≡◌, ℕ, zero, suc, Bool, true, false, ◌&&◌, ◌||◌, not, inl, inr, ◌⊎◌, Option, Some, None, is_none, List, [], ◌∷◌, map, refl, sym, ◌∙◌, ap, subst, if◌then◌else◌}
 use Rattle.std.proofs.lemmas.Bool.{and_parts, and_from}
-use Rattle.list_laws.proofs.Options.{is_none_none}
-use Rattle.list_laws.proofs.Tests.{either_still, both_known, false_true}
+use Rattle.card_set.proofs.Options.{is_none_none}
+use Rattle.card_set.proofs.Tests.{either_still, both_known, false_true}
 use Rattle.card_set.specs.declared.card.Card.{Card}
 use Rattle.card_set.specs.declared.card.Slot.{Slot}
 use Rattle.card_set.specs.declared.card.Slot.TheVariants as slots

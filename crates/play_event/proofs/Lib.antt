@@ -21,3 +21,5 @@ pub mod DealingLaws
 pub mod SaidSoFar
 pub mod Sizes
 pub mod TracedMoves
+-- What holds of the events of a canonical script.
+pub mod Deals

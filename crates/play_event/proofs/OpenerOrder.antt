@@ -8,7 +8,7 @@ use Rattle.card_set.specs.UpCards.{up_high_class, low_class}
 use Rattle.play_event.specs.declared.limit.Opener.{Opener}
 use Rattle.play_event.specs.declared.limit.Opener.TheVariants.{Blinds, LowUp, HighUp}
 use Rattle.play_event.specs.Openers.{is_lower, is_opener_before, card_stands, razz_place}
-use Rattle.list_laws.proofs.Numbers.{less_trans}
+use Rattle.card_set.proofs.Numbers.{less_trans}
 
 -- lists of heights
 lower_not : (xs : List ℕ) → is_lower xs xs ≡ false

@@ -11,8 +11,8 @@ use Rattle.play_event.specs.PackedReading.{event_at}
 use Rattle.play_event.specs.Said.{Numbered, numbered}
 use Rattle.play_event.specs.PackedScript.{PackedScript}
 use Rattle.play_event.specs.PackedOnce.{event_again, event_same, events_same}
-use Rattle.list_laws.proofs.Entries.{drop_first}
-use Rattle.list_laws.proofs.Lists.{not_past}
+use Rattle.card_set.proofs.Entries.{drop_first}
+use Rattle.card_set.proofs.Lists.{not_past}
 
 -- if bytes are the packed form of events, these are the events of the bytes
 pub events_are : (bytes : List ℕ) (script : PackedScript bytes) (events : List Event) → AreEvents events → bytes ≡ packed_events events → script.events ≡ events

@@ -1,7 +1,7 @@
 -- The player to act has a move to make, and so is live with chips left.
 use Rattle.std.proofs.Common.{◌≡◌, ℕ, Bool, true, false, Option, Some, None, List, find, sym, ap, nat_lt, nat_le, ◌||◌, if◌then◌else◌}
 use Rattle.std.proofs.lemmas.Bool.{and_parts}
-use Rattle.list_laws.proofs.Options.{some_is_none}
+use Rattle.card_set.proofs.Options.{some_is_none}
 use Rattle.play_event.specs.declared.setup.Setup.{Setup}
 use Rattle.play_event.specs.Streets.{opener_of}
 use Rattle.play_event.specs.Past.{Move, moves_on}
@@ -10,7 +10,7 @@ use Rattle.play_event.specs.CurrentBet.{to_call}
 use Rattle.play_event.specs.Due.{has_to_move, has_acted_since_raise}
 use Rattle.play_event.specs.Openers.{InTurn, NoSeat, TheSeat, Undecided, in_turn, UpCards, opener_by}
 use Rattle.play_event.specs.PlayerToAct.{player_to_act, first_in_turn, next_in_turn, seats_from}
-use Rattle.list_laws.proofs.Finding.{found_passes}
+use Rattle.card_set.proofs.Finding.{found_passes}
 
 seat_of : InTurn → Option ℕ
 seat_of NoSeat = None

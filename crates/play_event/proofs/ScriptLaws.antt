@@ -3,7 +3,7 @@ use Rattle.std.proofs.Common.{◌≡◌, ℕ, ◌+◌, ◌≤◌, ◌<◌, inl, 
 use Rattle.std.proofs.lemmas.Bool.{cases_lt}
 use Rattle.std.proofs.lemmas.List.{drop_more, drop_all, take_more, reverse-append, take_all}
 use Rattle.std.proofs.lemmas.Option.{slice_get_within, get_or_from_slice_get, slice_get-get_or, same_Some}
-use Rattle.list_laws.proofs.Options.{some_is_none}
+use Rattle.card_set.proofs.Options.{some_is_none}
 use Rattle.play_event.specs.declared.reason.Illegal.{Illegal}
 use Rattle.play_event.specs.declared.setup.Setup.{Setup}
 use Rattle.play_event.specs.declared.setup.Rules.{Rules}

@@ -11,8 +11,8 @@ use Rattle.chip_ledger.specs.RakeRow.{rake_of}
 use Rattle.chip_ledger.specs.Rakes.{HaveRakes, chips_in, less_rake, nets_of}
 use Rattle.chip_ledger.specs.Seat.{seats_of}
 use Rattle.chip_ledger.specs.SeatRow.{amount_of}
-use Rattle.list_laws.proofs.Any.{list_any-map, not_among_kept}
-use Rattle.list_laws.proofs.Sums.{sum_by-map, sum_by-plus, sum_by-same}
+use Rattle.card_set.proofs.Any.{list_any-map, not_among_kept}
+use Rattle.card_set.proofs.Sums.{sum_by-map, sum_by-plus, sum_by-same}
 use Rattle.chip_ledger.proofs.OneSeat.{passes_once, sum_of_one}
 use Rattle.chip_ledger.proofs.PotSums.{after_return_sum, stake_chips}
 use Rattle.chip_ledger.proofs.SolePot.{live_stakes, may_win-one_pot, one_pot, sole_pot}
@@ -22,7 +22,7 @@ use Rattle.play_event.specs.Chips.{chips_left, chips_put}
 use Rattle.play_event.specs.CurrentBet.{all_chips_put}
 use Rattle.play_event.specs.Seats.{all_seats, is_live, live_count}
 use Rattle.play_event.specs.Stakes.{counted_put, dead_antes_of, pots_after, returned_after, shares_by_folds, stack_by_folds, stake_after, stakes_after}
-use Rattle.list_laws.proofs.Tests.{if_same}
+use Rattle.card_set.proofs.Tests.{if_same}
 
 -- as many stakes are live as seats
 live_stakes-after : (setup : Setup) (moves : List Move) → live_stakes (stakes_after setup moves) ≡ live_count setup moves

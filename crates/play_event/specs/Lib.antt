@@ -1,3 +1,5 @@
+-- What is said of a hand, how it is packed, the rules of play, traces and canonical scripts.
+
 -- What a notation says of a hand, how it is packed, and the rules of play.
 pub mod Code
 pub mod Games
@@ -40,3 +42,9 @@ pub mod HistoryRules
 pub mod Rows
 pub mod Laws
 pub mod Ranges
+-- What a trace keeps of a hand except its shares, its canonical script, and scripts played to their
+-- end.
+pub mod TraceCore
+pub mod CanonScript
+pub mod PlayedScript
+pub mod Tidy

@@ -3,7 +3,7 @@ use Rattle.std.proofs.Common.{◌≡◌, ℕ, true}
 use Rattle.play_event.specs.declared.reason.Due.{Due}
 use Rattle.play_event.specs.declared.setup.Setup.{Setup}
 use Rattle.play_event.specs.Past.{Past, moves_of}
-use Rattle.list_laws.proofs.Tests.{false_true}
+use Rattle.card_set.proofs.Tests.{false_true}
 use Rattle.play_laws.proofs.DueAtEvents.{IsDue, deal, draw, bring, move}
 use Rattle.play_laws.proofs.MovesLaw.{IsBetDue, bring_first, move_now}
 use Rattle.play_event.specs.TurnTargets.{is_bet_due}

@@ -10,13 +10,13 @@ use Rattle.play_event.specs.Seats.{can_act, all_seats, able_count}
 use Rattle.play_event.specs.CurrentBet.{current_bet, to_call}
 use Rattle.chip_ledger.specs.Greatest.{greatest}
 use Rattle.play_event.specs.Due.{has_to_move, has_acted_since_raise, is_move_due, is_bring_in_due, has_opened_betting}
-use Rattle.list_laws.proofs.Tests.{and_group, false_true}
+use Rattle.card_set.proofs.Tests.{and_group, false_true}
 use Rattle.play_laws.proofs.DueAtEvents.{IsNotDue}
 use Rattle.play_laws.proofs.SettledStreets.{deal_still, draw_still, is_discard_on}
-use Rattle.list_laws.proofs.Any.{none_still}
+use Rattle.card_set.proofs.Any.{none_still}
 use Rattle.play_event.proofs.StillAble.{able_still}
-use Rattle.list_laws.proofs.Counting.{counts_fewer}
-use Rattle.list_laws.proofs.Numbers.{two_still}
+use Rattle.card_set.proofs.Counting.{counts_fewer}
+use Rattle.card_set.proofs.Numbers.{two_still}
 
 -- no move increases the number of seats that can act
 pub able_fewer : (setup : Setup) (move : Move) (moves : List Move) → able_count setup (move ∷ moves) ≤ able_count setup moves

@@ -19,7 +19,7 @@ use Rattle.play_event.specs.Table.{places_of}
 use Rattle.play_event.specs.Taken.{may_repeat, is_gone_before, is_one_card}
 use Rattle.play_event.specs.Scripts.{with_event, past_of}
 use Rattle.play_event.specs.Laws.{IsAmong, AreLegal, NoneClash}
-use Rattle.list_laws.proofs.Tests.{and_swap, false_true}
+use Rattle.card_set.proofs.Tests.{and_swap, false_true}
 use Rattle.play_event.proofs.SafePlaces.{none_clash}
 use Rattle.play_laws.specs.PastLaws.{PastLaw}
 use Rattle.play_laws.proofs.DueAtEvents.{Reaches, turn_reaches}

@@ -8,13 +8,13 @@ use Rattle.play_event.specs.Streets.{has_draw}
 use Rattle.play_event.specs.Past.{Past, Resolved, Move, Dealt, Boarded, Moved, Discarded, Shown, Mucked, moves_of, newest_street, street_of, is_fold, moves_before}
 use Rattle.play_event.specs.Seats.{is_live, all_seats, live_count}
 use Rattle.play_event.specs.Dealing.{is_deal_due, is_draw_due, hole_cards_dealt, board_cards_dealt, hole_cards_owed, board_cards_owed, cards_owed, replacements_owed, has_drawn, next_to_draw}
-use Rattle.list_laws.proofs.Tests.{false_true}
+use Rattle.card_set.proofs.Tests.{false_true}
 use Rattle.play_laws.specs.PastLaws.{AreReached, has_move, PastLaw, DoneLaw, is_played_on}
 use Rattle.play_laws.proofs.DueAtEvents.{Reaches, IsNotDue, not_due}
 use Rattle.play_laws.proofs.LegalEvents.{Stepped, deals, boards, moves, discards, shows, mucks}
-use Rattle.list_laws.proofs.NumbersOfRange.{at_range, find_none}
+use Rattle.card_set.proofs.NumbersOfRange.{at_range, find_none}
 use Rattle.play_event.proofs.StillAble.{still_live}
-use Rattle.list_laws.proofs.Counting.{counts_fewer}
+use Rattle.card_set.proofs.Counting.{counts_fewer}
 
 -- an event takes place on the street of the turn
 pub on_street : (setup : Setup) (before : Past) (at : ℕ) (event : Resolved) → Stepped setup before at event → street_of event ≡ at

@@ -18,7 +18,7 @@ use Rattle.play_event.specs.Reasons.{why, is_due_kind}
 use Rattle.play_event.specs.Scripts.{with_event, past_of, resolved_on}
 use Rattle.play_event.specs.Laws.{AreLegal}
 use Rattle.play_event.proofs.ReasonLaws.{no_reason_holds}
-use Rattle.list_laws.proofs.Tests.{false_true}
+use Rattle.card_set.proofs.Tests.{false_true}
 use Rattle.play_laws.specs.PastLaws.{PastLaw, DoneLaw, is_played_on}
 use Rattle.play_laws.proofs.DueAtEvents.{Reaches, IsNotDue, turn_reaches}
 use Rattle.play_laws.proofs.LegalEvents.{Stepped, stepped}

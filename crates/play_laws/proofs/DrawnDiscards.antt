@@ -13,7 +13,7 @@ use Rattle.play_event.specs.Places.{Place, is_same_owner, is_in_group, is_past_d
 use Rattle.play_event.specs.Naming.{after_discard, after_show, other_names, blanks_in, is_covered, is_show_of_all}
 use Rattle.play_event.specs.Table.{places_of}
 use Rattle.play_event.specs.Laws.{IsAmong}
-use Rattle.list_laws.proofs.Tests.{false_true}
+use Rattle.card_set.proofs.Tests.{false_true}
 use Rattle.play_event.proofs.ClashLaws.{among_append}
 use Rattle.std.proofs.lemmas.Option.{same_Some}
 use Rattle.play_laws.specs.LegalPlaces.{has_owner_folded}

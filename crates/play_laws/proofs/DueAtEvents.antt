@@ -9,7 +9,7 @@ use Rattle.play_event.specs.Past.{Past, moves_of, newest_street}
 use Rattle.play_event.specs.Seats.{live_count}
 use Rattle.play_event.specs.Dealing.{is_deal_due, is_draw_due}
 use Rattle.play_event.specs.Due.{turn, due_on, first_due, found_or, showdown, is_bring_in_due, is_move_due, is_unfinished}
-use Rattle.list_laws.proofs.Options.{some_is_none}
+use Rattle.card_set.proofs.Options.{some_is_none}
 use Rattle.std.proofs.lemmas.Option.{same_Some}
 use Rattle.play_event.proofs.StreetLaws.{street_found, due_is_first}
 use Rattle.play_event.proofs.DueStreets.{none_found}

@@ -21,7 +21,7 @@ use Rattle.play_event.specs.PlayerToAct.{player_to_act, player_to_act_after, fir
 use Rattle.play_event.specs.Places.{Place, is_same_owner, is_held_by, is_up}
 use Rattle.play_event.specs.Table.{places_of, up_cards}
 use Rattle.play_event.specs.Laws.{IsAmong}
-use Rattle.list_laws.proofs.Tests.{false_true}
+use Rattle.card_set.proofs.Tests.{false_true}
 use Rattle.play_laws.specs.LegalPlaces.{has_owner_folded}
 use Rattle.play_laws.specs.PastLaws.{has_move, PastLaw}
 use Rattle.play_laws.proofs.LegalPlaces.{PlacesOf}
@@ -29,8 +29,8 @@ use Rattle.play_laws.proofs.PlayerToActUps.{SameUps, player_to_act_same}
 use Rattle.play_laws.proofs.MovesLaw.{is_up_by, ups_by, IsPlayerToAct, free, shown}
 use Rattle.play_laws.proofs.DrawnDiscards.{out_drawn}
 use Rattle.play_event.proofs.OwnerLaws.{is_same_owner-true}
-use Rattle.list_laws.proofs.Options.{none_some}
-use Rattle.list_laws.proofs.NumbersOfRange.{none_kept_passes}
+use Rattle.card_set.proofs.Options.{none_some}
+use Rattle.card_set.proofs.NumbersOfRange.{none_kept_passes}
 
 -- if somebody has moved on the street, the moves alone decide whose turn it is
 some_on : (street : ℕ) (list : List Move) → has_move street list ≡ true → (first : Move) × ((rest : List Move) × (moves_on street list ≡ first ∷ rest))

@@ -20,7 +20,7 @@ use Rattle.play_event.specs.Places.{Place}
 use Rattle.play_event.specs.Reasons.{why, is_due_kind}
 use Rattle.play_event.specs.Scripts.{with_event, past_of, resolved_on, resolved_by}
 use Rattle.play_event.specs.Laws.{AreLegal}
-use Rattle.list_laws.proofs.Tests.{and_group, false_true}
+use Rattle.card_set.proofs.Tests.{and_group, false_true}
 use Rattle.play_event.proofs.ReasonLaws.{no_reason_holds}
 use Rattle.play_laws.specs.PastLaws.{has_move}
 use Rattle.play_laws.proofs.ClosedBetting.{able_fewer, other_moves}
@@ -33,7 +33,7 @@ use Rattle.play_laws.proofs.DonePasts.{several_now}
 use Rattle.play_laws.proofs.FittingSteps.{HavePlayersToAct, FitsIf, fit_move, moves_step}
 use Rattle.play_laws.proofs.PlayersToAct.{player_to_act_found}
 use Rattle.play_event.proofs.FloorLaws.{may_come_by}
-use Rattle.list_laws.proofs.Any.{any_from_length, list_any-weaker}
+use Rattle.card_set.proofs.Any.{any_from_length, list_any-weaker}
 
 -- a bring-in is due only before any move of the first street
 record IsBring (setup : Setup) (list : List Move) (street : ℕ) : Type 0 where

@@ -20,7 +20,7 @@ use Rattle.play_event.specs.Table.{places_of, up_cards}
 use Rattle.play_event.specs.Reasons.{why, is_due_kind}
 use Rattle.play_event.specs.Scripts.{with_event, past_of, resolved_on, resolved_by}
 use Rattle.play_event.specs.Laws.{AreLegal, NoneHold}
-use Rattle.list_laws.proofs.Tests.{false_true}
+use Rattle.card_set.proofs.Tests.{false_true}
 use Rattle.play_laws.specs.PastLaws.{AreReached, has_move, PastLaw}
 use Rattle.play_laws.proofs.LegalPlaces.{legal_past}
 use Rattle.play_laws.proofs.DueAtEvents.{Reaches, turn_reaches, unfinished_due}

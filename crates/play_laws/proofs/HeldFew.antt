@@ -19,7 +19,7 @@ use Rattle.play_event.specs.Laws.{AreLegal, IsAmong}
 use Rattle.play_laws.proofs.LegalPlaces.{legal_past, group_count, LegalPast}
 use Rattle.play_laws.proofs.DonePasts.{legal_done}
 use Rattle.play_laws.proofs.DiscardCounts.{is_out_of, out_counts}
-use Rattle.list_laws.proofs.Tests.{false_true, one_if}
+use Rattle.card_set.proofs.Tests.{false_true, one_if}
 
 -- the hole cards of the first streets
 unfoldable pub first_holes : List Street → ℕ → ℕ

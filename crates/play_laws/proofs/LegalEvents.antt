@@ -21,10 +21,10 @@ use Rattle.play_event.specs.CardReasons.{is_seat, is_wrong_deal, may_show, is_no
 use Rattle.play_event.specs.Reasons.{why, is_due_kind}
 use Rattle.play_event.specs.Scripts.{resolved_on}
 use Rattle.play_event.proofs.ReasonLaws.{no_reason_holds}
-use Rattle.list_laws.proofs.Tests.{false_true, first_holds}
+use Rattle.card_set.proofs.Tests.{false_true, first_holds}
 use Rattle.play_laws.proofs.DueAtEvents.{IsDue, deal, draw, bring, move, unfinished_due}
 use Rattle.play_event.proofs.FloorLaws.{may_come_by, bet_unfinished}
-use Rattle.list_laws.proofs.Options.{next_number}
+use Rattle.card_set.proofs.Options.{next_number}
 use Rattle.play_event.specs.TurnTargets.{is_bet_due}
 
 -- what an event implies, by its kind

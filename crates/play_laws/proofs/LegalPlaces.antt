@@ -22,7 +22,7 @@ use Rattle.play_event.specs.Table.{places_of}
 use Rattle.play_event.specs.CardReasons.{is_seat}
 use Rattle.play_event.specs.Scripts.{with_event, past_of}
 use Rattle.play_event.specs.Laws.{IsAmong, AreLegal}
-use Rattle.list_laws.proofs.Tests.{false_true, if_and_swap}
+use Rattle.card_set.proofs.Tests.{false_true, if_and_swap}
 use Rattle.play_laws.specs.LegalPlaces.{has_owner_folded, PlacesLaw}
 use Rattle.play_laws.proofs.PlaceChanges.{IsChange, AreChanged}
 use Rattle.play_laws.specs.PastLaws.{AreReached, has_move, PastLaw}

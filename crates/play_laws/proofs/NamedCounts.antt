@@ -12,7 +12,7 @@ use Rattle.play_event.specs.Naming.{without, other_names, is_named, found_by, af
 use Rattle.play_event.specs.Taken.{is_one_card}
 use Rattle.play_event.specs.CardReasons.{has_no_place}
 use Rattle.play_event.specs.Laws.{IsAmong}
-use Rattle.list_laws.proofs.Tests.{false_true, one_if}
+use Rattle.card_set.proofs.Tests.{false_true, one_if}
 
 -- no later place has the card of an earlier one
 abbrev pub AllApart : List Place → Type 0

@@ -24,7 +24,7 @@ use Rattle.play_event.specs.Reasons.{why, first_reason, is_over, is_due_kind}
 use Rattle.play_event.specs.Scripts.{resolved_by}
 use Rattle.play_event.specs.Laws.{NoneHold}
 use Rattle.play_laws.proofs.MoveKinds.{IsMoveSaid, alike_kind, bring_said, brings, call_said, calls, fold_said, folds, raise_said, raises}
-use Rattle.list_laws.proofs.Numbers.{not_other}
+use Rattle.card_set.proofs.Numbers.{not_other}
 
 -- the seat that a move names
 abbrev pub named_in : Said → Option ℕ

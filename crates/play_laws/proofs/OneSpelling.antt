@@ -20,7 +20,7 @@ use Rattle.play_event.specs.declared.setup.Setup.{Setup}
 use Rattle.play_laws.specs.Spellings.{in_turn_after, target_after, with_actor}
 use Rattle.play_laws.proofs.MoveKinds.{AreAlike, IsMoveSaid, alike_kind, bring_said, brings, call_said, calls, fold_said, folds, raise_said, raises}
 use Rattle.play_laws.proofs.NamedMoves.{named_in, why_move}
-use Rattle.list_laws.proofs.Numbers.{not_other}
+use Rattle.card_set.proofs.Numbers.{not_other}
 
 -- why a move is illegal, by whether its kind may come and whether it names another seat
 abbrev refused : Setup → Rules → List Move → ℕ × Due → InTurn → Said → Bool → Bool → Option Illegal

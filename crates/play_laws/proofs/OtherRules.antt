@@ -25,7 +25,7 @@ use Rattle.play_event.specs.declared.setup.Rules.{Rules}
 use Rattle.play_event.specs.declared.setup.Setup.{Setup}
 use Rattle.play_event.proofs.FloorLaws.{within_full_raise}
 use Rattle.play_event.proofs.ReasonLaws.{none_found, none_hold}
-use Rattle.list_laws.proofs.Tests.{false_true}
+use Rattle.card_set.proofs.Tests.{false_true}
 use Rattle.play_laws.specs.Spellings.{in_turn_after}
 use Rattle.play_laws.proofs.MoveKinds.{fold_said, raise_said}
 use Rattle.play_laws.proofs.NamedMoves.{move_reasons, why_move}

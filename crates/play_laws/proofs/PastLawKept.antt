@@ -13,7 +13,7 @@ use Rattle.play_laws.proofs.DueAtEvents.{Reaches, not_due}
 use Rattle.play_laws.proofs.LegalEvents.{Stepped, deals, boards, moves, discards, shows, mucks}
 use Rattle.play_laws.proofs.SettledStreets.{deal_still, draw_still, is_discard_on, replaced_still, none_owed}
 use Rattle.std.specs.Option.{is_some}
-use Rattle.list_laws.proofs.NumbersOfRange.{found_in_range}
+use Rattle.card_set.proofs.NumbersOfRange.{found_in_range}
 
 -- on a street other than that of the turn no seat is owed cards for its discards
 pub owed_elsewhere : (setup : Setup) (before : Past) (at street seat : ℕ) → PastLaw setup before → Reaches setup before at → 1 ≤ seat → seat ≤ setup.stacks.seats → street ≢ at → replacements_owed before street seat ≡ 0

@@ -15,7 +15,7 @@ use Rattle.play_event.specs.Places.{Place, is_same_owner, is_in_group, is_past_d
 use Rattle.play_event.specs.Naming.{after_names, after_discard, after_show, other_names, blanks_in, is_covered, is_show_of_all, found_by, is_named}
 use Rattle.play_event.specs.Table.{places_of}
 use Rattle.play_event.specs.Laws.{IsAmong}
-use Rattle.list_laws.proofs.Tests.{false_true}
+use Rattle.card_set.proofs.Tests.{false_true}
 use Rattle.play_event.proofs.ClashLaws.{among_append}
 use Rattle.play_laws.specs.LegalPlaces.{OutFirst, UnknownsFirst}
 use Rattle.play_laws.specs.PastLaws.{PastLaw}

@@ -19,7 +19,7 @@ use Rattle.play_event.specs.Places.{Place, is_in_group, is_same_owner, after_fol
 use Rattle.play_event.specs.Naming.{after_discard, after_show, other_names, blanks_in, is_covered, is_show_of_all}
 use Rattle.play_event.specs.Table.{places_of}
 use Rattle.play_event.specs.Laws.{IsAmong}
-use Rattle.list_laws.proofs.Tests.{false_true}
+use Rattle.card_set.proofs.Tests.{false_true}
 use Rattle.play_event.proofs.StreetLaws.{street_found}
 use Rattle.play_laws.specs.LegalPlaces.{has_owner_folded}
 use Rattle.play_laws.specs.PastLaws.{has_move, PastLaw, DoneLaw, AreReached}
@@ -33,7 +33,7 @@ use Rattle.play_laws.proofs.DiscardCounts.{is_out_of}
 use Rattle.play_event.proofs.OwnerLaws.{is_same_owner-true}
 use Rattle.std.proofs.lemmas.List.{length-map}
 use Rattle.play_event.proofs.DueStreets.{none_found}
-use Rattle.list_laws.proofs.Counting.{some_gone}
+use Rattle.card_set.proofs.Counting.{some_gone}
 
 -- a script is unfinished if something is due on a street
 due_open : (setup : Setup) (before : Past) (street : ℕ) (due : Due) → IsDue setup before street due → is_unfinished due ≡ true

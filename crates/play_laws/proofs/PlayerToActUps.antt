@@ -11,7 +11,7 @@ use Rattle.play_event.specs.Due.{has_to_move}
 use Rattle.play_event.specs.Openers.{Undecided, in_turn, UpCards, opener_by, able_seats, up_cards_opener, has_unknown_up_card, is_opener_before}
 use Rattle.card_set.specs.Known.{known_cards, is_unknown}
 use Rattle.play_event.specs.PlayerToAct.{player_to_act, first_in_turn, next_in_turn}
-use Rattle.list_laws.proofs.NumbersOfRange.{any_same, find_same}
+use Rattle.card_set.proofs.NumbersOfRange.{any_same, find_same}
 
 -- two rows of up-cards are the same for seats that can act
 abbrev pub SameUps : Setup → List Move → UpCards → UpCards → Type 0

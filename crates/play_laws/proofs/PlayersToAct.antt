@@ -14,10 +14,10 @@ use Rattle.play_event.specs.Due.{has_to_move, has_acted_since_raise}
 use Rattle.play_event.specs.Openers.{InTurn, NoSeat, TheSeat, Undecided, in_turn, UpCards, opener_by, up_cards_opener, has_unknown_up_card, able_seats, is_opener_before}
 use Rattle.card_set.specs.Known.{known_cards}
 use Rattle.play_event.specs.PlayerToAct.{player_to_act, seats_from, next_in_turn, first_in_turn}
-use Rattle.list_laws.proofs.Tests.{false_true}
-use Rattle.list_laws.proofs.Options.{some_is_none}
+use Rattle.card_set.proofs.Tests.{false_true}
+use Rattle.card_set.proofs.Options.{some_is_none}
 use Rattle.play_laws.proofs.SeatRanges.{any_seat}
-use Rattle.list_laws.proofs.NumbersOfRange.{some_in_range}
+use Rattle.card_set.proofs.NumbersOfRange.{some_in_range}
 use Rattle.play_event.proofs.OpenerOrder.{opens_not, opens_trans}
 
 -- so some seat has none before it

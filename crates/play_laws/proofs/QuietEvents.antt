@@ -11,13 +11,13 @@ use Rattle.play_event.specs.Seats.{is_live, is_fold_of}
 use Rattle.play_event.specs.Places.{Place, is_same_owner, is_held_by, folded_place, gone_now, after_fold}
 use Rattle.play_event.specs.Naming.{found_by, after_names, discarded_now, is_named}
 use Rattle.play_event.specs.Laws.{IsAmong}
-use Rattle.list_laws.proofs.Tests.{false_true}
+use Rattle.card_set.proofs.Tests.{false_true}
 use Rattle.play_event.proofs.Kept.{held_is_there}
 use Rattle.play_laws.specs.LegalPlaces.{has_owner_folded, PlacesLaw}
 use Rattle.play_laws.proofs.PlaceChanges.{HowGone, stays, out, folds, IsChange, AreChanged}
 use Rattle.play_laws.proofs.KeptPlaces.{change_law}
 use Rattle.play_event.proofs.OwnerLaws.{is_same_owner-true}
-use Rattle.list_laws.proofs.Options.{some_or_none}
+use Rattle.card_set.proofs.Options.{some_or_none}
 
 -- who has folded has folded after one more move
 pub folded_first : (move : Move) (moves : List Move) (owner : Option ℕ) → has_owner_folded moves owner ≡ true → has_owner_folded (move ∷ moves) owner ≡ true

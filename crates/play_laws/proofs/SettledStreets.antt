@@ -8,11 +8,11 @@ use Rattle.play_event.specs.Streets.{has_draw}
 use Rattle.play_event.specs.Past.{Past, Resolved, Move, Dealt, Boarded, Moved, Discarded, Shown, Mucked, moves_of, is_fold}
 use Rattle.play_event.specs.Seats.{is_live, all_seats}
 use Rattle.play_event.specs.Dealing.{is_deal_due, is_draw_due, hole_cards_dealt, has_drawn, hole_cards_owed, board_cards_owed, replacements_owed, next_to_draw}
-use Rattle.list_laws.proofs.Tests.{false_true, if_not_both}
-use Rattle.list_laws.proofs.Any.{none_still}
-use Rattle.list_laws.proofs.Finding.{none_found_still}
-use Rattle.list_laws.proofs.NumbersOfRange.{at_range}
-use Rattle.list_laws.proofs.Numbers.{none_below}
+use Rattle.card_set.proofs.Tests.{false_true, if_not_both}
+use Rattle.card_set.proofs.Any.{none_still}
+use Rattle.card_set.proofs.Finding.{none_found_still}
+use Rattle.card_set.proofs.NumbersOfRange.{at_range}
+use Rattle.card_set.proofs.Numbers.{none_below}
 
 -- hole cards owed do not increase
 owed_less : (folded before : Bool) (owed : ℕ) → (if not (folded || before) then owed else 0) ≤ (if not before then owed else 0)

@@ -7,7 +7,7 @@ use Rattle.card_set.specs.Known.{is_unknown}
 use Rattle.play_event.specs.Places.{Place}
 use Rattle.play_event.specs.Naming.{found_by, after_names, discarded_now, is_named}
 use Rattle.play_event.specs.Laws.{IsAmong}
-use Rattle.list_laws.proofs.Tests.{false_true}
+use Rattle.card_set.proofs.Tests.{false_true}
 use Rattle.play_laws.specs.LegalPlaces.{OutFirst, UnknownsFirst}
 
 -- a place after the names: unchanged, or covered and discarded, or known

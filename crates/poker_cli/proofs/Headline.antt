@@ -1,8 +1,8 @@
 -- How a conversion ends follows from the answer to its input.
 use Rattle.std.proofs.Common.{◌≡◌, ◌⊎◌, ℕ, ◌≤◌, List, length, Option, Some, None, IfSome, refl, sym, subst, ap, inl, inr, arith}
 use Rattle.std.specs.Option.{option_map}
-use Rattle.acpc_text.specs.declared.fault.AcpcFault.{AcpcFault}
-use Rattle.acpc_text.specs.declared.fault.AcpcFault.TheVariants as in_acpc
+use Rattle.acpc_game.specs.declared.fault.AcpcFault.{AcpcFault}
+use Rattle.acpc_game.specs.declared.fault.AcpcFault.TheVariants as in_acpc
 use Rattle.command_words.specs.Words.{Load, Plain, Request, Under, Compare}
 use Rattle.command_words.specs.declared.request.Logs.TheVariants as logs_are
 use Rattle.poker_cli.specs.declared.task.Task.TheVariants as tasks
@@ -15,7 +15,7 @@ use Rattle.host_io.specs.Faults.{Rose}
 use Rattle.ohh_members.specs.declared.fault.MemberFaultKind.TheVariants as members
 use Rattle.ohh_reading.specs.Reading.{Wrong as WrongTree, NoText, InHand as InTree}
 use Rattle.ohh_reading.specs.Reading as in_ohh
-use Rattle.phh_fields.specs.declared.fault.FieldFaultKind.TheVariants as whats
+use Rattle.phh_reading.specs.declared.field_fault.FieldFaultKind.TheVariants as whats
 use Rattle.phh_reading.specs.Reading.{InHand, NoDocument, Wrong}
 use Rattle.phh_reading.specs.Reading as in_phh
 use Rattle.poker_cli.specs.Answer.{Answer, Files, IsAnswer, most_input, to_fault, to_wrong_acpc, to_wrong_ohh, to_wrong_phh}
@@ -34,7 +34,7 @@ use Rattle.poker_cli.specs.declared.task.Job.{Job}
 use Rattle.poker_cli.proofs.Answering.{where_told}
 use Rattle.poker_cli.proofs.LawfulFormats.{no_fault}
 use Rattle.poker_cli.proofs.OneAnswer.{in_way, legal_in_way, no_file_missing, no_missing}
-use Rattle.list_laws.proofs.Options.{some_more}
+use Rattle.card_set.proofs.Options.{some_more}
 
 -- the status of a fault of bytes is BadInput or Limit
 unfoldable pub IsUnread : Status → Type 0

@@ -4,14 +4,14 @@ use Rattle.std.specs.List.{AllByRecursion}
 use Rattle.acpc_reading.specs.RecordView.{rules_of}
 use Rattle.convert_core.proofs.LawfulNotations.{ReadNotation, WrittenNotation}
 use Rattle.convert_core.proofs.Conversions.{Converts, equal_outputs, output_again, same_answers}
-use Rattle.phh_format.proofs.OneForm as in_phh
-use Rattle.acpc_format.proofs.NoteFacts as facts_in_acpc
-use Rattle.acpc_format.proofs.OneForm as in_acpc
+use Rattle.convert_core.proofs.PhhOneForm as in_phh
+use Rattle.convert_core.proofs.AcpcNoteFacts as facts_in_acpc
+use Rattle.convert_core.proofs.AcpcOneForm as in_acpc
 use Rattle.hand_records.specs.SaidNotes.{SaidNotes, notes_of}
 use Rattle.convert_core.specs.SameAnswers.{AreSameAnswers}
 use Rattle.hand_records.specs.SameHands.{AreSameHand, AreSameHands, kept_notes}
-use Rattle.ohh_format.proofs.NoteFacts as facts_in_ohh
-use Rattle.ohh_format.proofs.OneForm as in_ohh
+use Rattle.convert_core.proofs.OhhNoteFacts as facts_in_ohh
+use Rattle.convert_core.proofs.OhhOneForm as in_ohh
 use Rattle.poker_cli.specs.RunTells.{told_by}
 use Rattle.convert_core.specs.Conversion.{ReadAsPlays}
 use Rattle.convert_core.specs.PhhAlike as alike_in_phh

@@ -58,7 +58,7 @@ use Rattle.chip_ledger.specs.declared.numbers.Seat.{Seat}
 use Rattle.poker_cli.specs.Replies.{AreViews}
 use Rattle.poker_cli.proofs.OneReply.{as_many, one_equity, one_options, one_view, same_sessions}
 use Rattle.poker_cli.proofs.OneJudgement.{same_judged}
-use Rattle.list_laws.proofs.NumbersOfRange.{map_agree}
+use Rattle.card_set.proofs.NumbersOfRange.{map_agree}
 use Rattle.chip_ledger.specs.SeatsSaid.{default_name}
 use Rattle.hand_records.specs.Plays.{hands_of}
 

@@ -4,8 +4,8 @@ use Rattle.std.specs.Option.{option_map}
 use Rattle.std.proofs.lemmas.Option.{same_Some}
 use Rattle.acpc_game.specs.GameFile.{GameSaid}
 use Rattle.acpc_game.specs.declared.game.Game.{Game}
-use Rattle.acpc_text.specs.declared.fault.AcpcFault.{AcpcFault}
-use Rattle.acpc_text.specs.declared.fault.AcpcFault.TheVariants as in_acpc
+use Rattle.acpc_game.specs.declared.fault.AcpcFault.{AcpcFault}
+use Rattle.acpc_game.specs.declared.fault.AcpcFault.TheVariants as in_acpc
 use Rattle.acpc_writing.specs.GameOf.{game_of}
 use Rattle.chip_ledger.specs.declared.numbers.Seat.{Seat}
 use Rattle.command_words.specs.declared.task.Question.{Question}
@@ -17,7 +17,7 @@ use Rattle.hand_records.specs.declared.trace.Play.{Play}
 use Rattle.hand_records.specs.declared.writing.Unspelled.{Unspelled}
 use Rattle.ohh_members.specs.declared.fault.MemberFaultKind.TheVariants as in_member
 use Rattle.ohh_reading.specs.Reading as in_ohh
-use Rattle.phh_fields.specs.declared.fault.FieldFaultKind.TheVariants as in_field
+use Rattle.phh_reading.specs.declared.field_fault.FieldFaultKind.TheVariants as in_field
 use Rattle.phh_reading.specs.Reading as in_phh
 use Rattle.poker_cli.specs.Answer.{Answer, IsAnswer, IsAnswerBy, IsAnswerOf, IsAnswerTo, IsComparedWith, IsComparison, IsJudgement, IsReply, IsWritten, to_fault, to_first_game, to_game, to_wrong_acpc, to_wrong_ohh, to_wrong_phh}
 use Rattle.poker_cli.specs.Answer as answers

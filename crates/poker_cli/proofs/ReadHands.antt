@@ -4,7 +4,7 @@ use Rattle.std.proofs.Common.{◌≡◌, ◌⊎◌, ℕ, ◌-◌, zero, suc, Boo
 use Rattle.std.specs.List.{AllByRecursion, list_any, slice_get}
 use Rattle.std.proofs.lemmas.List.Elements.{recursion_from_All}
 use Rattle.std.proofs.lemmas.Option.{same_Some}
-use Rattle.acpc_format.proofs.SetupsSame.{setups_same}
+use Rattle.convert_core.proofs.AcpcSetupsSame.{setups_same}
 use Rattle.acpc_game.specs.declared.game.Game.{Game}
 use Rattle.acpc_reading.specs.RecordView.{IsOfGame, IsSetupOf}
 use Rattle.acpc_writing.specs.PlayFacts.{play_conditions}

@@ -1,8 +1,8 @@
 -- The lines that are printed when a log or a game file cannot be read.
 use Rattle.std.specs.Prelude.{ℕ, List, ◌++◌, codes}
 use Rattle.std.specs.Fmt.{decimal}
-use Rattle.acpc_text.specs.declared.fault.AcpcFault.{AcpcFault}
-use Rattle.acpc_text.specs.declared.fault.AcpcFault.TheVariants as faults
+use Rattle.acpc_game.specs.declared.fault.AcpcFault.{AcpcFault}
+use Rattle.acpc_game.specs.declared.fault.AcpcFault.TheVariants as faults
 use Rattle.poker_cli.specs.Limits.{limit_line}
 use Rattle.poker_cli.specs.declared.status.Status.{Status}
 use Rattle.poker_cli.specs.declared.status.Status.TheVariants as statuses

@@ -6,8 +6,8 @@ use Rattle.acpc_game.specs.GameText.{game_text}
 use Rattle.acpc_game.specs.GameView.{game_in}
 use Rattle.acpc_game.specs.declared.game.Game.{Game}
 use Rattle.acpc_writing.specs.GameOf.{game_of}
-use Rattle.acpc_text.specs.declared.fault.AcpcFault.{AcpcFault}
-use Rattle.acpc_text.specs.declared.fault.AcpcFault.TheVariants as acpc_faults
+use Rattle.acpc_game.specs.declared.fault.AcpcFault.{AcpcFault}
+use Rattle.acpc_game.specs.declared.fault.AcpcFault.TheVariants as acpc_faults
 use Rattle.command_words.specs.Words.{Request, Load, Plain, Under, Compare, Sides, PlainSides, SidesUnder}
 use Rattle.command_words.specs.declared.notation.NotationName.{NotationName}
 use Rattle.command_words.specs.declared.notation.PlainNotation.{PlainNotation}

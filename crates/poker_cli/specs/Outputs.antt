@@ -1,7 +1,7 @@
 -- For each notation: how plays are written, the first fact that cannot be written, which notes are
 -- kept, when two files are the same, and what it means that bytes read back as plays.
 use Rattle.std.specs.Prelude.{◌≡◌, ℕ, List, Option}
-use Rattle.acpc_format.specs.KeptNotes.{kept_in_acpc}
+use Rattle.convert_core.specs.AcpcKeptNotes.{kept_in_acpc}
 use Rattle.acpc_writing.specs.Spelled as facts_in_acpc
 use Rattle.convert_core.specs.Phh as in_phh
 use Rattle.convert_core.specs.Acpc as in_acpc
@@ -13,10 +13,10 @@ use Rattle.hand_records.specs.declared.trace.Play.{Play}
 use Rattle.hand_records.specs.declared.writing.Keep.{Keep}
 use Rattle.hand_records.specs.declared.writing.Unspelled.{Unspelled}
 use Rattle.hand_records.specs.declared.writing.WriteRefusal.{WriteRefusal}
-use Rattle.ohh_format.specs.KeptNotes.{kept_in_ohh}
+use Rattle.convert_core.specs.OhhKeptNotes.{kept_in_ohh}
 use Rattle.ohh_writing.specs.Spelled as facts_in_ohh
-use Rattle.phh_format.specs.KeptNotes.{kept_in_phh}
-use Rattle.phh_format.specs.SameTables.{AreSameTable}
+use Rattle.convert_core.specs.PhhKeptNotes.{kept_in_phh}
+use Rattle.convert_core.specs.PhhSameTables.{AreSameTable}
 use Rattle.phh_writing.specs.Spelled as history_facts
 use Rattle.poker_cli.specs.Inputs.{HaveFault, ReadAsHands, SayRecords}
 use Rattle.poker_cli.specs.declared.task.Format.{Format}

@@ -1,8 +1,8 @@
 -- The line that is printed when an input in the Poker Hand History format cannot be read.
 use Rattle.std.specs.Prelude.{ℕ, List, ◌++◌, codes, Option, Some, None}
 use Rattle.std.specs.Fmt.{decimal}
-use Rattle.phh_fields.specs.declared.fault.FieldFaultKind.{FieldFaultKind}
-use Rattle.phh_fields.specs.declared.fault.FieldFaultKind.TheVariants as whats
+use Rattle.phh_reading.specs.declared.field_fault.FieldFaultKind.{FieldFaultKind}
+use Rattle.phh_reading.specs.declared.field_fault.FieldFaultKind.TheVariants as whats
 use Rattle.phh_reading.specs.Reading.{InHand, NoDocument, Wrong}
 use Rattle.poker_cli.specs.Limits.{limit_line}
 use Rattle.poker_cli.specs.declared.status.Status.{Status}

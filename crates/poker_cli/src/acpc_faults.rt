@@ -8,7 +8,7 @@ ghost use Rattle.poker_cli.specs.Told.{answer_told};
 use crate::answer::{Answer, refusal};
 use crate::limits::limit_line;
 use crate::status::Status;
-use acpc_text::AcpcFault;
+use acpc_game::AcpcFault;
 use card_set::Memory;
 use std::alloc::Global;
 

@@ -2,9 +2,9 @@
 ghost use Rattle.std.specs.Prelude.{◌≡◌, IfOk, string_bytes};
 ghost use Rattle.poker_cli.specs.Limits as limits;
 
-use canon_script::{MOST_MOVES, MOST_OTHER_EVENTS};
 use card_set::Memory;
 use first_fault::{MOST_FILE_MOVES, MOST_HANDS, MOST_TEXT_BYTES, Quantity};
+use play_event::{MOST_MOVES, MOST_OTHER_EVENTS};
 use std::alloc::Global;
 
 /// The line of a limit that the hands of a file pass.

@@ -4,7 +4,7 @@ use Rattle.std.proofs.lemmas.Bool.{cases_eq, eq-eqb, ne_eqb}
 use Rattle.std.proofs.lemmas.List.{append-nil}
 use Rattle.chip_ledger.specs.SeatRow.{amount_of}
 use Rattle.chip_ledger.specs.declared.seat_row.SeatRow.{SeatRow}
-use Rattle.canon_script.specs.CanonScript.{plain_move}
+use Rattle.play_event.specs.CanonScript.{plain_move}
 use Rattle.play_event.specs.Chips.{chips_put}
 use Rattle.play_event.specs.Past.{Move}
 use Rattle.play_event.specs.Played.{move_said}
@@ -12,7 +12,7 @@ use Rattle.play_event.specs.Trace.{TracedMove, traced_move, traced_moves}
 use Rattle.play_event.specs.declared.played.Move as rows
 use Rattle.play_event.specs.declared.setup.Setup.{Setup}
 use Rattle.printed_hands.specs.Steps.{HasPut}
-use Rattle.list_laws.proofs.Entries.{at_length}
+use Rattle.card_set.proofs.Entries.{at_length}
 use Rattle.play_event.proofs.TracedMoves.{as_many}
 
 -- the chips of the seat that moves, and those of another

@@ -1,7 +1,7 @@
 -- The past after each event of a script, and what the next event adds to it.
 use Rattle.std.proofs.Common.{◌≡◌, ℕ, zero, suc, ◌≤◌, Bool, true, false, List, [], ◌∷◌, ◌++◌, length, take, drop, reverse, map, refl, sym, ap, ◌∙◌, append_assoc, arith}
 use Rattle.std.proofs.lemmas.List.{reverse-append}
-use Rattle.canon_script.specs.PlayedScript.{is_move}
+use Rattle.play_event.specs.PlayedScript.{is_move}
 use Rattle.play_event.specs.Laws.{AreLegal}
 use Rattle.play_event.specs.Past as past
 use Rattle.play_event.specs.Past.{Move, Past, Resolved, moves_of}

@@ -4,9 +4,9 @@ use Rattle.std.specs.Option.{option_map}
 use Rattle.std.proofs.lemmas.List.{append-nil, length-map, length-reverse, length-take-le, take_all}
 use Rattle.std.proofs.lemmas.Option.{slice_get-map}
 use Rattle.chip_ledger.specs.declared.seat_row.SeatRow.{SeatRow}
-use Rattle.canon_script.specs.CanonScript.{move_named, plain_move}
-use Rattle.canon_script.specs.PlayedScript.{is_move}
-use Rattle.canon_script.specs.TraceCore.{TraceCore}
+use Rattle.play_event.specs.CanonScript.{move_named, plain_move}
+use Rattle.play_event.specs.PlayedScript.{is_move}
+use Rattle.play_event.specs.TraceCore.{TraceCore}
 use Rattle.hand_canon.specs.Sound.{IsSound}
 use Rattle.hand_records.specs.SoundRecord.{script_said}
 use Rattle.hand_records.specs.declared.trace.Play.{Play}
@@ -26,7 +26,7 @@ use Rattle.play_event.specs.declared.setup.Setup.{Setup}
 use Rattle.printed_hands.specs.Steps.{HasPut, MayAdd, chips_text, event_named, step_lines}
 use Rattle.printed_hands.proofs.Moves.{own_more, traced_here}
 use Rattle.printed_hands.proofs.Pasts.{all_are, by_move, later_than, legal_before, longer, on_cards, past_length}
-use Rattle.list_laws.proofs.Counting.{count_both}
+use Rattle.card_set.proofs.Counting.{count_both}
 use Rattle.play_event.proofs.SaidSoFar.{is_next, none_left, so_far}
 
 -- the past after this many events

@@ -5,7 +5,7 @@ use Rattle.std.specs.Fmt.{decimal}
 use Rattle.chip_ledger.specs.SeatRow.{amount_of}
 use Rattle.chip_ledger.specs.declared.seat_row.SeatRow.{SeatRow}
 use Rattle.chip_ledger.specs.declared.seat_row.TheConstants.{MOST_AMOUNT}
-use Rattle.canon_script.specs.CanonScript.{move_named}
+use Rattle.play_event.specs.CanonScript.{move_named}
 use Rattle.hand_records.specs.SoundRecord.{script_said}
 use Rattle.hand_records.specs.declared.trace.Play.{Play}
 use Rattle.phh_actions.specs.Written.{event_text}

@@ -1,6 +1,6 @@
 //! The chips of the seats during a hand: what each has put in, and what it has left.
 ghost use Rattle.std.specs.Prelude.{◌≡◌, ◌++◌, [], ◌∷◌, List, OnOk, string_bytes};
-ghost use Rattle.canon_script.specs.CanonScript.{plain_move};
+ghost use Rattle.play_event.specs.CanonScript.{plain_move};
 ghost use Rattle.play_event.specs.Past.{Move as PlainMove};
 ghost use Rattle.play_event.specs.Played.{move_said};
 ghost use Rattle.play_event.specs.ValidSetup.{IsValid};

@@ -1,8 +1,8 @@
 //! The lines of a hand, step by step: what each event did, and the chips of the seats after it.
 ghost use Rattle.std.specs.Prelude.{◌≡◌, ◌++◌, ◌∷◌, List, true, false, Some, OnOk, IsTrue, string_bytes};
 ghost use Rattle.std.specs.Fmt.{decimal};
-ghost use Rattle.canon_script.specs.CanonScript.{move_named, plain_move};
-ghost use Rattle.canon_script.specs.PlayedScript.{is_move as is_move_said};
+ghost use Rattle.play_event.specs.CanonScript.{move_named, plain_move};
+ghost use Rattle.play_event.specs.PlayedScript.{is_move as is_move_said};
 ghost use Rattle.hand_canon.specs.Sound.{IsSound};
 ghost use Rattle.phh_actions.specs.Written.{event_text as text_of_event, has_words};
 ghost use Rattle.play_event.specs.Past.{Move as PlainMove};

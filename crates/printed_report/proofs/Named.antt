@@ -6,8 +6,8 @@ use Rattle.std.proofs.lemmas.Bool.{eq-eqb, ne_eqb}
 use Rattle.std.proofs.lemmas.List.{map-append}
 use Rattle.std.proofs.lemmas.List.Elements.{filter-append}
 use Rattle.std.proofs.lemmas.List.Sums.{fold-append, sum_by-cons, sum_by-append}
-use Rattle.list_laws.proofs.Counting.{count_by-cons}
-use Rattle.name_index.specs.Names.{with_name}
+use Rattle.card_set.proofs.Counting.{count_by-cons}
+use Rattle.report_layout.specs.Names.{with_name}
 use Rattle.printed_report.specs.Report.{Hand, Seated, hands_with, name_line, names_of, net_of, seats_named, seats_of_all}
 use Rattle.printed_report.specs.Tallies.{row_names, tally_at, tally_line, with_hands, with_row, with_seat, with_seats}
 use Rattle.printed_report.specs.declared.tally.Tally.{Tally}

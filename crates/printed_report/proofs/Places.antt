@@ -8,11 +8,11 @@ use Rattle.std.proofs.lemmas.Bool.{eq-eqb, ne_eqb}
 use Rattle.std.proofs.lemmas.List.{length-map}
 use Rattle.std.proofs.lemmas.Option.{same_Some}
 use Rattle.indexmap.specs.IndexMap.{insert_entry, set_value_at}
-use Rattle.list_laws.proofs.Bytes.{same_bytes}
-use Rattle.name_index.specs.Indexed.{AreIndexed}
-use Rattle.name_index.specs.Names.{with_name}
-use Rattle.name_index.specs.declared.index.NameIndex.{NameIndex}
-use Rattle.name_index.proofs.Placed.{known_place, last_place, place_range}
+use Rattle.card_set.proofs.Bytes.{same_bytes}
+use Rattle.report_layout.specs.Indexed.{AreIndexed}
+use Rattle.report_layout.specs.Names.{with_name}
+use Rattle.report_layout.specs.declared.index.NameIndex.{NameIndex}
+use Rattle.report_layout.proofs.Placed.{known_place, last_place, place_range}
 use Rattle.printed_report.specs.Tallies.{AreNumbered, AreTallied, no_tally, row_names, rows_of, tally_at, tally_under}
 use Rattle.printed_report.specs.declared.tally.NamedTally.{NamedTally}
 use Rattle.printed_report.specs.declared.tally.Tally.{Tally}

@@ -4,12 +4,12 @@ use Rattle.std.specs.Cmp.Lexicographic.{bytes_decides}
 use Rattle.std.specs.List.{list_any}
 use Rattle.std.specs.Map.{lookup}
 use Rattle.indexmap.specs.IndexMap.{insert_entry}
-use Rattle.name_index.specs.Names.{with_name}
+use Rattle.report_layout.specs.Names.{with_name}
 use Rattle.printed_report.specs.Report.{Seated}
 use Rattle.printed_report.specs.Tallies.{no_tally, row_names, tally_at, with_row, with_seat}
 use Rattle.printed_report.specs.declared.tally.Tally.{Tally}
-use Rattle.list_laws.proofs.Bytes.{same_key}
-use Rattle.list_laws.proofs.Lists.{longer_either}
+use Rattle.card_set.proofs.Bytes.{same_key}
+use Rattle.card_set.proofs.Lists.{longer_either}
 
 found_or : (b : Bool) (tally other : Tally) (rest : Option Tally) → unwrap_or (cond b (Some tally) rest) other ≡ cond b tally (unwrap_or rest other)
 found_or true tally other rest = refl

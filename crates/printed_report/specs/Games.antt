@@ -7,7 +7,7 @@ use Rattle.play_event.specs.declared.code.Code.{Code}
 use Rattle.play_event.specs.Games.{all_games}
 use Rattle.printed_report.specs.Report.{Hand}
 use Rattle.printed_report.specs.declared.games.Sums.{Sums}
-use Rattle.text_columns.specs.Columns.{left_in, right_in}
+use Rattle.report_layout.specs.Columns.{left_in, right_in}
 
 -- a hand counts: it is of the game, or all games are wanted
 abbrev pub is_counted : Option Code → Hand → Bool

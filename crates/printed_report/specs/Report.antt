@@ -6,11 +6,11 @@ use Rattle.chip_ledger.specs.SeatRow.{amount_of}
 use Rattle.hand_canon.specs.Agreement.{pot_total_of}
 use Rattle.hand_records.specs.AllowedNotes.{name_written}
 use Rattle.hand_records.specs.declared.trace.Play.{Play}
-use Rattle.name_index.specs.Names.{with_name}
+use Rattle.report_layout.specs.Names.{with_name}
 use Rattle.play_event.specs.Code.{code_text}
 use Rattle.play_event.specs.Seats.{all_seats}
 use Rattle.play_event.specs.Games.{all_games}
-use Rattle.text_columns.specs.Columns.{left_in, right_in}
+use Rattle.report_layout.specs.Columns.{left_in, right_in}
 
 -- a seat of a hand: the name of its player, and the chips that it started and finished with
 pub record Seated : Type 0 where

@@ -4,8 +4,8 @@ use Rattle.std.specs.Map.{lookup}
 use Rattle.std.specs.Option.{option_map_or}
 use Rattle.indexmap.specs.IndexMap.{insert_entry}
 use Rattle.chip_ledger.specs.declared.seat_row.TheConstants.{MOST_AMOUNT}
-use Rattle.name_index.specs.Indexed.{AreIndexed}
-use Rattle.name_index.specs.declared.index.NameIndex.{NameIndex}
+use Rattle.report_layout.specs.Indexed.{AreIndexed}
+use Rattle.report_layout.specs.declared.index.NameIndex.{NameIndex}
 use Rattle.printed_report.specs.declared.tally.NamedTally.{NamedTally}
 use Rattle.printed_report.specs.declared.tally.Tally.{Tally}
 use Rattle.printed_report.specs.Report.{Hand, Seated, name_line}

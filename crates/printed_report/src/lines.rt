@@ -3,12 +3,12 @@ ghost use Rattle.std.specs.Prelude.{◌≡◌, ◌++◌, ◌-ℤ◌, pos, codes,
 ghost use Rattle.std.specs.Fmt.{decimal};
 ghost use Rattle.printed_report.specs.Report.{name_line};
 ghost use Rattle.printed_report.specs.Tallies.{IsWithin, MOST_SEATS};
-ghost use Rattle.text_columns.specs.Columns.{left_in, right_in};
+ghost use Rattle.report_layout.specs.Columns.{left_in, right_in};
 
 use crate::tally::Tally;
 use card_set::Memory;
+use report_layout::{push_left, push_number, push_right, push_signed};
 use std::alloc::Global;
-use text_columns::{push_left, push_number, push_right, push_signed};
 
 /// Appends the line of some hands: a title, their number, and the chips of their pots together.
 pub fn push_hands_line(

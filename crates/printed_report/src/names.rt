@@ -9,7 +9,7 @@ use chip_ledger::Seat;
 use first_fault::Text;
 use hand_records::{Play, name_of};
 use indexmap::IndexMap;
-use name_index::NameIndex;
+use report_layout::NameIndex;
 use std::alloc::Global;
 
 /// Tallies a seat of the hand with this number, from 1. Each name has its tally under its place,

@@ -15,7 +15,7 @@ use card_set::Memory;
 use chip_ledger::Seat;
 use hand_records::Play;
 use indexmap::IndexMap;
-use name_index::NameIndex;
+use report_layout::NameIndex;
 use std::alloc::Global;
 
 /// A report in progress: of each hand only what it adds to the report is kept.

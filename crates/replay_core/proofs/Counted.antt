@@ -13,7 +13,7 @@ use Rattle.play_event.specs.declared.setup.Setup.{Setup}
 use Rattle.play_event.specs.Past.{Move}
 use Rattle.play_event.specs.Stakes.{counted_put, stake_after, stakes_after}
 use Rattle.replay_core.specs.EndRows.{AreRowsOf}
-use Rattle.list_laws.proofs.NumbersOfRange.{map_agree, sum_agree}
+use Rattle.card_set.proofs.NumbersOfRange.{map_agree, sum_agree}
 use Rattle.chip_ledger.specs.declared.seat_row.TheConstants.{MOST_AMOUNT}
 use Rattle.chip_ledger.specs.declared.numbers.TheConstants.{MOST_CHIPS}
 

@@ -2,7 +2,7 @@
 -- left is its stack.
 use Rattle.std.proofs.Common.{◌≡◌, ℕ, ◌+◌, ◌≤◌, List, reverse, ap, ◌∙◌, arith}
 use Rattle.chip_ledger.specs.SeatRow.{amount_of}
-use Rattle.canon_script.specs.PlayedScript.{IsPlayed}
+use Rattle.play_event.specs.PlayedScript.{IsPlayed}
 use Rattle.play_event.specs.declared.setup.Rules.{Rules}
 use Rattle.play_event.specs.declared.setup.Setup.{Setup}
 use Rattle.play_event.specs.Chips.{chips_put}

@@ -9,10 +9,10 @@ use Rattle.chip_ledger.specs.Pots.{PlainPot}
 use Rattle.chip_ledger.specs.Rakes.{nets_from}
 use Rattle.chip_ledger.specs.SeatRow.{amount_of}
 use Rattle.canon_laws.proofs.SameCore.{plain_again}
-use Rattle.canon_script.specs.CanonScript.{plain_moves}
-use Rattle.canon_script.specs.PlayedScript.{IsWithinLimits, is_move}
-use Rattle.canon_script.specs.TraceCore.{TraceCore, core_of}
-use Rattle.list_laws.proofs.Sums.{sum_by-map}
+use Rattle.play_event.specs.CanonScript.{plain_moves}
+use Rattle.play_event.specs.PlayedScript.{IsWithinLimits, is_move}
+use Rattle.play_event.specs.TraceCore.{TraceCore, core_of}
+use Rattle.card_set.proofs.Sums.{sum_by-map}
 use Rattle.play_event.specs.declared.event.Event.{Event}
 use Rattle.play_event.specs.declared.setup.Setup.{Setup}
 use Rattle.play_event.specs.Chips.{chips_left}
@@ -23,7 +23,7 @@ use Rattle.play_event.specs.Trace.{TracedMove, TracedPlace}
 use Rattle.showdown_split.proofs.Flagged.{flagged_inside}
 use Rattle.replay_core.specs.Events.{said_by}
 use Rattle.replay_core.proofs.SameShowdown.{AreOfSeats}
-use Rattle.list_laws.proofs.Counting.{count_both}
+use Rattle.card_set.proofs.Counting.{count_both}
 
 -- cores are equal if their fields are
 pub same_core : (a b : TraceCore) → a.places ≡ b.places → a.moves ≡ b.moves → a.shown ≡ b.shown → a.mucked ≡ b.mucked → a.pots ≡ b.pots → a.returned ≡ b.returned → a ≡ b

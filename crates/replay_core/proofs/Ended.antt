@@ -12,7 +12,7 @@ use Rattle.chip_ledger.specs.LiveRow.{flag_of}
 use Rattle.chip_ledger.specs.SeatRow.{amount_of}
 use Rattle.deal_core.specs.Board.{board_cards}
 use Rattle.deal_core.specs.Standing as cards
-use Rattle.canon_script.specs.PlayedScript.{IsPlayed}
+use Rattle.play_event.specs.PlayedScript.{IsPlayed}
 use Rattle.replay_core.specs.Together.{StandTogether}
 use Rattle.play_event.specs.declared.hands.HandRow.{HandRow}
 use Rattle.play_event.specs.declared.code.Code.{Code}

@@ -23,8 +23,8 @@ use Rattle.betting_numbers.proofs.LegalCards.{card_kept, card_ended}
 use Rattle.card_places.specs.declared.card_state.CardState.{CardState}
 use Rattle.deal_core.specs.Standing.{IsNow}
 use Rattle.deal_core.specs.Standing as cards
-use Rattle.street_laws.specs.CardEvents.{is_card_said}
-use Rattle.street_laws.specs.Done.{is_done}
+use Rattle.play_laws.specs.CardEvents.{is_card_said}
+use Rattle.play_laws.specs.Done.{is_done}
 use Rattle.replay_core.specs.Together.{StandTogether, StandUpToDue}
 use Rattle.chip_ledger.specs.Seat.{IsSeatOf}
 

@@ -20,9 +20,9 @@ use Rattle.betting_numbers.specs.declared.betting_state.BettingState.{BettingSta
 use Rattle.card_places.specs.declared.card_state.CardState.{CardState}
 use Rattle.deal_core.specs.Standing.{StandsFor}
 use Rattle.deal_core.proofs.StandsMove.{move_kept}
-use Rattle.street_laws.specs.CardEvents.{is_card_said}
-use Rattle.street_laws.proofs.CardTurns.{moves_kept}
-use Rattle.street_laws.proofs.LegalCards.{card_resolved}
+use Rattle.play_laws.specs.CardEvents.{is_card_said}
+use Rattle.play_laws.proofs.CardTurns.{moves_kept}
+use Rattle.play_laws.proofs.LegalCards.{card_resolved}
 use Rattle.replay_core.specs.Told.{IsToldOf}
 
 -- an event that is not an event of cards takes place as a move

@@ -17,7 +17,7 @@ use Rattle.replay_core.specs.declared.fault.ReplayFault.{ReplayFault}
 use Rattle.replay_core.specs.declared.fault.ReplayFault.TheVariants as faults
 use Rattle.replay_core.specs.Events.{IsIllegalAt, said_by}
 use Rattle.replay_core.specs.Faults.{IsFaultOf, IsOutOfMemory}
-use Rattle.list_laws.proofs.Options.{some_is_none}
+use Rattle.card_set.proofs.Options.{some_is_none}
 
 -- if an event is there, its index is within the script
 is_there : (script : List Event) (index at : ℕ) (found : Option Event) → slice_get script index ≡ found → option_map (λ (e : Event). e.at) found ≡ Some at → index < length script

@@ -1,9 +1,9 @@
 -- What is wrong with a script that has no trace.
 use Rattle.std.specs.Prelude.{◌≡◌, ℕ, true, List, reverse, length, None, Some}
 use Rattle.chip_ledger.specs.Rakes.{first_rake_above}
-use Rattle.canon_script.specs.PlayedScript.{IsPlayed}
+use Rattle.play_event.specs.PlayedScript.{IsPlayed}
 use Rattle.hand_canon.specs.LegalHand.{showdown_in}
-use Rattle.canon_script.specs.TraceCore.{core_after}
+use Rattle.play_event.specs.TraceCore.{core_after}
 use Rattle.play_event.specs.declared.event.Event.{Event}
 use Rattle.play_event.specs.declared.setup.Rules.{Rules}
 use Rattle.play_event.specs.declared.setup.Setup.{Setup}

@@ -6,7 +6,7 @@ use Rattle.betting_numbers.specs.UpTo.{StandsUpTo}
 use Rattle.card_places.specs.declared.card_state.CardState.{CardState}
 use Rattle.deal_core.specs.Standing as cards
 use Rattle.play_event.specs.Past.{Past}
-use Rattle.street_laws.specs.Done.{is_done}
+use Rattle.play_laws.specs.Done.{is_done}
 
 -- Both describe the past, in one game and with the same seats.
 pub record StandTogether (b : BettingState) (t : CardState) (past : Past) : Type 0 where

@@ -4,7 +4,7 @@ ghost use Rattle.betting_numbers.specs.LegalMoves.{past_with, reason_after};
 ghost use Rattle.betting_core.specs.Kept.{IsSameHand};
 ghost use Rattle.replay_core.specs.Together.{StandTogether};
 ghost use Rattle.replay_core.specs.Told.{WhereTogether, moves_told};
-ghost use Rattle.canon_script.specs.PlayedScript.{IsPlayed, IsWithinLimits};
+ghost use Rattle.play_event.specs.PlayedScript.{IsPlayed, IsWithinLimits};
 ghost use Rattle.play_event.specs.Due as dues;
 ghost use Rattle.play_event.specs.Laws.{AreLegal};
 ghost use Rattle.play_event.specs.Played.{move_said};

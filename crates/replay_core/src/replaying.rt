@@ -1,9 +1,9 @@
 //! Replays a script under its setup and rules, to its trace.
 ghost use Rattle.std.specs.Prelude.{◌≡◌, IfErr, IfOk, OnOk};
 ghost use Rattle.hand_canon.specs.Agreement.{HasBoundedPots};
-ghost use Rattle.canon_script.specs.PlayedScript.{IsWithinLimits};
+ghost use Rattle.play_event.specs.PlayedScript.{IsWithinLimits};
 ghost use Rattle.hand_canon.specs.LegalHand.{IsLegalHand};
-ghost use Rattle.canon_script.specs.Tidy.{IsTidy};
+ghost use Rattle.play_event.specs.Tidy.{IsTidy};
 ghost use Rattle.hand_records.specs.TraceRows.{core_said};
 ghost use Rattle.hand_canon.specs.WholeTrace.{IsTraceOf};
 ghost use Rattle.play_event.specs.Scripts.{past_at_end};

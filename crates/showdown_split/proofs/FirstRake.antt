@@ -12,7 +12,7 @@ use Rattle.chip_ledger.specs.PotRow.{plain, plain_pots, pots_in}
 use Rattle.chip_ledger.specs.Pots.{PlainPot}
 use Rattle.chip_ledger.specs.RakeRow.{rake_of}
 use Rattle.chip_ledger.specs.Rakes.{HaveRakes, chips_in, first_rake_above}
-use Rattle.list_laws.proofs.NumbersOfRange.{find_nothing}
+use Rattle.card_set.proofs.NumbersOfRange.{find_nothing}
 
 -- the rake of a pot is more than its chips
 abbrev pub is_above : List PlainPot → RakeRow → ℕ → Bool

@@ -6,10 +6,10 @@ use Rattle.std.proofs.lemmas.List.Elements.{filter-append}
 use Rattle.std.proofs.lemmas.List.Folds.{list_any_at}
 use Rattle.std.proofs.lemmas.List.FromFn.{get_or-range_with_len, length-range_with_len}
 use Rattle.std.proofs.Math.Nat.{mul-suc, mul-zero}
-use Rattle.list_laws.proofs.Lists.{empty_from}
-use Rattle.list_laws.proofs.Ranges.{any_within}
-use Rattle.list_laws.proofs.Any.{none_passes, found_some, list_any-filter}
-use Rattle.list_laws.proofs.Tests.{same_test}
+use Rattle.card_set.proofs.Lists.{empty_from}
+use Rattle.card_set.proofs.Ranges.{any_within}
+use Rattle.card_set.proofs.Any.{none_passes, found_some, list_any-filter}
+use Rattle.card_set.proofs.Tests.{same_test}
 use Rattle.chip_ledger.specs.declared.live_row.LiveRow.{LiveRow}
 use Rattle.chip_ledger.specs.LiveRow.{flag_of, flagged}
 use Rattle.chip_ledger.specs.Seat.{seats_of}

@@ -2,7 +2,7 @@
 use Rattle.std.proofs.Common.{◌≡◌, ◌++◌, ℕ, Bool, true, false, IsTrue, List, Option, Some, None, ◌↔◌, inl, inr, refl, sym, ◌∙◌, ap}
 use Rattle.std.specs.Option.{is_some}
 use Rattle.std.proofs.lemmas.Bool.{true≢false}
-use Rattle.list_laws.proofs.Tests.{flip}
+use Rattle.card_set.proofs.Tests.{flip}
 use Rattle.card_set.specs.declared.card.Card.{Card}
 use Rattle.card_set.specs.Different.{AllDifferent}
 use Rattle.card_set.specs.declared.pick.Pick.{Pick}

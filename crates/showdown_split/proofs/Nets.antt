@@ -12,7 +12,7 @@ use Rattle.chip_ledger.specs.RakeRow.{rake_of}
 use Rattle.chip_ledger.specs.Rakes.{HaveRakes, chips_in, less_rake, nets_from, nets_of}
 use Rattle.chip_ledger.specs.SeatRow.{total_of}
 use Rattle.showdown_split.proofs.Splitting.{plain_more}
-use Rattle.list_laws.proofs.Lists.{same_first, same_rest}
+use Rattle.card_set.proofs.Lists.{same_first, same_rest}
 
 -- one more pot
 nets_push : (number : ℕ) (rakes : RakeRow) (pots : List PlainPot) (pot : PlainPot)

@@ -1,6 +1,6 @@
 -- The rules leave no choice of shares: two sharings of the same pots give each seat the same.
 use Rattle.std.proofs.Common.{◌≡◌, ℕ, zero, suc, ◌+◌, ◌-◌, ◌/◌, ◌≤◌, inl, inr, Bool, List, [], ◌∷◌, All, map, refl, sym, ap, ◌∙◌, arith}
-use Rattle.list_laws.proofs.Tests.{same_test}
+use Rattle.card_set.proofs.Tests.{same_test}
 use Rattle.chip_ledger.specs.declared.seat_row.SeatRow.{SeatRow}
 use Rattle.chip_ledger.specs.Pots.{PlainPot}
 use Rattle.chip_ledger.specs.SeatRow.{amount_of}

@@ -17,15 +17,15 @@ use Rattle.play_event.specs.Past.{Past}
 use Rattle.play_event.specs.Played.{move_said}
 use Rattle.play_event.specs.Stakes.{finishing_stack}
 use Rattle.hand_records.specs.declared.trace.Trace.{Trace}
-use Rattle.canon_script.specs.CanonScript.{plain_moves}
+use Rattle.play_event.specs.CanonScript.{plain_moves}
 use Rattle.hand_canon.specs.LegalHand.{showdown_in}
-use Rattle.canon_script.specs.TraceCore.{TraceCore, core_of}
+use Rattle.play_event.specs.TraceCore.{TraceCore, core_of}
 use Rattle.hand_records.specs.TraceRows.{core_said, place_said}
 use Rattle.hand_canon.specs.WholeTrace.{HasSeats, HasShares, IsTraceOf}
 use Rattle.trace_laws.proofs.Readings.{move_same, place_same}
 use Rattle.trace_laws.proofs.SameRows.{flags_same, pot_rows_same}
 use Rattle.trace_laws.proofs.OneSharing.{share_lists_same}
-use Rattle.list_laws.proofs.Lists.{lists_same}
+use Rattle.card_set.proofs.Lists.{lists_same}
 
 -- a trace of this setup and core: its rows have this many seats, and its shares follow the rules
 record IsWhole (setup : Setup) (core : TraceCore) (trace : Trace) : Type 0 where

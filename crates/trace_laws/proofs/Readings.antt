@@ -11,7 +11,7 @@ use Rattle.play_event.specs.Past.{Act, Folded, Called, Raised, BroughtIn}
 use Rattle.play_event.specs.Played.{IsPlace, act_said, move_said}
 use Rattle.play_event.specs.Trace.{TracedPlace}
 use Rattle.hand_records.specs.TraceRows.{place_said}
-use Rattle.list_laws.proofs.Options.{options_same}
+use Rattle.card_set.proofs.Options.{options_same}
 
 -- the act of a row, by its definition
 act_from : Act → rows.Act

@@ -3,10 +3,10 @@ use Rattle.std.proofs.Common.{◌≡◌, ◌↔◌, ℕ, List, subst, sym}
 use Rattle.play_event.specs.Said.{Said}
 use Rattle.play_event.specs.declared.setup.Rules.{Rules}
 use Rattle.play_event.specs.declared.setup.Setup.{Setup}
-use Rattle.canon_script.specs.TraceCore.{TraceCore, core_after}
-use Rattle.canon_script.specs.CanonScript.{canon_of}
+use Rattle.play_event.specs.TraceCore.{TraceCore, core_after}
+use Rattle.play_event.specs.CanonScript.{canon_of}
 use Rattle.canon_laws.proofs.Confluent.{confluent}
-use Rattle.canon_script.specs.PlayedScript.{IsPlayed}
+use Rattle.play_event.specs.PlayedScript.{IsPlayed}
 use Rattle.hand_canon.specs.LegalHand.{IsLegalHand, IsShareable}
 use Rattle.hand_canon.specs.WholeTrace.{HasShares}
 

@@ -4,7 +4,7 @@ use Rattle.std.specs.List.{list_any}
 use Rattle.std.specs.Option.{option_map_or}
 use Rattle.std.proofs.Math.Nat.{mul-one}
 use Rattle.std.proofs.lemmas.Bool.{cases_lt}
-use Rattle.list_laws.proofs.Sums.{sum_by-plus}
+use Rattle.card_set.proofs.Sums.{sum_by-plus}
 use Rattle.chip_ledger.specs.declared.pots.Pot.{Pot}
 use Rattle.chip_ledger.specs.declared.rakes.RakeRow.{RakeRow}
 use Rattle.chip_ledger.specs.declared.live_row.LiveRow.{LiveRow}
@@ -29,7 +29,7 @@ use Rattle.showdown_split.proofs.Flagged.{is_flagged-flag, length-flagged, sum_f
 use Rattle.showdown_split.proofs.Parts.{parts_total}
 use Rattle.hand_records.specs.declared.trace.Trace.{Trace}
 use Rattle.hand_canon.specs.LegalHand.{IsShareable, showdown_in}
-use Rattle.canon_script.specs.TraceCore.{core_of}
+use Rattle.play_event.specs.TraceCore.{core_of}
 use Rattle.hand_canon.specs.WholeTrace.{IsTraceOf}
 
 -- a seat that does not win has no part

@@ -1,7 +1,7 @@
 -- The pots of a whole trace and what is returned are all chips that were put in.
 use Rattle.std.proofs.Common.{◌≡◌, ◌+◌, List, map, sum, sum_by, sym, ap, ◌∙◌, arith}
 use Rattle.std.proofs.lemmas.List.Sums.{sum-map}
-use Rattle.list_laws.proofs.Sums.{sum_by-map}
+use Rattle.card_set.proofs.Sums.{sum_by-map}
 use Rattle.chip_ledger.specs.declared.pots.Pot.{Pot}
 use Rattle.chip_ledger.specs.PotRow.{plain, pots_in}
 use Rattle.chip_ledger.specs.Pots.{PlainPot, returned}

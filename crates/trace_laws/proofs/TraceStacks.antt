@@ -1,7 +1,7 @@
 -- The finishing stacks of a whole trace and its pots are the starting stacks and the shares.
 use Rattle.std.proofs.Common.{◌≡◌, ℕ, suc, ◌+◌, List, [], ◌∷◌, All, map, sum_by, ap, ◌∙◌, arith}
 use Rattle.std.proofs.lemmas.List.Sums.{sum-map, sum_by-cons}
-use Rattle.list_laws.proofs.Sums.{sum_by-none, sum_by-plus, sum_by-same}
+use Rattle.card_set.proofs.Sums.{sum_by-none, sum_by-plus, sum_by-same}
 use Rattle.chip_ledger.specs.declared.pots.Pot.{Pot}
 use Rattle.chip_ledger.specs.declared.seat_row.SeatRow.{SeatRow}
 use Rattle.chip_ledger.specs.PotRow.{plain_shares, pots_in, shares_in}

@@ -15,7 +15,7 @@ ghost use Rattle.play_event.specs.ValidSetup.{IsValid};
 ghost use Rattle.play_event.specs.declared.setup.Rules.{Rules};
 ghost use Rattle.play_event.specs.declared.setup.Setup.{Setup};
 ghost use Rattle.hand_canon.specs.LegalHand.{showdown_in};
-ghost use Rattle.canon_script.specs.TraceCore.{core_of};
+ghost use Rattle.play_event.specs.TraceCore.{core_of};
 ghost use Rattle.hand_canon.specs.WholeTrace.{IsTraceOf};
 ghost use Rattle.hand_records.specs.declared.trace.Trace.{Trace};
 ghost use Rattle.trace_laws.specs.Winners.{AllGoToBest};

@@ -11,7 +11,7 @@ use Rattle.play_event.specs.declared.limit.Opener.TheVariants.{Blinds, LowUp, Hi
 use Rattle.play_event.specs.Openers.{is_lower, is_opener_before, card_stands, razz_place}
 use Rattle.up_card_order.specs.Earliest.{is_as_high, is_as_low, opens_no_later}
 use Rattle.play_event.proofs.OpenerOrder.{lower_step, worse_trans}
-use Rattle.list_laws.proofs.Tests.{second_fails}
+use Rattle.card_set.proofs.Tests.{second_fails}
 
 -- a test by a number, and by more if the numbers are equal, that fails: the other number is less,
 -- or they are equal and more fails

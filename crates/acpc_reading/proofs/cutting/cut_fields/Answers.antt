@@ -1,5 +1,5 @@
 use Rattle.std.proofs.Common.{◌≡◌, ℕ, ◌+◌, List, ◌∷◌, ◌∙◌, length, ap, arith}
-use Rattle.acpc_text.specs.Parts.{parts_of}
+use Rattle.acpc_game.specs.Parts.{parts_of}
 use Rattle.acpc_reading.specs.Left.{len_left, parts_left}
 use Rattle.acpc_reading.proofs.SixFields.{sixth_colon}
 use Rattle.acpc_reading.proofs.cutting.cut_fields.Goals as goal

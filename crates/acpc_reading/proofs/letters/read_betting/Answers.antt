@@ -1,7 +1,7 @@
 use Rattle.std.proofs.Common.{rules, ◌≡◌, ◌∙◌, ◌+◌, ap, arith, length, refl}
 use Rattle.std.proofs.lemmas.List.{nil_from_length}
 use Rattle.std.proofs.lemmas.Result.{err_from_is_err_and}
-use Rattle.acpc_text.specs.Letters.{scan}
+use Rattle.acpc_game.specs.Letters.{scan}
 use Rattle.acpc_reading.specs.Betting.{bets_after, betting_said}
 use Rattle.acpc_reading.specs.Views.{bets_in}
 use Rattle.acpc_reading.proofs.EachLetter.{begins_bare, goes_on, ends, is_done}

@@ -1,5 +1,5 @@
 use Rattle.std.proofs.Common.{◌≡◌, ◌+◌, [], length}
-use Rattle.acpc_text.specs.Letters.{scan}
+use Rattle.acpc_game.specs.Letters.{scan}
 use Rattle.acpc_reading.specs.Betting.{bets_after, betting_said}
 use Rattle.acpc_reading.specs.Views.{bets_in}
 use Rattle.acpc_reading.proofs.letters.read_betting.Given as goal

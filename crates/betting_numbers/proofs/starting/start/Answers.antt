@@ -6,16 +6,16 @@ use Rattle.chip_ledger.specs.Seat.{seats_of}
 use Rattle.chip_ledger.specs.SeatRow.{amount_of}
 use Rattle.chip_ledger.proofs.SeatLists.{count_seats}
 use Rattle.chip_ledger.proofs.Seats.{map-seats}
-use Rattle.list_laws.proofs.Counting.{count_all}
+use Rattle.card_set.proofs.Counting.{count_all}
 use Rattle.play_event.specs.declared.setup.Setup.{Setup}
 use Rattle.play_event.specs.Chips.{blind_posted, posted}
 use Rattle.play_event.specs.Streets.{unit}
-use Rattle.street_laws.proofs.AtStart.{all_live, first_deal}
+use Rattle.play_laws.proofs.AtStart.{all_live, first_deal}
 use Rattle.betting_numbers.specs.Posting.{HasPosted}
 use Rattle.betting_numbers.specs.declared.starting.Posted.{Posted}
 use Rattle.betting_numbers.proofs.Posting.{bet_inside, blind_bet_at_start, put_within, sum_seats}
 use Rattle.betting_numbers.proofs.starting.start.Goals as goal
-use Rattle.street_laws.proofs.LiveSeats.{one_of_several}
+use Rattle.play_laws.proofs.LiveSeats.{one_of_several}
 
 -- all seats have posted
 all_posted : (setup : Setup) (count : ℕ) (p : Posted) → count ≡ setup.stacks.seats → HasPosted setup count p → HasPosted setup setup.stacks.seats p

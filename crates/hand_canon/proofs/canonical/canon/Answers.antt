@@ -5,13 +5,13 @@ use Rattle.std.proofs.lemmas.List.{length-map}
 use Rattle.chip_ledger.specs.Seat.{seats_of}
 use Rattle.play_event.specs.Games.{street_count}
 use Rattle.play_event.specs.Said.{Said, said_of}
-use Rattle.canon_script.specs.CanonScript.{canonical_script, deals_said, discards_said, moves_named, plain_moves, showdown_said, street_said}
+use Rattle.play_event.specs.CanonScript.{canonical_script, deals_said, discards_said, moves_named, plain_moves, showdown_said, street_said}
 use Rattle.hand_canon.specs.RowTests.{said_on}
 use Rattle.hand_records.specs.TraceRows.{core_said}
 use Rattle.hand_canon.specs.SaidSoFar.{words_of}
 use Rattle.hand_canon.proofs.MoveRows.{moves_are}
 use Rattle.hand_canon.proofs.OneByOne.{flat_more}
-use Rattle.list_laws.proofs.Lists.{same_behind, two_behind}
+use Rattle.card_set.proofs.Lists.{same_behind, two_behind}
 use Rattle.hand_canon.proofs.ShortScripts.{canon_short, numbers_are}
 use Rattle.hand_canon.proofs.StreetRows.{streets_few}
 use Rattle.hand_canon.proofs.canonical.canon.Goals as goal

@@ -2,7 +2,7 @@ use Rattle.std.proofs.Common.{◌≡◌, ◌-◌, ◌++◌, ◌∷◌, [], ◌�
 use Rattle.std.proofs.lemmas.List.{length-set}
 use Rattle.card_set.proofs.RowLaws.{row_length}
 use Rattle.card_set.specs.Row.{slots_of}
-use Rattle.list_laws.proofs.Entries.{at_index}
+use Rattle.card_set.proofs.Entries.{at_index}
 use Rattle.play_event.specs.Said.{kind_said}
 use Rattle.ohh_rounds.specs.Kept.{AreTold, IsToldOf}
 use Rattle.ohh_rounds.specs.Steps.{Dealt, IsFoldBy, LeavesFew, PlainActionEffect, PlainStep, dealt_in, folder, is_deal_to, is_fold_of, is_seat, plain_effect, plain_step}

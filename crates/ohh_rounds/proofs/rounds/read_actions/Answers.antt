@@ -3,7 +3,7 @@ use Rattle.std.proofs.lemmas.List.{map_push}
 use Rattle.std.proofs.lemmas.Result.{err_from_is_err_and}
 use Rattle.serde_json.specs.View.{view}
 use Rattle.first_fault.specs.Reading.{◌>>=◌, Fails}
-use Rattle.ohh_posts.specs.declared.post.ActionPlace.{ActionPlace}
+use Rattle.ohh_rounds.specs.declared.post.ActionPlace.{ActionPlace}
 use Rattle.ohh_rounds.specs.declared.hand_context.HandContext.{HandContext}
 use Rattle.ohh_rounds.specs.Actions.{step_said}
 use Rattle.ohh_rounds.specs.Rounds.{action_added, actions_said}

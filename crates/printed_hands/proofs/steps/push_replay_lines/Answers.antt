@@ -2,7 +2,7 @@
 use Rattle.std.proofs.Common.{◌≡◌, ◌+◌, ◌++◌, ◌∙◌, List, ℕ, map, sym, ap, subst, append_assoc, string_bytes, arith}
 use Rattle.std.proofs.lemmas.List.{length-map}
 use Rattle.std.proofs.lemmas.Option.{slice_get_within}
-use Rattle.list_laws.proofs.Results.{on_ok}
+use Rattle.card_set.proofs.Results.{on_ok}
 use Rattle.hand_records.specs.SoundRecord.{script_said}
 use Rattle.play_event.specs.Past.{moves_of}
 use Rattle.play_event.specs.Scripts.{past_at_end}

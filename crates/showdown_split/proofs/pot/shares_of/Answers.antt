@@ -4,7 +4,7 @@ use Rattle.std.proofs.Common.{◌≡◌, ◌≤◌, ◌*◌, ◌&&◌, ℕ, Bool
 use Rattle.std.specs.List.{list_any}
 use Rattle.std.proofs.lemmas.Bool.{and_from, le-leb, true≢false}
 use Rattle.std.proofs.Math.Nat.{mul-one}
-use Rattle.list_laws.proofs.Tests.{and_false}
+use Rattle.card_set.proofs.Tests.{and_false}
 use Rattle.chip_ledger.specs.LiveRow.{flag_of, flagged}
 use Rattle.chip_ledger.specs.PotRow.{plain}
 use Rattle.chip_ledger.specs.Seat.{seats_of}

@@ -1,6 +1,6 @@
 -- The numbers after the move stand for the past with the event, which is the past with the move.
 use Rattle.std.proofs.Common.{◌≡◌, ◌≤◌, ◌∙◌, ℕ, nat_le, List, ap, rules, subst, sym, arith}
-use Rattle.list_laws.proofs.Options.{some_more}
+use Rattle.card_set.proofs.Options.{some_more}
 use Rattle.play_event.specs.declared.code.Code.{Code}
 use Rattle.play_event.specs.declared.setup.Setup.{Setup}
 use Rattle.play_event.specs.Games.{street_count}

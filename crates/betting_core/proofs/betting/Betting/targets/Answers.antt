@@ -10,7 +10,7 @@ use Rattle.play_event.specs.PlayerToAct.{player_to_act}
 use Rattle.play_event.specs.Table.{up_cards}
 use Rattle.play_event.specs.TurnTargets.{AreTargets, has_targets_at, may_raise_now}
 use Rattle.betting_core.proofs.betting.Betting.targets.Goals as goal
-use Rattle.list_laws.proofs.Options.{some_more}
+use Rattle.card_set.proofs.Options.{some_more}
 use Rattle.chip_ledger.specs.SeatsSaid.{seat_said}
 
 pub returns-then-betting_due-clause-some : goal.returns-then-betting_due-clause-some

@@ -9,7 +9,7 @@ use Rattle.play_event.specs.Said.{kind_said}
 use Rattle.deal_core.proofs.Answers.{discard_answered}
 use Rattle.deal_core.proofs.Same.{of_itself, one_hand}
 use Rattle.deal_core.proofs.cards.Cards.discard.Goals as goal
-use Rattle.list_laws.proofs.Results.{if_err, on_ok}
+use Rattle.card_set.proofs.Results.{if_err, on_ok}
 
 pub returns-in-Over : goal.returns-in-Over
 returns-in-Over g c =

@@ -5,7 +5,7 @@ use Rattle.play_event.specs.Said.{kind_said}
 use Rattle.deal_core.proofs.Answers.{muck_answered, show_answered}
 use Rattle.deal_core.proofs.Same.{of_itself, one_hand}
 use Rattle.deal_core.proofs.cards.Cards.show.Goals as goal
-use Rattle.list_laws.proofs.Results.{if_err, on_ok}
+use Rattle.card_set.proofs.Results.{if_err, on_ok}
 
 pub returns-in-Some : goal.returns-in-Some
 returns-in-Some g c =

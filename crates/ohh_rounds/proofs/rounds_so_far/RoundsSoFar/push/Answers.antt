@@ -1,6 +1,6 @@
 use Rattle.std.proofs.Common.{◌∙◌, sym, ap, arith, map}
 use Rattle.std.proofs.lemmas.List.{map_push}
-use Rattle.list_laws.proofs.Counting.{count_by-push}
+use Rattle.card_set.proofs.Counting.{count_by-push}
 use Rattle.ohh_rounds.specs.Steps.{is_action, is_move_effect, is_other_effect, plain_effect, plain_step}
 use Rattle.ohh_rounds.proofs.OneStep.{counts_stay_few}
 use Rattle.ohh_rounds.proofs.rounds_so_far.RoundsSoFar.push.Goals as goal

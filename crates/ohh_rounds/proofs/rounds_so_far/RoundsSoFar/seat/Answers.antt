@@ -3,7 +3,7 @@ use Rattle.ohh_rounds.specs.Kept.{IsToldOf}
 use Rattle.ohh_rounds.specs.Steps.{plain_step}
 use Rattle.ohh_rounds.specs.declared.seat_so_far.SeatSoFar.{SeatSoFar}
 use Rattle.ohh_rounds.proofs.rounds_so_far.RoundsSoFar.seat.Goals as goal
-use Rattle.list_laws.proofs.Entries.{at_index}
+use Rattle.card_set.proofs.Entries.{at_index}
 
 pub returns : goal.returns
 returns c =

@@ -1,2 +1,0 @@
-//! The parts of a canonical script (deals, discards, moves, shows) are legal one after another.
-#![tactic(auto)]

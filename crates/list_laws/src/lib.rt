@@ -1,2 +1,0 @@
-//! Facts about lists, tests and numbers, of whatever kind: every crate may use them.
-#![tactic(auto)]
