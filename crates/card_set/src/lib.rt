@@ -1,4 +1,5 @@
-//! Playing cards, slots whose card may be unknown, rows of both, and their spelling.
+//! Playing cards, slots whose card may be unknown, rows of both, and their spelling. Below them are
+//! laws of lists, tests and numbers, whatever they stand for, which proofs of every crate may cite.
 #![tactic(auto)]
 
 mod card;
