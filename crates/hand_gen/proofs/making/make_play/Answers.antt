@@ -4,7 +4,7 @@ use Rattle.hand_canon.specs.LegalHand.{IsLegalHand}
 use Rattle.play_event.specs.declared.setup.Rules.{Rules}
 use Rattle.play_event.specs.Said.{said_of}
 use Rattle.replay_core.proofs.OneFault.{no_fault}
-use Rattle.hand_gen.specs.GeneratedHand.{IsMadeScript, source_of}
+use Rattle.hand_gen.specs.Made.{IsMadeScript, source_of}
 use Rattle.hand_gen.specs.HandSource.{HandSource, full_deck}
 use Rattle.hand_gen.specs.Setups.{number_behind_setup}
 use Rattle.hand_gen.proofs.RecordLaws.{none_allowed, same_source}
