@@ -12,13 +12,11 @@ use Rattle.play_event.specs.declared.reason.Due.TheVariants as dues
 use Rattle.play_event.specs.declared.reason.Illegal.{Illegal}
 use Rattle.play_event.specs.declared.reason.Illegal.TheVariants as reasons
 use Rattle.play_event.specs.Amounts.{bring_in_target}
-use Rattle.play_event.specs.Chips.{all_in}
 use Rattle.play_event.specs.Due.{turn}
 use Rattle.play_event.specs.Laws.{IsInTurn}
 use Rattle.play_event.specs.MoveReasons.{chips_to_call}
 use Rattle.play_event.specs.Openers.{TheSeat, Undecided}
 use Rattle.play_event.specs.Past.{Past, moves_of}
-use Rattle.play_event.specs.CurrentBet.{current_bet}
 use Rattle.play_event.specs.Said.{BringIn, Call, Fold}
 use Rattle.play_event.specs.Streets.{limit_of}
 use Rattle.play_event.specs.Targets.{is_legal_target}
@@ -27,13 +25,12 @@ use Rattle.play_laws.specs.Dues.{is_move}
 use Rattle.betting_numbers.specs.declared.betting_state.BettingState.{BettingState}
 use Rattle.betting_numbers.specs.declared.targeting.Targets.{Targets}
 use Rattle.betting_numbers.specs.LegalMoves.{IsTurn}
-use Rattle.betting_numbers.specs.Seen.{all_in_seen}
 use Rattle.betting_numbers.specs.Standing.{StandsFor}
 use Rattle.betting_numbers.specs.Targeted.{AreEndsFor}
 use Rattle.betting_numbers.specs.Why.{bring_in_seen, call_seen, fold_reason, now_reason}
-use Rattle.betting_numbers.proofs.Bridge.{all_in_is, current_bet_is}
+use Rattle.betting_numbers.proofs.Bridge.{all_in_is}
 use Rattle.betting_core.proofs.ToCall.{call_after, fold_after}
-use Rattle.betting_numbers.proofs.InTurn.{bring_in_moves, bring_in_refused, call_moves, call_now, fold_moves, fold_now}
+use Rattle.betting_numbers.proofs.InTurn.{bring_in_moves, bring_in_refused, call_moves, call_now, fold_now}
 use Rattle.hand_options.specs.declared.choices.RaiseSet.{RaiseSet}
 use Rattle.betting_numbers.specs.TurnSaid.{in_turn_on}
 use Rattle.hand_options.specs.Legal.{AreOptions, IsSetOf, bring_in_of, call_of, is_in_set, is_legal, is_legal_raise, seat_at, seat_in_turn, seat_known}
