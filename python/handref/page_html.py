@@ -10,21 +10,12 @@ from importlib import resources
 from typing import Any, Iterator, Optional, Sequence
 
 from handref import NotDone, messages
-from handref.cut import MOST_UNREAD, short, shown
+from handref.cut import GAMES, MOST_UNREAD, short, shown
 from handref.page_chart import session_part
 from handref.page_played import Hand, Page
 
 MOST_LISTED = 100  # hands that are there without JavaScript, event by event
 _BLOCK = 256  # hands that are packed together
-
-GAMES = {
-    "FT": "fixed-limit Texas hold'em", "NT": "no-limit Texas hold'em",
-    "NS": "no-limit short-deck hold'em", "PO": "pot-limit Omaha",
-    "FO/8": "fixed-limit Omaha eight-or-better", "F7S": "fixed-limit seven card stud",
-    "F7S/8": "fixed-limit stud eight-or-better", "FR": "fixed-limit razz",
-    "N2L1D": "no-limit deuce-to-seven single draw",
-    "F2L3D": "fixed-limit deuce-to-seven triple draw", "FB": "fixed-limit badugi"}
-
 
 def _told_of(error: NotDone) -> str:
     """What was said of a hand, without its number, which the page has beside it."""
