@@ -87,7 +87,7 @@ _VIEWER = """<section id="viewer" aria-label="a hand">
 <div class="bar"><button type="button" id="first">first</button>
 <button type="button" id="back">back</button>
 <input id="range" type="range" min="0" value="0" aria-label="event">
-<button type="button" id="on">on</button><button type="button" id="last">last</button></div>
+<button type="button" id="on">next</button><button type="button" id="last">last</button></div>
 <p id="said" aria-live="polite"></p><p id="now"></p>
 <p id="made-up" class="soft">What follows it in the file is not played.</p>
 <p class="soft keys">Keys: ← and → go through the events, Home and End go to the first and the
