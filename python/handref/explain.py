@@ -222,8 +222,8 @@ def _of_value(error: NotDone, notation: str, found: Spot) -> list[str]:
     if reason in ("ListLength", "SeatCount") and isinstance(value, list):
         return [f"{error.place} has {counted(len(value), 'item')}."]
     if reason == "BadAction":
-        return ["An action is one of: d dh pN CARDS, d db CARDS, pN f, pN cc, pN cbr AMOUNT, pN pb, "
-                "pN sd, pN sd CARDS, pN sm, pN sm CARDS."]
+        return ["An action is one of: d dh pN CARDS, d db CARDS, pN f, pN cc, pN cbr AMOUNT, "
+                "pN pb, pN sd, pN sd CARDS, pN sm, pN sm CARDS."]
     if value is None or isinstance(value, (dict, list)):
         return []
     kind = "a truth" if value is True or value is False else "a text" if isinstance(value, str) \

@@ -73,8 +73,8 @@ def _of_key(before: list[str], line: str) -> list[Fault]:
     at = line.index("=") + 1
     for word in re.finditer("[^ ]+", line[at:]):
         if not re.fullmatch("[0-9]+", word[0]):
-            return [(f"{shown(word[0])} is no number: numbers have digits alone, and spaces between "
-                     "them.", at + word.start(), len(word[0]))]
+            return [(f"{shown(word[0])} is no number: numbers have digits alone, and spaces "
+                     "between them.", at + word.start(), len(word[0]))]
     count, wanted = len(numbers.split()), _KEYS[name]
     if not count or wanted and count != wanted:
         needed = wanted or "one for each player"

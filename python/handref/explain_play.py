@@ -114,9 +114,8 @@ def _is_limit(found: Options) -> bool:
 
 
 def _meaning(notation: str) -> str:
-    return {"phh": "the chips of the street to which it goes",
-            "acpc": "the chips of the hand to which it goes",
-            "ohh": "the chips that it adds"}.get(notation, "the chips of the street to which it goes")
+    return {"acpc": "the chips of the hand to which it goes", "ohh": "the chips that it adds"}.get(
+        notation, "the chips of the street to which it goes")
 
 
 def _offset(hand: _Hand, seat: int) -> int:
@@ -161,7 +160,8 @@ def _other_dialect(hand: _Hand) -> list[str]:
 # Cards.
 
 def _of_cards(hand: _Hand, words: str) -> list[str]:
-    cards = re.findall(r"[2-9TJQKA][cdhs]|\?\?", re.sub(r'"player_id":[^,}]*|p\d+ |d[hb] ', "", words))
+    bare = re.sub(r'"player_id":[^,}]*|p\d+ |d[hb] ', "", words)
+    cards = re.findall(r"[2-9TJQKA][cdhs]|\?\?", bare)
     said: list[str] = []
     events = hand.steps[1:hand.stand_in.events + 1]
     if hand.refused.reason == "CardTaken":
@@ -178,7 +178,7 @@ def _of_cards(hand: _Hand, words: str) -> list[str]:
     if hand.refused.reason == "WrongCount":
         return [f"It names {len(cards)} card{'s' * (len(cards) != 1)}"
                 + (f"; {number} holds {' '.join(held)} then." if held else ".")]
-    return [f"{number} holds {' '.join(held)} there." if held else f"{number} holds no cards there."]
+    return [f"{number} holds {' '.join(held) or 'no cards'} there."]
 
 
 def _actor(hand: _Hand) -> Optional[str]:

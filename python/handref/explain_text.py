@@ -32,6 +32,9 @@ _WORDS = {
     "Invalid control character at": "a control character is inside a text: a line end is \\n there",
     "Extra data": "something follows the object: an empty line has to divide two hands"}
 
+# One half of a sign that JSON writes as two.
+_LONE = re.compile(r"(?<!\\)(?:\\\\)*(\\u[dD](?:[89abAB]..(?!\\u[dD][c-fC-F])|[c-fC-F]..))")
+
 
 def why(data: bytes, notation: str, hand: Optional[int] = None) -> Found:
     """Where such bytes are wrong, and what is wrong and can be done, sentence by sentence."""
@@ -101,7 +104,8 @@ def _of_toml(text: str) -> Found:
             first = toml.places_before(text).get(fault.key)
             if first:
                 line = text.count("\n", 0, first.key or first.start) + 1
-                said[0] = said[0][:-1] + f"; the first one is on line {line}. Leave one of them out."
+                said[0] = said[0][:-1] + f"; the first one is on line {line}."
+                said.append("Leave one of them out.")
         elif fault.kind == "backslash":
             said.append("Write each backslash twice, or put the text between single quotes, where "
                         "a backslash stands for itself.")
@@ -140,7 +144,7 @@ def fault_of_json(block: str) -> Optional[tuple[int, list[str]]]:
         return 0, ["Lists or objects are more than 127 deep in one another."]
     except ValueError as fault:
         return block.find(str(fault)), [f"{fault} is no value of JSON."]
-    lone = re.search(r"(?<!\\)(?:\\\\)*(\\u[dD](?:[89abAB]..(?!\\u[dD][c-fC-F])|[c-fC-F]..))", block)
+    lone = _LONE.search(block)
     if lone:
         return lone.start(1), ["This is one half of a sign that needs two."]
     return None

@@ -98,7 +98,8 @@ last; Shift with ← or → goes to another hand.</p></div>
 <th scope="col">In the words of replay</th><th class="chips" scope="col">Stacks</th>
 <th class="chips" scope="col">In</th></tr></thead><tbody id="steps"></tbody></table></div></div>
 <section id="equity"><h3>Equity by street</h3>
-<p class="soft">With the cards that are known at the end of the hand.</p><div class="wide"><table><thead><tr>
+<p class="soft">With the cards that are known at the end of the hand.</p>
+<div class="wide"><table><thead><tr>
 <th scope="col">Street</th><th scope="col">Seat</th><th class="number" scope="col">Wins</th>
 <th class="number" scope="col">Boards</th><th class="number" scope="col">Of</th></tr></thead>
 <tbody id="equity-rows"></tbody></table></div></section></div></section>"""

@@ -115,7 +115,7 @@ def _path_of_phh(error: NotDone) -> Path:
             return ("actions",)
         return (key, int(number.lstrip("p")) - 1)
     if error.status == 4:
-        return (_FACTS.get(error.reason or "", [error.note or "actions"])[0],)
+        return (_FACTS.get(error.reason or "", (error.note or "actions", ""))[0],)
     if number:
         return (kind, int(number) - 1)
     return (kind,)
@@ -161,7 +161,8 @@ def _path_of_ohh(error: NotDone, hand: dict[str, Any]) -> Path:
             return ("ohh", "pots", int(number) - 1, "rake")
         return _path_of_win(hand["ohh"], int(number[1:])) if kind == "win" else ("ohh", "pots")
     if error.status == 4:
-        return ("ohh", _FACTS.get(error.reason or "", ["", _NOTES.get(error.note or "", "rounds")])[1])
+        note = _NOTES.get(error.note or "", "rounds")
+        return ("ohh", _FACTS.get(error.reason or "", ("", note))[1])
     steps = re.findall(r"([^.\[\]]+)|\[(\d+)\]", error.place or "")
     return tuple(int(item) if item else key for key, item in steps)
 

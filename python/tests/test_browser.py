@@ -25,11 +25,17 @@ WALK = """<script>addEventListener("load", async () => {
   await wait();
   const count = document.querySelectorAll("#rows tr").length;
   press("Home");
-  while (document.getElementById("before").disabled === false) { press("ArrowLeft", true); await wait(); }
+  while (!document.getElementById("before").disabled) {
+    press("ArrowLeft", true);
+    await wait();
+  }
   for (let hand = 0; hand < count; hand += 1) {
     press("Home");
     const said = [text("said")];
-    while (!document.getElementById("last").disabled) { press("ArrowRight"); said.push(text("said")); }
+    while (!document.getElementById("last").disabled) {
+      press("ArrowRight");
+      said.push(text("said"));
+    }
     const wide = [...document.querySelectorAll("#table text.small, #table text.won")]
       .filter((each) => each.getComputedTextLength() > 160).length;
     found.push([text("hand-head"), said, wide]);
@@ -146,7 +152,8 @@ class Browser(Case):
         """Hostile names stay text: they add no element, and run nothing."""
         pairs = list(zip(NAMES[::2], NAMES[1::2]))
         hands = "\n\n".join(named(*pair) for pair in pairs).encode()
-        plain = "\n\n".join(named("A", "B") for _ in pairs).encode()
+        plain = "\n\n".join(named(f"A{place}", f"B{place}") for place, _ in enumerate(
+            pairs)).encode()
         for place in ("#hand-1", "#hand-3-event-2"):
             text = self.dump(hands, "ohh", place=place)
             other = self.dump(plain, "ohh", place=place)
@@ -158,7 +165,10 @@ class Browser(Case):
     def test_without_script(self):
         """Without JavaScript the hands are a list to read."""
         out = self.made(EXAMPLES / "all_in.phh", "phh")
-        text = self.opened(out, "", "--blink-settings=scriptEnabled=false")
+        text, count = re.subn("script-src '[^']*'", "script-src 'none'", out.read_text())
+        self.assertEqual(count, 1)
+        out.write_text(text)
+        text = self.opened(out)
         self.assertNotIn('class="live"', text)
         said = re.sub("<[^>]*>", " ", text[text.index('id="listed"'):])
         for line in self.lines((EXAMPLES / "all_in.phh").read_bytes(), "phh")[2:-3]:
