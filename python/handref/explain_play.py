@@ -5,7 +5,7 @@ from dataclasses import dataclass
 from typing import Any, Optional, Sequence
 
 import handref
-from handref import Game, NotDone, Options, Step
+from handref import Game, NotDone, Step
 from handref.before import StandIn, before, seats_of
 
 _WANTED = {"phh": "cbr", "acpc": "r"}  # what a raise is called, before its amount
@@ -99,8 +99,8 @@ def _of_raise(hand: _Hand) -> list[str]:
     amounts = [(low + more, high + more) for low, high in found.raises]
     word = _WANTED.get(hand.notation, "amount")
     gap = "" if hand.notation == "acpc" else " "
-    if hand.notation == "acpc" and _is_limit(found):
-        return ["The game has one amount, so that r stands without a number."]
+    if hand.notation == "acpc" and _is_limit(hand.game):
+        return ["In this game each raise has one amount, so r is written without a number."]
     least, greatest = (f"{word}{gap}{amount}" for amount in (amounts[0][0], amounts[-1][1]))
     meaning = _meaning(hand.notation)
     if least == greatest:
@@ -109,8 +109,8 @@ def _of_raise(hand: _Hand) -> list[str]:
             f"({meaning})."]
 
 
-def _is_limit(found: Options) -> bool:
-    return all(low == high for low, high in found.raises) and len(found.raises) == 1
+def _is_limit(game: Game) -> bool:
+    return game is not None and bool(re.search(rb"(?im)^limit\r?$", handref.read(game)))
 
 
 def _meaning(notation: str) -> str:
