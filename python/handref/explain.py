@@ -80,7 +80,7 @@ def printed(text: str) -> str:
     text = text.strip().split("\n")[0]
     found = _START.search(text)
     if not found:
-        raise ValueError(f"this is no line of the program: {shown(text)}")
+        raise ValueError(f"this is no line of the program: {text}")
     return re.sub(r" \(line \d+\)\Z", "", found[1])
 
 
@@ -283,5 +283,5 @@ def notation_of(path: str, notation: Optional[str]) -> str:
     """The notation that is said, or that of the end of a name. ValueError: there is none."""
     found = notation or cut.notation_of(path)
     if not found:
-        raise ValueError(f"{shown(path)}: no notation has this name; --from says which it is")
+        raise ValueError(f"{path}: no notation has this name; --from says which it is")
     return found
