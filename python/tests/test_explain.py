@@ -178,7 +178,7 @@ class Texts(Case):
                              (hand.replace('"', "'"), "double quotes"),
                              (hand.replace("}}", "},}"), "expected"),
                              (hand.replace('"A"', '"\\h"'), "no escape of JSON"),
-                             (hand.replace('"A"', "NaN"), "NaN is no value"),
+                             (hand.replace('"A"', "NaN"), "NaN is no number"),
                              (hand.replace('"A"', '"\\ud800"'), "one half of a sign"),
                              (hand.replace('"A"', '"A\nB"'), "control character"),
                              ("variant = 'NT'", "--from phh")):
