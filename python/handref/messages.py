@@ -79,6 +79,20 @@ def plain(text: str) -> str:
     return re.sub(r"\[([^\]]*)\]\([^)]*\)", r"\1", text).replace("`", "")
 
 
+def explained(error: handref.NotDone, notation: Optional[str] = None) -> str:
+    """What the document says of a call that is not done, after the name of what is wrong.
+    FileNotFoundError: the document is not here."""
+    said = said_of(error.status, error.line, notation)
+    if said is None:
+        return ""
+    if error.status == 7:
+        general = _first([part for part in parts() if part.status == 7])
+        return f"{general.text if general else ''} Here: {said.text}."
+    if said.names and error.reason and error.status in (1, 3, 4, 10, 14):
+        return f"{error.reason}: {said.text}"
+    return said.text
+
+
 def said_of(status: int, line: str, notation: Optional[str] = None) -> Optional[Said]:
     """The part of the document about a line, and None where it has none."""
     line = re.sub("^file: ", "", line)

@@ -56,7 +56,8 @@ def _chart(lines: dict[str, list[tuple[int, int]]], most: Sequence[str], count: 
         points = _thinned(lines[name], count)
         path = f"M{across(points[0][0])} {down(points[0][1])}" + "".join(
             f"H{across(place)}V{down(net)}" for place, net in points[1:]) + f"H{right}"
-        parts.append(f'<path class="line c{number}" d="{path}"><title>{html.escape(shown(name))}</title></path>')
+        parts.append(f'<path class="line c{number}" d="{path}">'
+                     f"<title>{html.escape(shown(name))}</title></path>")
         ends.append([down(lines[name][-1][1]) + 4, name])
     for height, name in _apart(ends):
         parts.append(f'<text x="{right + 6}" y="{height}">{html.escape(short(shown(name)))}</text>')
@@ -112,7 +113,7 @@ def _rows_of(made: Page, lines: dict[str, list[tuple[int, int]]], most: Sequence
         swatch = f'<svg class="swatch" viewBox="0 0 36 12" aria-hidden="true"><path class="c' \
             f'{most.index(name)}" d="M0 6H36"/></svg>' if name in most else ""
         cells = "".join(f'<td class="number">{spaced(each)}</td>' for each in numbers)
-        parts.append(f'<tr><td>{swatch}</td><th scope="row"><bdi>{html.escape(shown(name))}</bdi></th>{cells}'
-                     "</tr>")
+        parts.append(f'<tr><td>{swatch}</td><th scope="row"><bdi>{html.escape(shown(name))}</bdi>'
+                     f"</th>{cells}</tr>")
     told = f"<p>{len(rows) - 200} other names are left out.</p>" if len(rows) > 200 else ""
     return "".join(parts) + f"</tbody></table></div>{told}"

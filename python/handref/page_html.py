@@ -9,22 +9,14 @@ from dataclasses import replace
 from importlib import resources
 from typing import Any, Iterator, Optional, Sequence
 
+import handref
 from handref import NotDone, messages
-from handref.cut import MOST_UNREAD, short, shown
+from handref.cut import GAMES, MOST_UNREAD, short, shown
 from handref.page_chart import session_part
 from handref.page_played import Hand, Page
 
 MOST_LISTED = 100  # hands that are there without JavaScript, event by event
 _BLOCK = 256  # hands that are packed together
-
-GAMES = {
-    "FT": "fixed-limit Texas hold'em", "NT": "no-limit Texas hold'em",
-    "NS": "no-limit short-deck hold'em", "PO": "pot-limit Omaha",
-    "FO/8": "fixed-limit Omaha eight-or-better", "F7S": "fixed-limit seven card stud",
-    "F7S/8": "fixed-limit stud eight-or-better", "FR": "fixed-limit razz",
-    "N2L1D": "no-limit deuce-to-seven single draw",
-    "F2L3D": "fixed-limit deuce-to-seven triple draw", "FB": "fixed-limit badugi"}
-
 
 def _told_of(error: NotDone) -> str:
     """What was said of a hand, without its number, which the page has beside it."""
@@ -96,7 +88,7 @@ _VIEWER = """<section id="viewer" aria-label="a hand">
 <div class="bar"><button type="button" id="first">first</button>
 <button type="button" id="back">back</button>
 <input id="range" type="range" min="0" value="0" aria-label="event">
-<button type="button" id="on">on</button><button type="button" id="last">last</button></div>
+<button type="button" id="on">next</button><button type="button" id="last">last</button></div>
 <p id="said" aria-live="polite"></p><p id="now"></p>
 <p id="made-up" class="soft">What follows it in the file is not played.</p>
 <p class="soft keys">Keys: ← and → go through the events, Home and End go to the first and the
@@ -107,7 +99,8 @@ last; Shift with ← or → goes to another hand.</p></div>
 <th scope="col">In the words of replay</th><th class="chips" scope="col">Stacks</th>
 <th class="chips" scope="col">In</th></tr></thead><tbody id="steps"></tbody></table></div></div>
 <section id="equity"><h3>Equity by street</h3>
-<p class="soft">With the cards that are known at the end of the hand.</p><div class="wide"><table><thead><tr>
+<p class="soft">With the cards that are known at the end of the hand.</p>
+<div class="wide"><table><thead><tr>
 <th scope="col">Street</th><th scope="col">Seat</th><th class="number" scope="col">Wins</th>
 <th class="number" scope="col">Boards</th><th class="number" scope="col">Of</th></tr></thead>
 <tbody id="equity-rows"></tbody></table></div></section></div></section>"""
@@ -125,7 +118,7 @@ def _listed(made: Page) -> str:
     return "\n".join([*parts, "</section>"])
 
 
-def _hand_listed(hand: Hand, notation: str) -> str:
+def _hand_listed(hand: Hand, notation: handref.Notation) -> str:
     told, refused = hand.told, hand.refused
     game = GAMES.get(told.get("g", ""), "")
     parts = [f"<h3>Hand {hand.number}{': ' + html.escape(game) if game else ''}</h3>"]

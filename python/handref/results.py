@@ -87,7 +87,7 @@ def put_verdicts(rows: Rows, source: Source, told: Any, hands: int, legal: int, 
 
 def _put_verdict(rows: Rows, source: Source, hand: Optional[int], line: Optional[int],
                  error: Optional[handref.NotDone]) -> None:
-    row = {"file": source.name or source.path, **tables.verdict(hand, line, error)}
+    row: dict[str, tables.Value] = {"file": source.name or source.path, **tables.verdict(hand, line, error)}
     said = re.sub(r"^refused: hand \d+: ", "", error.line) if error else "legal"
     rows.put(row, f"{source.shown}: " + (f"hand {hand}: " if hand and (
         not error or error.status == 1) else "") + f"{said}\n")
@@ -139,7 +139,7 @@ class ReportSum:
         """Writes the sums."""
         games, names = self.found["game"], self.found["name"]
         total = [sum(each[0] for each in games.values()), sum(each[1] for each in games.values())]
-        listed = [("game", name, *sums) for name, sums in sorted(games.items())]
+        listed: list[Any] = [("game", name, *sums) for name, sums in sorted(games.items())]
         listed += [("total", None, *total)]
         listed += [("name", name, *sums) for name, sums in names.items()]
         for kind, name, hands, chips in listed:
@@ -173,7 +173,7 @@ class SessionSum:
     def put(self, rows: Rows) -> None:
         """Writes the rows of all names, and the rakes."""
         for name, numbers in self.found.items():
-            row = dict(zip(self.columns, ("name", name, *numbers)))
+            row: dict[str, tables.Value] = dict(zip(self.columns, ("name", name, *numbers)))
             text = "".join(f"{number:>20}" for number in numbers[:4]) + "".join(
                 f"{number:>8}" for number in numbers[4:])
             rows.put(row, f"{text}  {tables.escaped(name)}\n")

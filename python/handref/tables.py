@@ -66,7 +66,7 @@ def rows(command: Command, hands: Hands, notation: Notation, game: Game = None) 
 
 def frame(command: Command, hands: Hands, notation: Notation, game: Game = None) -> Any:
     """The same as a data frame of pandas. ImportError: pandas is not installed."""
-    import pandas
+    import pandas  # type: ignore[import,unused-ignore]
     found = pandas.DataFrame(rows(command, hands, notation, game), columns=list(COLUMNS[command]))
     texts = {"verdict", "reason", "place", "said", "kind", "name", "variant", "text"}
     return found.astype({name: "string" if name in texts else "Int64" for name in found.columns})

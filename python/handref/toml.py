@@ -37,8 +37,8 @@ _CLOCK = re.compile(rf"{_TIME}\Z")
 _ESCAPE = re.compile(r"\\(?:([btnfre\"\\])|x([0-9A-Fa-f]{2})|u([0-9A-Fa-f]{4})|U([0-9A-Fa-f]{8}))")
 _FOLD = re.compile(r"\\[ \t]*\r?\n(?:[ \t\n]|\r\n)*")
 # Lists of nothing but numbers, or of nothing but texts, are read at once.
-_NUMBERS = re.compile(r"\[[ \t\n]*(?:0|[1-9][0-9]{0,17})(?:[ \t\n]*,[ \t\n]*(?:0|[1-9][0-9]{0,17}))*"
-                      r"[ \t\n]*\]")
+_NUMBERS = re.compile(r"\[[ \t\n]*(?:0|[1-9][0-9]{0,17})"
+                      r"(?:[ \t\n]*,[ \t\n]*(?:0|[1-9][0-9]{0,17}))*[ \t\n]*\]")
 _TEXTS = re.compile(r'\[[ \t\n]*(?:"[^"\\\x00-\x1f\x7f]*"[ \t\n]*,[ \t\n]*)*'
                     r'(?:"[^"\\\x00-\x1f\x7f]*"[ \t\n]*)?\]')
 _SIGNS = {"b": "\b", "t": "\t", "n": "\n", "f": "\f", "r": "\r", "e": "\x1b", '"': '"', "\\": "\\"}

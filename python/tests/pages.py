@@ -15,6 +15,19 @@ import handref  # noqa: E402
 EXAMPLES = HERE.parent.parent / "examples"
 MATCH = EXAMPLES / "match.game"
 LOG = b"STATE:%d:r300f:9s8h|KdTc:-100|100:A|B\n"
+# Names that try to be markup, to turn the text round them, or not to be seen.
+NAMES = ["<script>alert(1)</script>", "</script><!--", "\"'><img src=x onerror=alert(1)>",
+         "\u202eabc\u200f", "a" * 255, "\u05d0" * 120, "\u0301" * 120, "&lt;", "\\u{202e}",
+         "\x7f\t"]
+
+
+def named(*names):
+    """A hand of OHH with these names, at a table whose name is markup."""
+    hand = json.loads((EXAMPLES / "raise_adds.ohh").read_bytes())
+    for player, name in zip(hand["ohh"]["players"], names):
+        player["name"] = name
+    hand["ohh"]["table_name"] = hand["ohh"]["site_name"] = "</style><script>"
+    return json.dumps(hand)
 
 
 class Case(unittest.TestCase):
