@@ -8,6 +8,7 @@ names; as in the text format of PostgreSQL's COPY, a line end in a text is `\\n`
 backslash `\\\\` and another control character `\\xHH`, so no text can end its row. What is not
 there is null in JSON, and nothing in TSV.
 """
+import importlib
 import json
 import re
 from typing import Any, Iterable, Iterator, Literal, Mapping, Optional, Union
@@ -66,7 +67,7 @@ def rows(command: Command, hands: Hands, notation: Notation, game: Game = None) 
 
 def frame(command: Command, hands: Hands, notation: Notation, game: Game = None) -> Any:
     """The same as a data frame of pandas. ImportError: pandas is not installed."""
-    import pandas  # type: ignore[import,unused-ignore]
+    pandas: Any = importlib.import_module("pandas")
     found = pandas.DataFrame(rows(command, hands, notation, game), columns=list(COLUMNS[command]))
     texts = {"verdict", "reason", "place", "said", "kind", "name", "variant", "text"}
     return found.astype({name: "string" if name in texts else "Int64" for name in found.columns})
