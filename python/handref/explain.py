@@ -80,7 +80,7 @@ def printed(text: str) -> str:
     text = text.strip().split("\n")[0]
     found = _START.search(text)
     if not found:
-        raise ValueError(f"this is no line of the program: {shown(text)}")
+        raise ValueError(f"this is no line of the program: {text}")
     return re.sub(r" \(line \d+\)\Z", "", found[1])
 
 
@@ -204,8 +204,16 @@ def _facts(error: NotDone, data: bytes, notation: handref.Notation, game: Game,
         except (LookupError, ValueError, UnicodeError):
             return ["The hand was not found in the file."]
     if error.status == 3 and found:
-        return _of_value(error, notation, found)
+        return _of_value(error, notation, found) + _seats(error, notation, data)
     return []
+
+
+def _seats(error: NotDone, notation: str, data: bytes) -> list[str]:
+    """How many items a list of PHH needs."""
+    if error.reason != "ListLength" or notation != "phh" or error.place == "_rakes":
+        return []
+    stacks = places.table_of(places.decoded(data), error.hand or 1)[1].get("starting_stacks")
+    return [f"It needs one for each of the {len(stacks)} seats."] if stacks else []
 
 
 # What a key, a member or a field has in place of what is read.
@@ -280,9 +288,14 @@ def of_line(line: str) -> Explanation:
     return Explanation(error.status, said, meaning=messages.explained(error))
 
 
-def notation_of(path: str, notation: Optional[handref.Notation]) -> handref.Notation:
-    """The notation that is said, or that of the end of a name. ValueError: there is none."""
+def notation_of(path: str, notation: Optional[handref.Notation],
+                game: Game) -> handref.Notation:
+    """The notation that is said, or that of the end of a name. ValueError: there is none, or the
+    game file of a log is not said."""
     found = notation or cut.notation_of(path)
     if not found:
-        raise ValueError(f"{shown(path)}: no notation has this name; --from says which it is")
+        raise ValueError(f"{path}: no notation has this name; --from says which it is")
+    if (found == "acpc") != (game is not None):
+        raise ValueError(f"{path}: a log needs its game file: --game GAME" if game is None else
+                         f"{path}: --game goes with logs, and this is read as {found}")
     return found

@@ -25,6 +25,8 @@ def why(data: bytes, number: int, reason: str) -> tuple[Optional[Spot], list[str
     line = lines[number - 1] if number <= len(lines) else ""
     start = sum(len(each) + 1 for each in text.split("\n")[:number - 1])
     said = _of_line(lines, number, line) if reason == "GameShape" else []
+    if reason == "GameShape" and not said and "END GAMEDEF" not in lines:
+        said = [("The file ends without END GAMEDEF.", 0, len(line))]
     column, length = said[0][1:] if said else (0, len(line))
     found = spot(text, start + column, start + column + max(1, length))
     return found, [each[0] for each in said]
@@ -49,8 +51,6 @@ def _of_line(lines: list[str], number: int, line: str) -> list[Fault]:
             ("The first line of a game file is GAMEDEF.", *whole)]
     if before[-1] == "END GAMEDEF":
         return [("Something follows END GAMEDEF.", *whole)]
-    if number >= len(lines) and not line:
-        return [("The file ends without END GAMEDEF.", *whole)]
     if line == "END GAMEDEF":
         return [(text, *whole) for text in _missing(before)]
     return _of_key(before, line)

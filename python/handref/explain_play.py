@@ -5,7 +5,7 @@ from dataclasses import dataclass
 from typing import Any, Optional, Sequence
 
 import handref
-from handref import Game, NotDone, Options, Step
+from handref import Game, NotDone, Pot, Step
 from handref.before import StandIn, before, seats_of
 
 _WANTED = {"phh": "cbr", "acpc": "r"}  # what a raise is called, before its amount
@@ -20,6 +20,7 @@ class _Hand:
     refused: NotDone
     stand_in: StandIn
     steps: Sequence[Step]
+    pots: Sequence[Pot]
 
     @property
     def now(self) -> Step:
@@ -32,19 +33,25 @@ def facts(data: bytes, notation: handref.Notation, game: Game, refused: NotDone,
     stand_in = before(data, notation, refused, game)
     if stand_in is None:
         return ["What was legal there was not found."]
-    steps = handref.replay(stand_in.data, notation, game)[0].steps
-    hand = _Hand(data, notation, game, refused, stand_in, steps)
-    if refused.reason == "stated":
-        return _of_stated(hand)
-    if refused.reason == "rake too big":
-        pots = handref.replay(stand_in.data, notation, game)[0].pots
-        number = int((refused.place or "pot 1").split(" ")[1])
-        chips = pots[number - 1].chips if number <= len(pots) else 0
-        return [f"Pot {number} has {chips} chips before its rake."]
+    hand = _of(data, notation, game, refused, stand_in)
     found = _of_reason(hand, said)
+    if refused.reason in ("stated", "rake too big"):
+        return found
     if not stand_in.hidden:
         found += _due(hand)
     return [*found, _chips(hand)]
+
+
+def reasons(data: bytes, notation: handref.Notation, game: Game, refused: NotDone,
+            stand_in: StandIn, said: Any = None) -> list[str]:
+    """The sentences about what is wrong alone, where the legal hand is found already."""
+    return _of_reason(_of(data, notation, game, refused, stand_in), said)
+
+
+def _of(data: bytes, notation: handref.Notation, game: Game, refused: NotDone,
+        stand_in: StandIn) -> _Hand:
+    replayed = handref.replay(stand_in.data, notation, game)[0]
+    return _Hand(data, notation, game, refused, stand_in, replayed.steps, replayed.pots)
 
 
 def _of_stated(hand: _Hand) -> list[str]:
@@ -53,6 +60,12 @@ def _of_stated(hand: _Hand) -> list[str]:
     return [f"The source states {stated}; the replay comes to {replayed}, which is "
             f"{abs(stated - replayed)} {'less' if replayed < stated else 'more'}. Correct it, or "
             "leave it out where the notation allows that."]
+
+
+def _of_rake(hand: _Hand) -> list[str]:
+    number = int((hand.refused.place or "pot 1").split(" ")[1])
+    chips = hand.pots[number - 1].chips if number <= len(hand.pots) else 0
+    return [f"Pot {number} has {chips} chips before its rake."]
 
 
 def _due(hand: _Hand) -> list[str]:
@@ -77,6 +90,10 @@ def _chips(hand: _Hand) -> str:
 def _of_reason(hand: _Hand, said: Any) -> list[str]:
     """What a reason is about, with the numbers and cards of the hand."""
     reason = hand.refused.reason or ""
+    if reason == "stated":
+        return _of_stated(hand)
+    if reason == "rake too big":
+        return _of_rake(hand)
     if reason in ("RaiseTooSmall", "RaiseTooBig", "RaiseClosed"):
         return _of_raise(hand) + _other_dialect(hand)
     if reason == "AmountDiffers":
@@ -99,8 +116,8 @@ def _of_raise(hand: _Hand) -> list[str]:
     amounts = [(low + more, high + more) for low, high in found.raises]
     word = _WANTED.get(hand.notation, "amount")
     gap = "" if hand.notation == "acpc" else " "
-    if hand.notation == "acpc" and _is_limit(found):
-        return ["The game has one amount, so that r stands without a number."]
+    if hand.notation == "acpc" and _is_limit(hand.game):
+        return ["In this game each raise has one amount, so r is written without a number."]
     least, greatest = (f"{word}{gap}{amount}" for amount in (amounts[0][0], amounts[-1][1]))
     meaning = _meaning(hand.notation)
     if least == greatest:
@@ -109,8 +126,8 @@ def _of_raise(hand: _Hand) -> list[str]:
             f"({meaning})."]
 
 
-def _is_limit(found: Options) -> bool:
-    return all(low == high for low, high in found.raises) and len(found.raises) == 1
+def _is_limit(game: Game) -> bool:
+    return game is not None and bool(re.search(rb"(?im)^limit\r?$", handref.read(game)))
 
 
 def _meaning(notation: handref.Notation) -> str:

@@ -11,9 +11,9 @@ from handref.places import Spot, blocks, spot
 
 Found = tuple[Optional[Spot], list[str]]
 
-_PACKED = ((b"\x1f\x8b", "gzip", "gunzip"), (b"PK\x03\x04", "zip", "unzip"),
-           (b"BZh", "bzip2", "bunzip2"), (b"\xfd7zXZ\0", "xz", "unxz"),
-           (b"(\xb5/\xfd", "zstd", "unzstd"), (b"7z\xbc\xaf", "7-Zip", "7z x"))
+_PACKED = ((b"\x1f\x8b", "gzip", "gzip -dc"), (b"PK\x03\x04", "zip", "unzip -p"),
+           (b"BZh", "bzip2", "bzip2 -dc"), (b"\xfd7zXZ\0", "xz", "xz -dc"),
+           (b"(\xb5/\xfd", "zstd", "zstd -dc"), (b"7z\xbc\xaf", "7-Zip", "7z x -so"))
 _MARKS = ((b"\xff\xfe\0\0", "UTF-32"), (b"\0\0\xfe\xff", "UTF-32"), (b"\xff\xfe", "UTF-16"),
           (b"\xfe\xff", "UTF-16"))
 _OTHERS = (("phh", re.compile(r"\s*(#[^\n]*\s*)*(\[\d+\]\s*)?[a-z_]+ *= *['\"\[\d]"), "a PHH file"),
@@ -41,7 +41,7 @@ def why(data: bytes, notation: handref.Notation, hand: Optional[int] = None) -> 
     """Where such bytes are wrong, and what is wrong and can be done, sentence by sentence."""
     packed = next((row for row in _PACKED if data.startswith(row[0])), None)
     if packed:
-        return None, [f"The file is packed by {packed[1]}. Unpack it first: {packed[2]} FILE"]
+        return None, [f"The file is packed by {packed[1]}. Unpack it first: {packed[2]} FILE > NEW"]
     wide = _wide(data)
     if wide:
         return None, [f"The file is {wide}, and not UTF-8. Write it as UTF-8: "

@@ -39,12 +39,11 @@ def cents(hands: Hands, times: int = 100, notation: Optional[str] = None) -> byt
 
 
 def _whole(value: Any, times: int) -> int:
-    number = value * times
-    if not -MOST <= number <= MOST:
-        raise ValueError(f"{value} times {times} is above the greatest amount, {MOST}")
-    if number != int(number):
+    if not -MOST <= value <= MOST:
+        raise ValueError(f"{value} is above the greatest amount, {MOST}")
+    if Decimal(int(value * times)) / times != value:  # a comparison is exact, a product may not be
         raise ValueError(f"{value} times {times} is no whole number of chips")
-    return int(number)
+    return int(value * times)
 
 
 def _unit(said: Any, times: int) -> str:
@@ -77,6 +76,8 @@ def _document(data: bytes, hand: int, times: int) -> bytes:
     try:
         text = data.decode()
         table, places = toml.read(text), toml.places(text)
+        if times == 1:
+            return data
         if "variant" in table or not table:
             return _edited(text, table, places, (), times).encode()
         for key, inner in table.items():
@@ -165,7 +166,7 @@ def _lines(data: bytes, times: int) -> Iterator[bytes]:
 
 def _hand(hand: Any, times: int) -> str:
     hand = _times(hand, times)
-    if isinstance(hand, dict) and isinstance(hand.get("ohh"), dict):
+    if times != 1 and isinstance(hand, dict) and isinstance(hand.get("ohh"), dict):
         hand["ohh"]["currency"] = _unit(hand["ohh"].get("currency"), times)
     return _text(hand)
 
@@ -175,7 +176,7 @@ def _times(value: Any, times: int, key: str = "") -> Any:
         return [_times(item, times, key) for item in value]
     if isinstance(value, dict):
         return {key: _times(item, times, key) for key, item in value.items() if item is not None}
-    if not _AMOUNT.match(key) or not _is_number(value):
+    if times == 1 or not _AMOUNT.match(key) or not _is_number(value):
         return value
     return _named(value, times, key)
 

@@ -9,7 +9,7 @@ import sys
 from typing import Any, Optional
 
 import handref
-from handref import cut, in_cents, many, results
+from handref import cut, in_cents, many
 from handref.journal import Call
 
 NOTATIONS = ("phh", "ohh", "ohh-to", "acpc")
@@ -154,7 +154,7 @@ def _put(data: bytes, out: Optional[str], is_folder: bool) -> None:
         return
     if is_folder:
         os.makedirs(os.path.dirname(out) or ".", exist_ok=True)
-    with results.Beside(out) as file:
+    with cut.written(out) as file:
         file.write(data)
 
 

@@ -3,7 +3,8 @@
     from handref import messages
     messages.said_of(1, "refused: hand 1: event 4, action 4: RaiseTooSmall").text
 
-The document is that of the package, or that of the checkout where the package is part of one.
+The document is in the package, in the checkout that the package is part of, or in share/doc/handref
+of the folder under which it is installed.
 """
 import os
 import re
@@ -16,8 +17,6 @@ import handref
 SECTIONS = {"phh": "Poker Hand History", "ohh": "Open Hand History",
             "ohh-to": "Open Hand History", "acpc": "Logs"}
 _HERE = os.path.dirname(os.path.abspath(__file__))
-_PLACES = (os.path.join(_HERE, "MESSAGES.md"),
-           os.path.join(_HERE, "..", "..", "docs", "MESSAGES.md"))
 
 
 @dataclass(frozen=True)
@@ -32,11 +31,21 @@ class Said:
 @lru_cache(maxsize=None)
 def document() -> str:
     """The text of MESSAGES.md. FileNotFoundError: the package was installed without it."""
-    for path in _PLACES:
+    for path in _places():
         if os.path.exists(path):
             with open(path, encoding="utf-8") as file:
                 return file.read()
-    raise FileNotFoundError(2, "the package has no MESSAGES.md", _PLACES[0])
+    raise FileNotFoundError(2, "the package was installed without it", next(_places()))
+
+
+def _places() -> Iterator[str]:
+    """Where the document may be."""
+    yield os.path.join(_HERE, "MESSAGES.md")
+    yield os.path.join(os.path.dirname(os.path.dirname(_HERE)), "docs", "MESSAGES.md")
+    folder = _HERE
+    while folder != os.path.dirname(folder):
+        folder = os.path.dirname(folder)
+        yield os.path.join(folder, "share", "doc", "handref", "MESSAGES.md")
 
 
 @lru_cache(maxsize=None)
@@ -88,6 +97,8 @@ def explained(error: handref.NotDone, notation: Optional[str] = None) -> str:
     if error.status == 7:
         general = _first([part for part in parts() if part.status == 7])
         return f"{general.text if general else ''} Here: {said.text}."
+    if error.reason == "Text":
+        return "Text: " + said.text.partition(" The line names no place")[0]
     if said.names and error.reason and error.status in (1, 3, 4, 10, 14):
         return f"{error.reason}: {said.text}"
     return said.text

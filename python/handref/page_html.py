@@ -131,6 +131,7 @@ def _hand_listed(hand: Hand, notation: handref.Notation) -> str:
     if refused:
         parts.append(f'<p class="bad">{_text(_told_of(refused))}</p>')
         parts.append(f'<p class="plain">{_text(messages.meaning(refused, notation))}</p>')
+    parts += [f"<p>{_text(fact)}</p>" for fact in hand.facts]
     if refused and hand.text and not refused.event:
         parts.append(f"<pre>{_lines_of(hand.text)}</pre>")
     if told:
@@ -217,7 +218,7 @@ def _data(made: Page) -> Iterator[str]:
             row["v"] = {"line": shown(_told_of(refused)), "reason": shown(_reason(refused)),
                         "plain": messages.meaning(refused, made.notation), "event": event,
                         "text": "\n".join(map(shown, hand.text.split("\n"))),
-                        "seat": hand.seat}
+                        "seat": hand.seat, "facts": [shown(fact) for fact in hand.facts]}
         told.append(row)
     listed: list[Any] = []
     for name in names:

@@ -4,7 +4,7 @@ import os
 import re
 from concurrent.futures import ThreadPoolExecutor
 from dataclasses import dataclass, field
-from typing import Any, Optional, Union
+from typing import Any, Callable, Iterable, Optional, TypeVar, Union
 
 import handref
 from handref import Game, NotDone, UnclearOutput, toml
@@ -26,6 +26,7 @@ class Hand:
     told: dict[str, Any] = field(default_factory=dict)  # for the script: see page.js
     text: str = ""  # the source's words of what is refused
     seat: Optional[int] = None  # that they name
+    facts: list[str] = field(default_factory=list)  # what is wrong, in numbers and cards
     net: list[tuple[str, int]] = field(default_factory=list)
     names: list[str] = field(default_factory=list)
 
@@ -41,6 +42,20 @@ class Page:
     refused: int = 0
     left: int = 0  # hands after the last that was read
     session: Optional[handref.Session] = None
+
+
+Item = TypeVar("Item")
+Answer = TypeVar("Answer")
+
+
+def at_once(call: Callable[[Item], Answer], items: Iterable[Item]) -> list[Answer]:
+    """What a call gives for each item, several at a time. After a fault or an interrupt no other
+    one is begun."""
+    several = ThreadPoolExecutor(os.cpu_count())
+    try:
+        return list(several.map(call, items))
+    finally:
+        several.shutdown(cancel_futures=True)
 
 
 def replay(made: Page, rows: list[Hand], data: bytes) -> None:
@@ -207,10 +222,9 @@ def ask_moves(made: Page, is_chosen: bool) -> None:
             if words.startswith("d db "):
                 board += len(words[5:]) // 2
                 asked += [(hand, "equity", street[board])] if board in street else []
-    with ThreadPoolExecutor(os.cpu_count()) as several:
-        answers = several.map(lambda row: _answer(made, row[0], row[1], row[2]), asked)
-        for (hand, command, place), answer in zip(asked, answers):
-            hand.told.setdefault("o" if command == "options" else "q", {})[place] = answer
+    answers = at_once(lambda row: _answer(made, row[0], row[1], row[2]), asked)
+    for (hand, command, place), answer in zip(asked, answers):
+        hand.told.setdefault("o" if command == "options" else "q", {})[place] = answer
 
 
 def _answer(made: Page, hand: Hand, command: str, place: int) -> Union[str, dict[str, Any]]:

@@ -81,6 +81,8 @@ def table_of(text: str, hand: int) -> tuple[Optional[str], dict[str, Any]]:
     """The key of a hand in its document, None where it is all of it; and its table."""
     whole = toml.read(text)
     if "variant" in whole or not all(re.fullmatch("[0-9]+", key) for key in whole):
+        if hand != 1:
+            raise LookupError(hand)
         return None, whole
     key = sorted(whole, key=lambda key: (int(key), key))[hand - 1]
     return key, whole[key]

@@ -7,7 +7,7 @@ from dataclasses import dataclass, field
 from typing import IO, Any, BinaryIO, Iterator, Mapping, Optional, Sequence
 
 import handref
-from handref import phhs, tables, toml
+from handref import cut, phhs, tables, toml
 from handref.journal import Call
 from handref.sources import Source
 
@@ -209,7 +209,7 @@ class Files:
 
     def _write(self, out: str, files: Sequence[Done]) -> None:
         count = sum(part.hands for done in files for part in done.parts)
-        with Beside(out) as file:
+        with cut.written(out) as file:
             number = 0
             for done in files:
                 for part in done.parts:
@@ -251,7 +251,7 @@ class Files:
                 out = os.path.join(self.out, f"{stem}-{number + 1}.{self.call.to}")
                 if self.call.to == "phh":
                     block = _with_number(block, place, number)
-                with Beside(out) as new:
+                with cut.written(out) as new:
                     new.write(block.strip(b"\n") + b"\n")
             os.remove(part.path)
 
@@ -285,23 +285,3 @@ def _number_in(block: bytes) -> Optional[tuple[int, int]]:
         return None
     start, end = len(text[:place.key].encode()), len(text[:place.end].encode())
     return start, block.index(b"\n", end) + 1
-
-
-class Beside:
-    """A file beside its place, which gets its name at the end; what fails leaves nothing."""
-
-    def __init__(self, out: str) -> None:
-        self.out, self.part = out, f"{out}.{os.getpid()}.new"
-
-    def __enter__(self) -> BinaryIO:
-        self.file = open(self.part, "wb")
-        return self.file
-
-    def __exit__(self, kind: Any, *_: Any) -> None:
-        try:
-            self.file.close()
-            if kind is None:
-                os.replace(self.part, self.out)
-        finally:
-            if os.path.exists(self.part):
-                os.remove(self.part)

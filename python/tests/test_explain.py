@@ -159,7 +159,7 @@ class Texts(Case):
                 ("min_bet = 2\n", "min_bet = 2\nmin_bet = 2\n", "the first one is on line 4",
                  (5, 1)),
                 ('variant = "NT"', 'venue = "C:\\hands"', r"\h is no escape", (1, 12)),
-                ("antes = [0, 0, 0]", "antes = [0, 0, 0", "a comma or the end of the list", (3, 1)),
+                ("antes = [0, 0, 0]", "antes = [0, 0, 0", "comma or the end of the list", (3, 1)),
                 ('"NT"', '"NT', "closing quote is missing", (1, 11)),
                 ('"NT"', "NT", "a text needs quotes", (1, 11)),
                 ("min_bet = 2", "min_bet 2", "without = and a value", (4, 9))):
