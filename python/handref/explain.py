@@ -89,7 +89,7 @@ def is_printed(text: str) -> bool:
     return bool(_START.search(text.strip()))
 
 
-def explain(hands: Hands, notation: str, game: Game = None,
+def explain(hands: Hands, notation: handref.Notation, game: Game = None,
             line: Optional[str] = None) -> Explanation:
     """Explains a line about a file, or the first fault of the file."""
     path = handref.path_of(hands) or ""
@@ -114,7 +114,7 @@ def _data(hands: Hands) -> bytes:
         raise OSError(f"{path}: {fault}") from fault
 
 
-def _asked(hands: Hands, path: str, notation: str, game: Game) -> Explanation:
+def _asked(hands: Hands, path: str, notation: handref.Notation, game: Game) -> Explanation:
     """What the program says of a file, piece by piece."""
     legal = 0
     for piece in _pieces(hands, notation):
@@ -137,7 +137,7 @@ def _asked(hands: Hands, path: str, notation: str, game: Game) -> Explanation:
         f"{shown(path)}: nothing is wrong: {legal} hand{'s are' if legal > 1 else ' is'} legal"])
 
 
-def _pieces(hands: Hands, notation: str) -> Iterator[Piece]:
+def _pieces(hands: Hands, notation: handref.Notation) -> Iterator[Piece]:
     data = _data(hands)
     if len(data) <= handref.MOST_BYTES or notation == "phh":
         yield Piece(data, notation, 0, 0, 0)
@@ -145,7 +145,7 @@ def _pieces(hands: Hands, notation: str) -> Iterator[Piece]:
         yield from handref.pieces(data, notation)
 
 
-def _of_piece(error: NotDone, path: str, piece: Piece, notation: str, game: Game) -> Explanation:
+def _of_piece(error: NotDone, path: str, piece: Piece, notation: handref.Notation, game: Game) -> Explanation:
     """A fault of a piece of a file, said of the whole file."""
     found = _of(error, path, piece.data, notation, game)
     whole = handref.whole(replace(error, line_number=error.line_number), piece)
@@ -154,7 +154,8 @@ def _of_piece(error: NotDone, path: str, piece: Piece, notation: str, game: Game
     return replace(found, line=whole.line)
 
 
-def _of(error: NotDone, path: str, data: bytes, notation: str, game: Game) -> Explanation:
+def _of(error: NotDone, path: str, data: bytes, notation: handref.Notation,
+        game: Game) -> Explanation:
     """What is known of a line and its file."""
     found = Explanation(error.status, error.line, path,
                         meaning=messages.explained(error, notation))
@@ -193,7 +194,7 @@ def _of_limit(error: NotDone, data: bytes) -> list[str]:
         "hands", "moves of the file") else []
 
 
-def _facts(error: NotDone, data: bytes, notation: str, game: Game,
+def _facts(error: NotDone, data: bytes, notation: handref.Notation, game: Game,
            found: Optional[Spot]) -> list[str]:
     value = found.value if found else None
     if error.status == 1:
@@ -217,7 +218,7 @@ def _seats(error: NotDone, notation: str, data: bytes) -> list[str]:
 
 # What a key, a member or a field has in place of what is read.
 
-def _of_value(error: NotDone, notation: str, found: Spot) -> list[str]:
+def _of_value(error: NotDone, notation: handref.Notation, found: Spot) -> list[str]:
     """What is at the place of a fault of the input."""
     reason, value = error.reason or "", found.value
     if notation == "acpc":
@@ -287,7 +288,8 @@ def of_line(line: str) -> Explanation:
     return Explanation(error.status, said, meaning=messages.explained(error))
 
 
-def notation_of(path: str, notation: Optional[str], game: Game) -> str:
+def notation_of(path: str, notation: Optional[handref.Notation],
+                game: Game) -> handref.Notation:
     """The notation that is said, or that of the end of a name. ValueError: there is none, or the
     game file of a log is not said."""
     found = notation or cut.notation_of(path)

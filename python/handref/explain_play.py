@@ -15,7 +15,7 @@ _WANTED = {"phh": "cbr", "acpc": "r"}  # what a raise is called, before its amou
 class _Hand:
     """A refused hand, and the legal one with the same events before what is refused."""
     data: bytes
-    notation: str
+    notation: handref.Notation
     game: Game
     refused: NotDone
     stand_in: StandIn
@@ -27,7 +27,7 @@ class _Hand:
         return self.steps[self.stand_in.events]
 
 
-def facts(data: bytes, notation: str, game: Game, refused: NotDone, said: Any = None) -> list[str]:
+def facts(data: bytes, notation: handref.Notation, game: Game, refused: NotDone, said: Any = None) -> list[str]:
     """Sentences about a refused hand, which is the only one of its file: what was said, what would
     have been legal, the chips before it. `said` is what the source says there."""
     stand_in = before(data, notation, refused, game)
@@ -42,13 +42,14 @@ def facts(data: bytes, notation: str, game: Game, refused: NotDone, said: Any = 
     return [*found, _chips(hand)]
 
 
-def reasons(data: bytes, notation: str, game: Game, refused: NotDone, stand_in: StandIn,
-            said: Any = None) -> list[str]:
+def reasons(data: bytes, notation: handref.Notation, game: Game, refused: NotDone,
+            stand_in: StandIn, said: Any = None) -> list[str]:
     """The sentences about what is wrong alone, where the legal hand is found already."""
     return _of_reason(_of(data, notation, game, refused, stand_in), said)
 
 
-def _of(data: bytes, notation: str, game: Game, refused: NotDone, stand_in: StandIn) -> _Hand:
+def _of(data: bytes, notation: handref.Notation, game: Game, refused: NotDone,
+        stand_in: StandIn) -> _Hand:
     replayed = handref.replay(stand_in.data, notation, game)[0]
     return _Hand(data, notation, game, refused, stand_in, replayed.steps, replayed.pots)
 
@@ -129,7 +130,7 @@ def _is_limit(game: Game) -> bool:
     return game is not None and bool(re.search(rb"(?im)^limit\r?$", handref.read(game)))
 
 
-def _meaning(notation: str) -> str:
+def _meaning(notation: handref.Notation) -> str:
     return {"acpc": "the chips of the hand to which it goes", "ohh": "the chips that it adds"}.get(
         notation, "the chips of the street to which it goes")
 
@@ -162,7 +163,8 @@ def _antes(hand: _Hand) -> list[int]:
 
 def _other_dialect(hand: _Hand) -> list[str]:
     """Whether the hand is legal where its raises are read in the other way."""
-    other = {"ohh": "ohh-to", "ohh-to": "ohh"}.get(hand.notation)
+    others: dict[str, handref.Notation] = {"ohh": "ohh-to", "ohh-to": "ohh"}
+    other = others.get(hand.notation)
     if other is None:
         return []
     try:

@@ -4,6 +4,7 @@ import json
 import re
 from typing import Optional
 
+import handref
 from handref import toml
 from handref.cut import shown
 from handref.places import Spot, blocks, spot
@@ -36,7 +37,7 @@ _WORDS = {
 _LONE = re.compile(r"\\\\|\\u[dD][89abAB]..\\u[dD][c-fC-F]..|(\\u[dD][89a-fA-F]..)")
 
 
-def why(data: bytes, notation: str, hand: Optional[int] = None) -> Found:
+def why(data: bytes, notation: handref.Notation, hand: Optional[int] = None) -> Found:
     """Where such bytes are wrong, and what is wrong and can be done, sentence by sentence."""
     packed = next((row for row in _PACKED if data.startswith(row[0])), None)
     if packed:
@@ -86,7 +87,7 @@ def _not_utf8(data: bytes, fault: UnicodeDecodeError) -> Found:
     return Spot(data.count(b"\n", 0, start) + 1, start - begin + 1, text, 1), said
 
 
-def _other(text: str, notation: str) -> list[str]:
+def _other(text: str, notation: handref.Notation) -> list[str]:
     """Whether a text looks like one of another notation."""
     own = "ohh" if notation == "ohh-to" else notation
     kind = next((row for row in _OTHERS if row[1].match(text)), None)

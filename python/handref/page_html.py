@@ -9,6 +9,7 @@ from dataclasses import replace
 from importlib import resources
 from typing import Any, Iterator, Optional, Sequence
 
+import handref
 from handref import NotDone, messages
 from handref.cut import GAMES, MOST_UNREAD, short, shown
 from handref.page_chart import session_part
@@ -117,7 +118,7 @@ def _listed(made: Page) -> str:
     return "\n".join([*parts, "</section>"])
 
 
-def _hand_listed(hand: Hand, notation: str) -> str:
+def _hand_listed(hand: Hand, notation: handref.Notation) -> str:
     told, refused = hand.told, hand.refused
     game = GAMES.get(told.get("g", ""), "")
     parts = [f"<h3>Hand {hand.number}{': ' + html.escape(game) if game else ''}</h3>"]

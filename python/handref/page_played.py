@@ -35,7 +35,7 @@ class Hand:
 class Page:
     """The hands of a file that are shown, and how many it has."""
     file: str
-    notation: str
+    notation: handref.Notation
     game: Game
     hands: list[Hand] = field(default_factory=list)
     legal: int = 0
