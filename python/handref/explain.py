@@ -104,8 +104,9 @@ def _said(error: NotDone, hands: Hands, path: str, notation: handref.Notation,
     """A line about a file: of a long one, about the piece that has the hand."""
     hand, line = error.hand, error.line_number if error.status == 3 else None
     for piece in _pieces(hands, notation) if hand or line else ():
+        lines = piece.data.count(b"\n") + (not piece.data.endswith(b"\n"))
         is_here = hand <= piece.hands_before + piece.hands if hand else \
-            (line or 0) <= piece.lines_before + piece.data.count(b"\n") + 1
+            (line or 0) <= piece.lines_before + lines
         if not piece.hands or is_here:
             own = replace(error, hand=hand and hand - piece.hands_before,
                           line_number=line and line - piece.lines_before)
