@@ -288,7 +288,8 @@ class Plays(Case):
                     found = explain.explain(path, "acpc", MATCH, line)
                     self.assertEqual((found.line, found.spot.line, found.spot.column),
                                      (line, *place))
-                self.assertEqual(explain.explain(path, "acpc", MATCH).line, line)
+                self.assertEqual(explain.explain(path, "acpc", MATCH).line,
+                                 "refused: hand 41: event 3, action 1: RaiseTooSmall")
 
     def test_other_lines(self):
         with self.assertRaisesRegex(ValueError, "no line of the program"):
