@@ -28,8 +28,9 @@ options_of() {
     esac
 }
 
+# The last lines name files; where they are installed, bin/handref says in which folder.
 help_text() {
-    cat <<'END'
+    cat <<'END' &&
 handref: a converter and referee of recorded poker hands
 
   handref check   --from FORMAT [--game FILE] < HANDS    what each seat ends with, or what is wrong first
@@ -50,6 +51,11 @@ handref: a converter and referee of recorded poker hands
   handref compare --from FORMAT --with FILE --as FORMAT [--game FILE] [--no-notes] < HANDS
                                                          whether two files are the same hands, or what differs first
 
+Around the proved program, on Python (each with --help says more):
+  handref page FILE OUT                                  a page to look at the hands of a file
+  handref many check|convert [OPTION..] PATH..           folders, and files of any length, on all processors
+  handref explain FILE [LINE]                            what is wrong with a file, where, and what to do
+
 FORMAT  phh     Poker Hand History (.phh, .phhs)
         ohh     Open Hand History, the amount of a raise is the chips that it adds
         ohh-to  Open Hand History, the amount of a raise is the chips to which it goes
@@ -65,9 +71,11 @@ Status  0 done             1 a hand is refused    2 no command         3 the inp
         8 out of memory    9 no game file        10 a bad game file   11 the game file is not readable
        13 no such hand, event, seat, street or cards       14 the hands differ   15 no other file
 
-An example: handref check --from phh < examples/folds.phh
-Each message and what to do about it: docs/MESSAGES.md, or share/doc/handref/MESSAGES.md where it is installed.
-The manual: man handref, or docs/handref.1.
+END
+    cat <<END
+An example: handref check --from phh < ${examples_are_in-examples}/folds.phh
+Each message and what to do about it: ${documents_are_in-docs}/MESSAGES.md
+The manual: man handref, or ${manual_is-docs/handref.1}
 END
 }
 
