@@ -145,7 +145,8 @@ def _pieces(hands: Hands, notation: handref.Notation) -> Iterator[Piece]:
         yield from handref.pieces(data, notation)
 
 
-def _of_piece(error: NotDone, path: str, piece: Piece, notation: handref.Notation, game: Game) -> Explanation:
+def _of_piece(error: NotDone, path: str, piece: Piece, notation: handref.Notation,
+              game: Game) -> Explanation:
     """A fault of a piece of a file, said of the whole file."""
     found = _of(error, path, piece.data, notation, game)
     whole = handref.whole(replace(error, line_number=error.line_number), piece)

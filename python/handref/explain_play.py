@@ -27,7 +27,8 @@ class _Hand:
         return self.steps[self.stand_in.events]
 
 
-def facts(data: bytes, notation: handref.Notation, game: Game, refused: NotDone, said: Any = None) -> list[str]:
+def facts(data: bytes, notation: handref.Notation, game: Game, refused: NotDone,
+          said: Any = None) -> list[str]:
     """Sentences about a refused hand, which is the only one of its file: what was said, what would
     have been legal, the chips before it. `said` is what the source says there."""
     stand_in = before(data, notation, refused, game)

@@ -93,7 +93,8 @@ def _told_apart(data: bytes, region: Region, call: Call, error: NotDone, answer:
     for hand, refused in zip(hands, found):
         if refused:
             said = cut.told(refused, hand)
-            answer.told.append((hand.hands_before + 1, said.line_number, status_of(said), said.line))
+            place = hand.hands_before + 1
+            answer.told.append((place, said.line_number, status_of(said), said.line))
     if len(found) < len(hands):
         answer.told.append((None, None, 3, f"{len(hands) - len(found)} hands after them are left"))
     return answer
