@@ -47,8 +47,12 @@ class Output:
         if self.kept is not self.out:
             self.kept.seek(0)
             shutil.copyfileobj(self.kept, self.out, 1 << 20)
-            self.kept.close()
         self.out.flush()
+
+    def close(self) -> None:
+        """Drops what was kept."""
+        if self.kept is not self.out:
+            self.kept.close()
 
 
 class Rows:
