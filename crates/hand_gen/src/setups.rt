@@ -1,16 +1,13 @@
 //! The setup of a made hand.
 ghost use Rattle.std.specs.Prelude.{◌≡◌, ◌≤◌, ◌+◌, ℕ, if◌then◌else◌};
 ghost use Rattle.chip_ledger.specs.SeatRow.{amount_of};
-ghost use Rattle.play_event.specs.Streets as streets;
-ghost use Rattle.play_event.specs.ValidSetup as valid;
 ghost use Rattle.hand_gen.specs.Draws.{drawn, number_after};
 ghost use Rattle.hand_gen.specs.Setups as setups;
 ghost use Rattle.hand_gen.specs.Setups.{IsMadeSetup, number_behind_setup};
 
 use crate::draws;
 use chip_ledger::{RakeRow, Seat, SeatRow};
-use play_event::{Code, Limit, Opener, Setup};
-use variant_table::table_of;
+use play_event::{Code, Setup};
 
 // The games, in the order in which they take turns.
 const GAMES: [Code; 11] = [
@@ -27,13 +24,13 @@ const GAMES: [Code; 11] = [
     Code::FB,
 ];
 
-/// The setup of the hand at a place, where the draws have come to this number.
+/// The setup of the hand at a place, where the generator has come to this number.
 pub fn setup_at(place: u32, number: u64) -> Setup
     ensures { IsMadeSetup place number result }
 {
     let code = game_at(place);
-    let stud = is_stud(code);
-    let fixed = is_fixed(code);
+    let stud = code.is_stud();
+    let fixed = code.is_fixed();
     let first = draws::next_number(number);
     let seats = 2 + draws::drawn(3, first) as u8;
     Setup {
@@ -50,34 +47,14 @@ pub fn setup_at(place: u32, number: u64) -> Setup
     }
 }
 
-// The game of a hand by its place.
+// The game of a hand, by its place.
 fn game_at(place: u32) -> Code
     ensures { result ≡ setups.game_at place }
 {
     GAMES[place as usize % 11]
 }
 
-// The game is a game of stud.
-fn is_stud(code: Code) -> bool
-    ensures { result ≡ streets.is_stud code }
-{
-    match table_of(code).opener {
-        Opener::Blinds => false,
-        Opener::LowUp | Opener::HighUp => true,
-    }
-}
-
-// The limit of the game is fixed.
-fn is_fixed(code: Code) -> bool
-    ensures { result ≡ valid.is_fixed (streets.limit_of code) }
-{
-    match table_of(code).limit {
-        Limit::Fixed => true,
-        Limit::Pot | Limit::No => false,
-    }
-}
-
-// The stacks, drawn behind this number.
+// The stacks, drawn after this number.
 #[tactic(auto, using(crate::proofs::DrawLaws::one_draw_more))]
 fn stacks(number: u64, seats: u8) -> SeatRow
     requires least { 2 ≤ seats }
@@ -110,7 +87,7 @@ fn even_row(seats: u8, amount: u64) -> SeatRow
     row
 }
 
-// Chips where they are used, and else none.
+// Chips if they are used, and otherwise 0.
 fn chips_where(used: bool, chips: u64) -> u64
     ensures { result ≡ (if used then chips else 0) }
 {
@@ -148,14 +125,14 @@ fn blind(stud: bool, seats: u8, seat: u8) -> u64
     }
 }
 
-/// The number to which the draws come behind a setup.
+/// The generator's number after the setup was drawn.
 pub fn number_behind_setup(number: u64, setup: &Setup) -> u64
     ensures { result ≡ setups.number_behind_setup number setup.now }
 {
     number_behind(number, 1 + setup.stacks.seats)
 }
 
-// The number behind so many draws.
+// The number after `count` draws.
 #[tactic(auto, using(crate::proofs::DrawLaws::one_draw_more))]
 fn number_behind(number: u64, count: u8) -> u64
     ensures { result ≡ number_after count number }

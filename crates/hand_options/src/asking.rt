@@ -1,4 +1,4 @@
-//! The first events of a play are played, and the options behind them are told.
+//! Plays the first events of a play, and gives the options after them.
 ghost use Rattle.std.specs.Prelude.{◌≡◌, ◌≤◌, length, is_some};
 ghost use Rattle.hand_canon.specs.LegalHand.{IsLegalHand};
 ghost use Rattle.hand_canon.specs.Sound.{IsSound};
@@ -13,15 +13,14 @@ use crate::choices::Options;
 use crate::now::options_now;
 use crate::playing::play_first;
 use hand_records::{Play, Record};
-use play_event::Code;
 use replay_core::HandInPlay;
-use variant_table::{F2L3D, F7S, F7S8, FB, FO8, FR, FT, N2L1D, NS, NT, PO, Variant};
+use variant_table::{Variant, by_code};
 
-/// What is due after the first `events` events of a play, and which moves of the seat in turn are
+/// What is due after the first `events` events of a play, and which moves of the player to act are
 /// legal there.
 ///
-/// Ask for a sound play, and for no more events than its script has. The hand is played once, up to
-/// there, and no memory is taken. Where one seat is live the hand is over, though that seat may
+/// Ask for a sound play, and for at most as many events as its script has. The hand is played once,
+/// up to there, and nothing is allocated. With one live seat the hand is over, though that seat may
 /// still show.
 pub fn options(play: &Play, events: u32) -> Options
     requires sound { IsSound play.now }
@@ -32,19 +31,7 @@ pub fn options(play: &Play, events: u32) -> Options
     ensures listed { HasTargets result.raise }
 {
     let hand = &play.hand;
-    match hand.setup.code {
-        Code::FT => options_in::<FT>(hand, events),
-        Code::NT => options_in::<NT>(hand, events),
-        Code::NS => options_in::<NS>(hand, events),
-        Code::PO => options_in::<PO>(hand, events),
-        Code::FO8 => options_in::<FO8>(hand, events),
-        Code::F7S => options_in::<F7S>(hand, events),
-        Code::F7S8 => options_in::<F7S8>(hand, events),
-        Code::FR => options_in::<FR>(hand, events),
-        Code::N2L1D => options_in::<N2L1D>(hand, events),
-        Code::F2L3D => options_in::<F2L3D>(hand, events),
-        Code::FB => options_in::<FB>(hand, events),
-    }
+    by_code!(hand.setup.code, options_in(hand, events))
 }
 
 // The options in a hand of the game `V`.

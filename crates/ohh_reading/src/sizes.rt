@@ -1,30 +1,14 @@
-//! The sizes of the bets of a hand are told by its big blind.
+//! The bet sizes of a hand follow from its big blind.
 ghost use Rattle.std.specs.Prelude.{◌≡◌, ◌≤◌, ◌*◌, not, true};
 ghost use Rattle.chip_ledger.specs.declared.numbers.TheConstants.{MOST_CHIPS};
-ghost use Rattle.play_event.specs.Games.{game_of};
 ghost use Rattle.play_event.specs.ValidSetup.{IsSizeWhere};
 ghost use Rattle.ohh_members.specs.Blinds.{is_fixed_game as is_fixed_game_said};
 ghost use Rattle.ohh_reading.specs.Sizes.{sizes_of as sizes_of_said};
 
 use hand_records::Sizes;
-use ohh_members::blinds::is_fixed_game;
 use play_event::Code;
 
-/// How many hole cards the game deals to a seat.
-pub fn hole_cards(code: Code) -> u8
-    ensures said { result ≡ (game_of code).hole }
-    ensures few { result ≤ 7 }
-{
-    match code {
-        Code::PO | Code::FO8 => 4,
-        Code::FT | Code::NT | Code::NS => 2,
-        Code::F7S | Code::F7S8 | Code::FR => 7,
-        Code::N2L1D | Code::F2L3D => 5,
-        Code::FB => 4,
-    }
-}
-
-/// The sizes of the bets of a game with this big blind.
+/// The bet sizes of a game with this big blind.
 pub fn sizes_of(code: Code, big_blind: u64) -> Sizes
     requires least { 1 ≤ big_blind }
     requires most { big_blind ≤ MOST_CHIPS }
@@ -35,7 +19,7 @@ pub fn sizes_of(code: Code, big_blind: u64) -> Sizes
     ensures big_bet { IsSizeWhere (is_fixed_game_said code) result.big_bet }
     ensures min_bet { IsSizeWhere (not (is_fixed_game_said code)) result.min_bet }
 {
-    if is_fixed_game(code) {
+    if code.is_fixed() {
         Sizes {
             bring_in: 0,
             small_bet: big_blind,

@@ -1,49 +1,40 @@
-//! The games that the format spells, and the words that name them.
+//! The games that the format can write, and the words that name them.
 ghost use Rattle.std.specs.Prelude.{◌≡◌};
-ghost use Rattle.play_event.specs.Streets.{limit_of};
-ghost use Rattle.play_event.specs.ValidSetup.{is_fixed as is_fixed_said};
 ghost use Rattle.ohh_writing.specs.Games.{bet_word as bet_said, game_word as game_said, is_spelled_game as is_spelled_said};
 
 use play_event::Code;
 
-/// Whether the format spells the game.
+/// Whether the format can write the game.
 pub fn is_spelled_game(code: Code) -> bool
     ensures { result ≡ is_spelled_said code }
 {
     match code {
         Code::FT | Code::NT | Code::PO | Code::FO8 => true,
-        _ => false,
+        Code::NS | Code::F7S | Code::F7S8 | Code::FR => false,
+        Code::N2L1D | Code::F2L3D | Code::FB => false,
     }
 }
 
-/// Whether the game is played in fixed limit.
-pub fn is_fixed(code: Code) -> bool
-    ensures { result ≡ is_fixed_said (limit_of code) }
-{
-    match code {
-        Code::NT | Code::NS | Code::PO | Code::N2L1D => false,
-        _ => true,
-    }
-}
-
-/// The word of the game.
+/// The word for the game.
 pub fn game_word(code: Code) -> &'static str
     ensures { result.now ≡ game_said code }
 {
     match code {
         Code::PO => "Omaha",
         Code::FO8 => "OmahaHiLo",
-        _ => "Holdem",
+        Code::FT | Code::NT | Code::NS | Code::F7S | Code::F7S8 | Code::FR => "Holdem",
+        Code::N2L1D | Code::F2L3D | Code::FB => "Holdem",
     }
 }
 
-/// The word of the limit of the game.
+/// The word for the limit of the game.
 pub fn bet_word(code: Code) -> &'static str
     ensures { result.now ≡ bet_said code }
 {
     match code {
         Code::NT | Code::NS | Code::N2L1D => "NL",
         Code::PO => "PL",
-        _ => "FL",
+        Code::FT | Code::FO8 | Code::F7S | Code::F7S8 | Code::FR => "FL",
+        Code::F2L3D | Code::FB => "FL",
     }
 }

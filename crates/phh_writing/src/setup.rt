@@ -1,24 +1,23 @@
-//! The setup of a hand is put into its table.
+//! Puts the setup of a hand into its table.
 ghost use Rattle.std.specs.Prelude.{◌≡◌, codes, OnOk};
 ghost use Rattle.toml.specs.View.{table_view};
 ghost use Rattle.play_event.specs.ValidSetup.{IsValid, IsSizeWhere};
 ghost use Rattle.phh_writing.specs.Members.{put_if, with_fields};
 ghost use Rattle.phh_writing.specs.HandFields.{blinds_field, setup_fields, size_field};
 
-use crate::games::{is_fixed, is_stud};
 use crate::members::{number, put, put_amounts, put_row, put_text};
 use card_set::Memory;
 use play_event::Setup;
 use std::alloc::Global;
 use toml::{Table, Value};
 
-/// Puts the setup of a hand into its table. The fields are put in from the last to the first.
+/// Puts the setup of a hand into its table. The fields are inserted from the last to the first.
 pub fn put_setup(alloc: Global, table: &mut Table, setup: &Setup) -> Result<(), Memory>
     requires { IsValid setup.now }
     ensures { OnOk result (table_view table.new
         ≡ with_fields (setup_fields setup.now) (table_view table.old)) }
 {
-    let fixed = is_fixed(setup.code);
+    let fixed = setup.code.is_fixed();
     put_row(alloc, table, "starting_stacks", &setup.stacks)?;
     put_size(alloc, table, "min_bet", !fixed, setup.min_bet)?;
     put_size(alloc, table, "big_bet", fixed, setup.big_bet)?;
@@ -27,7 +26,7 @@ pub fn put_setup(alloc: Global, table: &mut Table, setup: &Setup) -> Result<(), 
         alloc,
         table,
         "bring_in",
-        is_stud(setup.code),
+        setup.code.is_stud(),
         setup.bring_in,
     )?;
     put_blinds(alloc, table, setup)?;
@@ -37,7 +36,7 @@ pub fn put_setup(alloc: Global, table: &mut Table, setup: &Setup) -> Result<(), 
     put_text(alloc, table, "variant", setup.code.text())
 }
 
-// Puts a size under a key, where the game uses it.
+// Puts a bet size under a key, if the game uses it.
 fn put_size(
     alloc: Global,
     table: &mut Table,
@@ -56,12 +55,13 @@ fn put_size(
     }
 }
 
-// Puts the blinds under their key, in a game that has some; of two the smaller comes first.
+// Puts the blinds under their key, in a game that has blinds; with two seats the smaller comes
+// first.
 fn put_blinds(alloc: Global, table: &mut Table, setup: &Setup) -> Result<(), Memory>
     ensures { OnOk result (table_view table.new
         ≡ put_if (codes "blinds_or_straddles") (blinds_field setup.now) (table_view table.old)) }
 {
-    if is_stud(setup.code) {
+    if setup.code.is_stud() {
         return Ok(());
     }
     let key = "blinds_or_straddles";
