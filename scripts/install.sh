@@ -58,10 +58,10 @@ put() {
     share/doc/handref/copyright) cp -- "$top/LICENSE" "$2" ;;
     share/doc/handref/examples/*) cp -- "$top/${1#share/doc/handref/}" "$2" ;;
     share/doc/handref/python/*) cp -- "$top/${1#share/doc/handref/}" "$2" ;;
-    */README.md | */CHANGELOG.md) put_document "$top/${1##*/}" "$2" ;;
+    share/doc/handref/README.md | */CHANGELOG.md) put_document "$top/${1##*/}" "$2" ;;
     share/doc/handref/CITATION.cff) cp -- "$top/CITATION.cff" "$2" ;;
-    share/doc/handref/*.md) put_document "$top/docs/${1##*/}" "$2" ;;
-    share/doc/handref/*) cp -- "$top/docs/${1##*/}" "$2" ;;
+    share/doc/handref/*.md) put_document "$top/docs/${1#share/doc/handref/}" "$2" ;;
+    share/doc/handref/*) cp -- "$top/docs/${1#share/doc/handref/}" "$2" ;;
     *) return 1 ;;
     esac
 }
