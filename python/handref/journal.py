@@ -34,7 +34,7 @@ class Call:
     to: Optional[Notation] = None
     drop_notes: bool = False
     keep_going: bool = False
-    layout: str = "each"  # what convert writes: each file, one file (join), or a file a hand (split)
+    layout: str = "each"  # of convert: each file, one of all (join), or one for each hand (split)
 
 
 def key(region: Region) -> str:

@@ -54,7 +54,7 @@ def _task(command: argparse.ArgumentParser, name: str) -> None:
                             help="each hand in a file of its own, in the folder OUT")
     elif name != "check":
         form = command.add_mutually_exclusive_group()
-        form.add_argument("--json", action="store_true", help="a JSON object on a line for each row")
+        form.add_argument("--json", action="store_true", help="a line of JSON for each row")
         form.add_argument("--tsv", action="store_true",
                           help="columns with tabs between, and a first line with their names")
     option("-j", "--jobs", type=int, metavar="N", help="pieces at a time; else the processors")
@@ -128,7 +128,7 @@ def run_cents(given: argparse.Namespace) -> int:
     for path in given.path:
         notation = given.notation or cut.notation_of(path)
         if notation not in ("phh", "ohh", "ohh-to"):
-            raise ValueError(f"{cut.shown(path)}: cents are of PHH and OHH; --from says which it is")
+            raise ValueError(f"{cut.shown(path)}: cents are of PHH and OHH: --from says which")
         out = os.path.join(given.out, os.path.basename(path)) if is_folder else given.out
         if out and os.path.exists(out) and os.path.samefile(out, path):
             raise ValueError(f"{cut.shown(path)}: what is written would take its place")

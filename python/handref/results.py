@@ -47,8 +47,12 @@ class Output:
         if self.kept is not self.out:
             self.kept.seek(0)
             shutil.copyfileobj(self.kept, self.out, 1 << 20)
-            self.kept.close()
         self.out.flush()
+
+    def close(self) -> None:
+        """Drops what was kept."""
+        if self.kept is not self.out:
+            self.kept.close()
 
 
 class Rows:
@@ -87,7 +91,8 @@ def put_verdicts(rows: Rows, source: Source, told: Any, hands: int, legal: int, 
 
 def _put_verdict(rows: Rows, source: Source, hand: Optional[int], line: Optional[int],
                  error: Optional[handref.NotDone]) -> None:
-    row: dict[str, tables.Value] = {"file": source.name or source.path, **tables.verdict(hand, line, error)}
+    row: dict[str, tables.Value] = {"file": source.name or source.path}
+    row.update(tables.verdict(hand, line, error))
     said = re.sub(r"^refused: hand \d+: ", "", error.line) if error else "legal"
     rows.put(row, f"{source.shown}: " + (f"hand {hand}: " if hand and (
         not error or error.status == 1) else "") + f"{said}\n")
@@ -139,13 +144,22 @@ class ReportSum:
         """Writes the sums."""
         games, names = self.found["game"], self.found["name"]
         total = [sum(each[0] for each in games.values()), sum(each[1] for each in games.values())]
-        listed: list[Any] = [("game", name, *sums) for name, sums in sorted(games.items())]
+        listed: list[Any] = [("game", name, *sums) for name, sums in _in_order(games)]
         listed += [("total", None, *total)]
         listed += [("name", name, *sums) for name, sums in names.items()]
         for kind, name, hands, chips in listed:
             text = f"{chips:>20}{hands:>8}  {tables.escaped(str(name))}\n" if kind == "name" else \
                 f"{name or 'total':<6}{hands:>8}{chips:>20}\n"
             rows.put({"kind": kind, "name": name, "hands": hands, "chips": chips}, text)
+
+
+_GAMES = ("FT", "NT", "NS", "PO", "FO/8", "F7S", "F7S/8", "FR", "N2L1D", "F2L3D", "FB")
+
+
+def _in_order(games: Mapping[str, list[int]]) -> list[tuple[str, list[int]]]:
+    """The games in the order in which `report` lists them."""
+    return sorted(games.items(), key=lambda each: _GAMES.index(each[0]) if each[0] in _GAMES
+                  else len(_GAMES))
 
 
 class SessionSum:

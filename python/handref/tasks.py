@@ -3,7 +3,7 @@ import os
 import re
 
 import handref
-from handref import NotDone, Piece, UnclearOutput, cut, tables
+from handref import NotDone, Piece, UnclearOutput, cut, phhs, tables
 from handref.journal import Answer, Call
 from handref.sources import Region, Source
 
@@ -93,7 +93,8 @@ def _told_apart(data: bytes, region: Region, call: Call, error: NotDone, answer:
     for hand, refused in zip(hands, found):
         if refused:
             said = cut.told(refused, hand)
-            answer.told.append((hand.hands_before + 1, said.line_number, status_of(said), said.line))
+            place = hand.hands_before + 1
+            answer.told.append((place, said.line_number, status_of(said), said.line))
     if len(found) < len(hands):
         answer.told.append((None, None, 3, f"{len(hands) - len(found)} hands after them are left"))
     return answer
@@ -144,7 +145,7 @@ def _is_empty(region: Region, call: Call, data: bytes) -> bool:
 
 def _hands_written(text: bytes, call: Call) -> int:
     if call.to == "phh":
-        return len(re.findall(rb"^variant = ", text, re.M))
+        return sum(1 for _ in phhs.blocks(text))  # a line of a text may look like one of a hand
     return text.count(b"\n") - len(re.findall(rb"^\n", text, re.M))
 
 
