@@ -1,4 +1,4 @@
--- The cards that were written are cut into those of each seat and those of each round, and read back.
+-- Written cards are cut into those of each seat and those of each round, and read back.
 use Rattle.std.proofs.Common.{◌≡◌, ℕ, zero, suc, ◌+◌, ◌≤◌, Bool, true, false, ◌&&◌, ◌||◌, ◌==◌, not, eqb, if◌then◌else◌, List, [], ◌∷◌, ◌++◌, length, map, Some, None, Ok, refl, sym, ap, ◌∙◌, arith, append_assoc, true≢false}
 use Rattle.std.specs.List.{flat_map, list_any, range_with_len}
 use Rattle.std.proofs.lemmas.Bool.{and_parts, eq-eqb}
@@ -9,11 +9,11 @@ use Rattle.card_set.specs.Known.{is_unknown, known_cards}
 use Rattle.card_set.specs.Spelling.{slot_spelling, spelling}
 use Rattle.card_set.specs.declared.card.Slot.{Slot}
 use Rattle.card_set.specs.declared.card.Slot.TheVariants as slots
-use Rattle.canon_script.specs.CanonScript.{dealt_slots}
+use Rattle.play_event.specs.CanonScript.{dealt_slots}
 use Rattle.play_event.specs.Said as said
 use Rattle.play_event.specs.Said.{Numbered}
 use Rattle.play_event.specs.Trace.{TracedPlace}
-use Rattle.acpc_text.specs.Parts.{parts_of}
+use Rattle.acpc_game.specs.Parts.{parts_of}
 use Rattle.acpc_writing.specs.Cards.{board_text, boards_text, cards_text, hole_text, holes_text}
 use Rattle.acpc_writing.specs.Names.{may_stand}
 use Rattle.acpc_writing.specs.PlayFacts.{is_part_known}
@@ -75,7 +75,7 @@ pub cut_holes : (placed : List TracedPlace) (count : ℕ) → 1 ≤ count → pa
 unfolding holes_text
 cut_holes placed count some = cut_seats is_plain (hole_text placed) count refl some (λ seat low high. hole_plain placed seat)
 
--- so many known cards read back
+-- `count` known cards read back
 pub known_again : (count : ℕ) (cards : List Slot) → length cards ≡ count → list_any is_unknown cards ≡ false → known_said count (spelling cards) ≡ Some cards
 unfolding known_said
 known_again count cards counted known =

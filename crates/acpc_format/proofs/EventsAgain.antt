@@ -1,17 +1,17 @@
--- The script of a line that was written: the deals, and a move for each letter.
+-- The script of a written line: the deals, and a move for each letter.
 use Rattle.std.proofs.Common.{◌≡◌, ℕ, zero, suc, ◌+◌, ◌≤◌, Bool, true, false, ◌==◌, eqb, if◌then◌else◌, cond, List, [], ◌∷◌, ◌++◌, length, map, Some, None, Result, Ok, Err, refl, sym, ap, ap₂, ◌∙◌, arith, append_assoc, true≢false}
 use Rattle.std.specs.List.{flat_map, list_any, range_with_len}
 use Rattle.std.proofs.lemmas.Bool.{eq-eqb}
 use Rattle.std.proofs.lemmas.List.{append-nil, length-map}
 use Rattle.std.proofs.lemmas.List.FromFn.{length-range_with_len}
-use Rattle.list_laws.proofs.Any.{nothing_kept}
-use Rattle.list_laws.proofs.NumbersOfRange.{flat_none}
+use Rattle.card_set.proofs.Any.{nothing_kept}
+use Rattle.card_set.proofs.NumbersOfRange.{flat_none}
 use Rattle.card_set.specs.Known.{is_unknown, known_cards}
 use Rattle.card_set.specs.Spelling.{spelling}
 use Rattle.card_set.specs.declared.card.Slot.{Slot}
-use Rattle.canon_script.specs.CanonScript as canon
-use Rattle.canon_script.specs.CanonScript.{deal_said, deals_said, dealt_slots, is_dealt_to}
-use Rattle.canon_script.specs.PlayedScript.{is_move}
+use Rattle.play_event.specs.CanonScript as canon
+use Rattle.play_event.specs.CanonScript.{deal_said, deals_said, dealt_slots, is_dealt_to}
+use Rattle.play_event.specs.PlayedScript.{is_move}
 use Rattle.play_event.specs.Past.{Act, BroughtIn, Called, Folded, Move, Raised, moves_on}
 use Rattle.play_event.specs.Said as said
 use Rattle.play_event.specs.Said.{Numbered, Said}
@@ -19,11 +19,11 @@ use Rattle.play_event.specs.Seats.{all_seats}
 use Rattle.play_event.specs.Trace.{TracedPlace}
 use Rattle.play_event.specs.declared.setup.Setup.{Setup}
 use Rattle.first_fault.specs.Reading.{◌>>=◌}
-use Rattle.acpc_text.specs.declared.fault.LineFault.{LineFault}
+use Rattle.acpc_game.specs.declared.fault.LineFault.{LineFault}
 use Rattle.acpc_writing.specs.Betting.{hand_total}
 use Rattle.acpc_writing.specs.Cards.{cards_text, hole_text, holes_text}
 use Rattle.acpc_writing.specs.Rounds.{further_streets, has_board}
-use Rattle.acpc_text.specs.Parts.{parts_of}
+use Rattle.acpc_game.specs.Parts.{parts_of}
 use Rattle.acpc_reading.specs.Cards.{Written, dealt, holes_after, next_round, script_said, step_after, steps_after, steps_said, without_rest}
 use Rattle.acpc_reading.specs.declared.step.BettingStep.{BettingStep}
 use Rattle.acpc_reading.specs.declared.step.BettingStep.TheVariants as steps
@@ -42,7 +42,7 @@ letters_append : (some more : List Said) → letters_in (some ++ more) ≡ lette
 letters_append [] more = omega arith
 letters_append (event ∷ some) more = omega (arith, letters_append some more)
 
--- events behind others have the numbers that follow
+-- events after others have the numbers that follow
 numbered_append : (n : ℕ) (some more : List Said) → numbered_from n (some ++ more) ≡ numbered_from n some ++ numbered_from (n + letters_in some) more
 numbered_append n [] more = ap (λ k. numbered_from k more) (omega arith)
 numbered_append n (event ∷ some) more = by_move (is_move event) (numbered_append (n + 1) some more) (numbered_append n some more)
@@ -92,7 +92,7 @@ move_on_again no_limit false at total act so_far = written_same so_far.events (s
 abbrev ok_read : Written → Result Written LineFault
 ok_read written = Ok written
 
--- events behind events
+-- events after events
 both_events : (so_far : Written) (some more : List Said) → ok_read (with_events (with_events so_far some) more) ≡ ok_read (with_events so_far (some ++ more))
 both_events so_far some more =
     written_same ((so_far.events ++ numbered_from so_far.number some) ++ numbered_from (so_far.number + letters_in some) more) (so_far.events ++ numbered_from so_far.number (some ++ more)) (so_far.number + letters_in some + letters_in more) (so_far.number + letters_in (some ++ more)) so_far.size so_far.boards
@@ -111,7 +111,7 @@ street_moves no_limit setup street at (move ∷ before) so_far =
     ∙ move_on_again no_limit (move.street == street) at total move.act (with_events so_far events)
     ∙ both_events so_far events (move_on no_limit street move total)
 
--- boards of this size, and then of one card, as far as they were dealt
+-- boards of this size first and then of one card, for the streets that were dealt
 abbrev AreBoards : List TracedPlace → ℕ → List ℕ → Type 0
 AreBoards placed size [] = Unit {0}
 AreBoards placed size (street ∷ streets) =
@@ -138,7 +138,7 @@ board_deal : (cards : List Slot) → 1 ≤ length cards → canon.board_said car
 board_deal [] some = absurd (omega (arith, some))
 board_deal (slot ∷ rest) some = refl
 
--- what a street deals where its board was dealt, and where it was not
+-- what a street deals if its board was dealt, and if it was not
 later_deals : (setup : Setup) (placed : List TracedPlace) (street : ℕ) → ((seat : ℕ) → 1 ≤ seat → seat ≤ setup.stacks.seats → dealt_slots placed (Some seat) street ≡ []) → deals_said setup placed street ≡ canon.board_said (dealt_slots placed None street)
 later_deals setup placed street none = ap (λ (l : List Said). l ++ canon.board_said (dealt_slots placed None street)) (no_holes setup placed street none)
 
@@ -146,7 +146,7 @@ later_deals setup placed street none = ap (λ (l : List Said). l ++ canon.board_
 abbrev later_script : Bool → Setup → List TracedPlace → List Move → List ℕ → List Said
 later_script no_limit setup placed moves streets = flat_map (street_again no_limit setup placed moves) streets
 
--- all that is asked of the further streets
+-- what is required of the further streets
 record AreLater (count : ℕ) (placed : List TracedPlace) (moves : List Move) : Type 0 where
   no_holes : (seat street : ℕ) → 1 ≤ seat → seat ≤ count → 2 ≤ street → street ≤ 4 → dealt_slots placed (Some seat) street ≡ []
   known : (street : ℕ) → list_any is_unknown (dealt_slots placed None street) ≡ false
@@ -239,7 +239,7 @@ holes_numbered : (placed : List TracedPlace) (first count number : ℕ) (rest : 
 holes_numbered placed first zero number rest = refl
 holes_numbered placed first (suc count) number rest = ap (λ (l : List Numbered). (0, said.Hole first (dealt_slots placed (Some first) 1)) ∷ l) (holes_numbered placed (first + 1) count number rest)
 
--- the script that is written of a play reads back
+-- the written script of a play reads back
 pub script_read : (no_limit : Bool) (setup : Setup) (placed : List TracedPlace) (moves : List Move) (at : ℕ) → HasHoles setup.stacks.seats placed → HasBoards placed → HasLetters setup placed moves
     → script_said setup.stacks.seats (all_steps no_limit setup placed moves) at (parts_of 47 (cards_text placed setup.stacks.seats))
     ≡ Ok (numbered_from 1 (flat_map (street_again no_limit setup placed moves) (1 ∷ 2 ∷ 3 ∷ 4 ∷ [])))

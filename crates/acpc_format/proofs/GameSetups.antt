@@ -1,4 +1,4 @@
--- The setup of a game has no fact that the logs of the game do not spell.
+-- The logs of a game can write every fact of the game's setup.
 use Rattle.std.proofs.Common.{◌≡◌, ℕ, ◌+◌, ◌-◌, Bool, true, false, ◌&&◌, ◌==◌, not, eqb, nat_lt, bytes_eq, if◌then◌else◌, slice_index, Option, Some, None, refl, sym, ap, ◌∙◌, arith, true≢false}
 use Rattle.std.specs.List.{list_any}
 use Rattle.std.proofs.lemmas.Bool.{and_from, eq-eqb}
@@ -11,12 +11,12 @@ use Rattle.hand_records.specs.declared.writing.Unspelled.TheVariants as facts
 use Rattle.acpc_game.specs.declared.game.Game.{Game}
 use Rattle.acpc_writing.specs.SetupFacts.{has_sizes_of, is_code_of, setup_conditions}
 use Rattle.acpc_reading.specs.RecordView.{IsSetupOf, code_of}
-use Rattle.list_laws.proofs.Any.{none_from_zeros, none_taken_from_zeros}
-use Rattle.list_laws.proofs.Tests.{not_true}
+use Rattle.card_set.proofs.Any.{none_from_zeros, none_taken_from_zeros}
+use Rattle.card_set.proofs.Tests.{not_true}
 use Rattle.chip_ledger.specs.SeatRow.{amounts_in}
 use Rattle.first_fault.specs.Conditions.{first_where}
 
--- the code of a game is one that its logs spell
+-- the logs of a game can write the variant of the game
 pub code_fits : (no_limit : Bool) → is_code_of no_limit (code_of no_limit) ≡ true
 code_fits true = refl
 code_fits false = refl

@@ -1,15 +1,15 @@
 -- The hand that is read again of a play is the hand of the play.
 use Rattle.std.proofs.Common.{◌≡◌, ℕ, ◌+◌, Bool, true, false, if◌then◌else◌, List, [], ◌∷◌, map, reverse, take, None, refl, sym, ap, subst, ◌∙◌, true≢false}
 use Rattle.std.specs.List.{flat_map, list_any, range_with_len}
-use Rattle.canon_blocks.proofs.StreetMoves.{legal_falling}
+use Rattle.canon_laws.proofs.StreetMoves.{legal_falling}
 use Rattle.canon_laws.proofs.AllStreets.{AreSince, legal_since, none_first}
 use Rattle.canon_laws.proofs.SameCore.{plain_again, moves_kept}
 use Rattle.canon_laws.proofs.SuitedMoves.{played_by}
 use Rattle.canon_laws.specs.Confluence.{HasTraceOf}
 use Rattle.canon_laws.specs.OtherRules.{SuitsRules}
-use Rattle.canon_script.specs.CanonScript.{plain_moves, street_said}
-use Rattle.canon_script.specs.PlayedScript.{IsPlayed, is_move}
-use Rattle.canon_script.specs.TraceCore.{TraceCore, core_after, core_of}
+use Rattle.play_event.specs.CanonScript.{plain_moves, street_said}
+use Rattle.play_event.specs.PlayedScript.{IsPlayed, is_move}
+use Rattle.play_event.specs.TraceCore.{TraceCore, core_after, core_of}
 use Rattle.play_event.specs.Due.{is_unfinished, turn}
 use Rattle.play_event.specs.Laws.{AreLegal}
 use Rattle.play_event.specs.Past.{Move, Past, moves_of}
@@ -104,7 +104,7 @@ letters_played game setup rules script trace valid played is kind has same hide 
 
 -- ---- the hand
 
--- a spelled play, under the rules of the game, in letters
+-- a play that the logs can write, under the rules of the game, in letters
 pub play_again : (game : Game) (keep : Keep) (play : Play) → IsSound play → unspelled game keep play ≡ None
     → HasTraceOf play.hand.setup (rules_of game) (script_said play.hand) (script_again game.no_limit play.trace)
 play_again game keep play sound none =

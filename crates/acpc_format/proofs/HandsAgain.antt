@@ -1,4 +1,4 @@
--- The hands that are read again of plays are those of the plays, one by one.
+-- The hands that are read again of plays are the hands of the plays, one by one.
 use Rattle.std.proofs.Common.{◌≡◌, ℕ, ◌+◌, ◌≤◌, List, [], ◌∷◌, map, length, sum_by, Result, Ok, None, sym, ◌∙◌}
 use Rattle.std.specs.List.{AllByRecursion}
 use Rattle.hand_canon.specs.Sound.{IsSound}
@@ -12,7 +12,7 @@ use Rattle.acpc_writing.specs.Spelled.{unspelled}
 use Rattle.acpc_writing.specs.Texts.{HasTexts}
 use Rattle.acpc_reading.specs.Logs.{HandSaid, reading}
 use Rattle.acpc_reading.specs.RecordView.{IsOfGame, record_said}
-use Rattle.acpc_text.specs.declared.fault.AcpcFault.{AcpcFault}
+use Rattle.acpc_game.specs.declared.fault.AcpcFault.{AcpcFault}
 use Rattle.acpc_format.specs.Again.{hand_again, hands_again}
 use Rattle.hand_canon.specs.ReadAgain.{AreAgain}
 use Rattle.acpc_format.specs.KeptNotes.{kept_in_acpc}
@@ -42,7 +42,7 @@ read hands = Ok hands
 same_hands : (a b : List HandSaid) → read a ≡ read b → a ≡ b
 same_hands a b same = cc
 
--- what is read back of plays are their hands
+-- plays read back as their hands
 pub read_back : (game : Game) (keep : Keep) (plays : List Play) → length plays ≤ MOST_HANDS → AllByRecursion IsSound plays → AllByRecursion HasTexts plays → first_refusal (unspelled game keep) plays ≡ None → sum_by moves_written plays ≤ MOST_FILE_MOVES
     → (records : List Record) → AllByRecursion (IsOfGame game) records → reading game (log_text game.no_limit plays) ≡ Ok (map record_said records) → AreAgain (KeepsNotes kept_in_acpc) 0 plays records
 read_back game keep plays few sound texts none moves records each said =

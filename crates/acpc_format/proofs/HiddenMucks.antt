@@ -1,20 +1,21 @@
--- Where undrawn mucked seat has all its hole cards known, each mucked seat holds a card that is not known.
+-- In a game without draws, if no seat mucks with known hole cards, each mucked seat holds an
+-- unknown card.
 use Rattle.std.proofs.Common.{◌≡◌, ℕ, ◌≤◌, Bool, true, false, ◌&&◌, ◌||◌, ◌==◌, not, nat_le, List, [], ◌∷◌, map, filter, Some, inl, inr, ◌⊎◌, refl, sym, ap, ◌∙◌, arith, true≢false}
 use Rattle.std.specs.List.{list_any}
 use Rattle.std.proofs.lemmas.Bool.{and_from, and_parts, cases_lt, eq-eqb, not-false, or_cases, or_left, or_right}
-use Rattle.canon_blocks.proofs.DiscardTests.{out_is}
-use Rattle.canon_blocks.proofs.TraceOrder.{finals_of, is_final}
-use Rattle.canon_blocks.proofs.TracedSlots.{discarded_same}
+use Rattle.canon_laws.proofs.DiscardTests.{out_is}
+use Rattle.canon_laws.proofs.TraceOrder.{finals_of, is_final}
+use Rattle.canon_laws.proofs.TracedSlots.{discarded_same}
 use Rattle.canon_laws.proofs.HeldSame.{held_script, slots_held}
-use Rattle.canon_script.specs.CanonScript.{held_slots, is_dealt_to, is_discard_of}
+use Rattle.play_event.specs.CanonScript.{held_slots, is_dealt_to, is_discard_of}
 use Rattle.card_set.specs.Known.{is_unknown}
 use Rattle.chip_ledger.proofs.Flags.{flag-from_flagged}
 use Rattle.chip_ledger.proofs.SeatLists.{none_at}
 use Rattle.chip_ledger.specs.LiveRow.{flag_of, flagged}
 use Rattle.chip_ledger.specs.Seat.{seats_of}
 use Rattle.chip_ledger.specs.declared.live_row.LiveRow.{LiveRow}
-use Rattle.list_laws.proofs.Any.{list_any-filter, list_any-map}
-use Rattle.list_laws.proofs.NumbersOfRange.{is_in}
+use Rattle.card_set.proofs.Any.{list_any-filter, list_any-map}
+use Rattle.card_set.proofs.NumbersOfRange.{is_in}
 use Rattle.play_event.specs.Games.{street_count}
 use Rattle.play_event.specs.Laws.{AreLegal, IsAmong}
 use Rattle.play_event.specs.Past.{moves_of}
@@ -44,7 +45,7 @@ is_hidden_deal seat place = is_dealt_to (Some seat) 1 place && is_unknown place.
 abbrev is_hidden_held : ℕ → TracedPlace → Bool
 is_hidden_held seat place = is_discard_of seat 0 place && is_unknown place.slot
 
--- what is dealt is held, where nothing is discarded
+-- what is dealt is held if nothing is discarded
 deal_held : (seat : ℕ) (place : Place) → place.discarded ≡ 0 → is_hidden_deal seat (traced_place place) ≡ true → is_hidden_held seat (traced_place place) ≡ true
 deal_held seat place none is =
     let both = and_parts (is_dealt_to (Some seat) 1 (traced_place place)) (is_unknown place.slot) is in
@@ -82,7 +83,7 @@ hidden_held setup rules events seat legal undrawn low high live hides =
     ∙ unknown_of (is_discard_of seat 0) (map traced_place finals)
     ∙ held
 
--- so each mucked seat holds a card that is not known
+-- so each mucked seat holds an unknown card
 pub mucks_hide : (setup : Setup) (rules : Rules) (events : List Said) (row : LiveRow) → AreLegal setup rules events → ((street : ℕ) → has_draw setup.code street ≡ false)
     → flagged row ≡ filter (is_mucked setup (past_of setup events)) (all_seats setup)
     → list_any (is_open_muck (traced_places setup (past_of setup events)) row) (seats_of setup.stacks.seats) ≡ false → MucksHide setup (past_of setup events)

@@ -1,4 +1,4 @@
--- What is read again of notes is what a line spells.
+-- The notes that are read again are those that a line can write.
 use Rattle.std.proofs.Common.{◌≡◌, ℕ, take, Bool, true, false, cond, bytes_eq, decimal, List, [], ◌∷◌, map, Option, Some, None, option_and_then, refl, sym, ap, ◌∙◌}
 use Rattle.acpc_format.specs.Again.{kept_hand, kept_name, name_again}
 use Rattle.acpc_writing.specs.Names.{is_spelled_hand}
@@ -9,7 +9,7 @@ use Rattle.hand_records.specs.declared.notes.Notes.{Notes}
 use Rattle.acpc_format.specs.KeptNotes.{kept_in_acpc, number_spelled}
 use Rattle.hand_records.proofs.NoteLaws.{names_along, notes_same}
 
--- what a line says again of the notes of so many seats, at a place of its file
+-- what a line says again of the notes of `count` seats, at a place of its file
 pub record AreNamesAgain (place count : ℕ) (notes again : Notes) : Type 0 where
   pub names : take count again.names ≡ map (name_again notes) (seats_of count)
   pub hand : again.hand ≡ kept_hand place notes.hand
@@ -40,7 +40,7 @@ hand_label place (Some text) = by_tests (is_spelled_hand text) (bytes_eq text (d
     by_tests true false is = ap (λ (b : Bool). cond b None (Some text)) is
     by_tests false same is = refl
 
--- notes that are read again are those that a line spells
+-- the notes that are read again are those that a line can write
 pub keeps_said : (place count : ℕ) (notes again : Notes) → AreNamesAgain place count notes again → KeepsNotes kept_in_acpc place count notes again
 keeps_said place count notes again same =
     notes_same (said_notes place count again) (kept_in_acpc (said_notes place count notes)) (record {

@@ -1,8 +1,9 @@
--- Events in the letters of a log are as legal as those of the canonical script, and leave their past: a letter names no seat, and a
--- raise is spelled by the chips of the whole hand, or by the unit.
+-- Events in the letters of a log are as legal as those of the canonical script, and leave the same
+-- past: a letter names no seat, and a raise is written as the seat's chips in the whole hand, or by
+-- the unit.
 use Rattle.std.proofs.Common.{◌≡◌, ℕ, ◌≤◌, Bool, true, false, if◌then◌else◌, List, [], ◌∷◌, ◌++◌, Some, None, refl, sym, ap, subst, ◌∙◌, true≢false}
-use Rattle.canon_script.specs.CanonScript.{act_named, move_named}
-use Rattle.canon_script.specs.PlayedScript.{is_move}
+use Rattle.play_event.specs.CanonScript.{act_named, move_named}
+use Rattle.play_event.specs.PlayedScript.{is_move}
 use Rattle.play_event.proofs.SpellingLaws as spelling_laws
 use Rattle.play_event.specs.Amounts.{raise_target, unit_target}
 use Rattle.play_event.specs.Chips.{street_chips}
@@ -22,19 +23,20 @@ use Rattle.play_laws.proofs.MoveKinds.{call_said, fold_said, raise_said}
 use Rattle.play_laws.proofs.OneSpelling.{same_past, same_reason}
 use Rattle.acpc_writing.specs.Betting.{hand_total}
 use Rattle.acpc_format.specs.Again.{move_again}
-use Rattle.canon_ranges.proofs.RaiseUp.{named_in_turn, raise_up}
-use Rattle.canon_ranges.proofs.SameEvents.{AreSame, IsNewest, IsSame, newest, one_more, same_moves}
+use Rattle.canon_laws.proofs.RaiseUp.{named_in_turn, raise_up}
+use Rattle.canon_laws.proofs.SameEvents.{AreSame, IsNewest, IsSame, newest, one_more, same_moves}
 use Rattle.acpc_format.proofs.RaiseTotals.{same_target}
 
--- The events of a canonical script, the newest first, with its moves, and the same events in letters: an event that is no move stays,
--- and a move has its letter, after the moves before it.
+-- The events of a canonical script (newest first) with its moves, and the same events in letters:
+-- an event that is no move is unchanged, and a move has its letter, after the moves before it.
 pub data InLetters (no_limit : Bool) (setup : Setup) : List Said → List Move → List Said → Type 0 where
   nothing : InLetters no_limit setup [] [] []
   stays : (event : Said) (events : List Said) (moves : List Move) (words : List Said) → is_move event ≡ false → InLetters no_limit setup events moves words → InLetters no_limit setup (event ∷ events) moves (event ∷ words)
   letter : (move : Move) (events : List Said) (moves : List Move) (words : List Said) → InLetters no_limit setup events moves words
       → InLetters no_limit setup (move_named move ∷ events) (move ∷ moves) (move_again no_limit move.act (hand_total setup move moves) ++ words)
 
--- a move that a letter says after the moves before it: no bring-in, and in a limit game each raise is by the unit
+-- a move that a letter can say after the moves before it: no bring-in, and in a limit game each
+-- raise is by the unit
 pub record HasLetter (no_limit : Bool) (setup : Setup) (older : List Move) (move : Move) : Type 0 where
   pub no_bring_in : is_bring_in move.act ≡ false
   pub by_unit : no_limit ≡ false → is_raise move.act ≡ true → unit_target setup older move.street move.seat ≡ move.to
@@ -69,7 +71,7 @@ raise_same setup rules past seat target amount goes legal =
       past = spelling_laws.same_past setup past seat amount turned ∙ ap (λ n. with_event setup (said.Raise (Some seat) (spelled.To n)) past) goes;
     }
 
--- where a raise goes, as its letter says it
+-- the target of a raise, as its letter says it
 raise_goes : (no_limit : Bool) (setup : Setup) (rules : Rules) (events : List Said) (move : Move) → IsValid setup → AreLegal setup rules events
     → why setup rules (past_of setup events) (said.Raise (Some move.seat) (spelled.To move.to)) ≡ None → HasLetter no_limit setup (moves_of (past_of setup events)) move → is_raise move.act ≡ true
     → move.street ≡ (turn setup (past_of setup events)).0 → move.from ≡ street_chips setup (moves_of (past_of setup events)) (turn setup (past_of setup events)).0 move.seat

@@ -1,9 +1,9 @@
--- The canonical script of hold'em, but for its showdown, in the letters of a log.
+-- The canonical script of hold'em, except its showdown, in the letters of a log.
 use Rattle.std.proofs.Common.{◌≡◌, ℕ, ◌+◌, ◌<◌, Bool, true, false, ◌==◌, nat_lt, if◌then◌else◌, List, [], ◌∷◌, ◌++◌, map, reverse, refl, sym, ap, subst, ◌∙◌, arith}
 use Rattle.std.specs.List.{flat_map, range_with_len}
 use Rattle.std.proofs.lemmas.Bool.{eqb-true, ltb-true, ne_eqb}
 use Rattle.std.proofs.lemmas.List.{append-nil}
-use Rattle.canon_script.specs.CanonScript.{move_named, street_said}
+use Rattle.play_event.specs.CanonScript.{move_named, street_said}
 use Rattle.play_event.specs.Past.{Act, BroughtIn, Called, Folded, Move, Raised, moves_before}
 use Rattle.play_event.specs.Said.{Said}
 use Rattle.play_event.specs.Streets.{has_draw}
@@ -11,13 +11,13 @@ use Rattle.play_event.specs.Trace.{TracedPlace}
 use Rattle.play_event.specs.declared.setup.Setup.{Setup}
 use Rattle.play_laws.proofs.DoneKept.{all_early}
 use Rattle.play_laws.specs.PastLaws.{AreReached}
-use Rattle.canon_blocks.proofs.StreetMoves.{AreFalling, moves_split, own_moves, none_own}
-use Rattle.canon_ranges.proofs.OtherWords.{all_streets, behind_both}
+use Rattle.canon_laws.proofs.StreetMoves.{AreFalling, moves_split, own_moves, none_own}
+use Rattle.canon_laws.proofs.OtherWords.{all_streets, behind_both}
 use Rattle.acpc_writing.specs.Betting.{hand_total}
 use Rattle.acpc_format.specs.Again.{move_again, moves_again, street_again}
 use Rattle.acpc_format.proofs.LetterEvents.{InLetters, letter, nothing, stays}
 
--- no move of a street has a letter where all moves are of earlier ones
+-- no move of a street has a letter if all moves are on earlier streets
 none_again : (no_limit : Bool) (setup : Setup) (newest street : ℕ) (list : List Move) → AreReached newest list → newest < street → moves_again no_limit setup street list ≡ []
 unfolding moves_again
 none_again no_limit setup newest street [] all less = refl
@@ -26,14 +26,14 @@ none_again no_limit setup newest street (first ∷ rest) all less =
     ∙ append-nil (moves_again no_limit setup street rest)
     ∙ none_again no_limit setup newest street rest all.1 less
 
--- a letter is one event, or none
+-- a letter is one event or none
 again_once : (no_limit : Bool) (act : Act) (total : ℕ) → reverse (move_again no_limit act total) ≡ move_again no_limit act total
 again_once no_limit Folded total = refl
 again_once no_limit Called total = refl
 again_once no_limit Raised total = refl
 again_once no_limit BroughtIn total = refl
 
--- the moves of a street, the newest first, and the same in letters
+-- the moves of a street, newest first, and the same in letters
 moves_letters : (no_limit : Bool) (setup : Setup) (street : ℕ) (list : List Move) (events words : List Said) → AreFalling list → InLetters no_limit setup events (moves_before street list) words
     → InLetters no_limit setup (map move_named (own_moves street list) ++ events) (own_moves street list ++ moves_before street list) (reverse (moves_again no_limit setup street list) ++ words)
 unfolding moves_again

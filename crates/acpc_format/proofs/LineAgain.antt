@@ -1,4 +1,4 @@
--- A line that was written is cut into its fields, and reads as the hand of its play.
+-- A written line is cut into its fields, and reads as the hand of its play.
 use Rattle.std.proofs.Common.{◌≡◌, ℕ, ◌+◌, ◌-◌, ◌≤◌, ◌<◌, ◌^◌, Bool, true, false, ◌||◌, ◌==◌, not, eqb, nat_lt, if◌then◌else◌, codes, decimal, List, [], ◌∷◌, ◌++◌, length, map, slice_index_or, Option, Some, None, Ok, refl, sym, ap, subst, ◌∙◌, arith, append_assoc, true≢false}
 use Rattle.std.specs.List.{flat_map, range_with_len, AllByRecursion}
 use Rattle.std.proofs.lemmas.Bool.{eq-eqb}
@@ -7,7 +7,7 @@ use Rattle.std.proofs.lemmas.List.FromFn.{length-range_with_len}
 use Rattle.chip_ledger.specs.SeatRow.{amount_of}
 use Rattle.chip_ledger.specs.declared.numbers.TheConstants.{MOST_CHIPS}
 use Rattle.card_set.specs.Spelling.{spelling}
-use Rattle.canon_script.specs.CanonScript.{dealt_slots, plain_move, plain_moves}
+use Rattle.play_event.specs.CanonScript.{dealt_slots, plain_move, plain_moves}
 use Rattle.hand_canon.specs.Agreement.{value_of}
 use Rattle.hand_records.specs.TraceRows.{core_said}
 use Rattle.first_fault.specs.declared.limits.TheConstants.{MOST_FILE_MOVES}
@@ -18,7 +18,7 @@ use Rattle.play_event.specs.Chips.{chips_put}
 use Rattle.play_event.specs.Past.{Act, BroughtIn, Called, Folded, Move, Raised}
 use Rattle.play_event.specs.Trace.{TracedMove, TracedPlace}
 use Rattle.play_event.specs.declared.setup.Setup.{Setup}
-use Rattle.acpc_text.specs.Parts.{parts_of}
+use Rattle.acpc_game.specs.Parts.{parts_of}
 use Rattle.acpc_game.specs.declared.game.Game.{Game}
 use Rattle.acpc_writing.specs.Betting.{betting_text, hand_total}
 use Rattle.acpc_writing.specs.Cards.{board_text, boards_text, cards_text, hole_text, holes_text}
@@ -173,7 +173,7 @@ play_letters game play readable =
 
 -- ---- the line
 
--- what stands in the line of a play
+-- the fields of the line of a play
 pub record Fields : Type 0 where
   pub hand : List ℕ
   pub betting : List ℕ
@@ -325,7 +325,7 @@ hand_read game place file_moves play low readable few =
     (rw (values_read play.trace values_at)
     (rw (names_read game play names_at readable) refl)))))
 
--- the line that was written of a play reads as its hand
+-- the written line of a play reads as its hand
 pub line_read : (game : Game) (place file_moves : ℕ) (play : Play) → place < 2 ^ 32 → IsReadable game play → file_moves + moves_written play ≤ MOST_FILE_MOVES
     → line_said game place file_moves (in_fields (fields_of game.no_limit place play)) ≡ Ok (hand_again game.no_limit place play, file_moves + moves_in (steps_of game play))
 unfolding line_said six_fields

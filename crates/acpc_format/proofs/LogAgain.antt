@@ -1,4 +1,4 @@
--- The lines of plays that were written read as the hands of these plays.
+-- The written lines of plays read as the hands of these plays.
 use Rattle.std.proofs.Common.{◌≡◌, ℕ, ◌+◌, ◌-◌, ◌≤◌, ◌<◌, Bool, false, eqb, List, [], ◌∷◌, ◌++◌, length, slice_index, sum_by, Result, Ok, refl, sym, ap, ap₂, ◌∙◌, arith, append_assoc, ne_eqb}
 use Rattle.std.specs.List.{AllByRecursion}
 use Rattle.std.proofs.lemmas.Bool.{lt-leb}
@@ -7,9 +7,9 @@ use Rattle.std.proofs.lemmas.List.Sums.{sum_by-cons}
 use Rattle.first_fault.specs.declared.limits.TheConstants.{MOST_FILE_MOVES, MOST_HANDS}
 use Rattle.hand_records.specs.declared.trace.Play.{Play}
 use Rattle.first_fault.specs.Reading.{◌>>=◌}
-use Rattle.acpc_text.proofs.LineLaws.{line_and_more}
-use Rattle.acpc_text.specs.Parts.{lines_of, without_return}
-use Rattle.acpc_text.specs.declared.fault.AcpcFault.{AcpcFault}
+use Rattle.acpc_game.proofs.LineLaws.{line_and_more}
+use Rattle.acpc_game.specs.Parts.{lines_of, without_return}
+use Rattle.acpc_game.specs.declared.fault.AcpcFault.{AcpcFault}
 use Rattle.acpc_game.specs.declared.game.Game.{Game}
 use Rattle.acpc_writing.specs.Line.{lines_from, log_text}
 use Rattle.acpc_reading.specs.Logs.{HandSaid, Hands, hands_after, hands_after_line, is_passed_over, reading}
@@ -25,7 +25,7 @@ abbrev bare_lines : Bool → ℕ → List Play → List (List ℕ)
 bare_lines no_limit place [] = []
 bare_lines no_limit place (play ∷ rest) = in_fields (fields_of no_limit place play) ∷ bare_lines no_limit (place + 1) rest
 
--- a line that ends with no carriage return stays
+-- a line that does not end with a carriage return is unchanged
 same_line : (fields : Fields) → Passes is_inner (in_fields fields) → without_return (in_fields fields) ≡ in_fields fields
 same_line fields inner =
     let line = in_fields fields in
@@ -46,7 +46,7 @@ cut_lines game place (play ∷ rest) few each =
 not_passed : (fields : Fields) → is_passed_over (in_fields fields) ≡ false
 not_passed fields = rw (ne_eqb (length (in_fields fields)) 0 (λ none. omega (arith, none))) refl
 
--- one line more
+-- one more line
 one_more : (game : Game) (hands : List HandSaid) (file_moves line : ℕ) (play : Play) → length hands < MOST_HANDS → IsReadable game play → file_moves + moves_written play ≤ MOST_FILE_MOVES
     → hands_after_line game (hands, file_moves) line (in_fields (fields_of game.no_limit (length hands) play)) ≡ Ok (hands ++ hand_again game.no_limit (length hands) play ∷ [], file_moves + moves_in (steps_of game play))
 unfolding hands_after_line
@@ -72,7 +72,7 @@ all_read game hands file_moves line (play ∷ rest) few each moves =
     ∙ ap Ok (append_assoc hands (hand ∷ []) (hands_again game.no_limit (length (hands ++ hand ∷ [])) rest)
     ∙ ap (λ n. hands ++ hand ∷ hands_again game.no_limit n rest) longer)
 
--- what was written of plays reads as their hands
+-- written plays read as their hands
 pub plays_again : (game : Game) (plays : List Play) → length plays ≤ MOST_HANDS → AllByRecursion (IsReadable game) plays → sum_by moves_written plays ≤ MOST_FILE_MOVES
     → reading game (log_text game.no_limit plays) ≡ Ok (hands_again game.no_limit 0 plays)
 unfolding reading

@@ -1,5 +1,5 @@
--- What the events of a log may say, whatever its bytes are: deals of two known or two unknown hole cards and of known cards of the
--- board, and letters, of which a raise is spelled as the game has it.
+-- The events that a log can say, whatever its bytes: deals of two known or two unknown hole cards,
+-- deals of known board cards, and letters, with raises written as the game has them.
 use Rattle.std.proofs.Common.{◌≡◌, ℕ, ◌+◌, Bool, true, false, ◌&&◌, not, eqb, nat_lt, nat_le, if◌then◌else◌, codes, List, [], ◌∷◌, ◌++◌, length, map, Option, Some, None, option_and_then, Result, Ok, Err, IfOk, refl, sym, ap, ◌∙◌}
 use Rattle.std.specs.List.{AllByRecursion, list_any}
 use Rattle.std.proofs.lemmas.Bool.{and_parts, eqb-true, not-true}
@@ -8,7 +8,7 @@ use Rattle.card_set.specs.Spelling.{slots_spelled}
 use Rattle.card_set.specs.declared.card.Slot.{Slot}
 use Rattle.card_set.specs.declared.card.Slot.TheVariants as slots
 use Rattle.chip_ledger.specs.declared.numbers.TheConstants.{MOST_CHIPS}
-use Rattle.canon_script.specs.declared.limits.TheConstants.{MOST_MOVES}
+use Rattle.play_event.specs.declared.hand_limits.TheConstants.{MOST_MOVES}
 use Rattle.first_fault.specs.Digits.{number_of}
 use Rattle.first_fault.specs.declared.limits.Quantity.TheVariants as quantities
 use Rattle.first_fault.specs.declared.limits.TheConstants.{MOST_FILE_MOVES, MOST_HANDS}
@@ -18,11 +18,11 @@ use Rattle.play_event.specs.declared.event.Event.{Event}
 use Rattle.play_event.specs.declared.event.Spelled.{Spelled}
 use Rattle.play_event.specs.declared.event.Spelled.TheVariants as spelled
 use Rattle.acpc_game.specs.declared.game.Game.{Game}
-use Rattle.acpc_text.specs.Faults.{in_line, wrong}
-use Rattle.acpc_text.specs.Letters.{Letter, scan}
-use Rattle.acpc_text.specs.Parts.{has_front, lines_of, parts_of}
-use Rattle.acpc_text.specs.declared.fault.LineFault.{LineFault}
-use Rattle.acpc_text.specs.declared.fault.LineFaultKind.TheVariants as whats
+use Rattle.acpc_game.specs.Faults.{in_line, wrong}
+use Rattle.acpc_game.specs.Letters.{Letter, scan}
+use Rattle.acpc_game.specs.Parts.{has_front, lines_of, parts_of}
+use Rattle.acpc_game.specs.declared.fault.LineFault.{LineFault}
+use Rattle.acpc_game.specs.declared.fault.LineFaultKind.TheVariants as whats
 use Rattle.acpc_reading.proofs.Checked.{after}
 use Rattle.acpc_reading.specs.Betting.{Bets, bare_said, bets_after, betting_said, letter_said, no_bets, raise_said, stroke_said, with_move}
 use Rattle.acpc_reading.specs.Cards.{Written, bad_cards, board_said, dealt, hole_after, hole_said, holes_after, known_said, next_round, only_known, script_said, step_after, steps_after, steps_said, without_rest}
@@ -31,15 +31,15 @@ use Rattle.acpc_reading.specs.Names.{hand_said, names_said}
 use Rattle.acpc_reading.specs.Values.{values_said}
 use Rattle.acpc_reading.specs.declared.step.BettingStep.{BettingStep}
 use Rattle.acpc_reading.specs.declared.step.BettingStep.TheVariants as steps
-use Rattle.list_laws.proofs.Entries.{all_push}
-use Rattle.list_laws.proofs.Results.{ok_anyway, ok_either, ok_where_found, ok_where_some}
+use Rattle.card_set.proofs.Entries.{all_push}
+use Rattle.card_set.proofs.Results.{ok_anyway, ok_either, ok_where_found, ok_where_some}
 
 -- two cards, both known or both unknown
 pub record AreWhole (cards : List Slot) : Type 0 where
   pub two : length cards ≡ 2
   pub whole : (list_any is_unknown cards && list_any (λ slot. not (is_unknown slot)) cards) ≡ false
 
--- how a game spells raises: by the chips of the hand where it has no limit, and by the unit where it has one
+-- how a game writes raises: in no-limit as the seat's chips in the whole hand, in limit by the unit
 abbrev pub IsRaiseOf : Bool → Spelled → Type 0
 IsRaiseOf no_limit (spelled.HandTotal total) = no_limit ≡ true
 IsRaiseOf no_limit spelled.Unit = no_limit ≡ false

@@ -1,5 +1,5 @@
--- What a legal hand has that a log says: nobody mucks, all hole cards of a seat are known or all are unknown, and in a limit game each
--- raise is by the unit.
+-- What holds of a legal hand that a log says: nobody mucks, all hole cards of a seat are known or
+-- all are unknown, and in a limit game each raise is by the unit.
 use Rattle.std.proofs.Common.{◌≡◌, ℕ, zero, suc, ◌+◌, ◌≤◌, Bool, true, false, ◌&&◌, ◌||◌, ◌==◌, not, if◌then◌else◌, List, [], ◌∷◌, ◌++◌, map, length, Option, Some, None, inl, inr, refl, sym, ap, subst, ◌∙◌, arith, true≢false}
 use Rattle.std.specs.List.{AllByRecursion, list_any}
 use Rattle.std.proofs.lemmas.Bool.{and_from, eq-eqb, eqb-true, or_cases, or_left, or_right}
@@ -45,7 +45,7 @@ none_mucked no_limit setup (said.Muck owner ∷ events) seat each = absurd each.
 
 -- ---- raises
 
--- each raise goes where one by the unit goes
+-- each raise has the target of one by the unit
 abbrev pub AreByUnit : Setup → List Move → Type 0
 AreByUnit setup [] = Unit {0}
 AreByUnit setup (move ∷ older) = (is_raise move.act ≡ true → move.to ≡ unit_target setup older move.street move.seat) × AreByUnit setup older
@@ -73,7 +73,7 @@ by_unit setup (said.Muck owner ∷ events) each = absurd each.0
 
 -- ---- hole cards
 
--- where each of some places fails a test, none passes it
+-- if each of some places fails a test, none passes it
 none_among : (p : Place → Bool) (placed : List Place) → ((place : Place) → IsAmong placed place → p place ≡ false) → list_any p placed ≡ false
 none_among p [] none = refl
 none_among p (first ∷ rest) none = by_first (p first) (none first (inl refl)) (none_among p rest (λ place among. none place (inr among)))
@@ -82,7 +82,7 @@ none_among p (first ∷ rest) none = by_first (p first) (none first (inl refl)) 
     by_first false is rest_none = rest_none
     by_first true is rest_none = absurd (true≢false is)
 
--- what some place passes another test passes too
+-- if some place passes one test, one passes another
 pub any_among : (p q : Place → Bool) (placed : List Place) → ((place : Place) → IsAmong placed place → p place ≡ true → q place ≡ true) → list_any p placed ≡ true → list_any q placed ≡ true
 any_among p q [] goes some = some
 any_among p q (first ∷ rest) goes some = elim (or_cases (p first) (list_any p rest) some) [
@@ -90,14 +90,14 @@ any_among p q (first ∷ rest) goes some = elim (or_cases (p first) (list_any p 
   | inr there ↦ or_right (q first) (list_any q rest) (any_among p q rest (λ place among. goes place (inr among)) there)
 ]
 
--- the card of a seat that is not known, and one that is
+-- the card of a seat that is unknown, and one that is known
 abbrev pub is_hidden_of : ℕ → Place → Bool
 is_hidden_of seat place = is_same_owner place.owner (Some seat) && is_unknown place.slot
 
 abbrev pub is_open_of : ℕ → Place → Bool
 is_open_of seat place = is_same_owner place.owner (Some seat) && not (is_unknown place.slot)
 
--- a seat has no card known beside one that is not
+-- no seat has both a known and an unknown card
 abbrev pub IsWholeSeat : List Place → ℕ → Type 0
 IsWholeSeat placed seat = (list_any (is_hidden_of seat) placed && list_any (is_open_of seat) placed) ≡ false
 
@@ -110,7 +110,7 @@ dealt_there setup past seat place among own =
       some_passes (is_in_group (Some seat) place.street) (places_of setup.code past) place among (and_from (is_same_owner place.owner (Some seat)) (place.street == place.street) own (eq-eqb place.street place.street refl)),
     )
 
--- hole cards are dealt on the first street alone
+-- hole cards are dealt on the first street only
 first_alone : (setup : Setup) (rules : Rules) (events : List Said) (seat street : ℕ) → IsHoldem setup.code → AreLegal setup rules events → 1 ≤ street → 1 ≤ hole_cards_dealt (past_of setup events) street seat → street ≡ 1
 first_alone setup rules events seat zero is legal since some = absurd (omega (arith, since))
 first_alone setup rules events seat (suc zero) is legal since some = refl
@@ -144,7 +144,7 @@ dealt_any test owner seat street late index number (card ∷ cards) =
     both true here there = refl
     both false here there = refl
 
--- a fold leaves owners and cards
+-- a fold does not change owners and cards
 fold_any : (test : Slot → Bool) (seat folder count : ℕ) (placed : List Place) → list_any (λ (place : Place). is_same_owner place.owner (Some seat) && test place.slot) (map (folded_place folder count) placed) ≡ list_any (λ (place : Place). is_same_owner place.owner (Some seat) && test place.slot) placed
 fold_any test seat folder count [] = refl
 fold_any test seat folder count (place ∷ placed) =
@@ -158,7 +158,7 @@ fold_any test seat folder count (place ∷ placed) =
 is_open : Slot → Bool
 is_open slot = not (is_unknown slot)
 
--- a deal to the board leaves the cards of a seat
+-- a deal to the board does not change the cards of a seat
 board_whole : (seat street : ℕ) (late : Bool) (index number : ℕ) (cards : List Slot) (placed : List Place) → IsWholeSeat placed seat → IsWholeSeat (placed ++ places_dealt None street late index number cards) seat
 unfolding is_open
 board_whole seat street late index number cards placed whole =
@@ -171,7 +171,7 @@ board_whole seat street late index number cards placed whole =
     none_more true false is = refl
     none_more false b is = refl
 
--- a deal to a seat that had no card, of whole cards
+-- a deal of cards that are all known or all unknown to a seat that had none
 hole_whole : (seat owner street : ℕ) (late : Bool) (index number : ℕ) (cards : List Slot) (placed : List Place) → (list_any is_unknown cards && list_any is_open cards) ≡ false
     → (owner ≡ seat → (list_any (is_hidden_of seat) placed ≡ false) × (list_any (is_open_of seat) placed ≡ false)) → IsWholeSeat placed seat → IsWholeSeat (placed ++ places_dealt (Some owner) street late index number cards) seat
 unfolding is_open

@@ -1,4 +1,4 @@
--- The names of players and the number of the hand that were written read back as the kept ones.
+-- The written names of players and number of the hand read back as the kept ones.
 use Rattle.std.proofs.Common.{◌≡◌, ℕ, zero, suc, ◌+◌, ◌-◌, ◌≤◌, Bool, true, false, ◌==◌, nat_lt, cond, bytes_eq, List, [], ◌∷◌, ◌++◌, length, map, slice_index_or, Option, Some, None, IfSome, IsUtf8, Result, Ok, refl, sym, ap, ◌∙◌, arith, append_assoc}
 use Rattle.std.specs.List.{range_with_len}
 use Rattle.std.specs.Str.{is_utf8}
@@ -9,7 +9,7 @@ use Rattle.std.proofs.lemmas.Str.{is_utf8-from_IsUtf8}
 use Rattle.hand_records.specs.AllowedNotes.{AreAllowed, IsName}
 use Rattle.first_fault.specs.declared.limits.TheConstants.{MOST_TEXT_BYTES}
 use Rattle.hand_records.specs.declared.notes.Notes.{Notes}
-use Rattle.acpc_text.specs.declared.fault.LineFault.{LineFault}
+use Rattle.acpc_game.specs.declared.fault.LineFault.{LineFault}
 use Rattle.acpc_writing.specs.Names.{is_spelled_name, name_or_default, name_text}
 use Rattle.acpc_reading.specs.Names.{name_said, names_after}
 use Rattle.acpc_reading.proofs.UsualNames.{default_again}
@@ -17,7 +17,7 @@ use Rattle.acpc_format.specs.Again.{kept_name, name_again}
 use Rattle.acpc_writing.specs.Texts.{AreTexts}
 use Rattle.chip_ledger.specs.SeatsSaid.{default_name}
 
--- a name that is said and may stand reads as itself
+-- a name that is given and allowed reads as itself
 said_again : (seat at : ℕ) (name : List ℕ) → IsName seat name → IsUtf8 name → name_said seat at name ≡ Ok (Some name)
 unfolding name_said
 said_again seat at name is text =

@@ -1,4 +1,5 @@
--- Which facts of a play the logs of a game do not spell is told by its trace and by what is said in its notes.
+-- Which facts of a play the logs of a game cannot write depends only on the play's trace and on
+-- what its notes say.
 use Rattle.std.proofs.Common.{◌≡◌, ℕ, ◌+◌, ◌-◌, ◌<◌, ◌↔◌, not, Bool, true, false, cond, List, [], ◌∷◌, map, slice_index_or, Option, Some, None, is_some, option_and_then, refl, sym, ap, ap₂, subst, ◌∙◌, inl, inr, arith, true≢false}
 use Rattle.std.specs.List.{list_any}
 use Rattle.std.proofs.lemmas.Bool.{cases_lt}
@@ -67,7 +68,7 @@ module _ (place count : ℕ) (few : place < MOST_HANDS) (a b : Notes) (is : AreA
   note_same keeps.All = ap₂ (λ texts times. or_behind (first_where texts) (first_where times)) texts_same times_same
   note_same keeps.Spelled = refl
 
--- plays that say the same have one first fact without a spelling
+-- two plays that say the same have the same first fact that cannot be written
 pub one_fact : (game : Game) (keep : Keep) (place : ℕ) (play other : Play) → place < MOST_HANDS → IsSound play → IsSound other → AreSameHand (λ notes. notes) place play other
     → unspelled game keep play ≡ unspelled game keep other
 unfolding unspelled
@@ -79,15 +80,15 @@ one_fact game keep place play other few sound too same =
     let note = note_same place count few play.hand.notes other.hand.notes (allowed play sound) (back (λ n. AreAllowed n other.hand.notes) (allowed other too)) (unusual play sound) (back (λ n. AreUnusual n other.hand.notes.seats) (unusual other too)) there keep in
     ap₂ (λ (trace : Trace) (fact : Option Unspelled). or_behind (first_where (setup_conditions game trace.setup)) (or_behind (first_where (play_conditions game trace)) fact)) same.trace note
 
--- where only those notes are kept that are spelled, the trace alone tells it
+-- if only notes that can be written are kept, the trace alone decides it
 pub trace_fact : (game : Game) (play other : Play) → play.trace ≡ other.trace → unspelled game keeps.Spelled play ≡ unspelled game keeps.Spelled other
 unfolding unspelled unspelled_note
 trace_fact game play other same =
     ap (λ (trace : Trace). or_behind (first_where (setup_conditions game trace.setup)) (or_behind (first_where (play_conditions game trace)) None)) same
 
--- ---- notes that are all spelled
+-- ---- notes that can all be written
 
--- no note is without a spelling
+-- a line can write each note
 record AreSpelled (a : Notes) : Type 0 where
   names : list_any is_unspelled_name a.names ≡ false
   seats : is_some a.seats ≡ false
@@ -142,7 +143,7 @@ none_is : {A : Type 0} (said : Option A) → is_some said ≡ false → said ≡
 none_is None none = refl
 none_is (Some a) none = absurd (true≢false none)
 
--- a name that has a spelling is kept, and one that is kept has a spelling
+-- a name that can be written is kept, and a name that is kept can be written
 name_kept : (name : Option (List ℕ)) → is_unspelled_name name ≡ false → kept_name name ≡ name
 name_kept None spelled = refl
 name_kept (Some text) spelled = by_test (is_spelled_name text) spelled
@@ -185,7 +186,7 @@ along names [] each = refl
 along names (seat ∷ seats) each = ap₂ (λ (first : Option (List ℕ)) (rest : List (Option (List ℕ))). first ∷ rest) (each seat) (along names seats each)
 
 module _ (place count : ℕ) (few : place < MOST_HANDS) (a : Notes) (is : AreAllowed count a) (unusual_is : AreUnusual count a.seats) where
-  -- notes that all have a spelling are kept
+  -- notes that can all be written are kept
   all_kept : AreSpelled a → kept_in_acpc (said_notes place count a) ≡ said_notes place count a
   all_kept are =
       notes_same (kept_in_acpc (said_notes place count a)) (said_notes place count a) (record {
@@ -212,7 +213,7 @@ module _ (place count : ℕ) (few : place < MOST_HANDS) (a : Notes) (is : AreAll
       subst (λ (k : ℕ). kept_name (slice_index_or a.names k None) ≡ slice_index_or a.names k None) here
       (at_seat (λ seat. kept_name (name_said a.names seat)) (name_said a.names) None count (index + 1) (sym (each_name a.names (seats_of count)) ∙ ap (λ (n : SaidNotes). n.names) kept) (omega arith) (omega (arith, within)))
 
-  -- and notes that are all kept have a spelling
+  -- and notes that are all kept can be written
   kept_all : kept_in_acpc (said_notes place count a) ≡ said_notes place count a → AreSpelled a
   kept_all kept =
       record {
@@ -235,7 +236,7 @@ module _ (place count : ℕ) (few : place < MOST_HANDS) (a : Notes) (is : AreAll
         time = none_some a.time (ap (λ (n : SaidNotes). n.time) kept);
       }
 
--- all notes of a play are spelled where those that are kept are all that are said
+-- all notes of a play can be written if those that are kept are all that are given
 pub all_spelled : (game : Game) (place : ℕ) (play : Play) → place < MOST_HANDS → IsSound play
     → (unspelled game keeps.All play ≡ None) ↔ ((unspelled game keeps.Spelled play ≡ None) × (kept_in_acpc (notes_of place play) ≡ notes_of place play))
 unfolding unspelled unspelled_note

@@ -1,4 +1,4 @@
--- Numbers that were written in decimal digits read back, and so do the number of the hand and the values.
+-- Numbers written in decimal digits read back, and so do the number of the hand and the values.
 use Rattle.std.proofs.Common.{◌≡◌, ℕ, zero, suc, ◌+◌, ◌-◌, ◌≤◌, ◌<◌, ◌^◌, ℤ, pos, ◌-ℤ◌, Bool, true, false, ◌&&◌, ◌||◌, ◌==◌, not, nat_le, nat_lt, if◌then◌else◌, cond, eqb, bytes_eq, decimal, List, [], ◌∷◌, ◌++◌, length, map, slice_index, Option, Some, None, Result, Ok, refl, sym, ap, subst, ◌∙◌, arith, append_assoc, ltb-false, ne_eqb, true≢false}
 use Rattle.std.specs.List.{list_all, range_with_len}
 use Rattle.std.specs.Char.{is_digit, digit_value}
@@ -12,8 +12,8 @@ use Rattle.chip_ledger.specs.SeatRow.{amount_of}
 use Rattle.chip_ledger.specs.declared.seat_row.SeatRow.{SeatRow}
 use Rattle.chip_ledger.specs.declared.seat_row.TheConstants.{MOST_AMOUNT}
 use Rattle.first_fault.specs.Digits.{are_digits, number_of}
-use Rattle.acpc_text.specs.Parts.{parts_of}
-use Rattle.acpc_text.specs.declared.fault.LineFault.{LineFault}
+use Rattle.acpc_game.specs.Parts.{parts_of}
+use Rattle.acpc_game.specs.declared.fault.LineFault.{LineFault}
 use Rattle.acpc_writing.specs.Names.{hand_text, is_spelled_hand}
 use Rattle.acpc_writing.specs.Values.{value_text}
 use Rattle.acpc_reading.specs.Names.{hand_said, most_hand}
@@ -21,16 +21,16 @@ use Rattle.acpc_reading.specs.Values.{unsigned_said, value_said, values_after, w
 use Rattle.acpc_format.specs.Again.{kept_hand}
 use Rattle.acpc_format.proofs.Signs.{decimal_plain, digits_plain, is_plain}
 use Rattle.acpc_format.proofs.Splits.{Passes, whole}
-use Rattle.list_laws.proofs.Digits.{all_digits, own_digits}
-use Rattle.list_laws.proofs.Integers.{difference_above, difference_below}
-use Rattle.list_laws.proofs.Tests.{implied}
+use Rattle.card_set.proofs.Digits.{all_digits, own_digits}
+use Rattle.card_set.proofs.Integers.{difference_above, difference_below}
+use Rattle.card_set.proofs.Tests.{implied}
 use Rattle.first_fault.proofs.DecimalDigits.{decimal_digits}
 
 pub decimal_number : (most n : ℕ) → n ≤ most → n < 2 ^ 64 → number_of most (decimal n) ≡ Some n
 unfolding number_of
 decimal_number most n few small = rw ((decimal_is_IsNumeral n small).1, le-leb n most few) refl
 
--- the place of a hand in its file reads as none
+-- the place of a hand in its file reads as no number
 place_again : (place at : ℕ) → place < 2 ^ 32 → hand_said place at (decimal place) ≡ Ok None
 unfolding hand_said
 place_again place at few =
@@ -42,7 +42,7 @@ place_again place at few =
 abbrev said_hand : Option (List ℕ) → Result (Option (List ℕ)) LineFault
 said_hand found = Ok found
 
--- a number of a hand that is spelled reads as itself, unless it is the place
+-- a hand number that a line can write reads as itself, unless it is the place
 spelled_again : (place at : ℕ) (text : List ℕ) → place < 2 ^ 32 → is_spelled_hand text ≡ true → hand_said place at text ≡ Ok (if bytes_eq text (decimal place) then None else Some text)
 unfolding hand_said is_spelled_hand are_digits number_of
 spelled_again place at text few spelled =
@@ -83,7 +83,7 @@ unfolding whole_said
 unsigned_again true at n few = rw (decimal_digits n (omega (arith, few)), decimal_number MOST_AMOUNT n few (omega (arith, few))) refl
 unsigned_again false at n few = rw (decimal_digits n (omega (arith, few)), decimal_number MOST_AMOUNT n few (omega (arith, few))) refl
 
--- a value that is no loss
+-- a value that is not a loss
 gain_again : (at n : ℕ) (text : List ℕ) → decimal n ≡ text → n ≤ MOST_AMOUNT → value_said at text ≡ Ok (pos n)
 gain_again at n [] is few = absurd (omega (arith, ap length is, (decimal_is_IsNumeral n (omega (arith, few))).0.0))
 gain_again at n (first ∷ rest) is few =
@@ -120,7 +120,7 @@ values_again stacks finish so_far first (suc count) at =
     (values_again stacks finish (so_far ++ value ∷ []) (first + 1) count (at + length (value_text stacks finish first) + 1)
     ∙ ap Ok (append_assoc so_far (value ∷ []) (map (λ seat. pos (amount_of finish seat) -ℤ pos (amount_of stacks seat)) (range_with_len (first + 1) count))))
 
--- a number of a hand that is spelled is digits
+-- a hand number that a line can write is digits
 pub hand_plain : (text : List ℕ) → is_spelled_hand text ≡ true → Passes is_plain text
 unfolding is_spelled_hand are_digits
 hand_plain text spelled =

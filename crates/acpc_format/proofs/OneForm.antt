@@ -1,4 +1,5 @@
--- Hands that are the same are written as the same lines, and what is written as the same lines are the same hands.
+-- Hands that are the same are written as the same lines, and hands that are written as the same
+-- lines are the same.
 use Rattle.std.proofs.Common.{◌≡◌, ℕ, sum_by, zero, suc, ◌+◌, ◌≤◌, ◌<◌, ◌^◌, ◌&&◌, ◌||◌, ◌==◌, nat_le, not, Bool, true, false, cond, bytes_eq, codes, decimal, List, [], ◌∷◌, ◌++◌, length, map, slice_index, Option, Some, None, is_some, option_and_then, unwrap_or, Ok, refl, sym, ap, ap₂, subst, ◌∙◌, arith}
 use Rattle.std.specs.List.{AllByRecursion}
 use Rattle.std.proofs.lemmas.Bool.{eqb-true, eq-eqb, le-leb}
@@ -30,7 +31,7 @@ use Rattle.hand_records.specs.declared.notes.Notes.{Notes}
 use Rattle.hand_records.specs.declared.trace.Play.{Play}
 use Rattle.hand_records.specs.declared.trace.Trace.{Trace}
 use Rattle.hand_records.specs.declared.writing.Keep.{Keep}
-use Rattle.list_laws.proofs.NumbersOfRange.{flat_same}
+use Rattle.card_set.proofs.NumbersOfRange.{flat_same}
 use Rattle.play_event.specs.Said.{Numbered}
 use Rattle.play_event.specs.ValidSetup.{IsValid}
 use Rattle.play_event.specs.declared.setup.Setup.{Setup}
@@ -64,7 +65,7 @@ number_twice (Some text) = by_test (is_spelled_hand text) refl
     by_test true is = ap (λ (b : Bool). cond b (Some text) None) is
     by_test false is = refl
 
--- what is kept of what is kept
+-- keeping twice is keeping once
 pub kept_again : (notes : SaidNotes) → kept_in_acpc (kept_in_acpc notes) ≡ kept_in_acpc notes
 kept_again notes =
     notes_same (kept_in_acpc (kept_in_acpc notes)) (kept_in_acpc notes) (record {
@@ -104,7 +105,7 @@ hand_written_kept place (Some text) = by_tests (is_spelled_hand text) (bytes_eq 
     by_tests true false is = refl
     by_tests false same is = refl
 
--- the names of notes of which the same is kept
+-- the names of notes of which the same is kept are written alike
 names_written : (count : ℕ) (a b : Notes) → map kept_name (map (name_said a.names) (seats_of count)) ≡ map kept_name (map (name_said b.names) (seats_of count)) → names_text a count ≡ names_text b count
 unfolding names_text
 names_written count a b same =
@@ -144,7 +145,7 @@ one_text no_limit plays others all = lines_same no_limit 0 plays others all
 
 -- ---- hands of one log
 
--- plays that are read as one hand are the same
+-- plays that are read as the same hand are the same
 hand_same : (game : Game) (keep : Keep) (place : ℕ) (play other : Play) → IsSound play → IsSound other → unspelled game keep play ≡ None → unspelled game keep other ≡ None
     → hand_again game.no_limit place play ≡ hand_again game.no_limit place other → AreSameHand kept_in_acpc place play other
 hand_same game keep place play other sound too none none_too same =
@@ -189,7 +190,7 @@ hands_same game keep number place (play ∷ plays) (other ∷ others) sound too 
     let there : hands_again game.no_limit (place + 1) plays ≡ hands_again game.no_limit (place + 1) others = cc in
     (hand_same game keep place play other sound.0 too.0 parts.0 parts_too.0 here, hands_same game keep (number + 1) (place + 1) plays others sound.1 too.1 parts.1 parts_too.1 there)
 
--- what is written as the same text are the same hands
+-- hands that are written as the same text are the same
 pub same_hands : (game : Game) (keep : Keep) (plays others : List Play) → length plays ≤ MOST_HANDS → length others ≤ MOST_HANDS
     → sum_by moves_written plays ≤ MOST_FILE_MOVES → sum_by moves_written others ≤ MOST_FILE_MOVES → AllByRecursion IsSound plays → AllByRecursion IsSound others
     → AllByRecursion HasTexts plays → AllByRecursion HasTexts others → first_refusal (unspelled game keep) plays ≡ None → first_refusal (unspelled game keep) others ≡ None
@@ -202,12 +203,12 @@ same_hands game keep plays others few few_too moves moves_too sound other_sound 
 
 -- ---- facts
 
--- a number in decimal digits begins with no zero but that of 0
+-- a number in decimal digits begins with 0 only if it is 0
 one_zero : (n : ℕ) → n < 2 ^ 64 → slice_index (decimal n) 0 ≡ 48 → length (decimal n) ≡ 1
 one_zero zero small first = ap length (decimal_digit zero (omega arith))
 one_zero (suc n) small first = absurd (omega (arith, first, first_decimal (suc n) (omega arith) small))
 
--- so it is spelled
+-- so a line can write it
 decimal_spelled : (n : ℕ) → n < MOST_HANDS → is_spelled_hand (decimal n) ≡ true
 unfolding is_spelled_hand
 decimal_spelled n few =
@@ -219,7 +220,7 @@ decimal_spelled n few =
     by_first true is alone = rw (eq-eqb (length (decimal n)) 1 (alone (eqb-true (slice_index (decimal n) 0) 48 is))) refl
     by_first false is alone = refl
 
--- a number of a hand has no spelling where that which is said has none
+-- a line cannot write a hand number if it cannot write the one that is given
 pub hand_fact : (place : ℕ) (said : Option (List ℕ)) → place < MOST_HANDS → is_unspelled_hand said ≡ is_unspelled_hand (kept_label place said)
 hand_fact place None few = refl
 hand_fact place (Some text) few = by_test (bytes_eq text (decimal place)) refl

@@ -1,4 +1,4 @@
--- A valid setup that the logs of a game spell is that of the game.
+-- A valid setup that the logs of a game can write is that of the game.
 use Rattle.std.proofs.Common.{◌≡◌, ℕ, ◌-◌, Bool, true, false, ◌&&◌, eqb, nat_lt, bytes_eq, if◌then◌else◌, List, slice_index, None, refl, sym, ap, subst, ◌∙◌, arith, true≢false, inl, inr}
 use Rattle.std.specs.List.{list_any}
 use Rattle.std.proofs.lemmas.Bool.{and_parts, cases_lt, eqb-true}
@@ -7,7 +7,7 @@ use Rattle.chip_ledger.proofs.Same.{seat_row_same_by_seats}
 use Rattle.chip_ledger.specs.Greatest.{greatest}
 use Rattle.chip_ledger.specs.SeatRow.{amount_of, amounts_in}
 use Rattle.chip_ledger.specs.declared.seat_row.SeatRow.{SeatRow}
-use Rattle.list_laws.proofs.NumbersOfRange.{any_none}
+use Rattle.card_set.proofs.NumbersOfRange.{any_none}
 use Rattle.play_event.specs.declared.code.Code.{Code}
 use Rattle.play_event.specs.declared.code.Code.TheVariants as codes
 use Rattle.play_event.specs.declared.setup.Setup.{Setup}
@@ -21,8 +21,8 @@ use Rattle.acpc_writing.specs.SetupFacts.{is_code_of}
 use Rattle.acpc_writing.specs.Spelled.{unspelled}
 use Rattle.acpc_reading.specs.RecordView.{IsSetupOf, code_of}
 use Rattle.acpc_format.proofs.SpelledFacts.{HasSetupOf, spelled}
-use Rattle.list_laws.proofs.Any.{zero_from_none}
-use Rattle.list_laws.proofs.Entries.{index_taken_at}
+use Rattle.card_set.proofs.Any.{zero_from_none}
+use Rattle.card_set.proofs.Entries.{index_taken_at}
 use Rattle.acpc_writing.proofs.Making.{HasSizes}
 
 -- the code of a game
@@ -41,7 +41,7 @@ code_is no_limit codes.N2L1D is = absurd (cc (is))
 code_is no_limit codes.F2L3D is = absurd (cc (is))
 code_is no_limit codes.FB is = absurd (cc (is))
 
--- rows of one number of seats with the same amounts are one
+-- rows of one number of seats with the same amounts are the same
 rows_same : (row other : SeatRow) → row.seats ≡ other.seats → bytes_eq (amounts_in row) (amounts_in other) ≡ true → row ≡ other
 rows_same row other seats equal =
     let same : amounts_in row ≡ amounts_in other = (bytes_eq-Decides (amounts_in row) (amounts_in other)).0 equal in
@@ -107,6 +107,6 @@ setup_is game setup valid has =
       rakes = λ pot. zero_from_none setup.rakes.rakes (pot - 1) has.rakes;
     }
 
--- so the setup of a play that is spelled is that of the game
+-- so the setup of a play that can be written is that of the game
 pub spelled_setup : (game : Game) (keep : Keep) (play : Play) → IsValid play.trace.setup → unspelled game keep play ≡ None → IsSetupOf game play.trace.setup
 spelled_setup game keep play valid none = setup_is game play.trace.setup valid (spelled game keep play none).setup

@@ -1,4 +1,4 @@
--- Two setups of one game are one setup.
+-- Two setups of one game are the same.
 use Rattle.std.proofs.Common.{◌≡◌, ℕ, ◌+◌, slice_index, sym, subst, ◌∙◌, arith}
 use Rattle.std.proofs.lemmas.List.{ext_get_or}
 use Rattle.chip_ledger.proofs.Same.{seat_row_same_by_seats}

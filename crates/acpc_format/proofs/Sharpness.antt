@@ -1,16 +1,17 @@
--- A fact of a play that a game's logs do not spell is one that none of their legal hands has, but for odd chips and notes.
+-- If a game's logs cannot write a fact of a play, none of their legal hands has it, except odd
+-- chips and notes.
 use Rattle.std.proofs.Common.{◌≡◌, ℕ, ◌-◌, ◌≤◌, Bool, true, false, ◌&&◌, ◌||◌, ◌==◌, not, nat_le, if◌then◌else◌, List, [], ◌∷◌, ◌++◌, map, filter, reverse, count_by, slice_index, Option, Some, None, is_none, IfSome, Ok, refl, sym, ap, subst, ◌∙◌, arith, true≢false}
 use Rattle.std.specs.List.{AllByRecursion, list_any}
 use Rattle.std.proofs.lemmas.Bool.{and_from, and_parts, eq-eqb, le-ltb}
 use Rattle.std.proofs.lemmas.List.{reverse-append}
 use Rattle.std.proofs.lemmas.Result.{IfOk-at_ok}
-use Rattle.canon_blocks.proofs.TraceOrder.{a_seat}
+use Rattle.canon_laws.proofs.TraceOrder.{a_seat}
 use Rattle.canon_laws.proofs.StreetDeals.{group_is}
 use Rattle.canon_laws.specs.OtherRules as other_rules
 use Rattle.canon_laws.specs.OtherRules.{SuitsRules}
-use Rattle.canon_ranges.proofs.SuitedRules.{suits_own}
-use Rattle.canon_script.specs.CanonScript.{dealt_slots, plain_moves}
-use Rattle.canon_script.specs.TraceCore.{TraceCore, core_after}
+use Rattle.canon_laws.proofs.SuitedRules.{suits_own}
+use Rattle.play_event.specs.CanonScript.{dealt_slots, plain_moves}
+use Rattle.play_event.specs.TraceCore.{TraceCore, core_after}
 use Rattle.card_set.specs.Known.{is_unknown}
 use Rattle.card_set.specs.declared.card.Slot.{Slot}
 use Rattle.chip_ledger.proofs.Flags.{flagged-from_flag}
@@ -18,9 +19,9 @@ use Rattle.chip_ledger.specs.LiveRow.{flag_of, flagged}
 use Rattle.chip_ledger.specs.PotRow.{shares_in}
 use Rattle.chip_ledger.specs.Seat.{seats_of}
 use Rattle.chip_ledger.specs.declared.live_row.LiveRow.{LiveRow}
-use Rattle.list_laws.proofs.Any.{list_any-filter, list_any-map}
-use Rattle.list_laws.proofs.Finding.{list_any-push}
-use Rattle.list_laws.proofs.NumbersOfRange.{any_none, is_in}
+use Rattle.card_set.proofs.Any.{list_any-filter, list_any-map}
+use Rattle.card_set.proofs.Finding.{list_any-push}
+use Rattle.card_set.proofs.NumbersOfRange.{any_none, is_in}
 use Rattle.play_event.specs.Amounts.{unit_target}
 use Rattle.play_event.specs.Laws.{AreLegal}
 use Rattle.play_event.specs.Past.{Move, Past, is_raise, moves_of}
@@ -63,14 +64,14 @@ use Rattle.acpc_format.proofs.Holdem.{IsHoldem, holdem}
 use Rattle.acpc_format.proofs.LogEvents.{IsLogEvent, IsLogHand, log_hands, script_events}
 use Rattle.acpc_format.proofs.LogPasts.{AreByUnit, all_whole, any_among, by_unit, is_hidden_of, is_open_of, none_mucked, on_first}
 use Rattle.acpc_format.proofs.SuitsGame.{is_off, raises_said}
-use Rattle.list_laws.proofs.Tests.{not_both_still, not_true}
+use Rattle.card_set.proofs.Tests.{not_both_still, not_true}
 use Rattle.hand_canon.specs.Sharp.{IsOther, is_sharp}
 use Rattle.hand_records.specs.WriteRefusals.{or_behind}
 use Rattle.first_fault.specs.Conditions.{first_where}
 
 -- ---- the play, fact by fact
 
--- no free folds
+-- no seat folds when it owes nothing
 folds_none : (game : Game) (trace : Trace) → SuitsRules (rules_of game) (core_said trace) → list_any is_free_fold trace.moves ≡ false
 folds_none game trace suits = sym (list_any-map other_rules.is_free_fold move_said trace.moves) ∙ suits.no_free_fold refl
 
@@ -82,7 +83,7 @@ caps_none (Some caps) moves within = rw (on 1 (omega arith), on 2 (omega arith),
     on : (street : ℕ) → street ≤ 4 → is_above_cap caps moves street ≡ false
     on street low = le-ltb (slice_index caps (street - 1)) (count_by (is_raise_on street) moves) (omega (arith, within street low, raises_said street moves))
 
--- no raise off the unit
+-- no raise that is not by the unit
 units_off : (setup : Setup) (moves : List Move) → limit_of setup.code ≡ limits.Fixed → AreByUnit setup moves → list_any is_off (traced_moves setup moves) ≡ false
 units_off setup [] fixed units = refl
 units_off setup (move ∷ older) fixed units =
@@ -110,7 +111,7 @@ hole_is setup events seat test is low high =
     ∙ list_any-map test (λ (place : Place). place.slot) (filter (is_in_group (Some seat) 1) (places_of setup.code (past_of setup events)))
     ∙ list_any-filter (λ (place : Place). test place.slot) (is_in_group (Some seat) 1) (places_of setup.code (past_of setup events))
 
--- a hole card passes a test only where a card of the seat does
+-- a hole card passes a test only if a card of the seat does
 hole_own : (seat : ℕ) (test : Slot → Bool) (placed : List Place) → list_any (λ (place : Place). is_in_group (Some seat) 1 place && test place.slot) placed ≡ true → list_any (λ (place : Place). is_same_owner place.owner (Some seat) && test place.slot) placed ≡ true
 hole_own seat test placed some =
     any_among (λ (place : Place). is_in_group (Some seat) 1 place && test place.slot) (λ (place : Place). is_same_owner place.owner (Some seat) && test place.slot) placed
@@ -157,9 +158,9 @@ muck_none no_limit setup rules events row seat is legal each same low high = by_
         and_from (is_in_group (Some seat) 1 place) (is_unknown place.slot) (and_from (is_same_owner place.owner (Some seat)) (place.street == 1) own (eq-eqb place.street 1 (on_first setup rules events seat place is legal among own))) both.1) unknown in
         not_true (has_unknown_hole_card (traced_places setup past) seat) (hole_is setup events seat is_unknown is low high ∙ hole)
 
--- ---- the facts that are left
+-- ---- the other facts
 
--- a fact that is found of facts that are not sharp
+-- a fact found among facts that are not sharp
 abbrev AreBlunt : List (Bool × Unspelled) → Type 0
 AreBlunt conditions = AllByRecursion (λ (condition : Bool × Unspelled). is_sharp condition.1 ≡ false) conditions
 
@@ -195,7 +196,7 @@ skip : (condition : Bool) (fact : Unspelled) (rest : Option Unspelled) → condi
 skip false fact rest is = refl
 skip true fact rest is = absurd (true≢false is)
 
--- so of its facts the odd chip alone may be found
+-- so of its facts only the odd chip may be found
 play_blunt : (game : Game) (trace : Trace) (fact : Unspelled) → HasSharpFacts game trace → first_where (play_conditions game trace) ≡ Some fact → is_sharp fact ≡ false
 play_blunt game trace fact has found =
     let odd : first_where ((list_any is_uneven (shares_in trace.shares), facts.OddChip) ∷ []) ≡ Some fact =
@@ -239,7 +240,7 @@ sharp_facts game hand trace is each traced =
           (λ seat low high. muck_none game.no_limit setup hand.rules events trace.mucked seat holdem_is traced.legal.played.legal each (ap (λ (c : TraceCore). c.mucked) core) low (omega (arith, high)));
     }
 
--- so a sharp fact is none of its
+-- so it has no sharp fact
 hand_blunt : (game : Game) (keep : Keep) (play : Play) (fact : Unspelled) (hand : Record) → IsOfGame game hand → AllByRecursion (IsLogEvent game.no_limit) (reverse (script_said hand)) → IsTraceOfLegal hand play.trace → unspelled game keep play ≡ Some fact → is_sharp fact ≡ false
 unfolding unspelled
 hand_blunt game keep play fact hand is each traced found =
@@ -249,7 +250,7 @@ hand_blunt game keep play fact hand is each traced found =
     (or_blunt (first_where (play_conditions game play.trace)) (unspelled_note keep play.hand.notes) fact
     (play_blunt game play.trace fact (sharp_facts game hand play.trace is each traced)) (note_blunt keep play.hand.notes fact)) found
 
--- events in the other order
+-- events in reverse order
 reverse_each : (no_limit : Bool) (script : List Said) → AllByRecursion (IsLogEvent no_limit) script → AllByRecursion (IsLogEvent no_limit) (reverse script)
 reverse_each no_limit [] each = tt
 reverse_each no_limit (event ∷ rest) each =

@@ -12,11 +12,11 @@ use Rattle.card_set.proofs.Letters.{each_rank, each_suit}
 use Rattle.acpc_format.proofs.Splits.{Passes, passes_both, passes_more, passes_none}
 use Rattle.chip_ledger.specs.SeatsSaid.{default_name}
 
--- a sign may stand in a field: it is no colon, and ends no line
+-- a sign is allowed in a field: it is no colon, and ends no line
 abbrev pub is_clear : ℕ → Bool
 is_clear sign = not (sign == 58 || (sign == 13 || sign == 10))
 
--- a sign may stand in a card: besides, it is no bar, no stroke and no point
+-- a sign is allowed in a card: it is also no bar, no stroke and no point
 abbrev pub is_plain : ℕ → Bool
 is_plain sign = may_stand sign && not (sign == 47 || sign == 46)
 

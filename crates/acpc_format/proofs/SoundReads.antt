@@ -1,14 +1,14 @@
--- A sound play that the logs of its game spell reads back.
+-- A sound play that the logs of its game can write reads back.
 use Rattle.std.proofs.Common.{◌≡◌, ℕ, zero, suc, ◌+◌, ◌-◌, ◌≤◌, Bool, true, false, ◌||◌, cond, sum_by, List, [], ◌∷◌, length, map, filter, reverse, Some, None, Ok, refl, sym, ap, subst, ◌∙◌, arith, true≢false, inl, inr}
 use Rattle.std.specs.List.{AllByRecursion}
 use Rattle.std.proofs.lemmas.Bool.{cases_lt}
 use Rattle.std.proofs.lemmas.List.{length-map, length-reverse}
 use Rattle.canon_laws.proofs.MoveCounts.{tidy_within}
 use Rattle.canon_laws.proofs.SameCore.{plain_again}
-use Rattle.canon_script.specs.CanonScript.{dealt_slots, is_dealt_to, plain_move, plain_moves}
-use Rattle.canon_script.specs.PlayedScript.{IsPlayed}
-use Rattle.canon_script.specs.Tidy.{IsTidy}
-use Rattle.canon_script.specs.TraceCore.{TraceCore, core_of}
+use Rattle.play_event.specs.CanonScript.{dealt_slots, is_dealt_to, plain_move, plain_moves}
+use Rattle.play_event.specs.PlayedScript.{IsPlayed}
+use Rattle.play_event.specs.Tidy.{IsTidy}
+use Rattle.play_event.specs.TraceCore.{TraceCore, core_of}
 use Rattle.chip_ledger.proofs.SeatLists.{none_at}
 use Rattle.chip_ledger.specs.SeatRow.{amount_of}
 use Rattle.chip_ledger.specs.declared.numbers.TheConstants.{MOST_CHIPS}
@@ -42,8 +42,8 @@ use Rattle.acpc_format.proofs.LogAgain.{plays_again}
 use Rattle.acpc_format.proofs.EventsAgain.{no_slots}
 use Rattle.acpc_format.proofs.Holdem.{IsHoldem, holdem}
 use Rattle.acpc_format.proofs.SpelledFacts.{spelled}
-use Rattle.canon_ranges.proofs.StreetsPlayed.{HasStreet, board_known, came_before, first_holes, four_streets, is_passed, few_on_board}
-use Rattle.list_laws.proofs.Lists.{none_from_length}
+use Rattle.canon_laws.proofs.StreetsPlayed.{HasStreet, board_known, came_before, first_holes, four_streets, is_passed, few_on_board}
+use Rattle.card_set.proofs.Lists.{none_from_length}
 use Rattle.hand_records.proofs.Refusals.{none_refused}
 use Rattle.play_event.proofs.ScriptLaws.{at_end}
 use Rattle.hand_records.specs.WriteRefusals.{refusal_from, first_refusal}
@@ -80,7 +80,7 @@ chips_few setup (suc seat) valid = elim (cases_lt setup.stacks.seats (suc seat))
   | inr within ↦ (valid.stacks (suc seat) (omega arith) within).1
 ]
 
--- a street whose board was dealt was come to
+-- the hand reached a street whose board was dealt
 came : (setup : Setup) (events : List Said) (street : ℕ) → HasStreet setup events street → (passed : Bool) → is_passed setup (moves_of (past_of setup events)) street ≡ passed
     → has_board (traced_places setup (past_of setup events)) street ≡ true → is_passed setup (moves_of (past_of setup events)) street ≡ false
 came setup events street has true is dealt = absurd (true≢false (sym dealt ∙ board_missing street (traced_places setup (past_of setup events)) (has.no_board is)))
@@ -138,7 +138,7 @@ core_reads setup rules script valid played tidy is =
       letters = subst (HasLetters setup placed) (sym plain) letters;
     }
 
--- so a sound play that is spelled reads back
+-- so a sound play that can be written reads back
 pub sound_reads : (game : Game) (keep : Keep) (play : Play) → IsSound play → HasTexts play → unspelled game keep play ≡ None → IsReadable game play
 sound_reads game keep play sound texts none =
     let setup = play.hand.setup in
@@ -168,7 +168,7 @@ all_read game keep number (play ∷ rest) sound texts none =
     let parts = none_refused number (unspelled game keep play) (refusal_from (unspelled game keep) (number + 1) rest) none in
     (sound_reads game keep play sound.0 texts.0 parts.0, all_read game keep (number + 1) rest sound.1 texts.1 parts.1)
 
--- and what was written of such plays reads as their hands
+-- and such plays, once written, read as their hands
 pub sound_again : (game : Game) (keep : Keep) (plays : List Play) → length plays ≤ MOST_HANDS → AllByRecursion IsSound plays → AllByRecursion HasTexts plays → first_refusal (unspelled game keep) plays ≡ None
     → sum_by moves_written plays ≤ MOST_FILE_MOVES → reading game (log_text game.no_limit plays) ≡ Ok (hands_again game.no_limit 0 plays)
 sound_again game keep plays few sound texts none moves = plays_again game plays few (all_read game keep 1 plays sound texts none) moves

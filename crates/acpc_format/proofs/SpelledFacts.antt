@@ -1,4 +1,4 @@
--- What holds of a play that the logs of a game spell.
+-- What holds of a play that the logs of a game can write.
 use Rattle.std.proofs.Common.{◌≡◌, Bool, true, false, ◌==◌, ◌&&◌, not, nat_lt, bytes_eq, if◌then◌else◌, Option, Some, None, refl}
 use Rattle.std.specs.List.{list_any}
 use Rattle.std.proofs.lemmas.Bool.{eqb-true}
@@ -14,8 +14,8 @@ use Rattle.acpc_game.specs.declared.game.Game.{Game}
 use Rattle.acpc_writing.specs.PlayFacts.{is_above_caps, is_free_fold, is_off_unit, is_open_muck, is_part_known, play_conditions}
 use Rattle.acpc_writing.specs.SetupFacts.{has_sizes_of, is_code_of, setup_conditions}
 use Rattle.acpc_writing.specs.Spelled.{unspelled, unspelled_note}
-use Rattle.list_laws.proofs.Options.{from_some_none}
-use Rattle.list_laws.proofs.Tests.{not_not}
+use Rattle.card_set.proofs.Options.{from_some_none}
+use Rattle.card_set.proofs.Tests.{not_not}
 use Rattle.chip_ledger.specs.SeatRow.{amounts_in}
 use Rattle.hand_records.proofs.Refusals.{both_none}
 use Rattle.hand_records.specs.WriteRefusals.{or_behind}
@@ -71,7 +71,7 @@ has_play game trace none =
     let five = where_none (list_any (is_open_muck (core_said trace).places trace.mucked) (seats_of trace.setup.stacks.seats)) facts.Muck _ four.1 in
     record { folds = one.0; caps = two.0; units = three.0; whole = four.0; mucks = five.0 }
 
--- what a play has that is spelled
+-- what holds of a play that can be written
 pub record IsSpelled (game : Game) (play : Play) : Type 0 where
   pub setup : HasSetupOf game play.trace.setup
   pub played : HasPlayOf game play.trace

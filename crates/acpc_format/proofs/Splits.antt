@@ -1,13 +1,13 @@
--- Texts that are cut at a sign which does not stand in them.
+-- Texts cut at a sign that they do not contain.
 use Rattle.std.proofs.Common.{◌≡◌, ℕ, zero, suc, ◌+◌, ◌≤◌, Bool, true, false, eqb, nat_lt, if◌then◌else◌, List, [], ◌∷◌, ◌++◌, map, All, refl, ap, ◌∙◌, arith}
 use Rattle.std.specs.List.{flat_map, list_all, range_with_len}
 use Rattle.std.proofs.lemmas.Bool.{and_parts, eq-eqb, lt-ltb}
 use Rattle.std.proofs.lemmas.List.{append-nil}
 use Rattle.std.proofs.lemmas.List.Splits.{slice_split_at, slice_split_none}
-use Rattle.acpc_text.specs.Parts.{parts_of}
+use Rattle.acpc_game.specs.Parts.{parts_of}
 use Rattle.acpc_writing.specs.Seats.{bar_before, for_seats}
-use Rattle.list_laws.proofs.Entries.{never_at}
-use Rattle.list_laws.proofs.Tests.{both_true}
+use Rattle.card_set.proofs.Entries.{never_at}
+use Rattle.card_set.proofs.Tests.{both_true}
 
 -- the signs of a text pass a test
 pub record Passes (p : ℕ → Bool) (text : List ℕ) : Type 0 where
@@ -25,14 +25,14 @@ passes_both p (sign ∷ text) more one other =
     let parts = and_parts (p sign) (list_all p text) one.all in
     passes_more p sign (text ++ more) parts.0 (passes_both p text more (record { all = parts.1 }) other)
 
--- what passes one test passes a wider one
+-- what passes a test passes a weaker one
 pub passes_wider : (p q : ℕ → Bool) (text : List ℕ) → ((sign : ℕ) → p sign ≡ true → q sign ≡ true) → Passes p text → Passes q text
 passes_wider p q [] wider one = passes_none q
 passes_wider p q (sign ∷ text) wider one =
     let parts = and_parts (p sign) (list_all p text) one.all in
     passes_more q sign text (wider sign parts.0) (passes_wider p q text wider (record { all = parts.1 }))
 
--- a sign that fails the test stands nowhere in a text that passes it
+-- a sign that fails the test is not in a text that passes it
 pub free : (p : ℕ → Bool) (sign : ℕ) (text : List ℕ) → p sign ≡ false → Passes p text → All (λ b. eqb b sign ≡ false) text
 free p sign text fails passes = λ k d within. never_at p sign text fails passes.all k d within
 
@@ -42,7 +42,7 @@ cut p sign text rest fails passes = slice_split_at (λ b. eqb b sign) text sign 
 pub whole : (p : ℕ → Bool) (sign : ℕ) (text : List ℕ) → p sign ≡ false → Passes p text → parts_of sign text ≡ text ∷ []
 whole p sign text fails passes = slice_split_none (λ b. eqb b sign) text (free p sign text fails passes)
 
--- the texts of more seats behind a text
+-- the texts of more seats after a text
 barred : (p : ℕ → Bool) (text : ℕ → List ℕ) (front : List ℕ) (first count last : ℕ) → p 124 ≡ false → 2 ≤ first → first + count ≤ last + 1
     → ((seat : ℕ) → 1 ≤ seat → seat ≤ last → Passes p (text seat)) → Passes p front
     → parts_of 124 (front ++ flat_map (λ seat. bar_before seat ++ text seat) (range_with_len first count)) ≡ front ∷ map text (range_with_len first count)
@@ -62,7 +62,7 @@ cut_seats p text zero fails some each = absurd (omega (arith, some))
 cut_seats p text (suc count) fails some each =
     barred p text (text 1) 2 count (suc count) fails (omega arith) (omega arith) each (each 1 (omega arith) (omega arith))
 
--- what passes with bars passes for all seats
+-- if texts pass with bars, the texts of all seats do
 pub passes_seats : (p : ℕ → Bool) (text : ℕ → List ℕ) (first count last : ℕ) → p 124 ≡ true → 1 ≤ first → first + count ≤ last + 1
     → ((seat : ℕ) → 1 ≤ seat → seat ≤ last → Passes p (text seat)) → Passes p (flat_map (λ seat. bar_before seat ++ text seat) (range_with_len first count))
 passes_seats p text first zero last bar low high each = passes_none p

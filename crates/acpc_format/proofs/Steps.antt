@@ -1,4 +1,5 @@
--- The betting of a play as steps: what is written of it is the text of these steps, one behind the other.
+-- The betting of a play as steps: what is written of it is the text of these steps, one after
+-- another.
 use Rattle.std.proofs.Common.{◌≡◌, ℕ, ◌+◌, ◌≤◌, Bool, true, false, ◌==◌, eqb, if◌then◌else◌, cond, List, [], ◌∷◌, ◌++◌, length, decimal, refl, ap, ap₂, ◌∙◌, arith}
 use Rattle.std.specs.List.{flat_map}
 use Rattle.std.proofs.lemmas.Bool.Decides.{nat_tests}
@@ -78,7 +79,7 @@ steps_text no_limit setup placed moves =
     flat_map-append step_text (steps_on no_limit setup 1 moves) (flat_map (round_steps no_limit setup placed moves) further_streets)
     ∙ ap₂ (λ (a b : List ℕ). a ++ b) (letters_text no_limit setup 1 moves) (rounds_text no_limit setup placed moves further_streets)
 
--- how many moves some steps have, and how many strokes
+-- the number of moves among some steps, and the number of strokes
 abbrev pub moves_in : List BettingStep → ℕ
 moves_in [] = 0
 moves_in (steps.NextRound ∷ rest) = moves_in rest
@@ -130,7 +131,7 @@ no_strokes no_limit setup street (move ∷ before) =
     strokes_append (steps_on no_limit setup street before) (step_on no_limit street move (hand_total setup move before))
     ∙ omega (arith, no_strokes no_limit setup street before, (step_once no_limit (move.street == street) move.act (hand_total setup move before)).1)
 
--- one move is of one street at most
+-- one move is on at most one street
 one_street : (street : ℕ) → cond (eqb street 1) 1 0 + (cond (eqb street 2) 1 0 + (cond (eqb street 3) 1 0 + cond (eqb street 4) 1 0)) ≤ 1
 one_street street = grind (arith, nat_tests)
 
@@ -157,7 +158,7 @@ dealt_steps : (no_limit dealt : Bool) (setup : Setup) (street : ℕ) (moves : Li
 dealt_steps no_limit true setup street moves = (omega arith, omega (arith, no_strokes no_limit setup street moves))
 dealt_steps no_limit false setup street moves = (omega arith, omega arith)
 
--- so a hand has no more steps that are moves than moves, and no more than three strokes
+-- so a hand has at most as many move steps as moves, and at most three strokes
 pub few_steps : (no_limit : Bool) (setup : Setup) (placed : List TracedPlace) (moves : List Move) → (moves_in (all_steps no_limit setup placed moves) ≤ length moves) × (strokes_in (all_steps no_limit setup placed moves) ≤ 3)
 few_steps no_limit setup placed moves =
     let s1 = steps_on no_limit setup 1 moves in

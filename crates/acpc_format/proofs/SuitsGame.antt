@@ -1,15 +1,15 @@
--- A play that the logs of a game spell suits the rules of the game, and its moves have letters.
+-- A play that the logs of a game can write suits the rules of the game, and its moves have letters.
 use Rattle.std.proofs.Common.{◌≡◌, ℕ, zero, suc, ◌+◌, ◌-◌, ◌≤◌, Bool, true, false, ◌&&◌, ◌==◌, not, cond, if◌then◌else◌, List, [], ◌∷◌, map, count_by, slice_index, Option, Some, None, IfSome, refl, sym, ap, ◌∙◌, arith, true≢false}
 use Rattle.std.specs.List.{list_any}
 use Rattle.std.proofs.lemmas.Bool.{eqb-true, ltb-false, ne_eqb, not-false, or_parts}
 use Rattle.canon_laws.specs.OtherRules as other_rules
 use Rattle.canon_laws.specs.OtherRules.{SuitsRules}
 use Rattle.canon_laws.proofs.AllStreets.{AreSince}
-use Rattle.canon_script.specs.CanonScript.{plain_move, plain_moves}
-use Rattle.list_laws.proofs.Any.{list_any-map}
-use Rattle.list_laws.proofs.Counting.{count_by-cons}
-use Rattle.list_laws.proofs.Finding.{list_any-push}
-use Rattle.list_laws.proofs.Reversed.{count_reversed, filter-reverse}
+use Rattle.play_event.specs.CanonScript.{plain_move, plain_moves}
+use Rattle.card_set.proofs.Any.{list_any-map}
+use Rattle.card_set.proofs.Counting.{count_by-cons}
+use Rattle.card_set.proofs.Finding.{list_any-push}
+use Rattle.card_set.proofs.Reversed.{count_reversed, filter-reverse}
 use Rattle.play_event.specs.Amounts.{unit_target}
 use Rattle.play_event.specs.Laws.{AreLegal}
 use Rattle.play_event.specs.Past.{Move, is_raise, moves_of, moves_on}
@@ -125,7 +125,7 @@ by_unit setup older move fixed none raises =
     ∙ none in
     sym (eqb-true move.to (unit_target setup older move.street move.seat) (not-false (move.to == unit_target setup older move.street move.seat) off))
 
--- a traced raise that goes elsewhere than one by the unit
+-- a traced raise that is not by the unit
 abbrev pub is_off : TracedMove → Bool
 is_off move = is_raise move.act && not (move.to == move.unit_to)
 

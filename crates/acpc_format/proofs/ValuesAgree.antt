@@ -1,4 +1,4 @@
--- The values that a line states are those of the trace, so nothing that is stated differs.
+-- The values that a line states are those of the trace, so no statement differs.
 use Rattle.std.proofs.Common.{◌≡◌, ℕ, zero, suc, ◌+◌, ◌-◌, ◌≤◌, ◌<◌, ℤ, pos, true, false, List, [], ◌++◌, map, find, get_or, length, if◌then◌else◌, Option, Some, None, is_some, refl, sym, ap, ◌∙◌, arith, true≢false}
 use Rattle.std.specs.List.{range_with_len}
 use Rattle.std.specs.Option.{option_map_or}
@@ -12,10 +12,10 @@ use Rattle.hand_records.specs.declared.trace.Trace.{Trace}
 use Rattle.hand_canon.specs.Agreement.{Comparison, finish_compared, first_difference, is_different, row_compared, total_compared, value_compared, value_of, win_compared}
 use Rattle.acpc_reading.specs.RecordView.{StatesValues}
 use Rattle.acpc_reading.specs.Views.{nets_in}
-use Rattle.list_laws.proofs.Integers.{not_different}
-use Rattle.list_laws.proofs.NumbersOfRange.{mapped_at}
+use Rattle.card_set.proofs.Integers.{not_different}
+use Rattle.card_set.proofs.NumbersOfRange.{mapped_at}
 
--- where no number differs nothing is found
+-- if no number differs, no difference is found
 none_differ : (compared : ℕ → Comparison) (first count : ℕ) → ((seat : ℕ) → first ≤ seat → seat < first + count → is_different (compared seat) ≡ false) → find is_different (map compared (range_with_len first count)) ≡ None
 none_differ compared first zero same = refl
 none_differ compared first (suc count) same =
@@ -50,7 +50,7 @@ some_agrees : (trace : Trace) (values : Option NetRow) → is_some values ≡ tr
 some_agrees trace None some same = absurd (true≢false (sym some))
 some_agrees trace (Some row) some same = row_agrees trace row same
 
--- so nothing that is stated differs
+-- so no statement differs
 pub values_agree : (trace : Trace) (stated : Stated) → StatesValues stated → option_map_or nets_in stated.values [] ≡ map (value_of trace) (all_seats trace.setup) → first_difference trace stated ≡ None
 values_agree trace stated states same =
     let values = row_compared trace value_compared stated.values in

@@ -1,5 +1,5 @@
--- The canonical script without its showdown leaves the trace too, where each mucked seat has an unknown card: a live seat whose cards
--- are all known counts as shown, and each other one as mucked.
+-- If each mucked seat has an unknown card, the canonical script without its showdown leaves the
+-- same trace: a live seat whose cards are all known counts as shown, and each other one as mucked.
 use Rattle.std.proofs.Common.{◌≡◌, ℕ, ◌+◌, ◌≤◌, ◌<◌, Bool, true, false, ◌&&◌, not, nat_le, List, [], filter, reverse, refl, sym, ◌∙◌, ap, subst, arith, true≢false}
 use Rattle.std.specs.List.{flat_map}
 use Rattle.play_event.proofs.StreetLaws.{shown_unfinished}
@@ -16,17 +16,17 @@ use Rattle.play_event.specs.Seats.{all_seats, is_live, live_count}
 use Rattle.play_event.specs.Showing.{has_mucked, is_show_due}
 use Rattle.play_event.specs.Table.{places_of}
 use Rattle.play_event.specs.Trace.{has_unknown_card, is_mucked, is_shown, streets_of, traced_places}
-use Rattle.canon_script.specs.CanonScript.{plain_moves, street_said}
-use Rattle.canon_script.specs.PlayedScript.{IsPlayed}
-use Rattle.canon_script.specs.TraceCore.{TraceCore, core_after, core_of}
-use Rattle.list_laws.proofs.NumbersOfRange.{filter_range}
+use Rattle.play_event.specs.CanonScript.{plain_moves, street_said}
+use Rattle.play_event.specs.PlayedScript.{IsPlayed}
+use Rattle.play_event.specs.TraceCore.{TraceCore, core_after, core_of}
+use Rattle.card_set.proofs.NumbersOfRange.{filter_range}
 use Rattle.play_laws.proofs.LegalPlaces.{LegalPast, legal_past}
 use Rattle.play_laws.proofs.PlayedStreets.{IsReached}
-use Rattle.canon_blocks.proofs.FreeGroups.{is_out_by}
-use Rattle.canon_blocks.proofs.Mirrors.{AreMirrored}
-use Rattle.canon_blocks.proofs.Runs.{Runs, run_of_script}
-use Rattle.canon_blocks.proofs.SamePlaces.{same_places}
-use Rattle.canon_blocks.proofs.TraceOrder.{finals_of, is_final}
+use Rattle.canon_laws.proofs.FreeGroups.{is_out_by}
+use Rattle.canon_laws.proofs.Mirrors.{AreMirrored}
+use Rattle.canon_laws.proofs.Runs.{Runs, run_of_script}
+use Rattle.canon_laws.proofs.SamePlaces.{same_places}
+use Rattle.canon_laws.proofs.TraceOrder.{finals_of, is_final}
 use Rattle.canon_laws.proofs.AllStreets.{AtEnd, at_end}
 use Rattle.canon_laws.proofs.HeldSame.{held_same, held_script, unknown_same}
 use Rattle.canon_laws.proofs.SameCore.{plain_again, core_by, core_parts}
@@ -35,7 +35,7 @@ use Rattle.canon_laws.specs.Confluence.{HasTraceOf}
 use Rattle.canon_laws.proofs.LastPast.{early_all, over_ends}
 use Rattle.play_event.proofs.ScriptLaws as scripts
 
--- each mucked seat has a card that is not known
+-- each mucked seat has an unknown card
 abbrev pub MucksHide : Setup → Past → Type 0
 MucksHide setup past = (seat : ℕ) → 1 ≤ seat → seat ≤ setup.stacks.seats → is_mucked setup past seat ≡ true → has_unknown_card setup past seat ≡ true
 
@@ -65,7 +65,7 @@ after_streets setup rules events legal complete =
       law = subst L e.at.led.past (legal_past setup rules e.at.led.events e.at.led.legal);
     }
 
--- after them nothing is due but shows
+-- after them only shows are due
 ends : (setup : Setup) (rules : Rules) (events : List Said) → AreLegal setup rules events → (s : AfterStreets setup rules (past_of setup events)) → (over : Bool) → nat_le (live_count setup (moves_of (past_of setup events))) 1 ≡ over
     → is_unfinished (turn setup s.end.mine).1 ≡ false
 ends setup rules events legal s true over = over_ends setup s.end.mine (ap (λ (l : List Move). nat_le (live_count setup l) 1) s.moves ∙ over)

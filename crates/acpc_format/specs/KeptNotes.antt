@@ -1,14 +1,14 @@
--- Which notes logs keep: names of players and numbers of hands that a line spells.
+-- Which notes a log keeps: player names and hand numbers that a line can write.
 use Rattle.std.specs.Prelude.{ℕ, List, map, Option, Some, None, if◌then◌else◌, option_and_then}
 use Rattle.acpc_format.specs.Again.{kept_name}
 use Rattle.acpc_writing.specs.Names.{is_spelled_hand}
 use Rattle.hand_records.specs.SaidNotes.{SaidNotes}
 
--- a number of a hand that a line spells
+-- the hand number if a line can write it, else none
 abbrev pub number_spelled : List ℕ → Option (List ℕ)
 number_spelled text = if is_spelled_hand text then Some text else None
 
--- names and the number of the hand, where a line spells them
+-- the notes that a log keeps: names and the hand number, if a line can write them
 abbrev pub kept_in_acpc : SaidNotes → SaidNotes
 kept_in_acpc notes =
     record {

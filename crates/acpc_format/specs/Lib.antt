@@ -1,3 +1,3 @@
--- What is read again of plays that were written, and which notes are kept.
+-- What a written log says when it is read again, and which notes it keeps.
 pub mod Again
 pub mod KeptNotes

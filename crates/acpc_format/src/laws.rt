@@ -1,4 +1,4 @@
-//! What was written of plays reads back as the hands of these plays, proved over the definitions.
+//! The laws of logs: a written log reads back as the hands of its plays.
 ghost use Rattle.std.specs.Prelude.{◌≡◌, ◌≤◌, ℕ, true, List, None, Ok, Some, length, map, sum_by};
 ghost use Rattle.std.specs.List.{AllByRecursion};
 ghost use Rattle.play_event.specs.ValidSetup.{IsValid};
@@ -22,9 +22,9 @@ ghost use Rattle.hand_canon.specs.Sharp.{IsOther, is_sharp};
 ghost use Rattle.hand_records.specs.WriteRefusals.{first_refusal};
 ghost use Rattle.hand_records.specs.Plays.{moves_written};
 
-/// The lines of sound plays that the logs of a game spell read as the hands of these plays: with
-/// their canonical scripts as letters say them, their values, and their kept notes. The function
-/// does nothing: its contract is a law.
+/// If the logs of a game can write sound plays, their lines read back as the hands of these plays:
+/// with their canonical scripts in the log's letters, their values and their kept notes. The
+/// function does nothing: its contract is a law.
 pub fn law_of_reading_again()
     ensures { (game : AnyGame) (keep : Keep) (plays : List Play)
         → length plays ≤ MOST_HANDS → AllByRecursion IsSound plays → AllByRecursion HasTexts plays
@@ -33,18 +33,18 @@ pub fn law_of_reading_again()
         → reading game (log_text game.no_limit plays) ≡ Ok (hands_again game.no_limit 0 plays) }
 {}
 
-/// The setup of a play that the logs of a game spell is the one setup of the game, which every hand
-/// of its logs has. The function does nothing: its contract is a law.
+/// If the logs of a game can write a play, the play has the setup of that game, as every hand of
+/// its logs has. The function does nothing: its contract is a law.
 pub fn law_of_one_setup()
     ensures { (game : AnyGame) (keep : Keep) (play : Play)
         → IsValid play.trace.setup → unspelled game keep play ≡ None
         → IsSetupOf game play.trace.setup }
 {}
 
-/// Records of a game that the lines of sound plays say, where the logs of the game spell the plays,
-/// are the hands of these plays again, one by one and as many: each has the setup of its play, is a
-/// legal hand under the rules of the game with the whole trace of the play, states nothing that
-/// differs, and has the kept notes. The function does nothing: its contract is a law.
+/// If the logs of a game can write sound plays, the records that their lines say are the hands of
+/// these plays again, one for each, in order: each record has the setup of its play, is a legal
+/// hand under the rules of the game with the whole trace of the play, states nothing that differs,
+/// and has the kept notes. The function does nothing: its contract is a law.
 pub fn law_of_reading_back()
     ensures { (game : AnyGame) (keep : Keep) (plays : List Play)
         → length plays ≤ MOST_HANDS → AllByRecursion IsSound plays → AllByRecursion HasTexts plays
@@ -55,9 +55,9 @@ pub fn law_of_reading_back()
         → AreAgain (KeepsNotes kept_in_acpc) 0 plays records }
 {}
 
-/// Whatever bytes say records of a game, none of these is a legal hand with the trace of a play of
-/// which the logs of the game do not spell a fact, unless the fact is an odd chip or a note: a line
-/// may well have these. The function does nothing: its contract is a law.
+/// If the logs of a game cannot write a fact of a play, no record that any bytes say is a legal
+/// hand with the trace of that play. Exceptions are an odd chip or a note: a line may well have
+/// these. The function does nothing: its contract is a law.
 pub fn law_of_sharpness()
     ensures { (game : AnyGame) (keep : Keep) (play : Play) (fact : Unspelled)
         → unspelled game keep play ≡ Some fact → is_sharp fact ≡ true

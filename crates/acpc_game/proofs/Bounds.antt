@@ -1,4 +1,4 @@
--- Numbers that are within the greatest of their key.
+-- Numbers up to the greatest that their key takes.
 use Rattle.std.proofs.Common.{◌≡◌, ℕ, zero, suc, ◌≤◌, true, nat_le, eqb, List, [], ◌∷◌, replicate, get_or, refl, subst, arith}
 use Rattle.std.specs.List.{list_all}
 use Rattle.std.proofs.lemmas.Bool.{and_parts, le-leb, leb-true}
@@ -36,12 +36,12 @@ most_few keys.NumBoardCards = omega arith
 pub within_most : (key : GameKey) (numbers : List ℕ) → list_all (λ number. nat_le number (most_of key)) numbers ≡ true → are_chips numbers ≡ true
 within_most key numbers all = more_room (most_of key) numbers (most_few key) all
 
--- the stack of each player where none are said is one that may be stated
+-- the default stack of each player is within the limit of chips
 pub same_stacks : (count : ℕ) → are_chips (replicate count 2147483647) ≡ true
 same_stacks zero = refl
 same_stacks (suc count) = same_stacks count
 
--- an amount of a list of them, or 0 behind it
+-- an amount of a list, or 0 after its end, is within the limit
 pub chips_within : (numbers : List ℕ) (index : ℕ) → are_chips numbers ≡ true → get_or numbers index 0 ≤ MOST_CHIPS
 chips_within [] index all = omega arith
 chips_within (number ∷ numbers) zero all = leb-true number MOST_CHIPS (and_parts (nat_le number MOST_CHIPS) (are_chips numbers) all).0

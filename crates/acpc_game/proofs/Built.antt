@@ -1,4 +1,4 @@
--- The game of entries from which nothing is missing fits its own conditions.
+-- The game of complete entries meets its own conditions.
 use Rattle.std.proofs.Common.{◌≡◌, ℕ, ◌≤◌, Bool, true, false, not, nat_lt, nat_le, eqb, ◌&&◌, ◌||◌, if◌then◌else◌, List, [], ◌∷◌, length, replicate, slice_index, sym, ◌∙◌, arith}
 use Rattle.std.specs.List.{list_all}
 use Rattle.std.proofs.lemmas.Bool.{and_parts, leb-true, not-false}
@@ -11,10 +11,10 @@ use Rattle.acpc_game.specs.Games.{are_chips, has_fitting_sizes}
 use Rattle.acpc_game.proofs.Bounds.{chips_within}
 use Rattle.acpc_game.specs.Playable.{IsPlayable}
 use Rattle.chip_ledger.specs.declared.numbers.TheConstants.{MOST_CHIPS}
-use Rattle.list_laws.proofs.Numbers.{equal_by_test}
+use Rattle.card_set.proofs.Numbers.{equal_by_test}
 use Rattle.chip_ledger.specs.Sizes.{is_size}
 
--- as many blinds as players
+-- there are as many blinds as players
 blinds_counted : (entries : List EntrySaid) → is_whole entries ≡ true → length (numbers_at keys.Blind entries) ≡ number_at keys.NumPlayers entries
 unfolding is_whole
 blinds_counted entries whole =
@@ -35,7 +35,7 @@ stacks_counted entries whole =
     let third = and_parts (is_for_all keys.Blind entries) (not (has_key keys.Stack entries) || is_for_all keys.Stack entries) second.1 in
     stacks_by (has_key keys.Stack entries) (numbers_at keys.Stack entries) (numbers_at keys.Blind entries) 2147483647 (number_at keys.NumPlayers entries) third.1 (blinds_counted entries whole)
 
--- how many rows of a game there are seats for
+-- the number of rows of a game with seats
 pub record IsCounted (entries : List EntrySaid) : Type 0 where
   pub least : 2 ≤ length (numbers_at keys.Blind entries)
   pub most : length (numbers_at keys.Blind entries) ≤ 10

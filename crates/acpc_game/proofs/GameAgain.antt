@@ -1,12 +1,12 @@
--- The one spelling of a game is read as that game.
+-- A written game reads back as the same game.
 use Rattle.std.proofs.Common.{◌≡◌, ℕ, Bool, true, false, not, ◌&&◌, ◌||◌, ◌==◌, nat_le, nat_lt, eqb, List, [], ◌∷◌, length, Option, Some, None, IfSome, Result, Ok, refl, sym, ap, ◌∙◌, arith, ◌<◌, ◌^◌, get_or}
 use Rattle.std.proofs.lemmas.Bool.{and_parts, eqb-true, eq-eqb, le-leb}
 use Rattle.std.proofs.lemmas.Bool.Decides.{nat_tests}
 use Rattle.chip_ledger.specs.Greatest.{greatest}
 use Rattle.chip_ledger.specs.declared.numbers.TheConstants.{MOST_CHIPS}
 use Rattle.first_fault.specs.Reading.{◌>>=◌}
-use Rattle.acpc_text.specs.Parts.{lines_of}
-use Rattle.acpc_text.specs.declared.fault.AcpcFault.{AcpcFault}
+use Rattle.acpc_game.specs.Parts.{lines_of}
+use Rattle.acpc_game.specs.declared.fault.AcpcFault.{AcpcFault}
 use Rattle.acpc_game.specs.GameFile.{EntrySaid, GameSaid, entries_in, first_player, first_unsupported, game_at_end, game_by, game_said, has_short_stack, is_reversed, is_whole, says_no_limit}
 use Rattle.acpc_game.specs.GameText.{game_text}
 use Rattle.acpc_game.specs.Games.{has_fitting_sizes}
@@ -23,14 +23,14 @@ use Rattle.acpc_game.proofs.WrittenLines.{entries_again, entries_from, lines_aga
 abbrev game_of_parts : Bool → List ℕ → List ℕ → ℕ → ℕ → Option (List ℕ) → GameSaid
 game_of_parts no_limit stacks blinds small big caps = record { no_limit = no_limit; stacks = stacks; blinds = blinds; small_raise = small; big_raise = big; caps = caps }
 
--- each key may stand where it is written
+-- each key is allowed where it is written
 follow : (no_limit : Bool) (stacks blinds : List ℕ) (small big : ℕ) (caps : Option (List ℕ)) → may_follow [] 1 (game_lines (game_of_parts no_limit stacks blinds small big caps)) ≡ true
 follow true stacks blinds small big None = refl
 follow true stacks blinds small big (Some caps) = refl
 follow false stacks blinds small big None = refl
 follow false stacks blinds small big (Some caps) = refl
 
--- a line says that the game has no limit where it has none
+-- a line says that the game is no-limit if it is
 kind_again : (no_limit : Bool) (stacks blinds : List ℕ) (small big : ℕ) (caps : Option (List ℕ)) → says_no_limit (texts_of (game_lines (game_of_parts no_limit stacks blinds small big caps))) ≡ no_limit
 unfolding is_word
 kind_again true stacks blinds small big None = refl
@@ -107,7 +107,7 @@ at_end : (count : ℕ) (entries : List EntrySaid) → is_whole entries ≡ true 
 unfolding game_at_end
 at_end count entries is none = rw (is, none) refl
 
--- what lines of a game, with a limit or none, come to
+-- the outcome of the lines of a limit or no-limit game
 abbrev outcome : Bool → List (List ℕ) → Result GameSaid AcpcFault
 outcome no_limit texts = entries_in no_limit texts >>= λ found. game_at_end found.1 found.0
 
@@ -138,11 +138,11 @@ parts_again no_limit stacks blinds small big caps is =
     ∙ at_end (length (texts_of lines)) entries is_whole_said is_played
     ∙ ap Ok (same_game no_limit stacks blinds small big caps is.sizes)
 
--- a game is read as it was written
+-- a written game reads back
 pub game_again : (game : GameSaid) → IsGame game → game_said (game_text game) ≡ Ok game
 game_again game is = parts_again game.no_limit game.stacks game.blinds game.small_raise game.big_raise game.caps is
 
--- a game of the code is one that is played
+-- a game of the code is one that handref supports
 pub kept_game : (game : Game) → IfSome game.caps (λ caps. are_caps caps ≡ true) → IsGame (game_in game)
 kept_game game fit =
     let stacks = game.stacks in
@@ -161,7 +161,7 @@ kept_game game fit =
       caps = fit;
     }
 
--- a game of the code is read as it was written
+-- a written game of the code reads back
 pub kept_again : (game : Game) → IfSome game.caps (λ caps. are_caps caps ≡ true) → game_said (game_text (game_in game)) ≡ Ok (game_in game)
 kept_again game fit = game_again (game_in game) (kept_game game fit)
 

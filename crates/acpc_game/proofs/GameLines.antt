@@ -1,4 +1,4 @@
--- The one spelling of a game is lines, and each of them reads as its key and its numbers.
+-- A written game is lines, and each of them reads as its key and its numbers.
 use Rattle.std.proofs.Common.{◌≡◌, ℕ, ◌+◌, ◌≤◌, ◌<◌, Bool, true, false, ◌&&◌, ◌||◌, ◌==◌, nat_le, nat_lt, eqb, codes, if◌then◌else◌, List, [], ◌∷◌, ◌++◌, length, Option, Some, None, IfSome, refl, sym, ap, ap₂, ◌∙◌, arith, ne_eqb}
 use Rattle.std.specs.Fmt.{digits}
 use Rattle.std.specs.List.{AllByRecursion}
@@ -16,12 +16,12 @@ use Rattle.acpc_game.specs.GameText.{caps_text, chips_text, counts_text, ended, 
 use Rattle.acpc_game.specs.Keys.{card_key_named, chip_key_named, has_count, is_word, most_of}
 use Rattle.acpc_game.specs.SaidGames.{IsGame, are_caps}
 use Rattle.acpc_game.proofs.NumbersAgain.{are_within}
-use Rattle.list_laws.proofs.Tests.{both_true}
+use Rattle.card_set.proofs.Tests.{both_true}
 use Rattle.acpc_game.proofs.WrittenLines.{Names, Reads, WrittenLine, number_line, number_reads, text_of}
 
 -- ---- the lines of a game
 
--- a line of a key alone
+-- a line with only a key
 abbrev key_alone : List ℕ → GameKey → WrittenLine
 key_alone text key = record { text = text; key = key; numbers = [] }
 
@@ -51,7 +51,7 @@ card_lines =
     number_line (codes "numSuits") keys.NumSuits (4 ∷ []) ∷ number_line (codes "numRanks") keys.NumRanks (13 ∷ [])
     ∷ number_line (codes "numHoleCards") keys.NumHoleCards (2 ∷ []) ∷ number_line (codes "numBoardCards") keys.NumBoardCards (0 ∷ 3 ∷ 1 ∷ 1 ∷ []) ∷ []
 
--- the lines of the one spelling of a game
+-- the lines of a written game
 abbrev pub game_lines : GameSaid → List WrittenLine
 game_lines game =
     (key_alone (codes "GAMEDEF") keys.Begin ∷ [])
@@ -129,7 +129,7 @@ game_is game =
 
 -- ---- each of them is read
 
--- a line that begins with another sign than # says something
+-- a line that begins with a sign other than # is not ignored
 begins : (first : ℕ) (rest : List ℕ) → eqb first 35 ≡ false → is_passed_over (first ∷ rest) ≡ false
 begins first rest other = rw (ne_eqb (length (first ∷ rest)) 0 (λ none. omega (arith, none))) other
 

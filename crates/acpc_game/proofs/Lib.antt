@@ -1,3 +1,8 @@
+-- Laws of parts, lines, words and letters.
+pub mod PartLaws
+pub mod LineLaws
+pub mod FoundLines
+pub mod Scan
 -- Laws of words, lines and games.
 pub mod Steps
 pub mod Bounds

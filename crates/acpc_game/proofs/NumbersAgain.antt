@@ -1,4 +1,4 @@
--- Numbers that are written with a space in front of each read back as these numbers.
+-- Numbers written with a space before each read back as the same numbers.
 use Rattle.std.proofs.Common.{◌≡◌, ℕ, ◌+◌, ◌-◌, ◌≤◌, ◌<◌, ◌^◌, Bool, true, false, nat_le, nat_lt, eqb, decimal, List, [], ◌∷◌, ◌++◌, length, map, filter, slice_index, All, Ok, refl, sym, ap, ◌∙◌, arith, append_assoc}
 use Rattle.std.specs.List.{list_all, slice_split}
 use Rattle.std.specs.Char.{is_digit}
@@ -11,9 +11,9 @@ use Rattle.chip_ledger.specs.AmountTexts.{spaced}
 use Rattle.first_fault.specs.Digits.{are_digits, number_of}
 use Rattle.first_fault.specs.Words.{is_space, words_of}
 use Rattle.first_fault.proofs.DecimalDigits.{decimal_digits}
-use Rattle.list_laws.proofs.Digits.{digit_least, digit_most, number_said as digits_say, of_digits}
-use Rattle.list_laws.proofs.Entries.{never_at}
-use Rattle.list_laws.proofs.Tests.{both_true}
+use Rattle.card_set.proofs.Digits.{digit_least, digit_most, number_said as digits_say, of_digits}
+use Rattle.card_set.proofs.Entries.{never_at}
+use Rattle.card_set.proofs.Tests.{both_true}
 use Rattle.acpc_game.specs.GameFile.{number_said, numbers_after}
 
 -- a sign is a decimal digit
@@ -27,18 +27,18 @@ are_within most numbers = list_all (λ number. nat_le number most) numbers
 decimal_signs : (n : ℕ) → n < 2 ^ 64 → list_all is_decimal (decimal n) ≡ true
 decimal_signs n small = of_digits (decimal n) (decimal_is_IsNumeral n small).0.1
 
--- a sign that is no digit stands in no number
+-- a sign that is no digit is not in a number
 no_sign : (sign n : ℕ) → n < 2 ^ 64 → is_decimal sign ≡ false → All (λ b. eqb b sign ≡ false) (decimal n)
 no_sign sign n small other = λ k d within. never_at is_decimal sign (decimal n) other (decimal_signs n small) k d within
 
--- what passes for each sign passes a wider test
+-- a sign that passes a test passes a weaker one
 wider : (p q : ℕ → Bool) (text : List ℕ) → ((sign : ℕ) → p sign ≡ true → q sign ≡ true) → list_all p text ≡ true → list_all q text ≡ true
 wider p q [] more all = refl
 wider p q (sign ∷ text) more all =
     let parts = and_parts (p sign) (list_all p text) all in
     both_true (q sign) (list_all q text) (more sign parts.0) (wider p q text more parts.1)
 
--- the last sign of a text that is put behind another
+-- the last sign of a text that is put after another
 last_behind : (front behind : List ℕ) → 0 < length behind → slice_index (front ++ behind) (length (front ++ behind) - 1) ≡ slice_index behind (length behind - 1)
 last_behind front behind some =
     let place : length (front ++ behind) - 1 ≡ length front + (length behind - 1) = omega (arith, some, length-append front behind) in

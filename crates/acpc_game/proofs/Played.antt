@@ -1,4 +1,4 @@
--- The facts of a game of which nothing shows that it is not played.
+-- What holds of a game if nothing shows that handref does not support it.
 use Rattle.std.proofs.Common.{◌≡◌, Bool, true, false, nat_le, ◌&&◌, List, [], ◌∷◌, Option, Some, None, refl}
 use Rattle.std.specs.List.{AllByRecursion}
 use Rattle.acpc_game.specs.declared.key.GameKey.{GameKey}

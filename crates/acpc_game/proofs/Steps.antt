@@ -1,24 +1,24 @@
--- Words and lines that are read one after the other, as a loop does.
+-- Words and lines that are read one after another, as a loop does.
 use Rattle.std.proofs.Common.{◌≡◌, ℕ, ◌+◌, ◌≤◌, Bool, true, false, nat_le, if◌then◌else◌, List, [], ◌∷◌, ◌++◌, Some, None, Result, Ok, refl, sym, ap, ◌∙◌, arith}
 use Rattle.std.specs.Str.Parse.{digits_value}
 use Rattle.std.proofs.lemmas.Bool.{leb-true}
 use Rattle.std.proofs.lemmas.Option.{same_Some}
-use Rattle.first_fault.specs.declared.stop.Stop.{Stop}
-use Rattle.first_fault.specs.declared.stop.Stop.TheVariants as stops
+use Rattle.first_fault.specs.declared.stop.ReadError.{ReadError}
+use Rattle.first_fault.specs.declared.stop.ReadError.TheVariants as stops
 use Rattle.first_fault.specs.Digits.{number_of}
 use Rattle.first_fault.specs.Reading.{◌>>=◌, Fails}
-use Rattle.acpc_text.specs.declared.fault.AcpcFault.{AcpcFault}
+use Rattle.acpc_game.specs.declared.fault.AcpcFault.{AcpcFault}
 use Rattle.acpc_game.specs.GameFile.{EntrySaid, number_said, numbers_after, entries_after, entries_after_line}
 
 -- what fails first fails as a whole
-pub fails_first : {A B F : Type 0} (stop : Stop F) (first : Result A F) (next : A → Result B F) → Fails stop first → Fails stop (first >>= next)
+pub fails_first : {A B F : Type 0} (stop : ReadError F) (first : Result A F) (next : A → Result B F) → Fails stop first → Fails stop (first >>= next)
 fails_first (stops.Memory memory) first next fails = tt
-fails_first (stops.At fault) first next fails = ap (λ read. read >>= next) fails
+fails_first (stops.Fault fault) first next fails = ap (λ read. read >>= next) fails
 
--- what fails is what is equal to it
-pub fails_at : {A F : Type 0} (stop : Stop F) (first second : Result A F) → first ≡ second → Fails stop first → Fails stop second
+-- if two are equal and one fails, the other fails
+pub fails_at : {A F : Type 0} (stop : ReadError F) (first second : Result A F) → first ≡ second → Fails stop first → Fails stop second
 fails_at (stops.Memory memory) first second same fails = tt
-fails_at (stops.At fault) first second same fails = sym same ∙ fails
+fails_at (stops.Fault fault) first second same fails = sym same ∙ fails
 
 within : (test : Bool) (value most number : ℕ) → nat_le value most ≡ test → (if test then Some value else None) ≡ Some number → number ≤ most
 within true value most number is same = omega (arith, leb-true value most is, same_Some value number same)
@@ -39,7 +39,7 @@ module _ (line most : ℕ) (numbers : List ℕ) (all : List (List ℕ)) (whole :
       sym one ∙ so_far
 
   -- a word was refused
-  pub word_fails : (stop : Stop AcpcFault) (word : List ℕ) (words : List (List ℕ)) → all ≡ word ∷ words → Fails stop (number_said line most word)
+  pub word_fails : (stop : ReadError AcpcFault) (word : List ℕ) (words : List (List ℕ)) → all ≡ word ∷ words → Fails stop (number_said line most word)
       → numbers_after line most numbers all ≡ whole → Fails stop whole
   unfolding numbers_after
   word_fails stop word words cut fails so_far =
@@ -61,7 +61,7 @@ module _ (no_limit : Bool) (entries : List EntrySaid) (line : ℕ) (all : List (
       sym one ∙ so_far
 
   -- a line was refused
-  pub line_fails : (stop : Stop AcpcFault) (text : List ℕ) (texts : List (List ℕ)) → all ≡ text ∷ texts → Fails stop (entries_after_line no_limit entries line text)
+  pub line_fails : (stop : ReadError AcpcFault) (text : List ℕ) (texts : List (List ℕ)) → all ≡ text ∷ texts → Fails stop (entries_after_line no_limit entries line text)
       → entries_after no_limit entries line all ≡ whole → Fails stop whole
   unfolding entries_after
   line_fails stop text texts cut fails so_far =

@@ -6,10 +6,10 @@ use Rattle.std.proofs.lemmas.List.{append-nil, length-map}
 use Rattle.std.proofs.lemmas.List.Folds.{list_all-append}
 use Rattle.std.proofs.lemmas.List.Splits.{slice_split_at, slice_split_none}
 use Rattle.chip_ledger.specs.AmountTexts.{spaced}
-use Rattle.list_laws.proofs.Entries.{never_at}
-use Rattle.list_laws.proofs.Tests.{both_true}
-use Rattle.acpc_text.proofs.LineLaws.{line_and_more}
-use Rattle.acpc_text.specs.Parts.{lines_of, parts_of, without_return}
+use Rattle.card_set.proofs.Entries.{never_at}
+use Rattle.card_set.proofs.Tests.{both_true}
+use Rattle.acpc_game.proofs.LineLaws.{line_and_more}
+use Rattle.acpc_game.specs.Parts.{lines_of, parts_of, without_return}
 use Rattle.acpc_game.specs.declared.key.GameKey.{GameKey}
 use Rattle.acpc_game.specs.Forms.{form_of, form_with, is_passed_over, is_unused, key_and_numbers, key_before, numbers_behind}
 use Rattle.acpc_game.specs.GameFile.{EntrySaid, entries_after, entries_after_line, entries_with, may_stand}
@@ -28,11 +28,11 @@ pub record WrittenLine : Type 0 where
 abbrev pub is_inner : ℕ → Bool
 is_inner sign = not (sign == 13 || sign == 10)
 
--- a sign stands inside a line, and divides no key from its numbers
+-- a sign is inside a line, and does not separate a key from its numbers
 abbrev is_undivided : ℕ → Bool
 is_undivided sign = not (sign == 61)
 
--- a line reads as its key and its numbers, in a game that has a limit or none
+-- a line reads as its key and its numbers, in a limit or no-limit game
 pub record Reads (no_limit : Bool) (line : WrittenLine) : Type 0 where
   pub said : is_passed_over line.text ≡ false
   pub form : form_of no_limit line.text ≡ Some (line.key, map decimal line.numbers)
@@ -48,7 +48,7 @@ number_text word numbers = word ++ (codes " =" ++ spaced numbers)
 abbrev pub number_line : List ℕ → GameKey → List ℕ → WrittenLine
 number_line word key numbers = record { text = number_text word numbers; key = key; numbers = numbers }
 
--- a word names a key, and a line that begins with it is a line of this key alone
+-- a word names a key, and a line that begins with it has only this key
 pub record Names (word : List ℕ) (key : GameKey) : Type 0 where
   pub said : (behind : List ℕ) → is_passed_over (word ++ behind) ≡ false
   pub form : (no_limit : Bool) (behind : List ℕ) → form_of no_limit (word ++ behind) ≡ key_and_numbers no_limit (parts_of 61 (word ++ behind))
@@ -132,7 +132,7 @@ abbrev pub entries_from : ℕ → List WrittenLine → List EntrySaid
 entries_from number [] = []
 entries_from number (line ∷ lines) = entry_of number line ∷ entries_from (number + 1) lines
 
--- the key of each line may stand after the entries in front of it
+-- the key of each line is allowed after the entries before it
 abbrev pub may_follow : List EntrySaid → ℕ → List WrittenLine → Bool
 may_follow entries number [] = true
 may_follow entries number (line ∷ lines) = may_stand line.key entries && may_follow (entries ++ entry_of number line ∷ []) (number + 1) lines

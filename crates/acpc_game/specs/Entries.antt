@@ -1,4 +1,4 @@
--- The entries and the forms of lines of the code, seen as those of the definitions.
+-- Entries and line forms of the code, as the definitions see them.
 use Rattle.acpc_game.specs.declared.entry.Entry.{Entry}
 use Rattle.acpc_game.specs.declared.key_line.KeyLine.{KeyLine}
 use Rattle.acpc_game.specs.Forms.{Form}

@@ -1,14 +1,13 @@
--- What a game file says: its entries, line by line, and the game that they come to, or the first
--- fault.
+-- What a game file says: its entries line by line, and the game that they make, or the first fault.
 use Rattle.std.specs.Prelude.{ℕ, ◌+◌, ◌==◌, Bool, true, false, not, nat_lt, nat_le, max, ◌&&◌, ◌||◌, if◌then◌else◌, List, [], ◌∷◌, ◌++◌, length, replicate, find, slice_index, codes, Option, Some, None, Result, Ok, Err}
 use Rattle.std.specs.List.{list_all, list_any}
 use Rattle.std.specs.Option.{option_map, option_map_or}
 use Rattle.chip_ledger.specs.Greatest.{greatest}
 use Rattle.first_fault.specs.Reading.{◌>>=◌}
 use Rattle.first_fault.specs.Digits.{number_of}
-use Rattle.acpc_text.specs.declared.fault.AcpcFault.{AcpcFault}
-use Rattle.acpc_text.specs.declared.fault.AcpcFault.TheVariants as faults
-use Rattle.acpc_text.specs.Parts.{lines_of}
+use Rattle.acpc_game.specs.declared.fault.AcpcFault.{AcpcFault}
+use Rattle.acpc_game.specs.declared.fault.AcpcFault.TheVariants as faults
+use Rattle.acpc_game.specs.Parts.{lines_of}
 use Rattle.acpc_game.specs.declared.key.GameKey.{GameKey}
 use Rattle.acpc_game.specs.declared.key.GameKey.TheVariants as keys
 use Rattle.acpc_game.specs.Keys.{is_word, key_place, most_of, or_else}
@@ -18,50 +17,50 @@ use Rattle.first_fault.specs.Conditions.{first_where}
 
 -- ---- the entries
 
--- a line with a key: the key, the number of the line, and its numbers
+-- a line with a key: the key, the line's number, and the numbers of the key
 pub record EntrySaid : Type 0 where
   pub key : GameKey
   pub line : ℕ
   pub numbers : List ℕ
 
--- a line has another form than a line there may have
+-- the line does not have the form that is needed there
 abbrev pub bad_shape : {A : Type 0} → ℕ → Result A AcpcFault
 bad_shape line = Err (faults.GameShape (kept_number line) 1)
 
--- a number of a line is too great
+-- a number on this line is too great
 abbrev pub too_great : {A : Type 0} → ℕ → Result A AcpcFault
 too_great line = Err (faults.AmountLimit (kept_number line) 1)
 
--- an entry has this key; limit and nolimit count as one
+-- an entry has this key; limit and nolimit count as the same key
 abbrev pub is_of : GameKey → EntrySaid → Bool
 is_of key entry = key_place entry.key == key_place key
 
--- the entry with a key, if one stands
+-- the entry with this key, if there is one
 abbrev pub found : GameKey → List EntrySaid → Option EntrySaid
 found key entries = find (is_of key) entries
 
--- an entry with this key stands
+-- there is an entry with this key
 abbrev pub has_key : GameKey → List EntrySaid → Bool
 has_key key entries = list_any (is_of key) entries
 
--- a key may stand after these entries: GAMEDEF before all others, and each other key once, until
+-- a key is allowed after these entries: GAMEDEF before all others, then each other key once, up to
 -- END GAMEDEF
 abbrev pub may_stand : GameKey → List EntrySaid → Bool
 may_stand keys.Begin entries = length entries == 0
 may_stand key entries =
     nat_lt 0 (length entries) && (not (has_key keys.End entries) && not (has_key key entries))
 
--- the number that a word says, if it is not too great for its key
+-- the number that a word says, or a fault if it is too great for its key
 unfoldable pub number_said : ℕ → ℕ → List ℕ → Result ℕ AcpcFault
 number_said line most word = option_map_or Ok (number_of most word) (too_great line)
 
--- these numbers, and those of the words behind them
+-- these numbers, followed by those of more words
 unfoldable pub numbers_after : ℕ → ℕ → List ℕ → List (List ℕ) → Result (List ℕ) AcpcFault
 numbers_after line most numbers [] = Ok numbers
 numbers_after line most numbers (word ∷ words) =
     number_said line most word >>= λ number. numbers_after line most (numbers ++ number ∷ []) words
 
--- the entries with one more, if its key may stand there
+-- the entries and one more, if its key is allowed there
 unfoldable pub entries_with : List EntrySaid → ℕ → Option Form → Result (List EntrySaid) AcpcFault
 entries_with entries line None = bad_shape line
 entries_with entries line (Some (key, words)) =
@@ -71,7 +70,7 @@ entries_with entries line (Some (key, words)) =
     Ok (entries ++ (record { key = key; line = line; numbers = numbers }) ∷ []))
     else bad_shape line
 
--- the entries after one more line of a game that has a limit or none
+-- the entries after one more line of a limit or no-limit game
 unfoldable pub entries_after_line : Bool → List EntrySaid → ℕ → List ℕ
     → Result (List EntrySaid) AcpcFault
 entries_after_line no_limit entries line text =
@@ -89,26 +88,26 @@ entries_after no_limit entries line (text ∷ texts) =
 abbrev pub says_no_limit : List (List ℕ) → Bool
 says_no_limit lines = list_any (is_word (codes "nolimit")) lines
 
--- the entries of the lines of a game that has a limit or none, and how many lines there are
+-- the entries of the lines of a limit or no-limit game, and the number of lines
 abbrev pub entries_in : Bool → List (List ℕ) → Result (List EntrySaid × ℕ) AcpcFault
 entries_in no_limit lines =
     entries_after no_limit [] 1 lines >>= λ entries. Ok (entries, length lines)
 
--- the entries of a file, and how many lines it has
+-- the entries of a file, and its number of lines
 abbrev pub entries_said : List ℕ → Result (List EntrySaid × ℕ) AcpcFault
 entries_said bytes = entries_in (says_no_limit (lines_of bytes)) (lines_of bytes)
 
 -- ---- what they say
 
--- the numbers behind a key, and none where it does not stand
+-- the numbers of a key; none if the file does not have the key
 abbrev pub numbers_at : GameKey → List EntrySaid → List ℕ
 numbers_at key entries = option_map_or (λ entry. entry.numbers) (found key entries) []
 
--- the one number behind a key
+-- the one number of a key
 abbrev pub number_at : GameKey → List EntrySaid → ℕ
 number_at key entries = slice_index (numbers_at key entries) 0
 
--- the line of a key
+-- the line on which a key is, or 0
 abbrev pub line_at : GameKey → List EntrySaid → ℕ
 line_at key entries = option_map_or (λ entry. entry.line) (found key entries) 0
 
@@ -128,12 +127,12 @@ needed =
     keys.Begin ∷ keys.Limit ∷ keys.NumPlayers ∷ keys.NumRounds ∷ keys.Blind ∷ keys.FirstPlayer
     ∷ keys.NumSuits ∷ keys.NumRanks ∷ keys.NumHoleCards ∷ keys.NumBoardCards ∷ keys.End ∷ []
 
--- the numbers behind a key are as many as the players
+-- a key has one number for each player
 abbrev pub is_for_all : GameKey → List EntrySaid → Bool
 is_for_all key entries = length (numbers_at key entries) == number_at keys.NumPlayers entries
 
--- nothing is missing: in no limit the stacks are needed, in a limit game the sizes of raises, and
--- stacks may stand
+-- nothing is missing: a no-limit game needs stacks, a limit game needs raise sizes and may have
+-- stacks
 unfoldable pub is_whole : List EntrySaid → Bool
 is_whole entries =
     list_all (λ key. has_key key entries) needed
@@ -141,18 +140,18 @@ is_whole entries =
     && (is_for_all keys.Blind entries
     && (not (has_key keys.Stack entries) || is_for_all keys.Stack entries)))
 
--- the line that a fault of the whole names, in a file with so many lines: that of END GAMEDEF, or
--- the last one, or 1
+-- the line that a fault of the whole file names, in a file of `count` lines: the line of END
+-- GAMEDEF or, without one, the last line; 1 in an empty file
 abbrev pub end_line : ℕ → List EntrySaid → ℕ
 end_line count entries = option_map_or (λ entry. entry.line) (found keys.End entries) (max 1 count)
 
--- ---- the games that are played
+-- ---- which games handref supports
 
--- the stack of each player where none are said
+-- the stack of each player if the file says none, in chips
 abbrev pub default_stack : ℕ
 default_stack = 2147483647
 
--- the stacks of the players: those that are said, or the default one for each
+-- the stacks of the players: those of the file, or the default one for each
 abbrev pub stacks_at : List EntrySaid → List ℕ
 stacks_at entries =
     if has_key keys.Stack entries
@@ -171,12 +170,12 @@ has_short_stack (stack ∷ stacks) [] = false
 has_short_stack (stack ∷ stacks) (blind ∷ blinds) =
     (stack == 0 || nat_lt stack blind) || has_short_stack stacks blinds
 
--- there are two players, and the second blind is above the first
+-- there are two players, and the second blind is greater than the first
 abbrev pub is_reversed : List ℕ → Bool
 is_reversed (first ∷ second ∷ []) = nat_lt first second
 is_reversed _ = false
 
--- the last place, from 1, at which a number stands in a list, or 0
+-- the last place (from 1) of a number in a list, or 0
 abbrev pub last_place : ℕ → List ℕ → ℕ
 last_place number [] = 0
 last_place number (n ∷ rest) =
@@ -186,20 +185,21 @@ last_place number (n ∷ rest) =
     then 1
     else 0
 
--- the seat that opens the first round: the one after the last of the greatest blinds, and with two
--- seats the second
+-- the seat that acts first in the first round: the one after the last of the greatest blinds;
+-- heads-up, seat 2
 abbrev pub first_player : List ℕ → ℕ
 first_player blinds =
     if length blinds == 2 then 2
     else if last_place (greatest blinds) blinds == length blinds then 1
     else last_place (greatest blinds) blinds + 1
 
--- sizes of raises are s s b b, with s and b at least 1
+-- raise sizes are s s b b, with s and b at least 1
 abbrev pub are_sizes : List ℕ → Bool
 are_sizes (s ∷ t ∷ b ∷ c ∷ []) = (nat_le 1 s && s == t) && (nat_le 1 b && b == c)
 are_sizes _ = false
 
--- a number of players, rounds or cards that is not played; each with the key that shows it
+-- numbers of players, rounds or cards that handref does not support, each with the key that shows
+-- it
 abbrev pub other_cards : List EntrySaid → List (Bool × GameKey)
 other_cards entries = (
   not
@@ -214,7 +214,8 @@ other_cards entries = (
     ∷ (not (are_four 0 3 1 1 (numbers_at keys.NumBoardCards entries)), keys.NumBoardCards)
     ∷ []
 
--- blinds, a first player or sizes that are not played; each with the key that shows them
+-- blinds, a first player or raise sizes that handref does not support, each with the key that shows
+-- it
 abbrev pub other_blinds : List EntrySaid → List (Bool × GameKey)
 other_blinds entries =
     (is_reversed (numbers_at keys.Blind entries), keys.Blind)
@@ -238,7 +239,7 @@ other_blinds entries =
     )
     ∷ []
 
--- chips that are not played; each with the key that shows them
+-- chips that handref does not support, each with the key that shows it
 abbrev pub other_chips : List EntrySaid → List (Bool × GameKey)
 other_chips entries = (
   has_short_stack (stacks_at entries) (numbers_at keys.Blind entries),
@@ -246,7 +247,7 @@ other_chips entries = (
 )
     ∷ other_blinds entries
 
--- the key that shows that the game is not played
+-- the first key that shows that handref does not support the game, if any
 unfoldable pub first_unsupported : List EntrySaid → Option GameKey
 first_unsupported entries =
     or_else (first_where (other_cards entries)) (first_where (other_chips entries))
@@ -262,12 +263,12 @@ pub record GameSaid : Type 0 where
   pub big_raise : ℕ
   pub caps : Option (List ℕ)
 
--- the size of a raise at a place of the four, in a limit game; else 0
+-- the raise size at a place of the four (from 0) in a limit game; 0 in a no-limit game
 abbrev pub size_at : ℕ → List EntrySaid → ℕ
 size_at place entries =
     if has_no_limit entries then 0 else slice_index (numbers_at keys.RaiseSize entries) place
 
--- the game that the entries of a whole file say
+-- the game that the entries of a complete file say
 abbrev pub game_by : List EntrySaid → GameSaid
 game_by entries = record {
   no_limit = has_no_limit entries;
@@ -278,7 +279,7 @@ game_by entries = record {
   caps = option_map (λ entry. entry.numbers) (found keys.MaxRaises entries);
 }
 
--- the game that the entries of a file with so many lines come to, or what is wrong with the whole
+-- the game that the entries of a file of `count` lines make, or what is wrong with the whole file
 unfoldable pub game_at_end : ℕ → List EntrySaid → Result GameSaid AcpcFault
 game_at_end count entries =
     if is_whole entries
@@ -286,6 +287,6 @@ game_at_end count entries =
     (first_unsupported entries) (Ok (game_by entries))
     else bad_shape (end_line count entries)
 
--- what the bytes of a game file say: the one game, or the first fault
+-- what the bytes of a game file say: one game, or the first fault
 unfoldable pub game_said : List ℕ → Result GameSaid AcpcFault
 game_said bytes = entries_said bytes >>= λ found. game_at_end found.1 found.0

@@ -1,4 +1,4 @@
--- The one spelling of a game.
+-- The one way in which a game file is written.
 use Rattle.std.specs.Prelude.{ℕ, Bool, if◌then◌else◌, List, [], ◌∷◌, ◌++◌, length, codes, Option, Some, None}
 use Rattle.acpc_game.specs.GameFile.{GameSaid, first_player}
 use Rattle.chip_ledger.specs.AmountTexts.{spaced}
@@ -7,50 +7,50 @@ use Rattle.chip_ledger.specs.AmountTexts.{spaced}
 abbrev pub ended : List ℕ → List ℕ
 ended line = line ++ 10 ∷ []
 
--- a key, =, and numbers
+-- a line of the form: key, =, numbers
 unfoldable pub key_line : List ℕ → List ℕ → List ℕ
 key_line word numbers = ended (word ++ (codes " =" ++ spaced numbers))
 
--- whether there is a limit
+-- the line that says whether the game has a limit
 unfoldable pub kind_text : Bool → List ℕ
 kind_text no_limit = if no_limit then codes "nolimit\n" else codes "limit\n"
 
--- the players and the rounds
+-- the lines with the numbers of players and of rounds
 unfoldable pub counts_text : ℕ → List ℕ
 counts_text players =
     key_line (codes "numPlayers") (players ∷ []) ++ key_line (codes "numRounds") (4 ∷ [])
 
--- the stacks and the blinds
+-- the lines with the stacks and the blinds
 unfoldable pub rows_text : List ℕ → List ℕ → List ℕ
 rows_text stacks blinds = key_line (codes "stack") stacks ++ key_line (codes "blind") blinds
 
--- whether there is a limit, the players, the rounds, the stacks and the blinds
+-- the lines from the limit to the blinds
 unfoldable pub chips_text : GameSaid → List ℕ
 chips_text game =
     kind_text game.no_limit
     ++ (counts_text (length game.stacks) ++ rows_text game.stacks game.blinds)
 
--- the sizes of raises of a limit game
+-- the line with the raise sizes of a limit game
 unfoldable pub sizes_text : GameSaid → List ℕ
 sizes_text game =
     if game.no_limit then []
     else key_line (codes "raiseSize")
     (game.small_raise ∷ game.small_raise ∷ game.big_raise ∷ game.big_raise ∷ [])
 
--- the first seats of the rounds
+-- the line with the seat that acts first in each round
 unfoldable pub first_text : List ℕ → List ℕ
 first_text blinds = key_line (codes "firstPlayer") (first_player blinds ∷ 1 ∷ 1 ∷ 1 ∷ [])
 
--- the most raises of each round, if there is a most
+-- the line with the most raises of each round, if the game caps them
 unfoldable pub caps_text : Option (List ℕ) → List ℕ
 caps_text None = []
 caps_text (Some caps) = key_line (codes "maxRaises") caps
 
--- the first seats of the rounds, and the most raises of each
+-- the lines with the first seats of the rounds and the caps
 unfoldable pub turns_text : GameSaid → List ℕ
 turns_text game = first_text game.blinds ++ caps_text game.caps
 
--- the cards, which are those of hold'em
+-- the lines with the cards, which are those of hold'em
 abbrev pub cards_text : List ℕ
 cards_text = codes "numSuits = 4\nnumRanks = 13\nnumHoleCards = 2\nnumBoardCards = 0 3 1 1\n"
 

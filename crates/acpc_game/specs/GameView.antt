@@ -1,4 +1,4 @@
--- Games of the code, seen as those of the definitions.
+-- Games of the code, as the definitions see them.
 use Rattle.acpc_game.specs.declared.game.Game.{Game}
 use Rattle.acpc_game.specs.GameFile.{GameSaid}
 use Rattle.chip_ledger.specs.SeatRow.{amounts_in}

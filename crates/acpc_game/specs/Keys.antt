@@ -1,4 +1,4 @@
--- The keys of a game file, and how many numbers stand behind them.
+-- The keys of a game file, and how many numbers follow each.
 use Rattle.std.specs.Prelude.{ℕ, ◌==◌, Bool, nat_lt, bytes_eq, if◌then◌else◌, List, map, codes, Option, Some, None}
 use Rattle.std.specs.Char.{to_ascii_lowercase}
 use Rattle.chip_ledger.specs.declared.numbers.TheConstants.{MOST_CHIPS}
@@ -9,12 +9,12 @@ use Rattle.acpc_game.specs.declared.key.GameKey.TheVariants as keys
 unfoldable pub is_word : List ℕ → List ℕ → Bool
 is_word name text = bytes_eq (map to_ascii_lowercase text) (map to_ascii_lowercase name)
 
--- a key that was found, or else another
+-- the first key if there is one, else the other
 abbrev pub or_else : Option GameKey → Option GameKey → Option GameKey
 or_else (Some key) other = Some key
 or_else None other = other
 
--- the key of one number, or of the cards of the board, that a word names
+-- the key that a word names, if it takes one number or is that of the board cards
 unfoldable pub card_key_named : List ℕ → Option GameKey
 card_key_named word =
     if is_word (codes "numPlayers") word then Some keys.NumPlayers
@@ -25,7 +25,7 @@ card_key_named word =
     else if is_word (codes "numBoardCards") word then Some keys.NumBoardCards
     else None
 
--- the key of chips or turns that a word names
+-- the key that a word names, if it is one of chips or of turns
 unfoldable pub chip_key_named : List ℕ → Option GameKey
 chip_key_named word =
     if is_word (codes "stack") word then Some keys.Stack
@@ -35,12 +35,12 @@ chip_key_named word =
     else if is_word (codes "maxRaises") word then Some keys.MaxRaises
     else None
 
--- the key with numbers that a word names
+-- the key that a word names, if it takes numbers
 abbrev pub key_named : List ℕ → Option GameKey
 key_named word = or_else (card_key_named word) (chip_key_named word)
 
--- where a key stands in the one spelling; limit and nolimit have one place, and so have sizes that
--- are used or not
+-- the place of a key in a written file; limit and nolimit have the same place, and so do raise
+-- sizes that are used and raise sizes that are not
 abbrev pub key_place : GameKey → ℕ
 key_place keys.Begin = 0
 key_place keys.Limit = 1
@@ -59,12 +59,12 @@ key_place keys.NumHoleCards = 11
 key_place keys.NumBoardCards = 12
 key_place keys.End = 13
 
--- the greatest number that may stand behind a key: a cap has 32 bits, any other number is an amount
+-- the greatest number that a key takes: 32 bits for a cap, the limit of chips for any other
 abbrev pub most_of : GameKey → ℕ
 most_of keys.MaxRaises = 4294967295
 most_of _ = MOST_CHIPS
 
--- a key has so many numbers behind it; stacks and blinds are compared with the players later
+-- a key takes `count` numbers; stacks and blinds are compared with the players later
 abbrev pub has_count : GameKey → ℕ → Bool
 has_count keys.Begin count = count == 0
 has_count keys.End count = count == 0

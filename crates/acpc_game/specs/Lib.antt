@@ -1,4 +1,8 @@
--- Game files: keys, forms of lines, and the game that a file says.
+-- How logs and game files are cut into lines, parts and letters, and which faults they have.
+pub mod Faults
+pub mod Parts
+pub mod Letters
+-- Game files: keys, line forms, and the game that a file says.
 pub mod Keys
 pub mod Forms
 pub mod GameFile

@@ -1,10 +1,10 @@
--- The facts of the entries of a game that is played.
+-- What holds of the entries of a game that handref supports.
 use Rattle.std.specs.Prelude.{◌≡◌, ◌==◌, true, false, not, nat_lt, nat_le, ◌&&◌, List, slice_index}
 use Rattle.chip_ledger.specs.Greatest.{greatest}
 use Rattle.acpc_game.specs.declared.key.GameKey.TheVariants as keys
 use Rattle.acpc_game.specs.GameFile.{EntrySaid, number_at, numbers_at, stacks_at, has_no_limit, has_short_stack, is_reversed, are_sizes}
 
--- the players, stacks, blinds, raises and sizes of a game are those of a hand that can be played
+-- the players, stacks, blinds, raises and raise sizes are those of a hand that can be played
 pub record IsPlayable (entries : List EntrySaid) : Type 0 where
   pub players :
       nat_le 2 (number_at keys.NumPlayers entries) && nat_le (number_at keys.NumPlayers entries) 10

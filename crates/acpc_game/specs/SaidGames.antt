@@ -1,18 +1,17 @@
--- Which games, with their numbers as lists, some game file says.
+-- Which games a game file can say; a game has its numbers as lists here.
 use Rattle.std.specs.Prelude.{◌≡◌, ℕ, ◌≤◌, ◌==◌, Bool, true, nat_le, ◌&&◌, List, length, IfSome, false}
 use Rattle.std.specs.List.{list_all}
 use Rattle.chip_ledger.specs.Greatest.{greatest}
 use Rattle.acpc_game.specs.GameFile.{GameSaid, has_short_stack, is_reversed}
 use Rattle.acpc_game.specs.Games.{are_chips, has_fitting_sizes}
 
--- the most raises of the rounds are four numbers of 32 bits
+-- the caps on raises are four numbers of 32 bits
 abbrev pub are_caps : List ℕ → Bool
 are_caps caps = length caps == 4 && list_all (λ cap. nat_le cap 4294967295) caps
 
--- The rows, chips, sizes and caps of a game are those of a game that is played: 2 to 10 seats, as
--- many blinds as stacks, amounts that may be stated, no stack that is 0 or below its blind, no
--- second blind of two above the first, sizes that fit, and a cap for each of the four rounds or
--- none.
+-- The numbers are those of a game that handref supports: 2 to 10 seats, as many blinds as stacks,
+-- amounts within the limit, no stack that is 0 or below its blind, with two seats no second blind
+-- above the first, raise sizes that fit, and either no caps or one for each of the four rounds.
 pub record IsGame (game : GameSaid) : Type 0 where
   pub least : 2 ≤ length game.stacks
   pub most : length game.stacks ≤ 10

@@ -1,5 +1,4 @@
-//! An entry of a game file is a key with its line and its numbers, and none of them is too great
-//! for the key.
+//! An entry of a game file: a key, its line, and its numbers, none of them too great for the key.
 ghost use Rattle.std.specs.Prelude.{◌≡◌, true, nat_le, length};
 ghost use Rattle.std.specs.List.{list_all};
 ghost use Rattle.acpc_game.specs.Keys.{has_count, most_of};

@@ -1,7 +1,7 @@
-//! A line of a game file is a key alone, or a key, `=`, and numbers divided by spaces.
+//! Parses a line of a game file: a key alone, or a key, `=`, and numbers separated by spaces.
 ghost use Rattle.std.specs.Prelude.{◌≡◌, [], ◌∷◌, ◌-◌, length, slice_index, option_map, true, IfSome, if◌then◌else◌, Some, None};
 ghost use Rattle.std.specs.List.{list_all};
-ghost use Rattle.acpc_text.specs.Parts.{parts_of};
+ghost use Rattle.acpc_game.specs.Parts.{parts_of};
 ghost use Rattle.first_fault.specs.Words.{is_space, words_of};
 ghost use Rattle.first_fault.specs.Digits.{are_digits as are_digits_said};
 ghost use Rattle.acpc_game.specs.Entries.{form_said};
@@ -10,18 +10,18 @@ ghost use Rattle.acpc_game.specs.Forms.{form_of, form_with as form_with_said, is
 
 use crate::key::{GameKey, is_word, key_named};
 use crate::key_line::KeyLine;
-use acpc_text::cut_at;
+use crate::parts::cut_at;
 use first_fault::{are_digits, next_word};
 
-/// Whether a line of a game file says nothing: it is empty or begins with `#`.
+/// Whether a line of a game file is ignored: it is empty or begins with `#`.
 pub fn is_passed_over(line: &[u8]) -> bool
     ensures { result ≡ is_passed_over_said line.now }
 {
     line.is_empty() || line[0] == b'#'
 }
 
-/// The key of a line, and the text of its numbers, where the line has the form of one. Sizes of
-/// raises of a game that has no limit have no text: their numbers are passed over.
+/// The key of a line and the text of its numbers, if the line is well formed. Raise sizes of a
+/// no-limit game are ignored, so their text is empty.
 #[tactic(auto, unfolding(crate::specs::Forms::form_of))]
 pub fn read_form(no_limit: bool, line: &[u8]) -> Option<KeyLine<'_>>
     ensures { option_map form_said result ≡ form_of no_limit line.now }
@@ -59,7 +59,7 @@ fn read_numbered(no_limit: bool, line: &[u8]) -> Option<KeyLine<'_>>
     }
 }
 
-// A key, and the numbers behind `=`, in which no second `=` stands.
+// A key and the numbers after the `=`; a second `=` is refused.
 #[tactic(auto, using(crate::proofs::Forms::no_third_part))]
 fn read_behind<'a>(no_limit: bool, front: &[u8], rest: &'a [u8]) -> Option<KeyLine<'a>>
     ensures { option_map form_said result
@@ -75,7 +75,7 @@ fn read_behind<'a>(no_limit: bool, front: &[u8], rest: &'a [u8]) -> Option<KeyLi
     }
 }
 
-// The key in front of `=`.
+// The key before the `=`.
 #[tactic(auto, unfolding(crate::specs::Forms::key_before))]
 fn key_before(front: &[u8]) -> Option<GameKey>
     ensures { result ≡ key_before_said front.now }
@@ -97,7 +97,7 @@ fn begins_with_space(text: &[u8]) -> bool
     !text.is_empty() && text[0] == b' '
 }
 
-// The numbers behind `=`.
+// The numbers after the `=`.
 #[tactic(auto, unfolding(crate::specs::Forms::numbers_behind))]
 fn numbers_of(no_limit: bool, key: GameKey, behind: &[u8]) -> Option<KeyLine<'_>>
     ensures { option_map form_said result
@@ -110,8 +110,8 @@ fn numbers_of(no_limit: bool, key: GameKey, behind: &[u8]) -> Option<KeyLine<'_>
     form_with(no_limit, key, count, behind)
 }
 
-// A key with so many numbers, which are as many as the key has; sizes of raises of a game without
-// limit are passed over.
+// A key with `count` numbers, if the key takes this number of them; raise sizes of a no-limit game
+// are ignored.
 #[tactic(auto, unfolding(crate::specs::Forms::form_with))]
 fn form_with(no_limit: bool, key: GameKey, count: usize, behind: &[u8]) -> Option<KeyLine<'_>>
     requires digits { list_all are_digits_said (words_of behind.now) ≡ true }
@@ -136,7 +136,7 @@ fn form_with(no_limit: bool, key: GameKey, count: usize, behind: &[u8]) -> Optio
     }
 }
 
-// Whether the key says the sizes of raises, in a game that has no limit.
+// Whether the key gives raise sizes in a no-limit game.
 fn is_unused(no_limit: bool, key: GameKey) -> bool
     ensures { result ≡ is_unused_said no_limit key }
 {
@@ -153,7 +153,7 @@ fn ends_with_space(text: &[u8]) -> bool
     !text.is_empty() && text[text.len() - 1] == b' '
 }
 
-// How many words there are, where all of them are digits.
+// The number of words, if all of them are digits.
 fn count_numbers(text: &[u8]) -> Option<usize>
     ensures digits { IfSome result (λ count. list_all are_digits_said (words_of text.now) ≡ true) }
     ensures words { IfSome result (λ count. count ≡ length (words_of text.now)) }

@@ -1,4 +1,4 @@
-//! What stands behind a key is found among the entries.
+//! Looks up the numbers and the line of a key among the entries.
 ghost use Rattle.std.specs.Prelude.{◌≡◌, true, map, option_map, IfSome};
 ghost use Rattle.acpc_game.specs.Entries.{entry_said};
 ghost use Rattle.acpc_game.specs.Games.{are_chips};
@@ -27,14 +27,14 @@ pub fn line_at(entries: &[Entry], key: GameKey) -> u64
     }
 }
 
-/// Whether there are as many numbers behind a key as players.
+/// Whether a key has one number for each player.
 pub fn is_for_all(entries: &[Entry], key: GameKey) -> bool
     ensures { result ≡ is_for_all_said key (map entry_said entries.now) }
 {
     numbers_at(entries, key).len() as u64 == number_at(entries, GameKey::NumPlayers)
 }
 
-/// The one number behind a key.
+/// The one number of a key.
 pub fn number_at(entries: &[Entry], key: GameKey) -> u64
     ensures { result ≡ number_at_said key (map entry_said entries.now) }
 {
@@ -42,7 +42,7 @@ pub fn number_at(entries: &[Entry], key: GameKey) -> u64
     if numbers.is_empty() { 0 } else { numbers[0] }
 }
 
-/// The numbers behind a key, and none where it doesn't stand.
+/// The numbers of a key; none if there is no entry with this key.
 #[tactic(auto, using(crate::proofs::Bounds::within_most))]
 pub fn numbers_at(entries: &[Entry], key: GameKey) -> &[u64]
     ensures few { are_chips result.now ≡ true }
@@ -54,7 +54,7 @@ pub fn numbers_at(entries: &[Entry], key: GameKey) -> &[u64]
     }
 }
 
-/// The entry with this key, if one stands.
+/// The entry with this key, if there is one.
 pub fn find_entry(entries: &[Entry], key: GameKey) -> Option<&Entry>
     ensures is { IfSome result (λ entry. is_of key (entry_said entry.now) ≡ true) }
     ensures entry { option_map (λ entry. entry_said entry.now) result

@@ -1,4 +1,4 @@
-//! A game is what some game file says.
+//! The game that a game file says.
 ghost use Rattle.std.specs.Prelude.{◌≡◌, true, false};
 ghost use Rattle.chip_ledger.specs.Greatest.{greatest};
 ghost use Rattle.acpc_game.specs.GameFile.{has_short_stack, is_reversed};
@@ -7,20 +7,19 @@ ghost use Rattle.chip_ledger.specs.SeatRow.{amounts_in};
 
 use chip_ledger::SeatRow;
 
-/// Two-card hold'em of four rounds with these stacks, blinds and sizes of raises. Amounts are
-/// chips; the first seat is the first after the button, and with two seats the one with the greater
-/// blind.
+/// Two-card hold'em of four rounds with these stacks, blinds and raise sizes. Amounts are in chips.
+/// Seat 1 is the first after the button; heads-up, it has the greater blind.
 #[derive(Clone, Copy, Debug, PartialEq, Eq)]
 pub struct Game {
-    /// Whether bets have no limit.
+    /// Whether the game is no-limit.
     pub no_limit: bool,
     pub stacks: SeatRow,
     pub blinds: SeatRow,
-    /// The size of raises in the first two rounds, in a limit game; else 0.
+    /// The raise size of the first two rounds in a limit game, in chips; 0 in no-limit.
     pub small_raise: u64,
-    /// The size of raises in the last two rounds, in a limit game; else 0.
+    /// The raise size of the last two rounds in a limit game, in chips; 0 in no-limit.
     pub big_raise: u64,
-    /// The most raises of each round, if there is a most.
+    /// The most raises of each round, if they are capped.
     pub caps: Option<[u32; 4]>,
     pub ghost one_row: { blinds.seats ≡ stacks.seats },
     pub ghost few: { are_chips (amounts_in stacks) ≡ true },

@@ -1,4 +1,4 @@
-//! The keys of a game file are words that are free in case.
+//! The keys of a game file: words in capitals or small letters.
 ghost use Rattle.std.specs.Prelude.{◌≡◌};
 ghost use Rattle.acpc_game.specs.Keys.{card_key_named as card_key_named_said, chip_key_named as chip_key_named_said, has_count as has_count_said, is_word as is_word_said, key_named as key_named_said, key_place, most_of};
 
@@ -18,7 +18,7 @@ pub enum GameKey {
     Stack,
     Blind,
     RaiseSize,
-    /// `raiseSize` of a game that has no limit: its numbers are passed over.
+    /// `raiseSize` of a no-limit game: its numbers are ignored.
     UnusedSizes,
     FirstPlayer,
     MaxRaises,
@@ -28,7 +28,7 @@ pub enum GameKey {
     NumBoardCards,
 }
 
-/// The key with numbers that a word names.
+/// The key that a word names, if it takes numbers.
 pub fn key_named(word: &[u8]) -> Option<GameKey>
     ensures { result ≡ key_named_said word.now }
 {
@@ -38,7 +38,7 @@ pub fn key_named(word: &[u8]) -> Option<GameKey>
     }
 }
 
-// The key of one number, or of the cards of the board, that a word names.
+// The key that a word names, if it takes one number or is that of the board cards.
 #[tactic(auto, unfolding(crate::specs::Keys::card_key_named))]
 fn card_key_named(word: &[u8]) -> Option<GameKey>
     ensures { result ≡ card_key_named_said word.now }
@@ -60,7 +60,7 @@ fn card_key_named(word: &[u8]) -> Option<GameKey>
     }
 }
 
-// The key of chips or turns that a word names.
+// The key that a word names, if it is one of chips or of turns.
 #[tactic(auto, unfolding(crate::specs::Keys::chip_key_named))]
 fn chip_key_named(word: &[u8]) -> Option<GameKey>
     ensures { result ≡ chip_key_named_said word.now }
@@ -81,7 +81,7 @@ fn chip_key_named(word: &[u8]) -> Option<GameKey>
 }
 
 /// Whether the text is this word, in capitals or small letters.
-#[tactic(auto, unfolding(crate::specs::Keys::is_word), using(list_laws::proofs::Bytes::equal_by_test))]
+#[tactic(auto, unfolding(crate::specs::Keys::is_word), using(card_set::proofs::Bytes::equal_by_test))]
 pub fn is_word(name: &str, text: &[u8]) -> bool
     ensures { result ≡ is_word_said name.now text.now }
 {
@@ -89,8 +89,8 @@ pub fn is_word(name: &str, text: &[u8]) -> bool
 }
 
 impl GameKey {
-    /// Where the key stands in the one spelling; `limit` and `nolimit` have one place, and so have
-    /// sizes of raises that are used or not.
+    /// The place of the key in a written file; `limit` and `nolimit` have the same place, and so do
+    /// raise sizes that are used and raise sizes that are not.
     pub fn place(self) -> u8
         ensures { result ≡ key_place self }
     {
@@ -114,7 +114,7 @@ impl GameKey {
         }
     }
 
-    /// The greatest number that may stand behind the key.
+    /// The greatest number that the key takes.
     pub fn most(self) -> u64
         ensures { result ≡ most_of self }
     {
@@ -124,7 +124,7 @@ impl GameKey {
         }
     }
 
-    /// Whether the key has so many numbers.
+    /// Whether the key takes `count` numbers.
     pub fn has_count(self, count: usize) -> bool
         ensures { result ≡ has_count_said self count }
     {

@@ -1,4 +1,4 @@
-//! A key stands with as many numbers as it has, and these are digits divided by spaces.
+//! A line with a key and the number of words that the key takes, each of them digits.
 ghost use Rattle.std.specs.Prelude.{◌≡◌, length, true};
 ghost use Rattle.std.specs.List.{list_all};
 ghost use Rattle.first_fault.specs.Words.{words_of};

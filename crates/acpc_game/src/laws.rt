@@ -1,4 +1,4 @@
-//! What is written of a game is read as that game, proved over the definitions.
+//! The law that a written game file reads back as its game.
 ghost use Rattle.std.specs.Prelude.{◌≡◌, true, IfSome, Ok};
 ghost use Rattle.acpc_game.specs.GameFile.{GameSaid, game_said};
 ghost use Rattle.acpc_game.specs.GameText.{game_text};
@@ -7,16 +7,16 @@ ghost use Rattle.acpc_game.specs.SaidGames.{IsGame, are_caps};
 
 use crate::game::Game;
 
-/// The game file that is written of a game is read as that game. The function does nothing but show
-/// that caps are four numbers of 32 bits: its contract is a law.
+/// A written game file reads back as its game. The function only shows that caps are four numbers
+/// of 32 bits: its contract is a law.
 pub fn law_of_reading_again(game: Game)
     ensures { game_said (game_text (game_in game)) ≡ Ok (game_in game) }
 {
     show_caps(game.caps);
 }
 
-/// The one spelling of a game whose rows, chips, sizes and caps are those of a game that is played
-/// is read as that game. The function does nothing: its contract is a law.
+/// If the numbers of a game are those of a game that handref supports, its written file reads back
+/// as that game. The function does nothing: its contract is a law.
 pub fn law_of_spellings()
     ensures { (game : GameSaid) → IsGame game → game_said (game_text game) ≡ Ok game }
 {}

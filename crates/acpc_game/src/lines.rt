@@ -1,37 +1,38 @@
-//! The lines of a game file are read as its entries, or the first line that is wrong is named.
+//! Reads the lines of a game file as its entries, or names the first line that is wrong.
 ghost use Rattle.std.specs.Prelude.{◌≡◌, ◌≤◌, [], true, nat_le, length, map, Ok, OnOk, IfOk, IfErr, IsTrue};
 ghost use Rattle.std.specs.List.{list_all};
 ghost use Rattle.first_fault.specs.Digits.{are_digits};
 ghost use Rattle.first_fault.specs.Reading.{Gives, Fails};
-ghost use Rattle.acpc_text.specs.Faults.{fault_in_line as fault_in_line_said};
-ghost use Rattle.acpc_text.specs.Parts.{lines_of};
+ghost use Rattle.acpc_game.specs.Faults.{fault_in_line as fault_in_line_said};
+ghost use Rattle.acpc_game.specs.Parts.{lines_of};
 ghost use Rattle.first_fault.specs.Words.{words_of};
 ghost use Rattle.acpc_game.specs.Entries.{entry_said};
 ghost use Rattle.acpc_game.specs.GameFile.{entries_after_line, entries_in, entries_said, may_stand as may_stand_said, number_said, numbers_after, says_no_limit as says_no_limit_said};
 ghost use Rattle.acpc_game.specs.Keys.{most_of};
 
 use crate::entry::Entry;
+use crate::fault::{AcpcFault, LineFault, LineFaultKind, fault_in_line};
 use crate::form::{is_passed_over, read_form};
 use crate::found::has_key;
 use crate::key::{GameKey, is_word};
-use acpc_text::{AcpcFault, LineFault, LineFaultKind, fault_in_line, next_line};
-use first_fault::{Stop, next_word, read_digits};
+use crate::parts::next_line;
+use first_fault::{ReadError, next_word, read_digits};
 use std::alloc::Global;
 
-/// The entries of a file, and how many lines it has.
-pub fn read_entries(alloc: Global, bytes: &[u8]) -> Result<(Vec<Entry>, u64), Stop<AcpcFault>>
+/// The entries of a file, and its number of lines.
+pub fn read_entries(alloc: Global, bytes: &[u8]) -> Result<(Vec<Entry>, u64), ReadError<AcpcFault>>
     ensures { Gives (λ found. (map entry_said found.0.items, found.1)) result
         (entries_said bytes.now) }
 {
     read_lines(alloc, says_no_limit(bytes), bytes)
 }
 
-// The entries of the lines of a game that has a limit or none, and how many lines there are.
+// The entries of the lines of a limit or no-limit game, and the number of lines.
 fn read_lines(
     alloc: Global,
     no_limit: bool,
     bytes: &[u8],
-) -> Result<(Vec<Entry>, u64), Stop<AcpcFault>>
+) -> Result<(Vec<Entry>, u64), ReadError<AcpcFault>>
     ensures { Gives (λ found. (map entry_said found.0.items, found.1)) result
         (entries_in no_limit (lines_of bytes.now)) }
 {
@@ -46,7 +47,7 @@ fn read_lines(
     Ok((entries, count))
 }
 
-// Whether some line says that the game has no limit.
+// Whether some line says that the game is no-limit.
 fn says_no_limit(bytes: &[u8]) -> bool
     ensures { result ≡ says_no_limit_said (lines_of bytes.now) }
 {
@@ -60,7 +61,7 @@ fn says_no_limit(bytes: &[u8]) -> bool
     false
 }
 
-// One more line of a game that has a limit or none.
+// One more line of a limit or no-limit game.
 #[tactic(auto, unfolding(crate::specs::GameFile::entries_after_line, crate::specs::GameFile::entries_with))]
 fn take_line(
     alloc: Global,
@@ -68,7 +69,7 @@ fn take_line(
     entries: &mut Vec<Entry>,
     line: u64,
     text: &[u8],
-) -> Result<(), Stop<AcpcFault>>
+) -> Result<(), ReadError<AcpcFault>>
     ensures ok { OnOk result
         (entries_after_line no_limit (map entry_said entries.old.items) line text.now
         ≡ Ok (map entry_said entries.new.items)) }
@@ -79,10 +80,10 @@ fn take_line(
         return Ok(());
     }
     let Some(form) = read_form(no_limit, text) else {
-        return Err(wrong(LineFaultKind::GameShape, line));
+        return Err(fault_at(LineFaultKind::GameShape, line));
     };
     if !may_stand(entries.as_slice(), form.key) {
-        return Err(wrong(LineFaultKind::GameShape, line));
+        return Err(fault_at(LineFaultKind::GameShape, line));
     }
     let numbers = read_numbers(alloc, line, form.key, form.numbers)?;
     entries.push(Entry {
@@ -93,7 +94,7 @@ fn take_line(
     Ok(())
 }
 
-// Whether a key may stand after these entries.
+// Whether a key is allowed after these entries.
 fn may_stand(entries: &[Entry], key: GameKey) -> bool
     ensures { result ≡ may_stand_said key (map entry_said entries.now) }
 {
@@ -103,13 +104,13 @@ fn may_stand(entries: &[Entry], key: GameKey) -> bool
     }
 }
 
-// The numbers that the words of a text say behind a key.
+// The numbers that the words of a text give to a key.
 fn read_numbers(
     alloc: Global,
     line: u64,
     key: GameKey,
     text: &[u8],
-) -> Result<Vec<u64>, Stop<AcpcFault>>
+) -> Result<Vec<u64>, ReadError<AcpcFault>>
     requires { list_all are_digits (words_of text.now) ≡ true }
     ensures said { Gives (λ numbers. numbers.items) result
         (numbers_after line (most_of key) [] (words_of text.now)) }
@@ -127,22 +128,23 @@ fn read_numbers(
     Ok(numbers)
 }
 
-// The number that a word says, if it is not too great for its key.
+// The number that a word says, or a fault if it is too great for its key.
 #[tactic(auto, unfolding(crate::specs::GameFile::number_said))]
-fn read_number(line: u64, key: GameKey, word: &[u8]) -> Result<u64, Stop<AcpcFault>>
+fn read_number(line: u64, key: GameKey, word: &[u8]) -> Result<u64, ReadError<AcpcFault>>
     requires { IsTrue (are_digits word.now) }
     ensures said { Gives (λ number. number) result (number_said line (most_of key) word.now) }
     ensures bounded { IfOk result (λ number. number ≤ most_of key) }
 {
     match read_digits(word, key.most()) {
         Some(number) => Ok(number),
-        None => Err(wrong(LineFaultKind::AmountLimit, line)),
+        None => Err(fault_at(LineFaultKind::AmountLimit, line)),
     }
 }
 
 /// A fault of this kind at a line.
-pub fn wrong(what: LineFaultKind, line: u64) -> Stop<AcpcFault>
-    ensures { result ≡ Stop.At (fault_in_line_said line (record { what = what; byte = 1 })) }
+pub fn fault_at(what: LineFaultKind, line: u64) -> ReadError<AcpcFault>
+    ensures { result ≡ ReadError.Fault
+        (fault_in_line_said line (record { what = what; byte = 1 })) }
 {
-    Stop::At(fault_in_line(line, LineFault { what, byte: 1 }))
+    ReadError::Fault(fault_in_line(line, LineFault { what, byte: 1 }))
 }

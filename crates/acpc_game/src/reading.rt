@@ -1,8 +1,8 @@
-//! A game file is read as the one game that it says, or its first fault is named.
+//! Reads a game file as the one game that it says, or names its first fault.
 ghost use Rattle.std.specs.Prelude.{◌≡◌, ◌≤◌, if◌then◌else◌, true, nat_le, None, length, map, option_map, slice_index, IfOk, IfErr};
 ghost use Rattle.std.specs.List.{list_all};
-ghost use Rattle.first_fault.specs.Reading.{Gives, IsWant};
-ghost use Rattle.acpc_text.specs.Faults.{Answers};
+ghost use Rattle.first_fault.specs.Reading.{Gives, IsOutOfMemory};
+ghost use Rattle.acpc_game.specs.Faults.{Answers};
 ghost use Rattle.acpc_game.specs.declared.key.GameKey.TheVariants as keys;
 ghost use Rattle.acpc_game.specs.Entries.{entry_said};
 ghost use Rattle.acpc_game.specs.GameFile.{found, game_at_end, game_by, game_said, is_whole as is_whole_said, stacks_at};
@@ -12,62 +12,62 @@ ghost use Rattle.chip_ledger.specs.SeatRow.{amounts_in};
 ghost use Rattle.acpc_game.specs.Playable.{IsPlayable};
 
 use crate::entry::Entry;
+use crate::fault::{AcpcFault, LineFaultKind};
 use crate::found::{find_entry, has_key, line_at, numbers_at};
 use crate::game::Game;
 use crate::key::GameKey;
-use crate::lines::{read_entries, wrong};
+use crate::lines::{fault_at, read_entries};
 use crate::supported::{end_line, first_unsupported, has_no_limit, is_whole};
-use acpc_text::{AcpcFault, LineFaultKind};
 use chip_ledger::SeatRow;
-use first_fault::Stop;
+use first_fault::ReadError;
 use std::alloc::Global;
 
-/// The stack of each player of a limit game that says none.
+/// The stack of each player of a limit game whose file says none, in chips.
 const DEFAULT_STACK: u64 = 2_147_483_647;
 
-/// The game that a game file says. Of its faults those of single lines come first, in the order of
-/// the lines, then those of the whole, and last that the game is not played here. The byte of a
-/// fault is always 1.
+/// The game that a game file says. Faults of single lines are reported first, in the order of the
+/// lines; then those of the whole file; and last that handref does not support the game. The byte
+/// of a fault is always 1.
 pub fn read_game(alloc: Global, bytes: &[u8]) -> Result<Game, AcpcFault>
     ensures { Answers game_in result (game_said bytes.now) }
 {
     match read(alloc, bytes) {
         Ok(game) => Ok(game),
-        Err(Stop::Memory(memory)) => Err(AcpcFault::Memory(memory)),
-        Err(Stop::At(fault)) => Err(fault),
+        Err(ReadError::Memory(memory)) => Err(AcpcFault::Memory(memory)),
+        Err(ReadError::Fault(fault)) => Err(fault),
     }
 }
 
 // The game of a file.
 #[tactic(auto, unfolding(crate::specs::GameFile::game_said))]
-fn read(alloc: Global, bytes: &[u8]) -> Result<Game, Stop<AcpcFault>>
+fn read(alloc: Global, bytes: &[u8]) -> Result<Game, ReadError<AcpcFault>>
     ensures { Gives game_in result (game_said bytes.now) }
 {
     let (entries, count) = read_entries(alloc, bytes)?;
     game_by_end(alloc, entries.as_slice(), count)
 }
 
-// The game that the entries of a file with so many lines come to.
+// The game that the entries of a file of `count` lines make.
 #[tactic(auto, unfolding(crate::specs::GameFile::game_at_end))]
-fn game_by_end(alloc: Global, entries: &[Entry], count: u64) -> Result<Game, Stop<AcpcFault>>
+fn game_by_end(alloc: Global, entries: &[Entry], count: u64) -> Result<Game, ReadError<AcpcFault>>
     ensures { Gives game_in result (game_at_end count (map entry_said entries.now)) }
 {
     if !is_whole(entries) {
-        return Err(wrong(LineFaultKind::GameShape, end_line(entries, count)));
+        return Err(fault_at(LineFaultKind::GameShape, end_line(entries, count)));
     }
     let stacks = stacks_of(alloc, entries)?;
     match first_unsupported(entries, stacks.as_slice()) {
-        Some(key) => Err(wrong(LineFaultKind::UnsupportedGame, line_at(entries, key))),
+        Some(key) => Err(fault_at(LineFaultKind::UnsupportedGame, line_at(entries, key))),
         None => Ok(build(entries, stacks.as_slice())),
     }
 }
 
 // The stacks of the players.
 #[tactic(auto, using(crate::proofs::Bounds::same_stacks))]
-fn stacks_of(alloc: Global, entries: &[Entry]) -> Result<Vec<u64>, Stop<AcpcFault>>
+fn stacks_of(alloc: Global, entries: &[Entry]) -> Result<Vec<u64>, ReadError<AcpcFault>>
     ensures stacks { IfOk result (λ stacks. stacks.items ≡ stacks_at (map entry_said entries.now)) }
     ensures few { IfOk result (λ stacks. are_chips stacks.items ≡ true) }
-    ensures memory { IfErr result IsWant }
+    ensures memory { IfErr result IsOutOfMemory }
 {
     if has_key(entries, GameKey::Stack) {
         Ok(Vec::from_slice(alloc, numbers_at(entries, GameKey::Stack))?)
@@ -77,7 +77,7 @@ fn stacks_of(alloc: Global, entries: &[Entry]) -> Result<Vec<u64>, Stop<AcpcFaul
     }
 }
 
-// The game of entries from which nothing is missing, and whose game is played.
+// The game of entries that are complete and that handref supports.
 #[tactic(auto, using(crate::proofs::Built::counted, crate::proofs::Built::sizes_fit))]
 fn build(entries: &[Entry], stacks: &[u64]) -> Game
     requires whole { is_whole_said (map entry_said entries.now) ≡ true }
@@ -102,7 +102,7 @@ fn build(entries: &[Entry], stacks: &[u64]) -> Game
     }
 }
 
-// The size of a raise at a place of the four, in a limit game; else 0.
+// The raise size at a place of the four (from 0) in a limit game; 0 in no-limit.
 fn size_at(no_limit: bool, sizes: &[u64], place: usize) -> u64
     ensures { result ≡ (if no_limit then 0 else slice_index sizes.now place) }
 {
@@ -113,7 +113,7 @@ fn size_at(no_limit: bool, sizes: &[u64], place: usize) -> u64
     }
 }
 
-// The most raises of each round, if there is a most.
+// The most raises of each round, if they are capped.
 #[tactic(auto, using(crate::proofs::Bounds::caps_small, crate::proofs::Bounds::caps_four))]
 fn caps_of(entries: &[Entry]) -> Option<[u32; 4]>
     ensures { result

@@ -1,5 +1,5 @@
-//! Of a game file whose lines are right, what is wrong with the whole is named, or why the game is
-//! not played.
+//! Checks a game file whose lines are right as a whole: what is missing, or why handref does not
+//! support its game.
 ghost use Rattle.std.specs.Prelude.{◌≡◌, ◌≤◌, ◌&&◌, nat_lt, length, map, slice_index};
 ghost use Rattle.std.specs.List.{list_all};
 ghost use Rattle.chip_ledger.specs.Greatest.{greatest as greatest_said};
@@ -31,7 +31,7 @@ pub fn is_whole(entries: &[Entry]) -> bool
         && (!has_key(entries, GameKey::Stack) || is_for_all(entries, GameKey::Stack))
 }
 
-// Whether each key stands that every game file has.
+// Whether each key that every game file needs is there.
 fn has_needed(entries: &[Entry]) -> bool
     ensures { result ≡ list_all (λ key. has_key_said key (map entry_said entries.now)) needed }
 {
@@ -48,7 +48,7 @@ fn has_needed(entries: &[Entry]) -> bool
         && has_key(entries, GameKey::End)
 }
 
-/// The line that a fault of the whole names.
+/// The line that a fault of the whole file names.
 pub fn end_line(entries: &[Entry], count: u64) -> u64
     ensures { result ≡ end_line_said count (map entry_said entries.now) }
 {
@@ -58,7 +58,7 @@ pub fn end_line(entries: &[Entry], count: u64) -> u64
     }
 }
 
-/// The first key that shows that the game is not played.
+/// The first key that shows that handref does not support the game, if any.
 #[tactic(auto, unfolding(crate::specs::GameFile::first_unsupported))]
 pub fn first_unsupported(entries: &[Entry], stacks: &[u64]) -> Option<GameKey>
     requires { stacks.now ≡ stacks_at (map entry_said entries.now) }
@@ -77,7 +77,7 @@ pub fn first_unsupported(entries: &[Entry], stacks: &[u64]) -> Option<GameKey>
     other_blinds(entries)
 }
 
-// The first number of players, rounds or cards that is not played.
+// The first number of players, rounds or cards that handref does not support.
 fn other_cards(entries: &[Entry]) -> Option<GameKey>
     ensures { result ≡ first_where (other_cards_said (map entry_said entries.now)) }
 {
@@ -103,7 +103,7 @@ fn other_cards(entries: &[Entry]) -> Option<GameKey>
     None
 }
 
-// The first blinds, first player or sizes that are not played.
+// The first blinds, first player or raise sizes that handref does not support.
 fn other_blinds(entries: &[Entry]) -> Option<GameKey>
     ensures { result ≡ first_where (other_blinds_said (map entry_said entries.now)) }
 {
@@ -132,7 +132,7 @@ fn other_blinds(entries: &[Entry]) -> Option<GameKey>
     None
 }
 
-/// Whether the game has no limit.
+/// Whether the game is no-limit.
 pub fn has_no_limit(entries: &[Entry]) -> bool
     ensures { result ≡ has_no_limit_said (map entry_said entries.now) }
 {
@@ -160,7 +160,7 @@ pub fn has_short_stack(stacks: &[u64], blinds: &[u64]) -> bool
     }
 }
 
-// Whether there are two players, and the second blind is above the first.
+// Whether there are two players, and the second blind is greater than the first.
 fn is_reversed(blinds: &[u64]) -> bool
     ensures { result ≡ is_reversed_said blinds.now }
 {
@@ -182,7 +182,7 @@ fn are_four(numbers: &[u64], four: [u64; 4]) -> bool
     }
 }
 
-/// The seat that opens the first round.
+/// The seat that acts first in the first round.
 pub fn opener_of(blinds: &[u64]) -> u64
     ensures { result ≡ first_player blinds.now }
 {
@@ -197,7 +197,7 @@ pub fn opener_of(blinds: &[u64]) -> u64
     }
 }
 
-// The last place of a number, from 1, or 0.
+// The last place (from 1) of a number, or 0.
 fn last_place(number: u64, numbers: &[u64]) -> usize
     ensures place { result ≡ last_place_said number numbers.now }
     ensures within { result ≤ length numbers.now }
@@ -230,7 +230,7 @@ pub fn greatest(numbers: &[u64]) -> u64
     }
 }
 
-// Whether the sizes of raises are two equal ones and two equal ones, each at least 1.
+// Whether the raise sizes are two equal ones and two more equal ones, each at least 1.
 fn are_sizes(sizes: &[u64]) -> bool
     ensures { result ≡ are_sizes_said sizes.now }
 {
@@ -240,7 +240,7 @@ fn are_sizes(sizes: &[u64]) -> bool
     }
 }
 
-// Whether the greatest blind is above 0 and below the first size of a raise.
+// Whether the greatest blind is above 0 and below the first raise size.
 fn is_small_blind_of(most: u64, sizes: &[u64]) -> bool
     ensures { result ≡ nat_lt 0 most && nat_lt most (slice_index sizes.now 0) }
 {

@@ -1,4 +1,4 @@
-//! A game is written in its one spelling.
+//! Writes a game as a game file; a game has one spelling.
 ghost use Rattle.std.specs.Prelude.{◌≡◌, ◌++◌, IfOk, OnOk};
 ghost use Rattle.acpc_game.specs.GameText.{caps_text, chips_text, counts_text, first_text, game_text, key_line, kind_text, rows_text, sizes_text, turns_text};
 ghost use Rattle.acpc_game.specs.GameView.{game_in};
@@ -28,7 +28,7 @@ pub fn write_game(alloc: Global, game: &Game) -> Result<Vec<u8>, Memory>
     Ok(out)
 }
 
-// Whether there is a limit, the players, the rounds, the stacks and the blinds.
+// The lines from the limit to the blinds.
 #[tactic(auto, unfolding(crate::specs::GameText::chips_text))]
 fn push_chips(alloc: Global, out: &mut Vec<u8>, game: &Game) -> Result<(), Memory>
     ensures { OnOk result (out.new.items ≡ out.old.items ++ chips_text (game_in game.now)) }
@@ -39,7 +39,7 @@ fn push_chips(alloc: Global, out: &mut Vec<u8>, game: &Game) -> Result<(), Memor
     push_rows(alloc, out, stacks, amounts_of(&game.blinds))
 }
 
-// Whether there is a limit.
+// The line that says whether the game has a limit.
 #[tactic(auto, unfolding(crate::specs::GameText::kind_text))]
 fn push_kind(out: &mut Vec<u8>, no_limit: bool) -> Result<(), Memory>
     ensures { OnOk result (out.new.items ≡ out.old.items ++ kind_text no_limit) }
@@ -52,7 +52,7 @@ fn push_kind(out: &mut Vec<u8>, no_limit: bool) -> Result<(), Memory>
     Ok(())
 }
 
-// The players and the rounds.
+// The lines with the numbers of players and of rounds.
 #[tactic(auto, unfolding(crate::specs::GameText::counts_text))]
 fn push_counts(alloc: Global, out: &mut Vec<u8>, players: u64) -> Result<(), Memory>
     ensures { OnOk result (out.new.items ≡ out.old.items ++ counts_text players) }
@@ -61,21 +61,16 @@ fn push_counts(alloc: Global, out: &mut Vec<u8>, players: u64) -> Result<(), Mem
     push_line(alloc, out, "numRounds", &[4])
 }
 
-// The stacks and the blinds.
+// The lines with the stacks and the blinds.
 #[tactic(auto, unfolding(crate::specs::GameText::rows_text))]
-fn push_rows(
-    alloc: Global,
-    out: &mut Vec<u8>,
-    stacks: &[u64],
-    blinds: &[u64],
-) -> Result<(), Memory>
+fn push_rows(alloc: Global, out: &mut Vec<u8>, stacks: &[u64], blinds: &[u64]) -> Result<(), Memory>
     ensures { OnOk result (out.new.items ≡ out.old.items ++ rows_text stacks.now blinds.now) }
 {
     push_line(alloc, out, "stack", stacks)?;
     push_line(alloc, out, "blind", blinds)
 }
 
-// The sizes of raises of a limit game.
+// The line with the raise sizes of a limit game.
 #[tactic(auto, unfolding(crate::specs::GameText::sizes_text))]
 fn push_sizes(alloc: Global, out: &mut Vec<u8>, game: &Game) -> Result<(), Memory>
     ensures { OnOk result (out.new.items ≡ out.old.items ++ sizes_text (game_in game.now)) }
@@ -92,7 +87,7 @@ fn push_sizes(alloc: Global, out: &mut Vec<u8>, game: &Game) -> Result<(), Memor
     push_line(alloc, out, "raiseSize", &sizes)
 }
 
-// The first seats of the rounds, and the most raises of each.
+// The lines with the first seats of the rounds and the caps.
 #[tactic(auto, unfolding(crate::specs::GameText::turns_text))]
 fn push_turns(alloc: Global, out: &mut Vec<u8>, game: &Game) -> Result<(), Memory>
     ensures { OnOk result (out.new.items ≡ out.old.items ++ turns_text (game_in game.now)) }
@@ -101,7 +96,7 @@ fn push_turns(alloc: Global, out: &mut Vec<u8>, game: &Game) -> Result<(), Memor
     push_caps(alloc, out, game.caps)
 }
 
-// The first seats of the rounds.
+// The line with the seat that acts first in each round.
 #[tactic(auto, unfolding(crate::specs::GameText::first_text))]
 fn push_first(alloc: Global, out: &mut Vec<u8>, blinds: &[u64]) -> Result<(), Memory>
     ensures { OnOk result (out.new.items ≡ out.old.items ++ first_text blinds.now) }
@@ -116,7 +111,7 @@ fn amounts_of(row: &SeatRow) -> &[u64]
     &row.amounts[..row.seats as usize]
 }
 
-// The most raises of each round, if there is a most.
+// The line with the most raises of each round, if they are capped.
 #[tactic(auto, unfolding(crate::specs::GameText::caps_text))]
 fn push_caps(alloc: Global, out: &mut Vec<u8>, caps: Option<[u32; 4]>) -> Result<(), Memory>
     ensures { OnOk result (out.new.items ≡ out.old.items ++ caps_text caps) }
@@ -130,8 +125,8 @@ fn push_caps(alloc: Global, out: &mut Vec<u8>, caps: Option<[u32; 4]>) -> Result
     }
 }
 
-// The caps as wider numbers.
-#[tactic(auto, using(list_laws::proofs::Entries::four_entries))]
+// The caps as 64-bit numbers.
+#[tactic(auto, using(card_set::proofs::Entries::four_entries))]
 fn wide_caps(caps: [u32; 4]) -> [u64; 4]
     ensures { result ≡ caps }
 {
@@ -145,12 +140,7 @@ fn wide_caps(caps: [u32; 4]) -> [u64; 4]
 
 // A key, `=`, and numbers.
 #[tactic(auto, unfolding(crate::specs::GameText::key_line))]
-fn push_line(
-    alloc: Global,
-    out: &mut Vec<u8>,
-    word: &str,
-    numbers: &[u64],
-) -> Result<(), Memory>
+fn push_line(alloc: Global, out: &mut Vec<u8>, word: &str, numbers: &[u64]) -> Result<(), Memory>
     ensures { OnOk result (out.new.items ≡ out.old.items ++ key_line word.now numbers.now) }
 {
     out.extend_from_slice(word.as_bytes())?;
@@ -160,7 +150,7 @@ fn push_line(
     Ok(())
 }
 
-// Numbers, with a space in front of each.
+// Numbers, each after a space.
 fn push_numbers(alloc: Global, out: &mut Vec<u8>, numbers: &[u64]) -> Result<(), Memory>
     ensures { OnOk result (out.new.items ≡ out.old.items ++ spaced numbers.now) }
 {

@@ -1,20 +1,20 @@
--- The moves and the rounds of the betting that is read are counted, and are no more than they may be.
+-- The moves and rounds of the betting that is read are counted, and are within their limits.
 use Rattle.std.proofs.Common.{◌≡◌, ℕ, ◌+◌, ◌≤◌, Bool, true, false, not, cond, nat_le, nat_lt, eqb, List, [], ◌∷◌, length, count_by, IfOk, refl, arith}
 use Rattle.std.proofs.lemmas.Bool.Decides.{nat_tests}
-use Rattle.list_laws.proofs.Counting.{count_by-push}
+use Rattle.card_set.proofs.Counting.{count_by-push}
 use Rattle.chip_ledger.specs.declared.numbers.TheConstants.{MOST_CHIPS}
-use Rattle.canon_script.specs.declared.limits.TheConstants.{MOST_MOVES}
+use Rattle.play_event.specs.declared.hand_limits.TheConstants.{MOST_MOVES}
 use Rattle.first_fault.specs.declared.limits.TheConstants.{MOST_FILE_MOVES}
 use Rattle.first_fault.specs.declared.limits.Quantity.TheVariants as quantities
 use Rattle.first_fault.specs.Digits.{number_of}
-use Rattle.acpc_text.specs.declared.fault.LineFaultKind.TheVariants as whats
-use Rattle.acpc_text.specs.Faults.{wrong}
-use Rattle.acpc_text.specs.Letters.{Letter, scan}
+use Rattle.acpc_game.specs.declared.fault.LineFaultKind.TheVariants as whats
+use Rattle.acpc_game.specs.Faults.{wrong}
+use Rattle.acpc_game.specs.Letters.{Letter, scan}
 use Rattle.acpc_reading.specs.declared.step.BettingStep.{BettingStep}
 use Rattle.acpc_reading.specs.declared.step.BettingStep.TheVariants as steps
 use Rattle.acpc_reading.specs.Betting.{Bets, no_bets, with_move, bare_said, raise_said, stroke_said, letter_said, bets_after, betting_said}
 use Rattle.acpc_reading.proofs.Checked.{after}
-use Rattle.list_laws.proofs.Results.{ok_either, ok_where_some}
+use Rattle.card_set.proofs.Results.{ok_either, ok_where_some}
 
 -- a step is a move
 abbrev pub is_letter : BettingStep → Bool
@@ -28,7 +28,7 @@ is_letter steps.NextRound = false
 abbrev pub is_stroke : BettingStep → Bool
 is_stroke step = not (is_letter step)
 
--- the betting is counted, where the file had so many moves before the hand
+-- the moves of the hand and the file are counted; the file had `earlier` moves before the hand
 pub record AreCounted (earlier : ℕ) (bets : Bets) : Type 0 where
   pub moves : count_by is_letter bets.steps ≡ bets.moves
   pub rounds : count_by is_stroke bets.steps + 1 ≡ bets.round

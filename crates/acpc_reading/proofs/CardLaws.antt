@@ -13,7 +13,7 @@ use Rattle.card_set.proofs.Spelled.{slots_spelled-spelling, spelling-slots_spell
 use Rattle.acpc_reading.specs.Cards.{only_known, known_said}
 use Rattle.card_set.proofs.RowLaws.{row_length}
 
--- letters that spell slots say them, if they are so many and known
+-- letters that write slots say them, if there are `count` of them and all are known
 pub known_read : (count : ℕ) (word : List ℕ) (cards : List Slot) → word ≡ spelling cards → known_said count word ≡ only_known count cards
 unfolding known_said
 known_read count word cards is = ap (option_and_then (only_known count)) (ap slots_spelled is ∙ slots_spelled-spelling cards)
@@ -47,7 +47,7 @@ other_len count word row is other = known_read count word (slots_of row) is ∙ 
 pub some_unknown : (count : ℕ) (word : List ℕ) (row : SlotRow) → word ≡ spelling (slots_of row) → not (list_any is_unknown (slots_of row)) ≡ false → known_said count word ≡ None
 some_unknown count word row is some = known_read count word (slots_of row) is ∙ without (eqb (length (slots_of row)) count) (slots_of row) (not (list_any is_unknown (slots_of row))) some
 
--- the letters of a row of so many known slots
+-- the letters of a row of `count` known slots
 pub all_known : (count : ℕ) (word : List ℕ) (row : SlotRow) → word ≡ spelling (slots_of row) → row.len ≡ count → not (list_any is_unknown (slots_of row)) ≡ true → known_said count word ≡ Some (slots_of row)
 all_known count word row is same all =
     let long : eqb (length (slots_of row)) count ≡ true = grind (arith, nat_tests, row_length row, same) in

@@ -1,12 +1,12 @@
--- Hole cards and steps that are read one after the other, as a loop does.
+-- Hole cards and steps read one after another, as a loop does.
 use Rattle.std.proofs.Common.{◌≡◌, ℕ, ◌+◌, eqb, false, List, [], ◌∷◌, length, Result, Ok, refl, sym, ap, ◌∙◌, arith}
 use Rattle.std.proofs.lemmas.Bool.Decides.{nat_tests}
 use Rattle.std.proofs.lemmas.List.Splits.{length-slice_split}
 use Rattle.play_event.specs.Said.{Numbered}
-use Rattle.first_fault.specs.declared.stop.Stop.{Stop}
+use Rattle.first_fault.specs.declared.stop.ReadError.{ReadError}
 use Rattle.first_fault.specs.Reading.{Fails}
-use Rattle.acpc_text.specs.declared.fault.LineFault.{LineFault}
-use Rattle.acpc_text.specs.Parts.{parts_of}
+use Rattle.acpc_game.specs.declared.fault.LineFault.{LineFault}
+use Rattle.acpc_game.specs.Parts.{parts_of}
 use Rattle.acpc_game.proofs.Steps.{fails_first, fails_at}
 use Rattle.acpc_reading.specs.declared.step.BettingStep.{BettingStep}
 use Rattle.acpc_reading.specs.Cards.{Written, bad_cards, hole_after, holes_after, step_after, steps_after, without_rest}
@@ -21,7 +21,7 @@ module _ (at : ℕ) (events : List Numbered) (seat : ℕ) (all : List (List ℕ)
       sym one ∙ so_far
 
   -- hole cards were refused
-  pub hole_fails : (stop : Stop LineFault) (part : List ℕ) (parts : List (List ℕ)) → all ≡ part ∷ parts → Fails stop (hole_after at events seat part)
+  pub hole_fails : (stop : ReadError LineFault) (part : List ℕ) (parts : List (List ℕ)) → all ≡ part ∷ parts → Fails stop (hole_after at events seat part)
       → holes_after at events seat all ≡ whole → Fails stop whole
   unfolding holes_after
   hole_fails stop part parts cut fails so_far =
@@ -43,7 +43,7 @@ module _ (at : ℕ) (so_far : Written) (all : List BettingStep) (whole : Result 
       sym one ∙ before
 
   -- a step was refused
-  pub step_fails : (stop : Stop LineFault) (step : BettingStep) (steps : List BettingStep) → all ≡ step ∷ steps → Fails stop (step_after at so_far step)
+  pub step_fails : (stop : ReadError LineFault) (step : BettingStep) (steps : List BettingStep) → all ≡ step ∷ steps → Fails stop (step_after at so_far step)
       → steps_after at so_far all ≡ whole → Fails stop whole
   unfolding steps_after
   step_fails stop step steps cut fails before =
@@ -55,7 +55,7 @@ module _ (at : ℕ) (so_far : Written) (all : List BettingStep) (whole : Result 
   unfolding steps_after
   steps_done none before = sym before ∙ ap (steps_after at so_far) none
 
--- cards that are left behind the last step
+-- cards that are left after the last step
 pub some_left : (at : ℕ) (events : List Numbered) (number size : ℕ) (text : List ℕ) → without_rest at (record { events = events; number = number; size = size; boards = parts_of 47 text }) ≡ bad_cards at
 some_left at events number size text =
     let some : eqb (length (parts_of 47 text)) 0 ≡ false = grind (arith, nat_tests, length-slice_split (λ b. eqb b 47) text) in

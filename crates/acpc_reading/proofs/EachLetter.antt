@@ -1,15 +1,15 @@
--- Letters that are read one after the other, as a loop does.
+-- Letters read one after another, as a loop does.
 use Rattle.std.proofs.Common.{◌≡◌, ℕ, ◌+◌, Bool, List, [], ◌∷◌, length, Result, Ok, refl, sym, ap, ◌∙◌}
-use Rattle.first_fault.specs.declared.stop.Stop.{Stop}
+use Rattle.first_fault.specs.declared.stop.ReadError.{ReadError}
 use Rattle.first_fault.specs.Reading.{◌>>=◌, Fails}
-use Rattle.acpc_text.specs.declared.fault.LineFault.{LineFault}
-use Rattle.acpc_text.specs.Letters.{Letter, scan}
-use Rattle.acpc_text.proofs.Scan.{letter_at}
+use Rattle.acpc_game.specs.declared.fault.LineFault.{LineFault}
+use Rattle.acpc_game.specs.Letters.{Letter, scan}
+use Rattle.acpc_game.proofs.Scan.{letter_at}
 use Rattle.acpc_game.proofs.Steps.{fails_first, fails_at}
 use Rattle.acpc_reading.specs.Betting.{Bets, betting_said, letter_said, bets_after, no_bets}
 
 module _ (no_limit : Bool) where
-  -- the letter at the front, and those behind it
+  -- the letter at the front, and those after it
   front_letter : (bets : Bets) (at letter : ℕ) (all text digits after : List ℕ) → all ≡ letter ∷ text → (scan text).0 ≡ digits → (scan text).1 ≡ (scan after).1 → (scan all).0 ≡ []
       → bets_after no_limit bets at (scan all).1 ≡ (letter_said no_limit bets at (letter, digits) >>= λ more. bets_after no_limit more (at + 1 + length digits) (scan after).1)
   unfolding bets_after
@@ -28,7 +28,7 @@ module _ (no_limit : Bool) where
   goes_on bets more at letter all text digits after total whole digits_are rest_are begins is so_far =
       sym (front_letter bets at letter all text digits after whole digits_are rest_are begins ∙ ap (λ read. read >>= λ more. bets_after no_limit more (at + 1 + length digits) (scan after).1) is) ∙ so_far
 
-  pub ends : (stop : Stop LineFault) (bets : Bets) (at letter : ℕ) (all text digits after : List ℕ) (total : Result Bets LineFault)
+  pub ends : (stop : ReadError LineFault) (bets : Bets) (at letter : ℕ) (all text digits after : List ℕ) (total : Result Bets LineFault)
       → all ≡ letter ∷ text → (scan text).0 ≡ digits → (scan text).1 ≡ (scan after).1 → (scan all).0 ≡ [] → Fails stop (letter_said no_limit bets at (letter, digits))
       → bets_after no_limit bets at (scan all).1 ≡ total → Fails stop total
   ends stop bets at letter all text digits after total whole digits_are rest_are begins is so_far =

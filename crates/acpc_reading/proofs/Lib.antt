@@ -1,4 +1,4 @@
--- Laws of letters, cards, numbers and names, and of reading them one after the other.
+-- Laws of letters, cards, numbers and names, and of reading them one after another.
 pub mod EachLetter
 pub mod CardLaws
 pub mod NumberLaws

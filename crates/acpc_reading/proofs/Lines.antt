@@ -1,8 +1,8 @@
--- Lines of hands that are read one after the other, as a loop does.
+-- Lines of hands read one after another, as a loop does.
 use Rattle.std.proofs.Common.{◌≡◌, ℕ, ◌+◌, List, [], ◌∷◌, Result, Ok, refl, sym, ap, ◌∙◌}
-use Rattle.first_fault.specs.declared.stop.Stop.{Stop}
+use Rattle.first_fault.specs.declared.stop.ReadError.{ReadError}
 use Rattle.first_fault.specs.Reading.{Fails}
-use Rattle.acpc_text.specs.declared.fault.AcpcFault.{AcpcFault}
+use Rattle.acpc_game.specs.declared.fault.AcpcFault.{AcpcFault}
 use Rattle.acpc_game.specs.declared.game.Game.{Game}
 use Rattle.acpc_game.proofs.Steps.{fails_first, fails_at}
 use Rattle.acpc_reading.specs.Logs.{Hands, hands_after, hands_after_line}
@@ -17,7 +17,7 @@ module _ (game : Game) (hands : Hands) (line : ℕ) (all : List (List ℕ)) (who
       sym one ∙ so_far
 
   -- a line was refused
-  pub line_fails : (stop : Stop AcpcFault) (text : List ℕ) (texts : List (List ℕ)) → all ≡ text ∷ texts → Fails stop (hands_after_line game hands line text)
+  pub line_fails : (stop : ReadError AcpcFault) (text : List ℕ) (texts : List (List ℕ)) → all ≡ text ∷ texts → Fails stop (hands_after_line game hands line text)
       → hands_after game hands line all ≡ whole → Fails stop whole
   unfolding hands_after
   line_fails stop text texts cut fails so_far =

@@ -1,8 +1,8 @@
 -- A record with the setup of a game, a script within the limits, values and allowed names is sound; records are counted.
 use Rattle.std.proofs.Common.{◌≡◌, ℕ, ◌+◌, ◌-◌, ◌<◌, ◌≤◌, List, [], ◌∷◌, ◌++◌, length, Some, None, IfSome, slice_index_or, ap, sym, subst, arith, length-append}
 use Rattle.std.proofs.lemmas.List.Sums.{sum_by_push}
-use Rattle.list_laws.proofs.Entries.{all_push}
-use Rattle.canon_script.specs.PlayedScript.{IsWithinLimits}
+use Rattle.card_set.proofs.Entries.{all_push}
+use Rattle.play_event.specs.PlayedScript.{IsWithinLimits}
 use Rattle.first_fault.specs.declared.limits.TheConstants.{MOST_FILE_MOVES, MOST_HANDS}
 use Rattle.hand_records.specs.declared.notes.Notes.{Notes}
 use Rattle.hand_records.specs.declared.record.Record.{Record}
@@ -14,7 +14,7 @@ use Rattle.acpc_reading.specs.RecordView.{AreOfGame, IsOfGame, IsSetupOf, NotesN
 use Rattle.acpc_reading.proofs.MatchSetups.{setup_valid}
 use Rattle.hand_records.specs.Moves.{moves_of}
 
--- names and a number that may be noted are allowed notes
+-- names and a number that are allowed as notes
 notes_allowed : (players : ℕ) (notes : Notes) → NotesNames notes
     → ((seat : ℕ) → 1 ≤ seat → seat ≤ players → IfSome (slice_index_or notes.names (seat - 1) None) (IsName seat))
     → ((index : ℕ) → players ≤ index → slice_index_or notes.names index None ≡ None)

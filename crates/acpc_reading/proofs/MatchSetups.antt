@@ -51,13 +51,13 @@ some_stack (stack ∷ stacks) (blind ∷ blinds) (suc count) zero few few_blinds
 some_stack (stack ∷ stacks) (blind ∷ blinds) (suc count) (suc k) few few_blinds none inside =
     some_stack stacks blinds count k (omega (arith, few)) (omega (arith, few_blinds)) (or_parts (eqb stack 0 || nat_lt stack blind) (has_short_stack (take count stacks) (take count blinds)) none).1 (omega (arith, inside))
 
--- of two blinds the second is not above the first
+-- of two blinds the second is not greater than the first
 in_order : (blinds : List ℕ) → 2 ≤ length blinds → is_reversed (take 2 blinds) ≡ false → get_or blinds 1 0 ≤ get_or blinds 0 0
 in_order [] some is = absurd (omega (arith, some))
 in_order (first ∷ []) some is = absurd (omega (arith, some))
 in_order (first ∷ second ∷ rest) some is = let other : nat_lt first second ≡ false = is in grind (arith, nat_tests, other)
 
--- the bet sizes of a game are those that it uses
+-- the bet sizes of a game are those that its setup uses
 record AreSized (no_limit : Bool) (blind small big : ℕ) : Type 0 where
   small_bet : IsSizeWhere (is_fixed (limit_of (code_of no_limit))) small
   big_bet : IsSizeWhere (is_fixed (limit_of (code_of no_limit))) big

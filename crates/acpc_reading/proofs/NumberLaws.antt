@@ -1,9 +1,9 @@
--- A number has one point at most.
+-- A number has at most one point.
 use Rattle.std.proofs.Common.{◌≡◌, ℕ, ◌<◌, Bool, eqb, List, [], ◌∷◌, length, refl, arith}
 use Rattle.std.proofs.lemmas.List.Splits.{length-slice_split}
-use Rattle.acpc_text.specs.declared.fault.LineFaultKind.TheVariants as whats
-use Rattle.acpc_text.specs.Faults.{wrong}
-use Rattle.acpc_text.specs.Parts.{parts_of}
+use Rattle.acpc_game.specs.declared.fault.LineFaultKind.TheVariants as whats
+use Rattle.acpc_game.specs.Faults.{wrong}
+use Rattle.acpc_game.specs.Parts.{parts_of}
 use Rattle.acpc_reading.specs.Values.{unsigned_said}
 
 more_parts : (is_negative : Bool) (at : ℕ) (digits zeros : List ℕ) (parts : List (List ℕ)) → 0 < length parts → unsigned_said is_negative at (digits ∷ zeros ∷ parts) ≡ wrong whats.BadValue at

@@ -1,8 +1,8 @@
--- Rows that are written entry by entry, as the parts of a field are read.
+-- Rows written entry by entry, as the parts of a field are read.
 use Rattle.std.proofs.Common.{◌≡◌, ℕ, ◌+◌, List, [], ◌∷◌, ◌++◌, length, Option, Result, Ok, ℤ, refl, sym, ap, ◌∙◌}
-use Rattle.first_fault.specs.declared.stop.Stop.{Stop}
+use Rattle.first_fault.specs.declared.stop.ReadError.{ReadError}
 use Rattle.first_fault.specs.Reading.{Fails}
-use Rattle.acpc_text.specs.declared.fault.LineFault.{LineFault}
+use Rattle.acpc_game.specs.declared.fault.LineFault.{LineFault}
 use Rattle.acpc_game.proofs.Steps.{fails_first, fails_at}
 use Rattle.acpc_reading.specs.Values.{value_said, values_after}
 use Rattle.acpc_reading.specs.Names.{name_said, names_after}
@@ -17,7 +17,7 @@ module _ (values : List ℤ) (at : ℕ) (all : List (List ℕ)) (whole : Result 
       sym one ∙ so_far
 
   -- a value was refused
-  pub value_fails : (stop : Stop LineFault) (part : List ℕ) (parts : List (List ℕ)) → all ≡ part ∷ parts → Fails stop (value_said at part)
+  pub value_fails : (stop : ReadError LineFault) (part : List ℕ) (parts : List (List ℕ)) → all ≡ part ∷ parts → Fails stop (value_said at part)
       → values_after values at all ≡ whole → Fails stop whole
   unfolding values_after
   value_fails stop part parts cut fails so_far =
@@ -39,7 +39,7 @@ module _ (names : List (Option (List ℕ))) (seat at : ℕ) (all : List (List �
       sym one ∙ so_far
 
   -- a name was refused
-  pub name_fails : (stop : Stop LineFault) (part : List ℕ) (parts : List (List ℕ)) → all ≡ part ∷ parts → Fails stop (name_said seat at part)
+  pub name_fails : (stop : ReadError LineFault) (part : List ℕ) (parts : List (List ℕ)) → all ≡ part ∷ parts → Fails stop (name_said seat at part)
       → names_after names seat at all ≡ whole → Fails stop whole
   unfolding names_after
   name_fails stop part parts cut fails so_far =

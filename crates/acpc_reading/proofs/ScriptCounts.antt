@@ -2,34 +2,34 @@
 use Rattle.std.proofs.Common.{◌≡◌, ℕ, ◌+◌, ◌≤◌, Bool, true, false, not, cond, eqb, List, [], ◌∷◌, ◌++◌, length, map, count_by, None, Ok, IfOk, refl, sym, ap, ◌∙◌, arith}
 use Rattle.std.proofs.lemmas.Bool.Decides.{nat_tests}
 use Rattle.std.proofs.lemmas.Result.{IfOk-at_ok}
-use Rattle.list_laws.proofs.Counting.{count_by-push, count_by-cons}
-use Rattle.list_laws.proofs.Options.{along}
-use Rattle.canon_script.specs.PlayedScript.{is_move, IsWithinLimits}
+use Rattle.card_set.proofs.Counting.{count_by-push, count_by-cons}
+use Rattle.card_set.proofs.Options.{along}
+use Rattle.play_event.specs.PlayedScript.{is_move, IsWithinLimits}
 use Rattle.first_fault.specs.declared.limits.TheConstants.{MOST_FILE_MOVES}
 use Rattle.play_event.specs.declared.event.Event.{Event}
 use Rattle.play_event.specs.declared.event.Spelled.TheVariants as spelled
 use Rattle.play_event.specs.Said as said
 use Rattle.play_event.specs.Said.{Said, Numbered, numbered, said_of}
-use Rattle.acpc_text.specs.declared.fault.LineFaultKind.TheVariants as whats
-use Rattle.acpc_text.specs.Faults.{wrong}
-use Rattle.acpc_text.specs.Parts.{parts_of}
+use Rattle.acpc_game.specs.declared.fault.LineFaultKind.TheVariants as whats
+use Rattle.acpc_game.specs.Faults.{wrong}
+use Rattle.acpc_game.specs.Parts.{parts_of}
 use Rattle.acpc_reading.specs.declared.step.BettingStep.{BettingStep}
 use Rattle.acpc_reading.specs.declared.step.BettingStep.TheVariants as steps
 use Rattle.acpc_reading.specs.Betting.{Bets, betting_said}
 use Rattle.acpc_reading.specs.Cards.{Written, bad_cards, board_said, dealt, hole_said, hole_after, holes_after, next_round, script_said, step_after, steps_after, steps_said, without_rest}
 use Rattle.acpc_reading.proofs.Checked.{after}
 use Rattle.acpc_reading.proofs.BettingCounts.{AreCounted, betting_counted, is_letter, is_stroke}
-use Rattle.list_laws.proofs.Results.{ok_either, ok_where_some}
+use Rattle.card_set.proofs.Results.{ok_either, ok_where_some}
 
--- how many moves events have
+-- the number of moves among events
 abbrev pub moves_in : List Numbered → ℕ
 moves_in events = count_by (λ event. is_move event.1) events
 
--- how many other events
+-- the number of other events
 abbrev pub others_in : List Numbered → ℕ
 others_in events = count_by (λ event. not (is_move event.1)) events
 
--- so many moves and other events come behind events
+-- this number of moves and other events follow some events
 pub record Adds (moves others : ℕ) (before after : List Numbered) : Type 0 where
   pub moves_are : moves_in after ≡ moves_in before + moves
   pub others_are : others_in after ≡ others_in before + others
@@ -106,7 +106,8 @@ all_steps at so_far all =
     after (steps_after at so_far all) (without_rest at) (AddsSteps all so_far) _ (steps_counted at so_far all)
     (λ written adds. ending at so_far.events (count_by is_letter all) (count_by is_stroke all) written adds)
 
--- a script of so many players has a move for each letter, and a deal for each seat and each further round
+-- a script has a move for each letter, and a deal for each of its `players` seats and each further
+-- round
 script_counted : (players : ℕ) (all : List BettingStep) (at : ℕ) (parts : List (List ℕ)) → IfOk (script_said players all at parts) (Adds (count_by is_letter all) (players + count_by is_stroke all) [])
 unfolding script_said
 script_counted players all at [] = tt

@@ -1,9 +1,9 @@
 -- A line with more than six fields.
 use Rattle.std.proofs.Common.{◌≡◌, ℕ, ◌+◌, ◌-◌, ◌<◌, eqb, List, [], ◌∷◌, length, refl, ap, ◌∙◌, arith}
 use Rattle.std.proofs.lemmas.List.Splits.{length-slice_split}
-use Rattle.acpc_text.specs.declared.fault.LineFaultKind.TheVariants as whats
-use Rattle.acpc_text.specs.Faults.{wrong}
-use Rattle.acpc_text.specs.Parts.{parts_of}
+use Rattle.acpc_game.specs.declared.fault.LineFaultKind.TheVariants as whats
+use Rattle.acpc_game.specs.Faults.{wrong}
+use Rattle.acpc_game.specs.Parts.{parts_of}
 use Rattle.acpc_reading.specs.Logs.{FieldsSaid, behind, six_fields}
 
 -- six fields and a seventh

@@ -1,4 +1,4 @@
--- An empty name, and that which a seat has by its number, read as none.
+-- An empty name, and the default name of a seat, read as no name.
 use Rattle.std.proofs.Common.{◌≡◌, ℕ, suc, zero, ◌≤◌, ◌<◌, ◌^◌, Bool, true, false, ◌||◌, ◌==◌, nat_lt, cond, decimal, List, [], ◌∷◌, length, Some, None, Ok, refl, ap, ◌∙◌, arith, bytes_eq, subst, sym}
 use Rattle.std.specs.Str.{is_utf8}
 use Rattle.std.specs.Str.Parse.{AllDigits}
@@ -8,7 +8,7 @@ use Rattle.std.proofs.lemmas.Slice.Eq.{bytes_eq-Decides}
 use Rattle.std.proofs.lemmas.Str.{is_utf8-from_IsUtf8, IsUtf8-from_ascii}
 use Rattle.first_fault.specs.declared.limits.TheConstants.{MOST_TEXT_BYTES}
 use Rattle.acpc_reading.specs.Names.{name_said}
-use Rattle.list_laws.proofs.Bytes.{same_bytes}
+use Rattle.card_set.proofs.Bytes.{same_bytes}
 use Rattle.chip_ledger.specs.SeatsSaid.{default_name}
 
 -- no bytes read as no name
@@ -18,7 +18,7 @@ empty_again seat at =
     let utf8 : is_utf8 [] ≡ true = is_utf8-from_IsUtf8 [] (IsUtf8-from_ascii [] (λ i. omega arith)) in
     rw utf8 refl
 
--- the default name of a seat reads as none
+-- the default name of a seat reads as no name
 pub default_again : (seat at : ℕ) → seat ≤ 10 → name_said seat at (default_name seat) ≡ Ok None
 unfolding name_said
 default_again seat at few =
@@ -36,7 +36,7 @@ default_again seat at few =
     ascii all zero = omega arith
     ascii all (suc i) = IsAscii-from_digits (decimal seat) all i
 
--- a name that is empty, or that which the seat has by its number, reads as none
+-- an empty name, and the default name of the seat, read as no name
 pub usual_again : (seat at : ℕ) (name : List ℕ) → seat ≤ 10 → (length name == 0 || bytes_eq name (default_name seat)) ≡ true → name_said seat at name ≡ Ok None
 usual_again seat at [] few usual = empty_again seat at
 usual_again seat at (sign ∷ name) few usual =

@@ -2,27 +2,27 @@
 use Rattle.std.specs.Prelude.{ℕ, ◌+◌, ◌==◌, Bool, nat_lt, nat_le, if◌then◌else◌, List, [], ◌∷◌, ◌++◌, length, Result, Ok}
 use Rattle.std.specs.Option.{option_map_or}
 use Rattle.chip_ledger.specs.declared.numbers.TheConstants.{MOST_CHIPS}
-use Rattle.canon_script.specs.declared.limits.TheConstants.{MOST_MOVES}
+use Rattle.play_event.specs.declared.hand_limits.TheConstants.{MOST_MOVES}
 use Rattle.first_fault.specs.declared.limits.TheConstants.{MOST_FILE_MOVES}
 use Rattle.first_fault.specs.declared.limits.Quantity.TheVariants as quantities
 use Rattle.first_fault.specs.Reading.{◌>>=◌}
 use Rattle.first_fault.specs.Digits.{number_of}
-use Rattle.acpc_text.specs.declared.fault.LineFault.{LineFault}
-use Rattle.acpc_text.specs.declared.fault.LineFaultKind.TheVariants as whats
-use Rattle.acpc_text.specs.Faults.{wrong}
-use Rattle.acpc_text.specs.Letters.{Letter, scan}
+use Rattle.acpc_game.specs.declared.fault.LineFault.{LineFault}
+use Rattle.acpc_game.specs.declared.fault.LineFaultKind.TheVariants as whats
+use Rattle.acpc_game.specs.Faults.{wrong}
+use Rattle.acpc_game.specs.Letters.{Letter, scan}
 use Rattle.acpc_reading.specs.declared.step.BettingStep.{BettingStep}
 use Rattle.acpc_reading.specs.declared.step.BettingStep.TheVariants as steps
 
--- the betting so far: its steps, the round that the next letter is of, and how many moves the hand
--- and the file have
+-- the betting so far: its steps, the round that the next letter belongs to (from 1), and the
+-- numbers of moves of the hand and of the file
 pub record Bets : Type 0 where
   pub steps : List BettingStep
   pub round : ℕ
   pub moves : ℕ
   pub file_moves : ℕ
 
--- no betting yet, in a file that has so many moves
+-- no betting yet, in a file that has this number of moves so far
 abbrev pub no_bets : ℕ → Bets
 no_bets file_moves = record { steps = []; round = 1; moves = 0; file_moves = file_moves }
 
@@ -40,7 +40,7 @@ with_move bets at step =
       file_moves = bets.file_moves + 1;
     })
 
--- a letter that has no digits behind it
+-- a letter that no digits follow
 unfoldable pub bare_said : Bets → ℕ → List ℕ → BettingStep → Result Bets LineFault
 bare_said bets at digits step =
     if length digits == 0 then with_move bets at step else wrong whats.BadBetting (at + 1)
@@ -52,7 +52,7 @@ raise_said bets at digits =
     else option_map_or (λ total. with_move bets at (steps.RaiseTo total))
     (number_of MOST_CHIPS digits) (wrong whats.AmountLimit (at + 1))
 
--- a stroke, which begins the next of at most four rounds
+-- a stroke (/), which begins the next of at most four rounds
 unfoldable pub stroke_said : Bets → ℕ → List ℕ → Result Bets LineFault
 stroke_said bets at digits =
     if nat_le 4 bets.round then wrong whats.BadBetting at
@@ -66,7 +66,7 @@ stroke_said bets at digits =
     })
     else wrong whats.BadBetting (at + 1)
 
--- a letter and its digits, at this byte: f, c, r or a stroke; a raise of no limit has digits
+-- a letter and its digits, at this byte: f, c, r or a stroke; in a no-limit game digits follow r
 unfoldable pub letter_said : Bool → Bets → ℕ → Letter → Result Bets LineFault
 letter_said no_limit bets at (letter, digits) =
     if letter == 102 then bare_said bets at digits steps.Fold
@@ -76,7 +76,7 @@ letter_said no_limit bets at (letter, digits) =
     else if letter == 47 then stroke_said bets at digits
     else wrong whats.BadBetting at
 
--- the betting after more letters, the first of which stands at this byte
+-- the betting after more letters, the first of which is at this byte
 unfoldable pub bets_after : Bool → Bets → ℕ → List Letter → Result Bets LineFault
 bets_after no_limit bets at [] = Ok bets
 bets_after no_limit bets at (letter ∷ letters) =

@@ -14,7 +14,7 @@ fields_in fields = record {
   names = fields.names.now;
 }
 
--- the fields are short enough for their places to be counted
+-- the fields are short enough that their byte positions can be counted
 abbrev pub HasRoom : FieldsSaid → Type 0
 HasRoom fields =
     length fields.state + length fields.hand + length fields.betting + length fields.cards

@@ -1,14 +1,14 @@
--- What a log says of hands, line by line.
+-- The hands that a log says, line by line.
 use Rattle.std.specs.Prelude.{ℕ, ◌+◌, ◌==◌, ◌||◌, Bool, nat_le, if◌then◌else◌, List, [], ◌∷◌, ◌++◌, length, slice_index, codes, ℤ, Option, Result, Ok}
 use Rattle.play_event.specs.Said.{Numbered}
 use Rattle.first_fault.specs.declared.limits.TheConstants.{MOST_HANDS}
 use Rattle.first_fault.specs.declared.limits.Quantity.TheVariants as quantities
 use Rattle.first_fault.specs.Reading.{◌>>=◌}
-use Rattle.acpc_text.specs.declared.fault.AcpcFault.{AcpcFault}
-use Rattle.acpc_text.specs.declared.fault.LineFault.{LineFault}
-use Rattle.acpc_text.specs.declared.fault.LineFaultKind.TheVariants as whats
-use Rattle.acpc_text.specs.Faults.{wrong, in_line}
-use Rattle.acpc_text.specs.Parts.{parts_of, lines_of, has_front}
+use Rattle.acpc_game.specs.declared.fault.AcpcFault.{AcpcFault}
+use Rattle.acpc_game.specs.declared.fault.LineFault.{LineFault}
+use Rattle.acpc_game.specs.declared.fault.LineFaultKind.TheVariants as whats
+use Rattle.acpc_game.specs.Faults.{wrong, in_line}
+use Rattle.acpc_game.specs.Parts.{parts_of, lines_of, has_front}
 use Rattle.acpc_game.specs.declared.game.Game.{Game}
 use Rattle.acpc_reading.specs.Betting.{betting_said}
 use Rattle.acpc_reading.specs.Cards.{script_said}
@@ -23,7 +23,7 @@ pub record HandSaid : Type 0 where
   pub names : List (Option (List ℕ))
   pub hand : Option (List ℕ)
 
--- the byte that follows a field and its colon
+-- the byte after a field and its colon
 abbrev pub behind : ℕ → List ℕ → ℕ
 behind at field = at + length field + 1
 
@@ -37,8 +37,8 @@ pub record FieldsSaid : Type 0 where
   pub values : List ℕ
   pub names : List ℕ
 
--- six fields of a line of so many bytes; where there are more, the sixth colon is wrong, where
--- there are less, the end
+-- the six fields of a line of `len` bytes; if there are more, the sixth colon is at fault, and if
+-- there are fewer, the end of the line
 unfoldable pub six_fields : ℕ → List (List ℕ) → Result FieldsSaid LineFault
 six_fields len (state ∷ hand ∷ betting ∷ cards ∷ values ∷ names ∷ []) =
     Ok
@@ -54,8 +54,8 @@ six_fields len (a ∷ b ∷ c ∷ d ∷ e ∷ f ∷ more) =
     wrong whats.LineShape (behind (behind (behind (behind (behind 1 a) b) c) d) e + length f)
 six_fields len parts = wrong whats.LineShape (len + 1)
 
--- The hand of some fields, at a place of its file and behind so many moves of the file. With it
--- comes how many moves the file then has.
+-- The hand of some fields, at a place of its file and after `file_moves` moves of the file; and the
+-- number of moves of the file with this hand.
 unfoldable pub hand_of : Game → ℕ → ℕ → FieldsSaid → Result (HandSaid × ℕ) LineFault
 hand_of game place file_moves fields =
     let hand_at = behind 1 fields.state in
@@ -71,7 +71,7 @@ hand_of game place file_moves fields =
     >>= λ called.
     Ok (record { events = events; values = nets; names = called; hand = note }, bets.file_moves)
 
--- a line that is passed over: it is empty, or begins with # or SCORE:
+-- a line is ignored: it is empty, or begins with # or SCORE:
 abbrev pub is_passed_over : List ℕ → Bool
 is_passed_over line =
     length line == 0 || (slice_index line 0 == 35 || has_front (codes "SCORE:") line)
@@ -83,11 +83,11 @@ line_said game place file_moves line =
     then (six_fields (length line) (parts_of 58 line) >>= hand_of game place file_moves)
     else wrong whats.LineShape 1
 
--- the hands so far, and how many moves they have
+-- the hands so far, and their number of moves
 abbrev pub Hands : Type 0
 Hands = List HandSaid × ℕ
 
--- the hands with one that is found behind them, and how many moves they then have
+-- the hands followed by one more if that was read, and their number of moves
 abbrev pub with_hand : {Fault : Type 0} → List HandSaid → Result (HandSaid × ℕ) Fault
     → Result Hands Fault
 with_hand hands found = found >>= λ hand. Ok (hands ++ hand.0 ∷ [], hand.1)

@@ -6,13 +6,13 @@ use Rattle.first_fault.specs.declared.limits.TheConstants.{MOST_TEXT_BYTES}
 use Rattle.first_fault.specs.declared.limits.Quantity.TheVariants as quantities
 use Rattle.first_fault.specs.Reading.{◌>>=◌}
 use Rattle.first_fault.specs.Digits.{are_digits, number_of}
-use Rattle.acpc_text.specs.declared.fault.LineFault.{LineFault}
-use Rattle.acpc_text.specs.declared.fault.LineFaultKind.TheVariants as whats
-use Rattle.acpc_text.specs.Faults.{wrong}
-use Rattle.acpc_text.specs.Parts.{parts_of}
+use Rattle.acpc_game.specs.declared.fault.LineFault.{LineFault}
+use Rattle.acpc_game.specs.declared.fault.LineFaultKind.TheVariants as whats
+use Rattle.acpc_game.specs.Faults.{wrong}
+use Rattle.acpc_game.specs.Parts.{parts_of}
 use Rattle.chip_ledger.specs.SeatsSaid.{default_name}
 
--- a name as a note: the empty one, and p with the number of the seat, are none
+-- a name as a note; an empty name, and p with the number of the seat, count as no name
 abbrev pub name_note : ℕ → List ℕ → Option (List ℕ)
 name_note seat text =
     if length text == 0 || bytes_eq text (default_name seat) then None else Some text
@@ -45,16 +45,16 @@ names_said players at text =
 abbrev pub most_hand_digits : ℕ
 most_hand_digits = 18
 
--- the greatest number of a hand: it has so many digits
+-- the greatest number of a hand, which has 18 digits
 abbrev pub most_hand : ℕ
 most_hand = 999999999999999999
 
--- a number of a hand as a note, in decimal digits without leading zeros: its place in its file,
--- from 0, is none
+-- a hand's number as a note, in decimal digits without leading zeros; the place of the hand in its
+-- file (from 0) counts as no number
 abbrev pub hand_note : ℕ → ℕ → Option (List ℕ)
 hand_note place number = if number == place then None else Some (decimal number)
 
--- the number of the hand at a place of its file, which begins at this byte: one to 18 digits
+-- the hand's number, one to 18 digits from this byte on, of the hand at this place of its file
 unfoldable pub hand_said : ℕ → ℕ → List ℕ → Result (Option (List ℕ)) LineFault
 hand_said place at text =
     if are_digits text && nat_le (length text) most_hand_digits

@@ -1,4 +1,4 @@
--- Records as the definitions say them, and what each of them has of its game.
+-- Records as the definitions see them, and what each has from its game.
 use Rattle.std.specs.Prelude.{◌≡◌, ℕ, Bool, true, false, ◌≤◌, List, [], length, map, take, sum_by, None, is_some, if◌then◌else◌}
 use Rattle.std.specs.List.{AllByRecursion}
 use Rattle.std.specs.Option.{option_map_or}
@@ -21,7 +21,7 @@ use Rattle.acpc_reading.specs.Logs.{HandSaid}
 use Rattle.acpc_reading.specs.Views.{nets_in}
 use Rattle.hand_records.specs.Moves.{moves_of}
 
--- a record as a hand that is said
+-- a record as the hand that a line says
 abbrev pub record_said : Record → HandSaid
 record_said hand = record {
   events = map numbered hand.script;
@@ -30,17 +30,17 @@ record_said hand = record {
   hand = hand.notes.hand;
 }
 
--- the code of a game
+-- the variant code of a game
 abbrev pub code_of : Bool → Code
 code_of true = game_codes.NT
 code_of false = game_codes.FT
 
--- the least bet: in no limit the greatest blind, else none
+-- the least bet in chips: in no-limit the greatest blind; in limit there is none, 0
 abbrev pub least_bet : Game → ℕ
 least_bet game = if game.no_limit then greatest (amounts_in game.blinds) else 0
 
--- a setup is that of a game: its stacks and blinds, no antes and no rakes, the sizes of raises, and
--- the least bet
+-- a setup is that of a game: its stacks and blinds, no antes, no rake, its raise sizes and its
+-- least bet
 pub record IsSetupOf (game : Game) (setup : Setup) : Type 0 where
   pub code : setup.code ≡ code_of game.no_limit
   pub stacks : setup.stacks ≡ game.stacks
@@ -54,19 +54,19 @@ pub record IsSetupOf (game : Game) (setup : Setup) : Type 0 where
   pub min_bet : setup.min_bet ≡ least_bet game
   pub rakes : (pot : ℕ) → rake_of setup.rakes pot ≡ 0
 
--- the rules of a game: betting always reopens, no fold is free, and raises are as many as the caps
--- allow
+-- the rules of a game: a raise always reopens the betting, a fold where nothing is owed is not
+-- allowed, and raises are capped as the file says
 abbrev pub rules_of : Game → Rules
 rules_of game = record { reopen = reopen.Always; free_fold = false; caps = game.caps }
 
--- of the end of a hand the values are stated, and nothing else
+-- only the values are stated about the end of the hand
 pub record StatesValues (stated : Stated) : Type 0 where
   pub values : is_some stated.values ≡ true
   pub finish : stated.finish ≡ None
   pub wins : stated.wins ≡ None
   pub pot_total : stated.pot_total ≡ None
 
--- nothing is noted but the names of the players and the number of the hand
+-- the notes have only the names of the players and the number of the hand
 pub record NotesNames (notes : Notes) : Type 0 where
   pub seats : notes.seats ≡ None
   pub seat_count : notes.seat_count ≡ None
@@ -79,8 +79,8 @@ pub record NotesNames (notes : Notes) : Type 0 where
   pub time : notes.time ≡ None
   pub zone : notes.zone ≡ None
 
--- what is read of a hand is one of its game: it has the setup and the rules of the game, states and
--- notes what a line says and nothing else, and is sound
+-- a record is one of this game: it has the game's setup and rules, states and notes only what a
+-- line says, and is sound
 pub record IsOfGame (game : Game) (hand : Record) : Type 0 where
   pub setup : IsSetupOf game hand.setup
   pub rules : hand.rules ≡ rules_of game
@@ -88,7 +88,7 @@ pub record IsOfGame (game : Game) (hand : Record) : Type 0 where
   pub notes : NotesNames hand.notes
   pub sound : IsSoundRecord hand
 
--- the records of a file so far, which have so many moves
+-- the records of a file so far, which have this number of moves
 pub record AreOfGame (game : Game) (hands : List Record) (file_moves : ℕ) : Type 0 where
   pub each : AllByRecursion (IsOfGame game) hands
   pub few : length hands ≤ MOST_HANDS

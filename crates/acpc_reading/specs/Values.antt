@@ -5,10 +5,10 @@ use Rattle.std.specs.Option.{option_map_or}
 use Rattle.chip_ledger.specs.declared.seat_row.TheConstants.{MOST_AMOUNT}
 use Rattle.first_fault.specs.Reading.{◌>>=◌}
 use Rattle.first_fault.specs.Digits.{are_digits, number_of}
-use Rattle.acpc_text.specs.declared.fault.LineFault.{LineFault}
-use Rattle.acpc_text.specs.declared.fault.LineFaultKind.TheVariants as whats
-use Rattle.acpc_text.specs.Faults.{wrong}
-use Rattle.acpc_text.specs.Parts.{parts_of}
+use Rattle.acpc_game.specs.declared.fault.LineFault.{LineFault}
+use Rattle.acpc_game.specs.declared.fault.LineFaultKind.TheVariants as whats
+use Rattle.acpc_game.specs.Faults.{wrong}
+use Rattle.acpc_game.specs.Parts.{parts_of}
 
 -- one or more zeros
 abbrev pub are_zeros : List ℕ → Bool
@@ -27,14 +27,14 @@ whole_said is_negative at digits =
     (wrong whats.AmountLimit at)
     else wrong whats.BadValue at
 
--- digits, and a point and one or more zeros behind them or nothing
+-- digits, optionally followed by a point and one or more zeros
 abbrev pub unsigned_said : Bool → ℕ → List (List ℕ) → Result ℤ LineFault
 unsigned_said is_negative at (digits ∷ []) = whole_said is_negative at digits
 unsigned_said is_negative at (digits ∷ zeros ∷ []) =
     if are_zeros zeros then whole_said is_negative at digits else wrong whats.BadValue at
 unsigned_said is_negative at parts = wrong whats.BadValue at
 
--- a value, which begins at this byte; - stands in front of a negative one
+-- a value, which begins at this byte; a negative one begins with -
 abbrev pub value_said : ℕ → List ℕ → Result ℤ LineFault
 value_said at [] = wrong whats.BadValue at
 value_said at (first ∷ rest) =
@@ -42,7 +42,7 @@ value_said at (first ∷ rest) =
     then unsigned_said true at (parts_of 46 rest)
     else unsigned_said false at (parts_of 46 (first ∷ rest))
 
--- the values with more of them, the first of which begins at this byte
+-- the values and more of them, the first of which begins at this byte
 unfoldable pub values_after : List ℤ → ℕ → List (List ℕ) → Result (List ℤ) LineFault
 values_after values at [] = Ok values
 values_after values at (part ∷ parts) =

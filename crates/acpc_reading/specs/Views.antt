@@ -1,4 +1,4 @@
--- What the code has read, seen as the definitions say it.
+-- What the code has read, as the definitions see it.
 use Rattle.std.specs.Prelude.{List, take, ℤ}
 use Rattle.hand_records.specs.declared.record.NetRow.{NetRow}
 use Rattle.acpc_reading.specs.declared.betting.ReadBetting.{ReadBetting}

@@ -1,24 +1,25 @@
-//! The betting that is read so far.
+//! State while the betting of a hand is read.
 ghost use Rattle.std.specs.Prelude.{◌≡◌, IfOk};
 ghost use Rattle.acpc_reading.specs.Betting.{no_bets};
 ghost use Rattle.acpc_reading.specs.Views.{bets_in};
 
-use card_set::Memory;
 use crate::step::BettingStep;
+use card_set::{Memory, list_with_room};
 use std::alloc::Global;
 
-// For so many letters of a hand room is made at once, and for more of them as they come.
+// Room for this number of letters is made at the start of a hand, and more as they come.
 const USUAL_LETTERS: usize = 64;
 
-/// The betting of a hand so far. One serves all lines of a log, so that room for it is made once.
+/// The betting of a hand so far. One value is reused for all lines of a log, so that its memory is
+/// allocated once.
 #[derive(Debug, Drop)]
 pub struct ReadBetting {
     pub steps: Vec<BettingStep>,
-    /// The round that the next letter is of, from 1.
+    /// The round that the next letter belongs to, from 1.
     pub round: u8,
-    /// How many moves the hand has.
+    /// The number of moves of the hand.
     pub moves: usize,
-    /// How many moves the file has.
+    /// The number of moves of the file.
     pub file_moves: usize,
 }
 
@@ -28,15 +29,15 @@ impl ReadBetting {
         ensures { IfOk result (λ betting. bets_in betting ≡ no_bets 0) }
     {
         Ok(ReadBetting {
-            steps: Vec::with_capacity(alloc, USUAL_LETTERS)?,
+            steps: list_with_room(alloc, USUAL_LETTERS)?,
             round: 1,
             moves: 0,
             file_moves: 0,
         })
     }
 
-    /// No betting of the next hand yet, behind the moves that the file has.
-    pub fn begin(&mut self)
+    /// Starts the next hand, without betting yet; the moves of the file are kept.
+    pub fn clear(&mut self)
         ensures { bets_in self.new ≡ no_bets self.old.file_moves }
     {
         self.steps.clear();

@@ -1,4 +1,4 @@
-//! So many known cards are read from their letters.
+//! Reads known cards from their letters.
 ghost use Rattle.std.specs.Prelude.{◌≡◌, ◌≤◌, ◌<◌, ◌+◌, [], ◌∷◌, ◌++◌, not, option_map};
 ghost use Rattle.std.specs.List.{list_any};
 ghost use Rattle.card_set.specs.Row.{cards_of, slots_of};
@@ -19,7 +19,7 @@ pub fn known_row(slots: &SlotRow) -> CardRow
     cards
 }
 
-// Puts a card after the others, where it is known.
+// Appends a card if it is known.
 fn push_known(cards: &mut CardRow, slot: Slot)
     requires { cards.old.len < 7 }
     ensures cards { cards_of cards.new ≡ cards_of cards.old ++ known_cards (slot ∷ []) }
@@ -31,7 +31,7 @@ fn push_known(cards: &mut CardRow, slot: Slot)
     }
 }
 
-/// The hole cards of a seat: two known ones, or nothing where they are unknown.
+/// The hole cards of a seat: two known ones, or an empty row if they are unknown.
 #[tactic(auto, unfolding(crate::specs::Cards::hole_said))]
 pub fn read_hole(text: &[u8]) -> Option<SlotRow>
     ensures { option_map slots_of result ≡ hole_said text.now }
@@ -45,7 +45,7 @@ pub fn read_hole(text: &[u8]) -> Option<SlotRow>
     Some(slots)
 }
 
-/// So many known slots, which are at most seven.
+/// `count` known cards, at most seven.
 #[tactic(auto, using(crate::proofs::CardLaws::bad_known, crate::proofs::CardLaws::other_len, crate::proofs::CardLaws::some_unknown, crate::proofs::CardLaws::all_known))]
 pub fn read_known(count: u8, text: &[u8]) -> Option<SlotRow>
     requires { count ≤ 7 }

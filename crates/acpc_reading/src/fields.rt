@@ -1,4 +1,4 @@
-//! A line of a hand has six fields.
+//! The six fields of a line of a hand.
 
 /// The fields of a line.
 #[derive(Drop)]

@@ -1,4 +1,4 @@
-//! A log is read as the hands that it says under a game, or its first fault is named.
+//! Reads a log as the hands that it says under a game, or names its first fault.
 #![tactic(auto)]
 
 mod betting;

@@ -1,27 +1,26 @@
-//! A log is read line by line as the hands that it says, or its first fault is named.
+//! Reads a log line by line as the hands that it says, or names its first fault.
 ghost use Rattle.std.specs.Prelude.{◌≡◌, ℕ, ◌≤◌, ◌<◌, ◌^◌, map, sum_by, Ok, IfOk, IfErr, OnOk, length};
 ghost use Rattle.std.specs.List.{AllByRecursion};
 ghost use Rattle.first_fault.specs.declared.limits.TheConstants.{MOST_FILE_MOVES, MOST_HANDS};
 ghost use Rattle.first_fault.specs.Reading.{Fails, Gives};
-ghost use Rattle.acpc_text.specs.Faults.{Answers};
+ghost use Rattle.acpc_game.specs.Faults.{Answers};
 ghost use Rattle.acpc_reading.specs.Logs.{hands_after_line, is_passed_over as is_passed_over_said, line_said, reading, with_hand};
 ghost use Rattle.acpc_reading.specs.RecordView.{AreOfGame, IsOfGame, record_said};
 ghost use Rattle.hand_records.specs.Moves.{moves_of};
 
 use crate::betting::ReadBetting;
 use crate::cutting::cut_fields;
-use crate::letters::{read_betting, wrong};
+use crate::letters::{fault_at, read_betting};
 use crate::names::{read_hand, read_names};
 use crate::record::record_of;
 use crate::script::read_script;
 use crate::values::read_values;
-use acpc_game::Game;
-use acpc_text::{AcpcFault, LineFault, LineFaultKind, fault_in_line, has_prefix, next_line};
-use first_fault::{MOST_HANDS, Quantity, Stop};
+use acpc_game::{AcpcFault, Game, LineFault, LineFaultKind, fault_in_line, has_prefix, next_line};
+use first_fault::{MOST_HANDS, Quantity, ReadError};
 use hand_records::Records;
 use std::alloc::Global;
 
-// Few lines of hands are shorter than so many bytes.
+// Few lines of hands are shorter than this, in bytes.
 const USUAL_LINE: usize = 32;
 
 /// The records that a log says under its game, one for each line of a hand, in order; or the first
@@ -35,19 +34,19 @@ pub fn read(alloc: Global, game: &Game, bytes: &[u8]) -> Result<Records, AcpcFau
 {
     match read_lines(alloc, game, bytes) {
         Ok(records) => Ok(records),
-        Err(Stop::Memory(memory)) => Err(AcpcFault::Memory(memory)),
-        Err(Stop::At(fault)) => Err(fault),
+        Err(ReadError::Memory(memory)) => Err(AcpcFault::Memory(memory)),
+        Err(ReadError::Fault(fault)) => Err(fault),
     }
 }
 
 // The hands of a log.
 #[tactic(auto, unfolding(crate::specs::Logs::reading))]
-fn read_lines(alloc: Global, game: &Game, bytes: &[u8]) -> Result<Records, Stop<AcpcFault>>
+fn read_lines(alloc: Global, game: &Game, bytes: &[u8]) -> Result<Records, ReadError<AcpcFault>>
     ensures said { Gives (map record_said) result (reading game.now bytes.now) }
     ensures kept { IfOk result (λ records. (moves : ℕ) × AreOfGame game.now records moves) }
 {
     let mut records = Records::new(alloc);
-    records.make_room((bytes.len() / USUAL_LINE).min(MOST_HANDS));
+    records.reserve((bytes.len() / USUAL_LINE).min(MOST_HANDS));
     let mut betting = ReadBetting::new(alloc)?;
     let mut count = 0;
     let mut rest = bytes;
@@ -68,7 +67,7 @@ fn take_line(
     betting: &mut ReadBetting,
     line: u64,
     text: &[u8],
-) -> Result<(), Stop<AcpcFault>>
+) -> Result<(), ReadError<AcpcFault>>
     requires room { length text.now < 2 ^ 63 }
     requires kept { AreOfGame game.now records.old betting.old.file_moves }
     ensures ok { OnOk result (hands_after_line game.now
@@ -86,23 +85,23 @@ fn take_line(
             what: LineFaultKind::TooMany(Quantity::Hands),
             byte: 1,
         };
-        return Err(Stop::At(fault_in_line(line, fault)));
+        return Err(ReadError::Fault(fault_in_line(line, fault)));
     }
     match read_line(alloc, game, records, betting, text) {
         Ok(()) => Ok(()),
-        Err(Stop::Memory(memory)) => Err(Stop::Memory(memory)),
-        Err(Stop::At(fault)) => Err(Stop::At(fault_in_line(line, fault))),
+        Err(ReadError::Memory(memory)) => Err(ReadError::Memory(memory)),
+        Err(ReadError::Fault(fault)) => Err(ReadError::Fault(fault_in_line(line, fault))),
     }
 }
 
-// Whether a line is passed over.
+// Whether a line is ignored.
 fn is_passed_over(line: &[u8]) -> bool
     ensures { result ≡ is_passed_over_said line.now }
 {
     line.is_empty() || line[0] == b'#' || has_prefix(line, b"SCORE:")
 }
 
-// The hand of a line behind others. Its record is made where it is kept: it has a thousand bytes.
+// Appends the hand of one line. The record is made in its place: it has a thousand bytes.
 #[tactic(auto, unfolding(crate::specs::Logs::line_said, crate::specs::Logs::hand_of))]
 fn read_line(
     alloc: Global,
@@ -110,7 +109,7 @@ fn read_line(
     records: &mut Records,
     betting: &mut ReadBetting,
     line: &[u8],
-) -> Result<(), Stop<LineFault>>
+) -> Result<(), ReadError<LineFault>>
     requires room { length line.now < 2 ^ 63 }
     requires few { length records.old < MOST_HANDS }
     requires kept { AreOfGame game.now records.old betting.old.file_moves }
@@ -122,7 +121,7 @@ fn read_line(
     ensures kept { OnOk result (AreOfGame game.now records.new betting.new.file_moves) }
 {
     if !has_prefix(line, b"STATE:") {
-        return Err(wrong(LineFaultKind::LineShape, 1));
+        return Err(fault_at(LineFaultKind::LineShape, 1));
     }
     let fields = cut_fields(line)?;
     let players = game.stacks.seats;

@@ -1,4 +1,4 @@
-//! The names of the players and the number of the hand are read as notes.
+//! Reads the names of the players and the number of the hand as notes.
 ghost use Rattle.std.specs.Prelude.{◌≡◌, ℕ, ◌≤◌, ◌<◌, ◌+◌, ◌-◌, ◌^◌, ◌==◌, ◌||◌, length, take, bytes_eq, slice_index_or, is_some, None, IfOk, IfSome};
 ghost use Rattle.std.specs.Str.{is_utf8};
 ghost use Rattle.first_fault.specs.Reading.{Gives};
@@ -6,31 +6,31 @@ ghost use Rattle.hand_records.specs.AllowedNotes.{IsName, IsNoteText};
 ghost use Rattle.acpc_reading.specs.Names.{hand_said, name_said, names_said};
 ghost use Rattle.chip_ledger.specs.SeatsSaid.{default_name};
 
-use crate::letters::wrong;
+use crate::letters::fault_at;
 use crate::parts::next_part;
-use acpc_text::{LineFault, LineFaultKind, count_parts};
+use acpc_game::{LineFault, LineFaultKind, count_parts};
 use chip_ledger::Seat;
-use first_fault::{MOST_TEXT_BYTES, Quantity, Stop, Text, are_digits, read_digits};
+use first_fault::{MOST_TEXT_BYTES, Quantity, ReadError, Text, are_digits, read_digits};
 use std::alloc::Global;
 
-// The most digits of a number of a hand, and the greatest such number.
+// The most digits of a hand's number, and the greatest such number.
 const MOST_HAND_DIGITS: usize = 18;
 
 const MOST_HAND: u64 = 999_999_999_999_999_999;
 
-/// The number of the hand at a place of its file, from 0, whose field begins at this byte.
+/// The number of the hand at this place of its file (from 0); the field begins at this byte.
 #[tactic(auto, unfolding(crate::specs::Names::hand_said))]
 pub fn read_hand(
     alloc: Global,
     place: usize,
     at: u64,
     text: &[u8],
-) -> Result<Option<Text>, Stop<LineFault>>
+) -> Result<Option<Text>, ReadError<LineFault>>
     ensures said { Gives (λ note. note) result (hand_said place at text.now) }
     ensures allowed { IfOk result (λ note. IfSome note IsNoteText) }
 {
     if !are_digits(text) || text.len() > MOST_HAND_DIGITS {
-        return Err(wrong(LineFaultKind::LineShape, at));
+        return Err(fault_at(LineFaultKind::LineShape, at));
     }
     match read_digits(text, MOST_HAND) {
         Some(number) => {
@@ -41,19 +41,19 @@ pub fn read_hand(
             let note = Text::new(alloc, digits.as_str())?;
             Ok(Some(note))
         }
-        None => Err(wrong(LineFaultKind::LineShape, at)),
+        None => Err(fault_at(LineFaultKind::LineShape, at)),
     }
 }
 
-/// The names field, which begins at this byte, in a hand of so many players. Past the last seat
-/// there are none.
+/// The names field, which begins at this byte, of a hand with `players` players. Seats above the
+/// last have no name.
 #[tactic(auto, unfolding(crate::specs::Names::names_said))]
 pub fn read_names(
     alloc: Global,
     players: u8,
     at: u64,
     text: &[u8],
-) -> Result<[Option<Text>; 10], Stop<LineFault>>
+) -> Result<[Option<Text>; 10], ReadError<LineFault>>
     requires few { players ≤ 10 }
     requires near { at + length text.now < 2 ^ 64 - 1 }
     ensures said { Gives (take players) result (names_said players at text.now) }
@@ -63,7 +63,7 @@ pub fn read_names(
         → slice_index_or names index None ≡ None) }
 {
     if count_parts(text, b'|') != players as usize {
-        return Err(wrong(LineFaultKind::SeatCount, at));
+        return Err(fault_at(LineFaultKind::SeatCount, at));
     }
     let mut names = [None, None, None, None, None, None, None, None, None, None];
     let mut index = 0;
@@ -89,7 +89,7 @@ fn read_name(
     seat: Seat,
     at: u64,
     name: &[u8],
-) -> Result<Option<Text>, Stop<LineFault>>
+) -> Result<Option<Text>, ReadError<LineFault>>
     ensures said { Gives (λ name. name) result (name_said seat.number at name.now) }
     ensures allowed { IfOk result (λ name. IfSome name (IsName seat.number)) }
 {
@@ -97,17 +97,17 @@ fn read_name(
         return Ok(None);
     }
     let Some(text) = text_of(name) else {
-        return Err(wrong(LineFaultKind::LineShape, at));
+        return Err(fault_at(LineFaultKind::LineShape, at));
     };
     if name.len() > MOST_TEXT_BYTES {
-        return Err(wrong(LineFaultKind::TooMany(Quantity::TextBytes), at));
+        return Err(fault_at(LineFaultKind::TooMany(Quantity::TextBytes), at));
     }
     let text = Text::new(alloc, text)?;
     Ok(Some(text))
 }
 
 // The bytes as a text, if they are one.
-#[tactic(auto, using(list_laws::proofs::Bytes::is_text, list_laws::proofs::Bytes::is_no_text))]
+#[tactic(auto, using(card_set::proofs::Bytes::is_text, card_set::proofs::Bytes::is_no_text))]
 fn text_of(bytes: &[u8]) -> Option<&str>
     ensures text { IfSome result (λ text. text.now ≡ bytes.now) }
     ensures is { is_some result ≡ is_utf8 bytes.now }
@@ -118,14 +118,14 @@ fn text_of(bytes: &[u8]) -> Option<&str>
     }
 }
 
-// Whether the name is none, or that of the seat where none is said.
+// Whether the name is empty, or the default name of the seat.
 fn says_nothing(seat: Seat, name: &[u8]) -> bool
     ensures { result ≡ (length name.now == 0 || bytes_eq name.now (default_name seat.number)) }
 {
     name.is_empty() || is_default(seat, name)
 }
 
-// Whether the text is the name of the seat where none is said.
+// Whether the text is the default name of the seat.
 fn is_default(seat: Seat, name: &[u8]) -> bool
     ensures { result ≡ bytes_eq name.now (default_name seat.number) }
 {

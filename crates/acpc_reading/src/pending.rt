@@ -1,12 +1,12 @@
-//! A script is written step by step, and what is pending of it is kept beside it.
+//! State while a script is written: what is still to be written of it.
 
-/// What of a script is still to be written.
+/// What is still to be written of a script.
 #[derive(Clone, Copy)]
 pub struct Pending<'a> {
     /// The number of the next letter, from 1.
     pub number: u64,
-    /// How many cards the next board deal has.
+    /// The number of cards of the next board deal.
     pub size: u8,
-    /// The cards of the rounds that are left, divided by strokes, if any are.
+    /// The cards of the rounds that are left, separated by strokes, if there are any.
     pub boards: Option<&'a [u8]>,
 }

@@ -1,6 +1,6 @@
-//! What a line says of a hand, with the setup and the rules of its game, is a record.
+//! Makes a record of what a line says of a hand and of the setup and rules of its game.
 ghost use Rattle.std.specs.Prelude.{◌≡◌, ℕ, ◌-◌, ◌≤◌, None, map, take, slice_index_or, IfSome};
-ghost use Rattle.canon_script.specs.PlayedScript.{IsWithinLimits};
+ghost use Rattle.play_event.specs.PlayedScript.{IsWithinLimits};
 ghost use Rattle.hand_records.specs.AllowedNotes.{IsName, IsNoteText};
 ghost use Rattle.play_event.specs.Said.{numbered, said_of};
 ghost use Rattle.acpc_reading.specs.RecordView.{IsOfGame, NotesNames, StatesValues, record_said};
@@ -45,7 +45,7 @@ pub fn record_of(
     }
 }
 
-// What is stated where each seat's win or loss is.
+// States what each seat won or lost, and nothing else.
 fn stating(values: NetRow) -> Stated
     ensures values { result.values ≡ Some values }
     ensures alone { StatesValues result }
@@ -56,7 +56,7 @@ fn stating(values: NetRow) -> Stated
     }
 }
 
-// The notes of a hand of which the names of the players and its number are noted.
+// Notes the names of the players and the number of the hand, and nothing else.
 fn noting(names: [Option<Text>; 10], hand: Option<Text>) -> Notes
     ensures names { result.names ≡ names }
     ensures hand { result.hand ≡ hand }

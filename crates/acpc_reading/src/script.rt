@@ -1,21 +1,20 @@
-//! The script of a hand is written from its cards and its betting.
+//! Writes the script of a hand from its cards and its betting.
 ghost use Rattle.std.specs.Prelude.{◌≡◌, ℕ, ◌≤◌, ◌<◌, ◌+◌, ◌-◌, ◌^◌, None, length, map, Ok, OnOk, IfOk, IfErr, IfSome};
 ghost use Rattle.play_event.specs.Said.{kind_said, numbered};
 ghost use Rattle.first_fault.specs.Reading.{Fails, Gives};
-ghost use Rattle.acpc_text.specs.Parts.{parts_of};
+ghost use Rattle.acpc_game.specs.Parts.{parts_of};
 ghost use Rattle.acpc_reading.specs.Cards.{Written, dealt, hole_after, holes_after, next_round, script_said, step_after, steps_said, with_letter};
 ghost use Rattle.acpc_reading.specs.Left.{parts_left};
 ghost use Rattle.acpc_reading.specs.Scripts.{written_by};
 
 use crate::cards::{known_row, read_hole, read_known};
-use crate::letters::wrong;
+use crate::letters::fault_at;
 use crate::parts::next_part;
 use crate::pending::Pending;
 use crate::step::BettingStep;
-use acpc_game::Game;
-use acpc_text::{LineFault, LineFaultKind, count_parts, cut_at, kept};
+use acpc_game::{Game, LineFault, LineFaultKind, count_parts, cut_at, saturating_u32};
 use chip_ledger::Seat;
-use first_fault::Stop;
+use first_fault::ReadError;
 use play_event::{Event, Kind, Script, Spelled};
 use std::alloc::Global;
 
@@ -27,14 +26,14 @@ pub fn read_script(
     steps: &[BettingStep],
     at: u64,
     field: &[u8],
-) -> Result<Script, Stop<LineFault>>
+) -> Result<Script, ReadError<LineFault>>
     ensures { Gives (λ script. map numbered script) result
         (script_said game.now.stacks.seats steps.now at (parts_of 47 field.now)) }
 {
     let players = game.stacks.seats;
     let (holes, boards) = cut_at(field, b'/');
     if count_parts(holes, b'|') != players as usize {
-        return Err(wrong(LineFaultKind::SeatCount, at));
+        return Err(fault_at(LineFaultKind::SeatCount, at));
     }
     let mut script = Script::with_room(alloc, players as usize + steps.len())?;
     take_holes(&mut script, players, at, holes)?;
@@ -48,7 +47,7 @@ fn take_holes(
     players: u8,
     at: u64,
     holes: &[u8],
-) -> Result<(), Stop<LineFault>>
+) -> Result<(), ReadError<LineFault>>
     requires few { players ≤ 10 }
     requires same { length (parts_of 124 holes.now) ≡ players }
     ensures ok { OnOk result (holes_after at (map numbered script.old) 1 (parts_of 124 holes.now)
@@ -68,7 +67,12 @@ fn take_holes(
 
 // The deal of a seat's hole cards.
 #[tactic(auto, unfolding(crate::specs::Cards::hole_after))]
-fn take_hole(script: &mut Script, seat: u8, at: u64, part: &[u8]) -> Result<(), Stop<LineFault>>
+fn take_hole(
+    script: &mut Script,
+    seat: u8,
+    at: u64,
+    part: &[u8],
+) -> Result<(), ReadError<LineFault>>
     requires first { 1 ≤ seat }
     requires last { seat ≤ 10 }
     ensures ok { OnOk result (hole_after at (map numbered script.old) seat part.now
@@ -85,18 +89,18 @@ fn take_hole(script: &mut Script, seat: u8, at: u64, part: &[u8]) -> Result<(), 
             })?;
             Ok(())
         }
-        None => Err(wrong(LineFaultKind::BadCards, at)),
+        None => Err(fault_at(LineFaultKind::BadCards, at)),
     }
 }
 
-// The events of all steps, after which no cards are left.
+// The events of all steps, if no board cards are left over.
 #[tactic(auto, unfolding(crate::specs::Cards::steps_said))]
 fn take_steps(
     script: &mut Script,
     at: u64,
     boards: Option<&[u8]>,
     steps: &[BettingStep],
-) -> Result<(), Stop<LineFault>>
+) -> Result<(), ReadError<LineFault>>
     ensures ok { OnOk result
         (steps_said at (dealt (map numbered script.old) (parts_left 47 boards.entry)) steps.now
         ≡ Ok (map numbered script.new)) }
@@ -114,7 +118,7 @@ fn take_steps(
     }
     match pending.boards {
         None => Ok(()),
-        Some(_) => Err(wrong(LineFaultKind::BadCards, at)),
+        Some(_) => Err(fault_at(LineFaultKind::BadCards, at)),
     }
 }
 
@@ -125,7 +129,7 @@ fn take_step<'a>(
     at: u64,
     pending: Pending<'a>,
     step: BettingStep,
-) -> Result<Pending<'a>, Stop<LineFault>>
+) -> Result<Pending<'a>, ReadError<LineFault>>
     requires few { pending.number < 2 ^ 64 - 1 }
     requires small { pending.size ≤ 7 }
     ensures ok { IfOk result (λ next. step_after at (written_by script.old pending.entry) step
@@ -139,7 +143,7 @@ fn take_step<'a>(
         return take_board(script, at, pending);
     };
     script.push(Event {
-        at: kept(pending.number),
+        at: saturating_u32(pending.number),
         kind,
     })?;
     Ok(Pending {
@@ -149,7 +153,7 @@ fn take_step<'a>(
     })
 }
 
-// The move of a letter, which leaves its seat unsaid; `None` where the next round begins.
+// The move of a letter, which does not name its seat; `None` for a stroke.
 #[tactic(auto, unfolding(crate::specs::Cards::step_after))]
 fn letter_of(step: BettingStep) -> Option<Kind>
     ensures letter { IfSome result (λ kind. (at : ℕ) (so_far : Written)
@@ -180,7 +184,7 @@ fn take_board<'a>(
     script: &mut Script,
     at: u64,
     pending: Pending<'a>,
-) -> Result<Pending<'a>, Stop<LineFault>>
+) -> Result<Pending<'a>, ReadError<LineFault>>
     requires { pending.size ≤ 7 }
     ensures ok { IfOk result (λ next.
         next_round at (written_by script.old pending.entry) (parts_left 47 pending.entry.boards)
@@ -191,7 +195,7 @@ fn take_board<'a>(
         (written_by script.old pending.entry) (parts_left 47 pending.entry.boards))) }
 {
     let Some(left) = pending.boards else {
-        return Err(wrong(LineFaultKind::BadCards, at));
+        return Err(fault_at(LineFaultKind::BadCards, at));
     };
     let (board, rest) = cut_at(left, b'/');
     match read_known(pending.size, board) {
@@ -207,6 +211,6 @@ fn take_board<'a>(
                 boards: rest,
             })
         }
-        None => Err(wrong(LineFaultKind::BadCards, at)),
+        None => Err(fault_at(LineFaultKind::BadCards, at)),
     }
 }

@@ -1,4 +1,4 @@
-//! The setup and the rules of a hand are those of its game.
+//! The setup and the rules of a hand, taken from its game.
 ghost use Rattle.std.specs.Prelude.{◌≡◌};
 ghost use Rattle.acpc_reading.specs.RecordView.{IsSetupOf, code_of as code_of_said, least_bet as least_bet_said, rules_of as rules_of_said};
 
@@ -6,7 +6,7 @@ use acpc_game::{Game, greatest};
 use chip_ledger::{RakeRow, SeatRow};
 use play_event::{Code, Reopen, Rules, Setup};
 
-/// What a hand of the game begins with.
+/// The setup of each hand of the game.
 #[tactic(auto, using(chip_ledger::proofs::RowLists::no_rake))]
 pub fn setup_of(game: &Game) -> Setup
     ensures { IsSetupOf game.now result }
@@ -25,14 +25,14 @@ pub fn setup_of(game: &Game) -> Setup
     }
 }
 
-// The code of the game.
+// The variant code of the game.
 fn code_of(game: &Game) -> Code
     ensures { result ≡ code_of_said game.now.no_limit }
 {
     if game.no_limit { Code::NT } else { Code::FT }
 }
 
-// The least bet of the game.
+// The least bet of the game, in chips.
 fn least_bet(game: &Game) -> u64
     ensures { result ≡ least_bet_said game.now }
 {
@@ -43,7 +43,7 @@ fn least_bet(game: &Game) -> u64
     }
 }
 
-/// What the notation rules of a hand of the game.
+/// The rules of each hand of the game.
 pub fn rules_of(game: &Game) -> Rules
     ensures { result ≡ rules_of_said game.now }
 {

@@ -1,28 +1,28 @@
-//! What each seat won or lost is read as the line states it.
+//! Reads what each seat won or lost, as the line states it.
 ghost use Rattle.std.specs.Prelude.{◌≡◌, ◌≤◌, ◌<◌, ◌+◌, ◌-◌, ◌^◌, ◌∷◌, length, slice_set, IfOk};
 ghost use Rattle.chip_ledger.specs.declared.seat_row.TheConstants.{MOST_AMOUNT};
 ghost use Rattle.first_fault.specs.Reading.{Gives};
-ghost use Rattle.acpc_text.specs.Parts.{parts_of};
+ghost use Rattle.acpc_game.specs.Parts.{parts_of};
 ghost use Rattle.acpc_reading.specs.Values.{are_zeros as are_zeros_said, signed as signed_said, unsigned_said, value_said, values_said, whole_said};
 ghost use Rattle.acpc_reading.specs.Views.{nets_in};
 
-use crate::letters::wrong;
+use crate::letters::fault_at;
 use crate::parts::next_part;
-use acpc_text::{LineFault, LineFaultKind, count_parts, cut_at, cut_first};
+use acpc_game::{LineFault, LineFaultKind, count_parts, cut_at, cut_first};
 use chip_ledger::MOST_AMOUNT;
-use first_fault::{Stop, are_digits, read_digits};
+use first_fault::{ReadError, are_digits, read_digits};
 use hand_records::NetRow;
 
-/// The values field, which begins at this byte, in a hand of so many players.
+/// The values field, which begins at this byte, of a hand with `players` players.
 #[tactic(auto, unfolding(crate::specs::Values::values_said))]
-pub fn read_values(players: u8, at: u64, text: &[u8]) -> Result<NetRow, Stop<LineFault>>
+pub fn read_values(players: u8, at: u64, text: &[u8]) -> Result<NetRow, ReadError<LineFault>>
     requires few { players ≤ 10 }
     requires near { at + length text.now < 2 ^ 64 - 1 }
     ensures said { Gives nets_in result (values_said players at text.now) }
     ensures seats { IfOk result (λ row. row.seats ≡ players) }
 {
     if count_parts(text, b'|') != players as usize {
-        return Err(wrong(LineFaultKind::SeatCount, at));
+        return Err(fault_at(LineFaultKind::SeatCount, at));
     }
     let mut nets = [0; 10];
     let mut index = 0;
@@ -42,11 +42,11 @@ pub fn read_values(players: u8, at: u64, text: &[u8]) -> Result<NetRow, Stop<Lin
 }
 
 // A value, which begins at this byte.
-fn read_value(at: u64, text: &[u8]) -> Result<i64, Stop<LineFault>>
+fn read_value(at: u64, text: &[u8]) -> Result<i64, ReadError<LineFault>>
     ensures { Gives (λ value. value) result (value_said at text.now) }
 {
     let Some((first, rest)) = cut_first(text) else {
-        return Err(wrong(LineFaultKind::BadValue, at));
+        return Err(fault_at(LineFaultKind::BadValue, at));
     };
     if first == b'-' {
         read_unsigned(true, at, rest)
@@ -55,8 +55,8 @@ fn read_value(at: u64, text: &[u8]) -> Result<i64, Stop<LineFault>>
     }
 }
 
-// Digits, and a point and zeros behind them or nothing.
-fn read_unsigned(is_negative: bool, at: u64, text: &[u8]) -> Result<i64, Stop<LineFault>>
+// Digits, optionally followed by a point and zeros.
+fn read_unsigned(is_negative: bool, at: u64, text: &[u8]) -> Result<i64, ReadError<LineFault>>
     ensures { Gives (λ value. value) result (unsigned_said is_negative at (parts_of 46 text.now)) }
 {
     let (digits, rest) = cut_at(text, b'.');
@@ -66,23 +66,23 @@ fn read_unsigned(is_negative: bool, at: u64, text: &[u8]) -> Result<i64, Stop<Li
     }
 }
 
-// Zeros behind a point, in which no second point stands, behind these digits.
+// The zeros after a point, without a second point, and these digits.
 #[tactic(auto, using(crate::proofs::NumberLaws::no_third_part))]
 fn read_fraction(
     is_negative: bool,
     at: u64,
     digits: &[u8],
     rest: &[u8],
-) -> Result<i64, Stop<LineFault>>
+) -> Result<i64, ReadError<LineFault>>
     ensures { Gives (λ value. value) result
         (unsigned_said is_negative at (digits.now ∷ parts_of 46 rest.now)) }
 {
     let (zeros, more) = cut_at(rest, b'.');
     match more {
-        Some(_) => Err(wrong(LineFaultKind::BadValue, at)),
+        Some(_) => Err(fault_at(LineFaultKind::BadValue, at)),
         None => {
             if !are_zeros(zeros) {
-                return Err(wrong(LineFaultKind::BadValue, at));
+                return Err(fault_at(LineFaultKind::BadValue, at));
             }
             read_whole(is_negative, at, digits)
         }
@@ -106,15 +106,15 @@ fn are_zeros(text: &[u8]) -> bool
 
 // The number that digits say.
 #[tactic(auto, unfolding(crate::specs::Values::whole_said), using(acpc_game::proofs::Steps::at_most))]
-fn read_whole(is_negative: bool, at: u64, digits: &[u8]) -> Result<i64, Stop<LineFault>>
+fn read_whole(is_negative: bool, at: u64, digits: &[u8]) -> Result<i64, ReadError<LineFault>>
     ensures { Gives (λ value. value) result (whole_said is_negative at digits.now) }
 {
     if !are_digits(digits) {
-        return Err(wrong(LineFaultKind::BadValue, at));
+        return Err(fault_at(LineFaultKind::BadValue, at));
     }
     match read_digits(digits, MOST_AMOUNT) {
         Some(number) => Ok(signed(is_negative, number)),
-        None => Err(wrong(LineFaultKind::AmountLimit, at)),
+        None => Err(fault_at(LineFaultKind::AmountLimit, at)),
     }
 }
 
@@ -130,7 +130,7 @@ fn signed(is_negative: bool, number: u64) -> i64
     }
 }
 
-// A row with this number at an index.
+// Sets the number at an index.
 fn put(nets: &mut [i64; 10], index: usize, net: i64)
     requires { index < 10 }
     ensures { nets.new ≡ slice_set nets.old index net }

@@ -1,11 +1,12 @@
--- A seat sees of the cards its own and the boards that were dealt, and its line is made of these and of the moves so far.
+-- A seat sees its own cards and the boards that were dealt, and its line is made of these and of
+-- the moves so far.
 use Rattle.std.proofs.Common.{◌≡◌, ◌<◌, ◌-◌, codes, decimal, ℕ, Bool, true, false, ◌&&◌, ◌||◌, ◌==◌, if◌then◌else◌, List, [], ◌∷◌, ◌++◌, filter, map, length, take, cond, Option, Some, None, refl, sym, ap, ◌∙◌, arith}
 use Rattle.std.specs.List.{flat_map, list_any}
 use Rattle.std.specs.Option.{option_map_or}
 use Rattle.std.proofs.lemmas.Bool.{and_parts, eqb-true, lt-leb}
 use Rattle.std.proofs.lemmas.List.{length-map}
 use Rattle.std.proofs.lemmas.Map.Views.{any-filter_same}
-use Rattle.list_laws.proofs.Tests.{false_true}
+use Rattle.card_set.proofs.Tests.{false_true}
 use Rattle.card_set.specs.declared.card.Slot.{Slot}
 use Rattle.card_set.specs.Known.{is_unknown}
 use Rattle.card_set.specs.Spelling.{spelling}
@@ -16,8 +17,8 @@ use Rattle.play_event.specs.Places.{is_same_owner}
 use Rattle.play_event.specs.Trace.{TracedMove, TracedPlace}
 use Rattle.play_event.specs.Played.{move_said}
 use Rattle.play_event.proofs.OwnerLaws.{is_same_owner-true}
-use Rattle.canon_script.specs.CanonScript.{dealt_slots, is_dealt_to, plain_moves}
-use Rattle.canon_script.specs.TraceCore.{TraceCore}
+use Rattle.play_event.specs.CanonScript.{dealt_slots, is_dealt_to, plain_moves}
+use Rattle.play_event.specs.TraceCore.{TraceCore}
 use Rattle.hand_records.specs.TraceRows.{core_said}
 use Rattle.hand_records.specs.declared.trace.Play.{Play}
 use Rattle.hand_records.specs.declared.trace.Trace.{Trace}
@@ -29,13 +30,14 @@ use Rattle.acpc_writing.specs.Seats.{bar_before, for_seats}
 use Rattle.acpc_view.specs.Known.{AreAlikeTo, board_begun}
 use Rattle.acpc_view.specs.View.{has_begun, head_text, is_at_end, is_seen_by, seen_places, seen_text, sees_seat, view_line}
 
--- what is asked of an owner and a street is so of a place that was dealt to it there
+-- what holds for an owner and a street holds for a place that was dealt to it there
 dealt_there : (seen : Option ℕ → ℕ → Bool) (owner : Option ℕ) (street : ℕ) (place : TracedPlace) → is_dealt_to owner street place ≡ true → seen place.owner place.street ≡ seen owner street
 dealt_there seen owner street place is =
     let parts = and_parts (is_same_owner place.owner owner) (place.street == street) is in
     ap (λ (o : Option ℕ). seen o place.street) (is_same_owner-true place.owner owner parts.0) ∙ ap (seen owner) (eqb-true place.street street parts.1)
 
--- a filter by what a test cannot tell apart keeps or loses all that the test keeps
+-- of the elements that pass a test, a filter that keeps them all loses none, and one that drops
+-- them all leaves none
 module _ {X : Type 0} (test p : X → Bool) where
   one_kept : (x : X) (xs : List X) (tests passes : Bool) → test x ≡ tests → (tests ≡ true → passes ≡ true) → filter test (filter p xs) ≡ filter test xs
       → filter test (cond passes (x ∷ filter p xs) (filter p xs)) ≡ cond tests (x ∷ filter test xs) (filter test xs)
@@ -80,7 +82,7 @@ module _ (trace : TraceCore) (viewer count : ℕ) where
   seen_board street =
       any-filter_same (is_dealt_to None street) seen (has_begun trace.moves count street) (λ place at. dealt_there (is_seen_by trace viewer count) None street place at) trace.places
 
--- the text of a further round, by its board where that is dealt
+-- the text of a further round, by its board if that is dealt
 abbrev behind_board : Option (List Slot) → (List Slot → List ℕ) → List ℕ
 behind_board board text = option_map_or (λ slots. 47 ∷ text slots) board []
 
@@ -121,7 +123,8 @@ module _ (trace : TraceCore) (viewer count : ℕ) (goes_on : is_at_end trace cou
       ap hole_by (seen_slots trace viewer count (Some seat) 1 true (others_hidden seat true is) ∙ ap (λ (n : ℕ). dealt_slots trace.places (Some n) 1) (eqb-true seat viewer is))
   hole_is seat false is = ap hole_by (seen_slots trace viewer count (Some seat) 1 false (others_hidden seat false is))
 
--- the betting and the cards by what the seat can know: the moves so far, its hole cards, and the boards of the three further rounds
+-- the betting and the cards by what the seat can know: the moves so far, its hole cards, and the
+-- boards of the three further rounds
 abbrev Board : Type 0
 Board = Option (List Slot)
 

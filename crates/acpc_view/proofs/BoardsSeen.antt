@@ -4,7 +4,7 @@ use Rattle.std.specs.List.{list_any}
 use Rattle.std.specs.Option.{option_map_or}
 use Rattle.std.proofs.lemmas.List.{append-nil, length-map}
 use Rattle.std.proofs.lemmas.Bool.{lt-ltb}
-use Rattle.list_laws.proofs.Tests.{false_true}
+use Rattle.card_set.proofs.Tests.{false_true}
 use Rattle.play_event.specs.declared.setup.Rules.{Rules}
 use Rattle.play_event.specs.declared.setup.Setup.{Setup}
 use Rattle.play_event.specs.Dealing.{board_cards_dealt}
@@ -20,16 +20,16 @@ use Rattle.play_event.specs.Table.{places_of}
 use Rattle.play_event.specs.Trace.{TracedMove, TracedPlace, traced_move, traced_moves, traced_places}
 use Rattle.play_laws.proofs.PlayedStreets.{board_count}
 use Rattle.play_event.proofs.TracedMoves.{as_many}
-use Rattle.street_laws.specs.CardEvents.{is_card_event, is_card_said}
-use Rattle.street_laws.proofs.LegalCards.{at_street}
-use Rattle.canon_script.specs.CanonScript.{dealt_slots, is_dealt_to}
-use Rattle.canon_blocks.proofs.TraceOrder.{the_board}
+use Rattle.play_laws.specs.CardEvents.{is_card_event, is_card_said}
+use Rattle.play_laws.proofs.LegalCards.{at_street}
+use Rattle.play_event.specs.CanonScript.{dealt_slots, is_dealt_to}
+use Rattle.canon_laws.proofs.TraceOrder.{the_board}
 use Rattle.canon_laws.proofs.StreetDeals.{group_is}
 use Rattle.acpc_writing.specs.Rounds.{has_board}
 use Rattle.acpc_view.specs.View.{has_begun}
 use Rattle.acpc_view.proofs.Boards.{boards_before}
 
--- a board is there where it has cards
+-- a board is there if it has cards
 one_there : (place : TracedPlace) (rest : List TracedPlace) (tests : TracedPlace → Bool) (here : Bool) → list_any tests rest ≡ nat_lt 0 (length (map (λ (p : TracedPlace). p.slot) (filter tests rest)))
     → (here || list_any tests rest) ≡ nat_lt 0 (length (map (λ (p : TracedPlace). p.slot) (cond here (place ∷ filter tests rest) (filter tests rest))))
 one_there place rest tests true before = sym (lt-ltb 0 (suc (length (map (λ (p : TracedPlace). p.slot) (filter tests rest)))) (omega arith))
@@ -39,7 +39,7 @@ there_by : (tests : TracedPlace → Bool) (placed : List TracedPlace) → list_a
 there_by tests [] = refl
 there_by tests (place ∷ rest) = one_there place rest tests (tests place) (there_by tests rest)
 
--- how many cards of the board of a street a trace has
+-- the number of cards that a trace has of the board of a street
 traced_board : (setup : Setup) (events : List Said) (street : ℕ) → 1 ≤ street → street ≤ street_count setup.code → length (dealt_slots (traced_places setup (past_of setup events)) None street) ≡ board_cards_dealt (past_of setup events) street
 traced_board setup events street one last =
     let same : street - 1 + 1 ≡ street = omega (arith, one) in
@@ -80,7 +80,7 @@ moves_more setup (event ∷ later) events =
       are = last.are ∙ ap (λ (ms : List TracedMove). ms ++ last.more) first.are ∙ append_assoc (traced_moves setup (moves_of (past_of setup events))) first.more last.more;
     }
 
--- a move stands behind those before it, on its street
+-- a move follows those before it, on its street
 record IsMade (setup : Setup) (past : Past) (event : Resolved) : Type 0 where
   move : TracedMove
   made : traced_moves setup (moves_of (event ∷ past)) ≡ traced_moves setup (moves_of past) ++ move ∷ []
@@ -136,7 +136,7 @@ begun_by : (begun : Bool) (all : ℕ) → nat_lt 0 (if begun then all else 0) �
 begun_by true all = refl
 begun_by false all = refl
 
--- a board is there before a move exactly where its round has begun and the trace has it
+-- a board is there before a move if and only if its round has begun and the trace has it
 pub boards_seen : (setup : Setup) (rules : Rules) (later events : List Said) (event : Said) → AreLegal setup rules (later ++ event ∷ events) → is_card_said event ≡ false → (street : ℕ) → 1 ≤ street → street ≤ street_count setup.code
     → has_board (traced_places setup (past_of setup events)) street
     ≡ (has_begun (traced_moves setup (moves_of (past_of setup (later ++ event ∷ events)))) (length (moves_of (past_of setup events))) street && has_board (traced_places setup (past_of setup (later ++ event ∷ events))) street)

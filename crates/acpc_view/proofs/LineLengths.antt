@@ -1,4 +1,4 @@
--- How many bytes the pieces of a line have.
+-- The number of bytes of the pieces of a line.
 use Rattle.std.proofs.Common.{◌≡◌, ◌+◌, ◌-◌, codes, get_or, slice_index, ◌/◌, ◌%◌, ◌<◌, ◌≤◌, ◌^◌, ℕ, Bool, true, false, ◌&&◌, ◌||◌, ◌==◌, nat_le, not, if◌then◌else◌, List, [], ◌∷◌, ◌++◌, length, map, take, Option, Some, None, refl, sym, ap, subst, ◌∙◌, arith}
 use Rattle.std.specs.List.{flat_map, range_with_len}
 use Rattle.std.specs.Prelude.{decimal}
@@ -10,9 +10,9 @@ use Rattle.card_set.specs.Spelling.{spelling}
 use Rattle.play_event.specs.declared.setup.Setup.{Setup}
 use Rattle.play_event.specs.Past.{Move}
 use Rattle.play_event.specs.Trace.{TracedMove, TracedPlace}
-use Rattle.canon_script.specs.CanonScript.{dealt_slots, plain_move, plain_moves}
-use Rattle.canon_script.specs.TraceCore.{TraceCore}
-use Rattle.canon_script.specs.Tidy.{IsTidy}
+use Rattle.play_event.specs.CanonScript.{dealt_slots, plain_move, plain_moves}
+use Rattle.play_event.specs.TraceCore.{TraceCore}
+use Rattle.play_event.specs.Tidy.{IsTidy}
 use Rattle.canon_laws.proofs.MoveCounts.{tidy_within}
 use Rattle.hand_canon.specs.Sound.{IsSound}
 use Rattle.hand_records.specs.SoundRecord.{script_said}
@@ -103,7 +103,7 @@ board_seen_then trace viewer count street board begun is = is ∙ sym (seen_boar
 pub board_seen_else : (trace : TraceCore) (viewer count street : ℕ) → has_begun trace.moves count street ≡ false → false ≡ has_board (seen_places trace viewer count) street
 board_seen_else trace viewer count street begun = sym (seen_board trace viewer count street ∙ ap (λ (b : Bool). b && has_board trace.places street) begun)
 
--- a further round of the first so many moves
+-- a further round, after the first `count` moves
 pub round_sum : (no_limit : Bool) (trace : Trace) (placed : List TracedPlace) (count street number : ℕ) (moves : List rows.Move) → moves ≡ trace.moves → has_board placed street ≡ true
     → number ≡ length (letters_on no_limit trace.setup street (plain_moves (map move_said (take count moves))))
     → 1 + number ≡ length (round_text no_limit trace.setup placed (plain_moves (map move_said (take count trace.moves))) street)
@@ -116,19 +116,19 @@ pub round_none : (no_limit : Bool) (trace : Trace) (placed : List TracedPlace) (
 unfolding round_text
 round_none no_limit trace placed count street none = round_not placed street (letters_on no_limit trace.setup street (plain_moves (map move_said (take count trace.moves)))) none
 
--- one seat more
+-- one more seat
 pub seat_sum : (text : ℕ → List ℕ) (count so_far more : ℕ) → so_far ≡ length (for_seats text count) → more ≡ length (bar_before (count + 1) ++ text (count + 1)) → so_far + more ≡ length (for_seats text (count + 1))
 seat_sum text count so_far more before last =
     let f : ℕ → List ℕ = λ seat. bar_before seat ++ text seat in
     omega (arith, before, last, ap length (flat_more f count), length-append (flat_map f (seats_of count)) (f (count + 1)))
 
--- one line more
+-- one more line
 pub line_sum : (line : ℕ → List ℕ) (count so_far more : ℕ) → so_far ≡ length (flat_map line (range_with_len 0 count)) → more ≡ length (line count) → so_far + more ≡ length (flat_map line (range_with_len 0 (count + 1)))
 line_sum line count so_far more before last =
     let whole = line_more line count (flat_map line (range_with_len 0 count)) (flat_map line (range_with_len 0 count) ++ line count) refl refl in
     omega (arith, before, last, ap length whole, length-append (flat_map line (range_with_len 0 count)) (line count))
 
--- one letter more
+-- one more letter
 pub letter_sum : (no_limit : Bool) (setup : Setup) (street count : ℕ) (moves : List rows.Move) (played : rows.Move) (put : List ℕ) (so_far more : ℕ) → count < length moves → get_or moves count played ≡ played
     → HavePut setup (plain_move (move_said played) ∷ plain_moves (map move_said (take count moves))) put
     → so_far ≡ length (letters_on no_limit setup street (plain_moves (map move_said (take count moves))))

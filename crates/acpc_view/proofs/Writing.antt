@@ -3,7 +3,7 @@ use Rattle.std.proofs.Common.{◌≡◌, ◌<◌, ◌+◌, ℕ, zero, suc, Bool,
 use Rattle.std.specs.List.{flat_map, range_with_len}
 use Rattle.std.proofs.lemmas.Grind.{flat_map-append}
 use Rattle.std.proofs.lemmas.List.{append-nil, drop_more, map-append, take-map}
-use Rattle.canon_script.specs.CanonScript.{plain_moves}
+use Rattle.play_event.specs.CanonScript.{plain_moves}
 use Rattle.hand_records.specs.TraceRows.{core_said, place_said}
 use Rattle.hand_records.specs.declared.trace.Trace.{Trace}
 use Rattle.play_event.specs.Played.{move_said}
@@ -16,11 +16,11 @@ use Rattle.acpc_writing.specs.Puts.{HaveFewChips}
 use Rattle.acpc_writing.proofs.Totals.{few_so_far}
 use Rattle.acpc_view.specs.View.{seen_places, seen_text}
 
--- what the first moves put is no more than what all put
+-- the first moves put no more chips than all moves
 pub few_chips : (trace : Trace) (count : ℕ) → HaveFewChips trace.setup trace.moves → HaveFewChips trace.setup (take count trace.moves)
 few_chips trace count few = record { within = λ seat. omega (arith, few.within seat, few_so_far trace.setup seat count trace.moves) }
 
--- one card more
+-- one more card
 shown_first : (place : TracedPlace) (rest : List TracedPlace) (sees : Bool) → cond sees (place ∷ rest) rest ≡ (if sees then place ∷ [] else []) ++ rest
 shown_first place rest true = refl
 shown_first place rest false = refl
@@ -63,7 +63,7 @@ seen_written no_limit trace viewer count seen shown other moves out one two thre
     ∙ ap (λ (p : List TracedPlace). out ++ (betting_text no_limit trace.setup p (plain_moves (take count (core_said trace).moves)) ++ 58 ∷ cards)) (ap (map place_said) shown_is ∙ seen_is)
     ∙ ap (λ (p : List TracedPlace). out ++ (betting_text no_limit trace.setup all (plain_moves (take count (core_said trace).moves)) ++ 58 ∷ cards_text p trace.setup.stacks.seats)) (ap (map place_said) other_is ∙ seen_is)
 
--- what is written where there is memory
+-- what is written if memory does not run out
 pub when_ok : {A E : Type 0} (result : Result A E) (new done undone : List ℕ) → new ≡ (if is_ok result then done else undone) → OnOk result (new ≡ done)
 when_ok (Ok value) new done undone is = is
 when_ok (Err error) new done undone is = tt
@@ -77,7 +77,7 @@ four_pieces out one two three four head text a b c d =
     ∙ ap (λ (t : List ℕ). out ++ (t ++ 10 ∷ [])) (append_assoc head (58 ∷ []) text)
     ∙ ap (λ (t : List ℕ). out ++ t) (append_assoc head (58 ∷ text) (10 ∷ []))
 
--- one line more
+-- one more line
 range_more : (first count : ℕ) → range_with_len first (count + 1) ≡ range_with_len first count ++ (first + count) ∷ []
 range_more first zero = let same : first ≡ first + 0 = omega arith in ap (λ (n : ℕ). n ∷ []) same
 range_more first (suc count) =

@@ -1,4 +1,4 @@
--- A short trace has short lines: few chips, few moves, and few cards of each owner on each street.
+-- A short trace has short lines: few chips, few moves, and few cards for each owner on each street.
 use Rattle.std.specs.Prelude.{◌≡◌, ◌≤◌, ℕ, if◌then◌else◌, List, [], length, Option}
 use Rattle.std.specs.List.{list_any}
 use Rattle.card_set.specs.declared.card.Slot.{Slot}
@@ -6,32 +6,32 @@ use Rattle.card_set.specs.Known.{is_unknown}
 use Rattle.card_set.specs.Spelling.{spelling}
 use Rattle.acpc_writing.specs.Puts.{HaveFewChips}
 use Rattle.acpc_view.specs.View.{seen_places}
-use Rattle.canon_script.specs.CanonScript.{dealt_slots}
-use Rattle.canon_script.specs.declared.limits.TheConstants.{MOST_MOVES}
+use Rattle.play_event.specs.CanonScript.{dealt_slots}
+use Rattle.play_event.specs.declared.hand_limits.TheConstants.{MOST_MOVES}
 use Rattle.hand_records.specs.TraceRows.{core_said}
 use Rattle.hand_records.specs.declared.trace.Trace.{Trace}
 use Rattle.play_event.specs.Trace.{TracedPlace}
 
--- A trace puts no more chips than a row holds, has no more moves than a hand may have, and deals no
--- owner more cards on a street than a row holds.
+-- No seat puts more chips than a row holds, the trace has no more moves than a hand may have, and
+-- no owner gets more cards on a street than a row holds.
 pub record IsShort (trace : Trace) : Type 0 where
-  -- each seat has put few chips
+  -- each seat puts few chips
   pub chips : HaveFewChips trace.setup trace.moves
   -- there are few moves
   pub moves : length trace.moves ≤ MOST_MOVES
-  -- and few cards of each owner on each street
+  -- and few cards for each owner on each street
   pub dealt : (owner : Option ℕ) (street : ℕ)
       → length (dealt_slots (core_said trace).places owner street) ≤ 7
 
--- A number is the length of a text, which is at most so long.
+-- A number is the length of a text, and at most `most`.
 pub record IsLengthWithin (most : ℕ) (text : List ℕ) (number : ℕ) : Type 0 where
   pub value : number ≡ length text
   pub few : number ≤ most
 
--- the cards that a seat sees behind the first so many moves of a trace
+-- the cards that a seat sees after the first `count` moves of a trace
 abbrev pub seen_by : Trace → (viewer count : ℕ) → List TracedPlace
 seen_by trace viewer count = seen_places (core_said trace) viewer count
 
--- the text of hole cards: nothing where one of them is unknown
+-- the text of hole cards: empty if one of them is unknown
 abbrev pub hole_of : List Slot → List ℕ
 hole_of slots = if list_any is_unknown slots then [] else spelling slots

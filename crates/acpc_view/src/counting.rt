@@ -1,4 +1,4 @@
-//! The bytes of the lines that a seat saw are counted, without memory.
+//! Counts the bytes of the lines that a seat saw, without allocating memory.
 ghost use Rattle.std.specs.Prelude.{◌≡◌, ◌≤◌, ◌*◌, ◌++◌, Some, None, decimal, length, map, take};
 ghost use Rattle.acpc_writing.specs.Betting.{betting_text, letter, letter_on, letters_on, round_text};
 ghost use Rattle.acpc_writing.specs.Cards.{board_text, cards_text, hole_text, holes_text};
@@ -8,7 +8,7 @@ ghost use Rattle.acpc_writing.specs.Seats.{bar_before};
 ghost use Rattle.acpc_writing.specs.Puts.{HaveFewChips};
 ghost use Rattle.acpc_view.specs.Lengths.{IsLengthWithin, IsShort, hole_of, seen_by};
 ghost use Rattle.acpc_view.specs.View.{seen_text, view_line, views_text};
-ghost use Rattle.canon_script.specs.CanonScript.{dealt_slots, plain_move, plain_moves};
+ghost use Rattle.play_event.specs.CanonScript.{dealt_slots, plain_move, plain_moves};
 ghost use Rattle.card_set.specs.Spelling.{spelling};
 ghost use Rattle.hand_canon.specs.Sound.{IsSound};
 ghost use Rattle.hand_records.specs.TraceRows.{place_said};
@@ -24,10 +24,10 @@ use first_fault::Text;
 use hand_records::{Play, Trace};
 use play_event::{Act, Move, Place, Setup};
 
-/// How many bytes the lines have that a seat saw of the play at a place of its file, from 0, under
-/// the game of that file.
+/// The number of bytes of the lines that a seat saw of the play at a place of its file (from 0)
+/// under the game of that file.
 ///
-/// Ask for a sound play. No memory is taken.
+/// The play must be sound. No memory is allocated.
 pub fn views_len(game: &Game, play: &Play, place: u32, viewer: Seat) -> u64
     requires { IsSound play.now }
     ensures { result ≡ length (views_text game.now.no_limit viewer.number place play.now) }
@@ -70,7 +70,7 @@ fn hand_len(place: usize, name: &Option<Text>) -> u64
     }
 }
 
-// What a seat sees of a trace, where so many of its moves are made.
+// What a seat sees of a trace after its first moves.
 #[derive(Clone, Copy)]
 struct Seen<'a> {
     trace: &'a Trace,
@@ -117,7 +117,7 @@ impl Seen<'_> {
         }
     }
 
-    // The board of a street has begun, and is there.
+    // The board of a street is dealt, and its round has begun.
     fn is_board_seen(&self, street: u8) -> bool
         ensures { result ≡ has_board_said
             (seen_by self.now.trace.now self.now.viewer.number self.now.count) street }
@@ -205,7 +205,7 @@ fn letters_len(no_limit: bool, setup: &Setup, moves: &[Move], street: u8) -> u64
     all
 }
 
-// The number of bytes of the letter of a move, or 0 where the move is of another street.
+// The number of bytes of the letter of a move, or 0 if the move is on another street.
 fn letter_len_on(no_limit: bool, street: u8, played: Move, total: u64) -> u64
     ensures { IsLengthWithin 21
         (letter_on no_limit street (plain_move (move_said played)) total) result }
@@ -269,7 +269,7 @@ fn dealt_len(places: &[Place], owner: Option<Seat>, street: u8) -> u64
     2 * dealt_count(places, owner, street)
 }
 
-// How many cards an owner was dealt on a street.
+// The number of cards that an owner was dealt on a street.
 fn dealt_count(places: &[Place], owner: Option<Seat>, street: u8) -> u64
     ensures { result
         ≡ length (dealt_slots (map place_said places.now) (seat_named owner) street) }

@@ -1,4 +1,5 @@
-//! A line depends on nothing that its seat could not know, and has the boards that are dealt then.
+//! The laws of MATCHSTATE lines: a line shows nothing that its seat could not know, and has the
+//! boards dealt by then.
 ghost use Rattle.std.specs.Prelude.{◌≡◌, ◌≤◌, ◌∷◌, ◌++◌, ℕ, Bool, List, false, length, ◌&&◌, if◌then◌else◌, nat_le};
 ghost use Rattle.acpc_view.specs.Known.{AreAlikeTo};
 ghost use Rattle.acpc_writing.specs.Rounds.{has_board};
@@ -13,10 +14,10 @@ ghost use Rattle.play_event.specs.Scripts.{past_of};
 ghost use Rattle.play_event.specs.Trace.{traced_moves, traced_places};
 ghost use Rattle.play_event.specs.declared.setup.Rules.{Rules};
 ghost use Rattle.play_event.specs.declared.setup.Setup.{Setup};
-ghost use Rattle.street_laws.specs.CardEvents.{is_card_said};
+ghost use Rattle.play_laws.specs.CardEvents.{is_card_said};
 
-/// The line of a seat before a move depends on nothing that the seat could not know: where two
-/// plays have the same setup and number, the same cards of that seat, the same moves so far and the
+/// The line of a seat before a move depends on nothing that the seat could not know: if two plays
+/// have the same setup and hand number, the same cards of that seat, the same moves so far and the
 /// same boards of the rounds that have begun, they have the same line. The function does nothing:
 /// its contract is a law.
 pub fn law_of_unknown_cards()
@@ -26,10 +27,10 @@ pub fn law_of_unknown_cards()
         ≡ view_line no_limit viewer place other index }
 {}
 
-/// Before a legal move a board is on the table exactly where its round has begun, by the moves of
-/// the whole trace, and the trace has it (`there`); it has then all cards that it ever gets
-/// (`whole`). The events are the newest first: those after the move, the move, and those before it.
-/// The function does nothing: its contract is a law.
+/// Before a legal move a board is on the table if and only if its round has begun, by the moves of
+/// the whole trace, and the trace has the board (`there`). It then has all cards that it ever gets
+/// (`whole`). The events are given newest first: those after the move, the move, and those before
+/// it. The function does nothing: its contract is a law.
 pub fn law_of_begun_boards()
     ensures there { (setup : Setup) (rules : Rules) (later events : List Said) (event : Said)
         → AreLegal setup rules (later ++ event ∷ events) → is_card_said event ≡ false

@@ -1,4 +1,5 @@
-//! One seat of a match saw of a hand a line before each move, and one behind the last.
+//! The MATCHSTATE lines that one seat of a match receives of a hand: before each move and after the
+//! last.
 #![tactic(auto)]
 
 mod counting;

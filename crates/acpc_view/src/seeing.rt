@@ -1,4 +1,4 @@
-//! A seat sees its own cards, the boards of the rounds that have begun and, at the end, shown
+//! What a seat sees: its own cards, the boards of the rounds that have begun and, at the end, shown
 //! cards.
 ghost use Rattle.std.specs.Prelude.{◌≡◌, ◌==◌, ◌++◌, ◌∷◌, [], if◌then◌else◌, map, IfOk, OnOk};
 ghost use Rattle.std.specs.List.{list_any};
@@ -14,7 +14,7 @@ use hand_records::Trace;
 use play_event::{Move, Place};
 use std::alloc::Global;
 
-/// The cards that a seat sees behind the first so many moves, each with its place.
+/// The cards that a seat sees after the first `count` moves, each with its place.
 pub fn seen_places(
     alloc: Global,
     trace: &Trace,
@@ -32,7 +32,7 @@ pub fn seen_places(
     Ok(seen)
 }
 
-// Puts a card behind the others, if it is seen.
+// Appends a card if it is seen.
 fn push_where(seen: &mut Vec<Place>, place: Place, sees: bool) -> Result<(), Memory>
     ensures { OnOk result (seen.new.items
         ≡ seen.old.items ++ (if sees then place ∷ [] else [])) }
@@ -64,7 +64,7 @@ pub fn has_begun(moves: &[Move], index: usize, street: u8) -> bool
     }
 }
 
-/// The seat sees the hole cards of an owner: its own and, behind the last move, those that are
+/// The seat sees the hole cards of an owner: its own and, after the last move, those that are
 /// shown.
 pub fn sees_seat_of(trace: &Trace, viewer: Seat, count: usize, owner: Seat) -> bool
     ensures { result ≡ sees_seat (core_said trace.now) viewer.number count owner.number }

@@ -1,4 +1,4 @@
-//! The lines that a seat saw of a hand are written: one before each move, and one behind the last.
+//! Writes the lines that a seat saw of a hand: one before each move, and one after the last.
 ghost use Rattle.std.specs.Prelude.{◌≡◌, ◌≤◌, ◌++◌, length, IfOk, OnOk};
 ghost use Rattle.acpc_writing.specs.Puts.{HaveFewChips};
 ghost use Rattle.acpc_view.specs.View.{head_text, seen_text, view_line, views_text};
@@ -13,15 +13,14 @@ use first_fault::Text;
 use hand_records::{Play, Trace};
 use std::alloc::Global;
 
-/// The lines that a seat saw of the play at a place of its file, from 0, under the game of that
+/// The lines that a seat saw of the play at a place of its file (from 0) under the game of that
 /// file.
 ///
-/// Ask for a sound play. A seat that the hand does not have would see no hole cards but those that
-/// are shown.
+/// The play must be sound. A seat that the hand does not have sees only hole cards that are shown.
 ///
 /// # Errors
 ///
-/// Want of memory.
+/// Out of memory.
 pub fn views(
     alloc: Global,
     game: &Game,
@@ -39,7 +38,7 @@ pub fn views(
     }
 }
 
-// The lines one behind the other.
+// The lines in order.
 #[tactic(auto, unfolding(crate::specs::View::views_text))]
 fn lines(
     alloc: Global,
@@ -61,7 +60,7 @@ fn lines(
     Ok(out)
 }
 
-// The line behind the first so many moves.
+// The line after the first `count` moves.
 #[tactic(auto, unfolding(crate::specs::View::view_line))]
 fn push_view(
     alloc: Global,
@@ -102,7 +101,7 @@ fn push_head(
     push_hand(alloc, out, place, hand)
 }
 
-// The betting and the cards that the seat saw behind the first so many moves.
+// The betting and the cards that the seat saw after the first `count` moves.
 #[tactic(auto, unfolding(crate::specs::View::seen_text))]
 fn push_seen(
     alloc: Global,

@@ -1,4 +1,5 @@
--- The game that a hand with a valid setup fits is one that is played, and so its game file is read as that game.
+-- If a hand with a valid setup fits a game, handref supports that game, and so its game file reads
+-- back as that game.
 use Rattle.std.proofs.Common.{◌≡◌, Bool, true, false, not, nat_lt, if◌then◌else◌, length, Option, Some, None, Ok, Err, refl, sym, ap, subst, ◌∙◌, arith}
 use Rattle.std.specs.List.{list_any}
 use Rattle.std.specs.Option.{option_map_or}

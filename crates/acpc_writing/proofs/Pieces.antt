@@ -1,4 +1,4 @@
--- The pieces of a line that are written one behind the other.
+-- The pieces of a line, written one after another.
 use Rattle.std.proofs.Common.{◌≡◌, ℕ, List, [], ◌∷◌, ◌++◌, ap, ◌∙◌, append_assoc}
 
 pub line_is : (out one two three four five six head play end : List ℕ)

@@ -1,9 +1,9 @@
--- What seats have put, kept as ten numbers.
+-- The chips that seats have put, kept as ten numbers.
 use Rattle.std.proofs.Common.{◌≡◌, ◌≢◌, ℕ, ◌+◌, ◌-◌, ◌≤◌, ◌<◌, List, ◌∷◌, length, set, slice_index, sym, ap, ◌∙◌, arith, inl, inr, ne_eqb}
 use Rattle.std.proofs.lemmas.Bool.{cases_eq, eq-eqb}
 use Rattle.std.proofs.lemmas.Grind.{get_or-set_at}
 use Rattle.std.proofs.lemmas.List.{get_or-set_other}
-use Rattle.canon_script.specs.CanonScript.{plain_move}
+use Rattle.play_event.specs.CanonScript.{plain_move}
 use Rattle.play_event.specs.Chips.{chips_put, posted}
 use Rattle.play_event.specs.Past.{Move}
 use Rattle.play_event.specs.Played.{move_said}
@@ -11,7 +11,7 @@ use Rattle.play_event.specs.declared.played.Move as rows
 use Rattle.play_event.specs.declared.setup.Setup.{Setup}
 use Rattle.acpc_writing.specs.Puts.{HavePut}
 
--- one seat more has what it posts
+-- one more seat has what it posts
 pub posted_more : (setup : Setup) (put : List ℕ) (index chips : ℕ) → length put ≡ 10 → index < 10 → chips ≡ posted setup (index + 1)
     → ((seat : ℕ) → 1 ≤ seat → seat ≤ index → slice_index put (seat - 1) ≡ posted setup seat)
     → (seat : ℕ) → 1 ≤ seat → seat ≤ index + 1 → slice_index (set put index chips) (seat - 1) ≡ posted setup seat
@@ -25,7 +25,7 @@ posted_more setup put index chips full within is before seat low high = elim (ca
     earlier : (a b : ℕ) → a ≢ b → a ≤ b → a + 1 ≤ b
     earlier a b differ most = omega (arith, differ, most)
 
--- what a move adds is put to its seat
+-- what a move adds is added to its seat
 pub put_more : (setup : Setup) (moves : List Move) (played : rows.Move) (put : List ℕ) → length put ≡ 10 → HavePut setup moves put
     → HavePut setup (plain_move (move_said played) ∷ moves) (set put (played.seat.number - 1) (slice_index put (played.seat.number - 1) + (played.to - played.from)))
 put_more setup moves played put full has = record {

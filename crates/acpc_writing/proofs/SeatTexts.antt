@@ -1,4 +1,4 @@
--- The text of one seat more.
+-- The text of one more seat.
 use Rattle.std.proofs.Common.{◌≡◌, ℕ, ◌+◌, ◌-◌, ◌≤◌, List, [], ◌∷◌, ◌++◌, None, IfSome, IsUtf8, slice_index_or, ap, sym, subst, ◌∙◌, append_assoc, arith, inl, inr}
 use Rattle.std.specs.List.{AllByRecursion}
 use Rattle.std.proofs.lemmas.Bool.{cases_eq}
@@ -8,14 +8,14 @@ use Rattle.hand_records.specs.declared.trace.Play.{Play}
 use Rattle.acpc_writing.specs.Seats.{bar_before, for_seats}
 use Rattle.acpc_writing.specs.Texts.{AreTexts, HasTexts}
 
--- what is written with the bar and the text of one seat more
+-- what is written with the bar and the text of one more seat
 pub text_more : (text : ℕ → List ℕ) (count : ℕ) (old so_far barred new : List ℕ) → so_far ≡ old ++ for_seats text count
     → barred ≡ so_far ++ bar_before (count + 1) → new ≡ barred ++ text (count + 1) → new ≡ old ++ for_seats text (count + 1)
 text_more text count old so_far barred new before bar more =
     seat_more (λ seat. bar_before seat ++ text seat) count old so_far new before
     (more ∙ ap (λ (l : List ℕ). l ++ text (count + 1)) bar ∙ append_assoc so_far (bar_before (count + 1)) (text (count + 1)))
 
--- one name more that is a text
+-- one more name that is a text
 pub texts_more : (notes : Notes) (count : ℕ) → AreTexts count notes → IfSome (slice_index_or notes.names (count + 1 - 1) None) IsUtf8 → AreTexts (count + 1) notes
 texts_more notes count before last = λ seat low high. elim (cases_eq seat (count + 1)) [
   | inl same ↦ subst (λ (n : ℕ). IfSome (slice_index_or notes.names (n - 1) None) IsUtf8) (sym same) last
@@ -25,7 +25,7 @@ texts_more notes count before last = λ seat low high. elim (cases_eq seat (coun
     earlier : (a b : ℕ) → (a ≡ b → ⊥) → a ≤ b → a + 1 ≤ b
     earlier a b differ most = omega (arith, differ, most)
 
--- one play more whose names are texts
+-- one more play whose names are texts
 pub plays_more : (plays : List Play) (play : Play) → AllByRecursion HasTexts plays → HasTexts play → AllByRecursion HasTexts (plays ++ play ∷ [])
 plays_more [] play each one = (one, tt)
 plays_more (first ∷ rest) play each one = (each.0, plays_more rest play each.1 one)

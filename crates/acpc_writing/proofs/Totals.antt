@@ -1,8 +1,9 @@
--- What seats put, counted move by move, is no more than what they put in the whole hand, and that is no more than their stacks.
+-- What seats put, counted move by move, is at most what they put in the whole hand, and that is at
+-- most their stacks.
 use Rattle.std.proofs.Common.{◌≡◌, ℕ, zero, suc, ◌+◌, ◌-◌, ◌≤◌, ◌<◌, List, [], ◌∷◌, ◌++◌, length, map, take, reverse, get_or, refl, sym, ap, ◌∙◌, arith}
 use Rattle.std.proofs.lemmas.Grind.{reverse_onto}
-use Rattle.canon_script.specs.CanonScript.{plain_move, plain_moves}
-use Rattle.canon_script.specs.TraceCore.{TraceCore}
+use Rattle.play_event.specs.CanonScript.{plain_move, plain_moves}
+use Rattle.play_event.specs.TraceCore.{TraceCore}
 use Rattle.canon_laws.proofs.SameCore.{plain_again}
 use Rattle.play_event.proofs.ChipLaws.{puts_within}
 use Rattle.play_event.specs.Chips.{chips_added, chips_put}
@@ -33,12 +34,12 @@ added_taken seat zero moves = omega arith
 added_taken seat (suc count) [] = omega arith
 added_taken seat (suc count) (move ∷ moves) = omega (arith, added_taken seat count moves)
 
--- after the first so many moves a seat has put no more than in the whole hand
+-- after the first `count` moves a seat has put no more than in the whole hand
 pub few_so_far : (setup : Setup) (seat count : ℕ) (moves : List rows.Move) → chips_put setup (plain_moves (map move_said (take count moves))) seat ≤ chips_put setup (plain_moves (map move_said moves)) seat
 few_so_far setup seat count moves =
     omega (arith, added_taken seat count moves, added_reverse seat (map plain_move (map move_said (take count moves))), added_reverse seat (map plain_move (map move_said moves)))
 
--- one move more
+-- one more move
 pub plain_more : (count : ℕ) (moves : List rows.Move) (other : rows.Move) → count < length moves
     → plain_moves (map move_said (take (count + 1) moves)) ≡ plain_move (move_said (get_or moves count other)) ∷ plain_moves (map move_said (take count moves))
 plain_more count [] other within = absurd (omega (arith, within))

@@ -8,25 +8,25 @@ use Rattle.play_event.specs.Past.{Act, BroughtIn, Called, Folded, Move, Raised}
 use Rattle.play_event.specs.Trace.{TracedPlace}
 use Rattle.acpc_writing.specs.Rounds.{behind_stroke, further_streets}
 
--- the chips of the whole hand that a seat has put once it has made a move
+-- the chips that a seat has put in the whole hand after it has made a move
 abbrev pub hand_total : Setup → Move → List Move → ℕ
 hand_total setup move before = chips_put setup (move ∷ before) move.seat
 
 -- The letter of a move: f for a fold, c for a check or call, r for a bet or raise. In a no-limit
--- game the seat's chips of the whole hand stand behind r. A bring-in, which these games have not,
--- has no letter.
+-- game the chips that the seat has put in the whole hand follow the r. A bring-in, which these
+-- games do not have, has no letter.
 abbrev pub letter : Bool → Act → ℕ → List ℕ
 letter no_limit Folded total = 102 ∷ []
 letter no_limit Called total = 99 ∷ []
 letter no_limit Raised total = if no_limit then 114 ∷ decimal total else 114 ∷ []
 letter no_limit BroughtIn total = []
 
--- the letter of a move, where it is one of a street
+-- the letter of a move, if the move is on this street
 abbrev pub letter_on : Bool → ℕ → Move → ℕ → List ℕ
 letter_on no_limit street move total =
     if move.street == street then letter no_limit move.act total else []
 
--- the letters of a street, by the moves of the hand, the newest first
+-- the letters of a street; the moves of the hand are given newest first
 unfoldable pub letters_on : Bool → Setup → ℕ → List Move → List ℕ
 letters_on no_limit setup street [] = []
 letters_on no_limit setup street (move ∷ before) =

@@ -1,22 +1,22 @@
--- The cards of a line: the hole cards of each seat, and behind a stroke those of the board for each
+-- The cards of a line: the hole cards of each seat, and after a stroke those of the board for each
 -- further round.
 use Rattle.std.specs.Prelude.{ℕ, if◌then◌else◌, List, [], ◌++◌, Some, None}
 use Rattle.std.specs.List.{flat_map, list_any}
 use Rattle.card_set.specs.Known.{is_unknown}
 use Rattle.card_set.specs.Spelling.{spelling}
 use Rattle.play_event.specs.Trace.{TracedPlace}
-use Rattle.canon_script.specs.CanonScript.{dealt_slots}
+use Rattle.play_event.specs.CanonScript.{dealt_slots}
 use Rattle.acpc_writing.specs.Rounds.{behind_stroke, further_streets}
 use Rattle.acpc_writing.specs.Seats.{for_seats}
 
--- the hole cards of a seat, or nothing where one of them is unknown
+-- the hole cards of a seat, or nothing if one of them is unknown
 abbrev pub hole_text : List TracedPlace → ℕ → List ℕ
 hole_text placed seat =
     if list_any is_unknown (dealt_slots placed (Some seat) 1)
     then []
     else spelling (dealt_slots placed (Some seat) 1)
 
--- the hole cards of so many seats
+-- the hole cards of `count` seats
 unfoldable pub holes_text : List TracedPlace → ℕ → List ℕ
 holes_text placed count = for_seats (hole_text placed) count
 
@@ -28,6 +28,6 @@ board_text placed street = behind_stroke placed street (spelling (dealt_slots pl
 unfoldable pub boards_text : List TracedPlace → List ℕ
 boards_text placed = flat_map (board_text placed) further_streets
 
--- the cards of a hand of so many seats
+-- the cards of a hand with `count` seats
 unfoldable pub cards_text : List TracedPlace → ℕ → List ℕ
 cards_text placed count = holes_text placed count ++ boards_text placed

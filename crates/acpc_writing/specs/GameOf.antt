@@ -1,4 +1,4 @@
--- The game that a hand fits: its stacks, blinds and sizes of bets, without caps.
+-- The game that a hand fits: its stacks, blinds and bet sizes, without caps.
 use Rattle.std.specs.Prelude.{◌≡◌, ◌==◌, ◌||◌, Bool, true, false, not, nat_lt, nat_le, if◌then◌else◌, Option, Some, None, Result, Ok, Err}
 use Rattle.std.specs.List.{list_any}
 use Rattle.std.specs.Option.{option_map_or}
@@ -12,21 +12,21 @@ use Rattle.acpc_game.specs.Games.{are_chips, has_fitting_sizes}
 use Rattle.chip_ledger.specs.SeatRow.{amounts_in}
 use Rattle.chip_ledger.specs.Greatest.{greatest}
 
--- whether hold'em with this code has no limit; other games have no logs
+-- whether hold'em with this code is no-limit; other variants have no logs
 abbrev pub no_limit_of : Code → Option Bool
 no_limit_of codes.NT = Some true
 no_limit_of codes.FT = Some false
 no_limit_of _ = None
 
--- the sizes of bets fit the greatest blind: in no limit the least bet is that blind, and else the
--- small bet is no more than it, where there is a blind
+-- the bet sizes fit the greatest blind: in no-limit the least bet is that blind; in limit the small
+-- bet is not above it, if there is a blind
 abbrev pub is_sized_by_blind : Bool → Setup → Bool
 is_sized_by_blind no_limit setup =
     if no_limit then setup.min_bet == greatest (amounts_in setup.blinds)
     else greatest (amounts_in setup.blinds) == 0
     || nat_le setup.small_bet (greatest (amounts_in setup.blinds))
 
--- the game with these stacks, blinds and sizes
+-- the game with these stacks, blinds and bet sizes
 abbrev pub game_with : Bool → Setup → GameSaid
 game_with no_limit setup = record {
   no_limit = no_limit;
@@ -37,7 +37,7 @@ game_with no_limit setup = record {
   caps = None;
 }
 
--- the game of hold'em with or without limit, or the first fact that no such game has
+-- the game of limit or no-limit hold'em, or the first fact that no such game has
 abbrev pub game_by_limit : Setup → Bool → Result GameSaid Unspelled
 game_by_limit setup no_limit =
     if has_short_stack (amounts_in setup.stacks) (amounts_in setup.blinds) then Err facts.Stacks
@@ -49,7 +49,7 @@ game_by_limit setup no_limit =
 unfoldable pub game_of : Setup → Result GameSaid Unspelled
 game_of setup = option_map_or (game_by_limit setup) (no_limit_of setup.code) (Err facts.Variant)
 
--- the stacks, blinds and sizes of a setup are those of a game
+-- the stacks, blinds and bet sizes of a setup are those of a game
 pub record MakesGame (no_limit : Bool) (setup : Setup) : Type 0 where
   pub one_row : setup.blinds.seats ≡ setup.stacks.seats
   pub few : are_chips (amounts_in setup.stacks) ≡ true

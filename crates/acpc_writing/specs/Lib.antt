@@ -1,5 +1,5 @@
--- The one line of a log that stands for a play, the facts of a play that the logs of a game do not
--- spell, and the game that a hand fits.
+-- The line that a log has for a play, the facts of a play that the logs of a game cannot write, and
+-- the game that a hand fits.
 pub mod Seats
 pub mod Rounds
 pub mod Betting

@@ -1,8 +1,8 @@
--- The one line that stands for a play: STATE, the number of the hand, the betting, the cards, the
--- values and the names, with colons between them and a newline at the end. The lines of plays stand
--- behind one another.
+-- The line of a play: STATE, the number of the hand, the betting, the cards, the values and the
+-- names, separated by colons and ended by a newline. A log is the lines of its plays, one after the
+-- other.
 use Rattle.std.specs.Prelude.{ℕ, ◌+◌, Bool, List, [], ◌∷◌, ◌++◌, codes, Option}
-use Rattle.canon_script.specs.CanonScript.{plain_moves}
+use Rattle.play_event.specs.CanonScript.{plain_moves}
 use Rattle.hand_records.specs.TraceRows.{core_said}
 use Rattle.hand_records.specs.declared.notes.Notes.{Notes}
 use Rattle.hand_records.specs.declared.trace.Play.{Play}
@@ -33,7 +33,7 @@ line_text no_limit place play =
     head_text place play.hand.notes.hand
     ++ 58 ∷ (play_text no_limit play.trace ++ 58 ∷ (end_text play.trace play.hand.notes ++ 10 ∷ []))
 
--- the lines of plays, of which the first is at this place
+-- the lines of plays, the first of which is at this place
 abbrev pub lines_from : Bool → ℕ → List Play → List ℕ
 lines_from no_limit place [] = []
 lines_from no_limit place (play ∷ rest) =

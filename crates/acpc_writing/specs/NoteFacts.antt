@@ -1,4 +1,4 @@
--- Which notes of a hand a line spells: names of players, and the number of the hand.
+-- Which notes of a hand a line can write: names of players, and the number of the hand.
 use Rattle.std.specs.Prelude.{ℕ, Bool, false, not, List, [], ◌∷◌, Option, Some, None, is_some}
 use Rattle.std.specs.List.{list_any}
 use Rattle.hand_records.specs.declared.notes.Notes.{Notes}
@@ -7,18 +7,17 @@ use Rattle.hand_records.specs.declared.writing.Unspelled.{Unspelled}
 use Rattle.hand_records.specs.declared.writing.Unspelled.TheVariants as facts
 use Rattle.acpc_writing.specs.Names.{is_spelled_hand, is_spelled_name}
 
--- a name is said that has no spelling
+-- there is a name, and a line cannot write it
 abbrev pub is_unspelled_name : Option (List ℕ) → Bool
 is_unspelled_name None = false
 is_unspelled_name (Some name) = not (is_spelled_name name)
 
--- a number of the hand is said that has no spelling
+-- there is a hand number, and a line cannot write it
 abbrev pub is_unspelled_hand : Option (List ℕ) → Bool
 is_unspelled_hand None = false
 is_unspelled_hand (Some text) = not (is_spelled_hand text)
 
--- each condition of the notes of a hand that a line does not spell, with the note that it names: of
--- seats and texts
+-- each case in which a line cannot write a note, with that note: of seats and texts
 abbrev pub text_conditions : Notes → List (Bool × Unspelled)
 text_conditions notes =
     (list_any is_unspelled_name notes.names, facts.Note names.Players)

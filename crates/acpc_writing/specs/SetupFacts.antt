@@ -1,4 +1,4 @@
--- What of a hand's setup a game must have, so that its logs spell the hand.
+-- Which setups the logs of a game can write.
 use Rattle.std.specs.Prelude.{◌==◌, ◌&&◌, Bool, false, not, nat_lt, bytes_eq, if◌then◌else◌, List, [], ◌∷◌}
 use Rattle.std.specs.List.{list_any}
 use Rattle.chip_ledger.specs.Greatest.{greatest}
@@ -10,21 +10,21 @@ use Rattle.hand_records.specs.declared.writing.Unspelled.TheVariants as facts
 use Rattle.acpc_game.specs.declared.game.Game.{Game}
 use Rattle.chip_ledger.specs.SeatRow.{amounts_in}
 
--- the code is that of a game: no-limit hold'em where it has no limit, and else fixed-limit hold'em
+-- the variant is that of the game: no-limit hold'em in a no-limit game, else fixed-limit hold'em
 abbrev pub is_code_of : Bool → Code → Bool
 is_code_of no_limit codes.NT = no_limit
 is_code_of no_limit codes.FT = not no_limit
 is_code_of no_limit _ = false
 
--- the sizes are those of a game: in no limit the least bet is the greatest blind, and else both
--- bets are the game's raises
+-- the bet sizes are those of the game: in no-limit the least bet is the greatest blind; in limit
+-- both bets are the game's raise sizes
 abbrev pub has_sizes_of : Game → Setup → Bool
 has_sizes_of game setup =
     if game.no_limit then setup.min_bet == greatest (amounts_in setup.blinds)
     else setup.small_bet == game.small_raise && setup.big_bet == game.big_raise
 
--- each condition of a setup that a game's logs do not spell, with the fact that it names, in the
--- order in which they are tried
+-- each case in which a game's logs cannot write a setup, with the fact that is reported, in the
+-- order in which they are checked
 abbrev pub setup_conditions : Game → Setup → List (Bool × Unspelled)
 setup_conditions game setup =
     (not (is_code_of game.no_limit setup.code), facts.Variant)

@@ -1,4 +1,4 @@
--- Which plays the logs of a game spell, and the first play that they do not.
+-- Which plays the logs of a game can write, and the first play that they cannot.
 use Rattle.std.specs.Prelude.{Option, None}
 use Rattle.hand_records.specs.declared.notes.Notes.{Notes}
 use Rattle.hand_records.specs.declared.trace.Play.{Play}
@@ -12,14 +12,14 @@ use Rattle.acpc_writing.specs.SetupFacts.{setup_conditions}
 use Rattle.hand_records.specs.WriteRefusals.{or_behind}
 use Rattle.first_fault.specs.Conditions.{first_where}
 
--- the first note that is kept and has no spelling; where those that are spelled are kept, there is
--- none
+-- the first note that a line cannot write, if all notes are to be kept; if only those that can be
+-- written are kept, there is none
 unfoldable pub unspelled_note : Keep → Notes → Option Unspelled
 unspelled_note keeps.All notes =
     or_behind (first_where (text_conditions notes)) (first_where (time_conditions notes))
 unspelled_note keeps.Spelled notes = None
 
--- the first fact of a play that the logs of a game do not spell: of its setup, of its play, of its
+-- the first fact of a play that the logs of a game cannot write: of its setup, of its play, of its
 -- notes
 unfoldable pub unspelled : Game → Keep → Play → Option Unspelled
 unspelled game keep play =

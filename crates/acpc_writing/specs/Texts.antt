@@ -1,9 +1,9 @@
--- Names of players that are texts.
+-- Player names that are texts.
 use Rattle.std.specs.Prelude.{ℕ, ◌-◌, ◌≤◌, None, IfSome, IsUtf8, slice_index_or}
 use Rattle.hand_records.specs.declared.notes.Notes.{Notes}
 use Rattle.hand_records.specs.declared.trace.Play.{Play}
 
--- the names of so many players are texts
+-- the names of `count` players are texts
 abbrev pub AreTexts : ℕ → Notes → Type 0
 AreTexts count notes =
     (seat : ℕ) → 1 ≤ seat → seat ≤ count

@@ -4,7 +4,7 @@ use Rattle.chip_ledger.specs.SeatRow.{amount_of}
 use Rattle.chip_ledger.specs.declared.seat_row.SeatRow.{SeatRow}
 use Rattle.acpc_writing.specs.Seats.{for_seats}
 
--- what a seat ends with less what it began with: a loss has - in front
+-- what a seat ends with minus what it began with, in chips; a loss begins with -
 abbrev pub value_text : SeatRow → SeatRow → ℕ → List ℕ
 value_text stacks finish seat =
     if nat_lt (amount_of finish seat) (amount_of stacks seat)

@@ -1,4 +1,4 @@
-//! Amounts of a row are compared with others.
+//! Compares the amounts of a row with others.
 ghost use Rattle.std.specs.Prelude.{◌≡◌, nat_lt, bytes_eq};
 ghost use Rattle.std.specs.List.{list_any};
 ghost use Rattle.chip_ledger.specs.SeatRow.{amounts_in};
@@ -12,8 +12,8 @@ pub fn amounts_of(row: &SeatRow) -> &[u64]
     &row.amounts[..row.seats as usize]
 }
 
-/// Whether amounts are these.
-#[tactic(auto, using(list_laws::proofs::Bytes::equal_by_test))]
+/// Whether the amounts are the same.
+#[tactic(auto, using(card_set::proofs::Bytes::equal_by_test))]
 pub fn are_same(amounts: &[u64], others: &[u64]) -> bool
     ensures { result ≡ bytes_eq amounts.now others.now }
 {

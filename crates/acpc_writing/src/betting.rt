@@ -1,20 +1,19 @@
-//! The betting of a line has a letter for each move.
+//! Writes the betting of a line: a letter for each move.
 ghost use Rattle.std.specs.Prelude.{◌≡◌, ◌++◌, map, OnOk};
 ghost use Rattle.play_event.specs.Past.{Raised};
 ghost use Rattle.play_event.specs.Played.{act_said, move_said};
-ghost use Rattle.canon_script.specs.CanonScript.{plain_move, plain_moves};
+ghost use Rattle.play_event.specs.CanonScript.{plain_move, plain_moves};
 ghost use Rattle.hand_records.specs.TraceRows.{place_said};
 ghost use Rattle.acpc_writing.specs.Betting.{betting_text, letter, letter_on, letters_on, round_text};
 ghost use Rattle.acpc_writing.specs.Puts.{HaveFewChips};
 
-use card_set::Memory;
 use crate::cards::has_board;
 use crate::puts::{add, posted_chips};
+use card_set::Memory;
 use play_event::{Act, Move, Place, Setup};
 use std::alloc::Global;
 
-/// The betting of a hand with these moves and cards. Raises have their totals where the game has no
-/// limit.
+/// The betting of a hand with these moves and cards. In a no-limit game raises have their totals.
 #[tactic(auto, unfolding(crate::specs::Betting::betting_text))]
 pub fn push_betting(
     alloc: Global,
@@ -40,7 +39,7 @@ pub fn push_betting(
     spelled.push_round(alloc, out, places, 4)
 }
 
-// The moves of a hand behind its setup, as a game with a limit or none spells them.
+// A hand's setup and moves, and whether they are written for a no-limit game.
 #[derive(Clone, Copy)]
 struct SpelledMoves<'a> {
     no_limit: bool,
@@ -86,7 +85,7 @@ impl SpelledMoves<'_> {
     }
 }
 
-// The letter of a move, where it is one of a street.
+// The letter of a move, if the move is on this street.
 fn push_letter_on(
     alloc: Global,
     out: &mut Vec<u8>,
@@ -104,7 +103,7 @@ fn push_letter_on(
     push_letter(alloc, out, no_limit, played.act, total)
 }
 
-// The letter of a move, after which its seat has put so many chips in the whole hand.
+// The letter of a move; `total` is what its seat has then put in the whole hand.
 fn push_letter(
     alloc: Global,
     out: &mut Vec<u8>,
@@ -123,13 +122,8 @@ fn push_letter(
     }
 }
 
-// `r`, and in a no-limit game the chips of the whole hand behind it.
-fn push_raise(
-    alloc: Global,
-    out: &mut Vec<u8>,
-    no_limit: bool,
-    total: u64,
-) -> Result<(), Memory>
+// `r`, followed in a no-limit game by the chips that the seat has put in the whole hand.
+fn push_raise(alloc: Global, out: &mut Vec<u8>, no_limit: bool, total: u64) -> Result<(), Memory>
     ensures { OnOk result (out.new.items
         ≡ out.old.items ++ letter no_limit Raised total) }
 {

@@ -1,9 +1,9 @@
-//! The cards of a line are those of each seat and, for each further round, those of the board.
+//! Writes the cards of a line: those of each seat, and those of the board for each further round.
 ghost use Rattle.std.specs.Prelude.{◌≡◌, ◌≤◌, ◌&&◌, ◌++◌, [], Some, None, if◌then◌else◌, map, not, OnOk};
 ghost use Rattle.std.specs.List.{list_any};
 ghost use Rattle.card_set.specs.Known.{is_unknown};
 ghost use Rattle.card_set.specs.Spelling.{slot_spelling, spelling};
-ghost use Rattle.canon_script.specs.CanonScript.{dealt_slots, is_dealt_to};
+ghost use Rattle.play_event.specs.CanonScript.{dealt_slots, is_dealt_to};
 ghost use Rattle.play_event.specs.Places.{is_same_owner as is_same_owner_said};
 ghost use Rattle.play_event.specs.Said.{seat_named};
 ghost use Rattle.hand_records.specs.TraceRows.{place_said};
@@ -11,8 +11,7 @@ ghost use Rattle.acpc_writing.specs.Cards.{board_text, boards_text, cards_text, 
 ghost use Rattle.acpc_writing.specs.Rounds.{has_board as has_board_said};
 ghost use Rattle.acpc_writing.specs.Seats.{bar_before};
 
-use card_set::Memory;
-use card_set::{Slot, slot_text};
+use card_set::{Memory, Slot, slot_text};
 use chip_ledger::Seat;
 use play_event::Place;
 
@@ -29,7 +28,7 @@ pub fn has_known(places: &[Place], owner: Option<Seat>, street: u8) -> bool
     false
 }
 
-/// The cards of a hand of so many seats.
+/// The cards of a hand with `seats` seats.
 #[tactic(auto, unfolding(crate::specs::Cards::cards_text, crate::specs::Cards::holes_text))]
 pub fn push_cards(out: &mut Vec<u8>, places: &[Place], seats: u8) -> Result<(), Memory>
     requires { seats ≤ 10 }
@@ -44,7 +43,7 @@ pub fn push_cards(out: &mut Vec<u8>, places: &[Place], seats: u8) -> Result<(), 
     push_boards(out, places)
 }
 
-/// A bar, in front of each seat's text but the first.
+/// A bar, before the text of each seat except the first.
 pub fn push_bar(out: &mut Vec<u8>, seat: Seat) -> Result<(), Memory>
     ensures { OnOk result (out.new.items ≡ out.old.items ++ bar_before seat.number) }
 {
@@ -142,7 +141,7 @@ fn push_dealt(
     Ok(())
 }
 
-// The card of a place, where it counts.
+// The card of a place, if `counts`.
 fn push_card(out: &mut Vec<u8>, place: Place, counts: bool) -> Result<(), Memory>
     ensures { OnOk result (out.new.items
         ≡ out.old.items ++ (if counts then slot_spelling place.slot else [])) }
@@ -160,7 +159,7 @@ pub fn is_dealt(place: Place, owner: Option<Seat>, street: u8) -> bool
     is_same_owner(place.owner, owner) && place.street == street
 }
 
-// Whether two owners are one.
+// Whether two owners are the same.
 fn is_same_owner(owner: Option<Seat>, other: Option<Seat>) -> bool
     ensures { result ≡ is_same_owner_said (seat_named owner) (seat_named other) }
 {

@@ -1,4 +1,4 @@
-//! The setup of a hand is compared with a game, and a game is made that it fits.
+//! Compares the setup of a hand with a game, and makes a game that the hand fits.
 ghost use Rattle.std.specs.Prelude.{◌≡◌, ◌&&◌, ◌==◌, Ok, Err, IfErr, IfOk};
 ghost use Rattle.acpc_game.specs.GameView.{game_in};
 ghost use Rattle.play_event.specs.ValidSetup.{IsValid};
@@ -13,7 +13,7 @@ use acpc_game::{Game, greatest, has_short_stack};
 use hand_records::{Play, Unspelled};
 use play_event::{Code, Setup};
 
-/// The first fact of a setup that the logs of a game do not spell.
+/// The first fact of a setup that the logs of a game cannot write.
 pub fn find_other_setup(game: &Game, setup: &Setup) -> Option<Unspelled>
     ensures { result ≡ first_where (setup_conditions game.now setup.now) }
 {
@@ -41,7 +41,7 @@ pub fn find_other_setup(game: &Game, setup: &Setup) -> Option<Unspelled>
     None
 }
 
-// Whether the code is that of a game with or without limit.
+// Whether the code is that of the limit or no-limit game.
 fn is_game_code(no_limit: bool, code: Code) -> bool
     ensures { result ≡ is_code_of no_limit code }
 {
@@ -52,7 +52,7 @@ fn is_game_code(no_limit: bool, code: Code) -> bool
     }
 }
 
-// Whether the sizes are those of a game.
+// Whether the bet sizes are those of a game.
 fn has_game_sizes(game: &Game, setup: &Setup) -> bool
     ensures { result ≡ has_sizes_of game.now setup.now }
 {
@@ -89,7 +89,7 @@ pub fn game_of(play: &Play) -> Result<Game, Unspelled>
     Ok(make_game(no_limit, setup))
 }
 
-// Whether the game has no limit, if it is hold'em that logs have.
+// Whether the game is no-limit, if it is hold'em that logs can have.
 fn limit_of(code: Code) -> Option<bool>
     ensures { result ≡ no_limit_of code }
 {
@@ -100,7 +100,7 @@ fn limit_of(code: Code) -> Option<bool>
     }
 }
 
-// Whether the sizes of bets fit the greatest blind.
+// Whether the bet sizes fit the greatest blind.
 fn is_sized_by_blind(no_limit: bool, setup: &Setup) -> bool
     ensures { result ≡ is_sized_by_blind_said no_limit setup.now }
 {
@@ -118,7 +118,7 @@ fn greatest_blind(setup: &Setup) -> u64
     greatest(amounts_of(&setup.blinds))
 }
 
-// The game with the stacks, blinds and sizes of a setup.
+// The game with the stacks, blinds and bet sizes of a setup.
 fn make_game(no_limit: bool, setup: &Setup) -> Game
     requires { MakesGame no_limit setup.now }
     ensures { game_in result ≡ game_with no_limit setup.now }

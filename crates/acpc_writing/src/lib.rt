@@ -1,5 +1,5 @@
-//! Each play is written as its one line of a log, or the first play is named that the logs of a
-//! game do not spell.
+//! Writes plays as the lines of a log, or names the first play that the logs of a game cannot
+//! write.
 #![tactic(auto)]
 
 mod amounts;

@@ -1,21 +1,21 @@
-//! A play is written as its one line.
+//! Writes a play as its line.
 ghost use Rattle.std.specs.Prelude.{◌≡◌, ◌++◌, OnErr, OnOk};
 ghost use Rattle.hand_canon.specs.Sound.{IsSound};
 ghost use Rattle.acpc_writing.specs.Line.{end_text, head_text, line_text, play_text};
 ghost use Rattle.acpc_writing.specs.Puts.{HaveFewChips};
 ghost use Rattle.acpc_writing.specs.Texts.{AreTexts, HasTexts};
 
-use card_set::Memory;
 use crate::betting::push_betting;
 use crate::cards::push_cards;
 use crate::names::{push_hand, push_names};
 use crate::values::push_values;
+use card_set::Memory;
 use first_fault::Text;
 use hand_records::{Notes, Play, Trace};
 use std::alloc::Global;
 
-/// Puts the line of the play at a place of its file, from 0, behind those of the plays before it,
-/// whole or not at all. Raises have their totals where the game has no limit.
+/// Appends the line of the play at a place of its file (from 0), whole or not at all. In a no-limit
+/// game raises have their totals.
 #[tactic(auto, unfolding(crate::specs::Line::line_text))]
 pub fn push_line(
     alloc: Global,
@@ -56,12 +56,7 @@ fn push_head(
 
 // The betting and the cards of a hand.
 #[tactic(auto, unfolding(crate::specs::Line::play_text))]
-fn push_play(
-    alloc: Global,
-    out: &mut Vec<u8>,
-    no_limit: bool,
-    trace: &Trace,
-) -> Result<(), Memory>
+fn push_play(alloc: Global, out: &mut Vec<u8>, no_limit: bool, trace: &Trace) -> Result<(), Memory>
     requires { HaveFewChips trace.now.setup trace.now.moves }
     ensures { OnOk result (out.new.items ≡ out.old.items ++ play_text no_limit trace.now) }
 {
@@ -79,12 +74,7 @@ fn push_play(
 
 // The values and the names.
 #[tactic(auto, unfolding(crate::specs::Line::end_text))]
-fn push_end(
-    alloc: Global,
-    out: &mut Vec<u8>,
-    trace: &Trace,
-    notes: &Notes,
-) -> Result<(), Memory>
+fn push_end(alloc: Global, out: &mut Vec<u8>, trace: &Trace, notes: &Notes) -> Result<(), Memory>
     requires { trace.now.finish.seats ≡ trace.now.setup.stacks.seats }
     ensures written { OnOk result (out.new.items ≡ out.old.items ++ end_text trace.now notes.now) }
     ensures texts { OnOk result (AreTexts trace.now.setup.stacks.seats notes.now) }

@@ -1,4 +1,4 @@
-//! Plays are written as the lines of a log.
+//! Writes plays as the lines of a log.
 ghost use Rattle.std.specs.Prelude.{◌≡◌, ◌⊎◌, ◌≤◌, None, Some, length, IfErr, IfOk, OnOk};
 ghost use Rattle.std.specs.List.{AllByRecursion};
 ghost use Rattle.hand_canon.specs.Sound.{IsSound};
@@ -6,7 +6,7 @@ ghost use Rattle.first_fault.specs.declared.limits.TheConstants.{MOST_HANDS};
 ghost use Rattle.acpc_writing.specs.Line.{log_text};
 ghost use Rattle.acpc_writing.specs.Spelled.{unspelled};
 ghost use Rattle.acpc_writing.specs.Texts.{HasTexts};
-ghost use Rattle.hand_records.specs.WriteRefusals.{IsWant, first_refusal};
+ghost use Rattle.hand_records.specs.WriteRefusals.{IsOutOfMemory, first_refusal};
 
 use crate::line::push_line;
 use crate::spelled::find_refusal;
@@ -14,12 +14,12 @@ use acpc_game::Game;
 use hand_records::{Keep, Play, WriteRefusal};
 use std::alloc::Global;
 
-/// The lines of some plays, one a play. Nothing is written where the logs of the game do not spell
+/// The lines of some plays, one per play. Nothing is written if the logs of the game cannot write
 /// one of them.
 ///
 /// # Errors
 ///
-/// The number of the first such play, from 1, and its first fact without a spelling.
+/// The number of the first such play, from 1, and its first fact that cannot be written.
 pub fn write(
     alloc: Global,
     game: &Game,
@@ -31,7 +31,7 @@ pub fn write(
     ensures written { IfOk result (λ bytes. bytes.items ≡ log_text game.now.no_limit plays.now) }
     ensures texts { OnOk result (AllByRecursion HasTexts plays.now) }
     ensures spelled { OnOk result (first_refusal (unspelled game.now keep) plays.now ≡ None) }
-    ensures refused { IfErr result (λ refusal. IsWant refusal
+    ensures refused { IfErr result (λ refusal. IsOutOfMemory refusal
         ⊎ (first_refusal (unspelled game.now keep) plays.now ≡ Some refusal)) }
 {
     if let Some(refusal) = find_refusal(game, plays, keep) {

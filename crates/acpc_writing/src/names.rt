@@ -1,24 +1,19 @@
-//! The names of a line are those of the players, and the number of the hand.
+//! Writes the names of a line: those of the players, and the number of the hand.
 ghost use Rattle.std.specs.Prelude.{◌≡◌, ◌≤◌, ◌-◌, ◌++◌, None, IfSome, IsUtf8, OnOk, slice_index_or};
 ghost use Rattle.acpc_writing.specs.Names.{hand_text, is_spelled_hand as is_spelled_hand_said, is_spelled_name as is_spelled_name_said, may_stand as may_stand_said, name_or_default, names_text};
 ghost use Rattle.acpc_writing.specs.Texts.{AreTexts};
 ghost use Rattle.chip_ledger.specs.SeatsSaid.{default_name};
 
-use card_set::Memory;
 use crate::cards::push_bar;
+use card_set::Memory;
 use chip_ledger::Seat;
 use first_fault::{Text, are_digits};
 use hand_records::Notes;
 use std::alloc::Global;
 
-/// The name of each of so many players, with bars between them.
+/// The names of `count` players, separated by bars.
 #[tactic(auto, unfolding(crate::specs::Names::names_text))]
-pub fn push_names(
-    alloc: Global,
-    out: &mut Vec<u8>,
-    notes: &Notes,
-    seats: u8,
-) -> Result<(), Memory>
+pub fn push_names(alloc: Global, out: &mut Vec<u8>, notes: &Notes, seats: u8) -> Result<(), Memory>
     requires { seats ≤ 10 }
     ensures written { OnOk result (out.new.items ≡ out.old.items ++ names_text notes.now seats) }
     ensures texts { OnOk result (AreTexts seats notes.now) }
@@ -31,7 +26,7 @@ pub fn push_names(
     Ok(())
 }
 
-// The name of a seat's player, or its default where none is said or it has no spelling.
+// The name of a seat's player, or the default name if there is none or a line cannot write it.
 fn push_name(
     alloc: Global,
     out: &mut Vec<u8>,
@@ -52,7 +47,7 @@ fn push_name(
     push_default(alloc, out, seat)
 }
 
-// The name of a seat's player where none is said.
+// The default name of a seat's player.
 fn push_default(alloc: Global, out: &mut Vec<u8>, seat: Seat) -> Result<(), Memory>
     ensures { OnOk result (out.new.items ≡ out.old.items ++ default_name seat.number) }
 {
@@ -61,7 +56,7 @@ fn push_default(alloc: Global, out: &mut Vec<u8>, seat: Seat) -> Result<(), Memo
     Ok(out.extend_from_slice(digits.as_bytes())?)
 }
 
-/// Whether a line spells a name: the name has no colon and no bar, and ends no line.
+/// Whether a line can write a name: it has no colon, no bar and no end of a line.
 #[tactic(auto, unfolding(crate::specs::Names::is_spelled_name))]
 pub fn is_spelled_name(name: &[u8]) -> bool
     ensures { result ≡ is_spelled_name_said name.now }
@@ -74,22 +69,22 @@ pub fn is_spelled_name(name: &[u8]) -> bool
     true
 }
 
-// Whether a sign may stand in a name.
+// Whether a sign is allowed in a name.
 fn may_stand(sign: u8) -> bool
     ensures { result ≡ may_stand_said sign }
 {
     sign != b':' && sign != b'|' && sign != b'\r' && sign != b'\n'
 }
 
-// The name of a seat's player, if one is said.
+// The name of a seat's player, if it is known.
 fn name_of(notes: &Notes, seat: Seat) -> &Option<Text>
     ensures { result.now ≡ slice_index_or notes.now.names (seat.number - 1) None }
 {
     &notes.names[seat.number as usize - 1]
 }
 
-/// The number of the hand at a place of its file, from 0: that place where none is said or it has
-/// no spelling.
+/// The number of the hand at a place of its file (from 0): that place if there is no number or a
+/// line cannot write it.
 #[tactic(auto, unfolding(crate::specs::Names::hand_text))]
 pub fn push_hand(
     alloc: Global,
@@ -118,8 +113,8 @@ fn push_place(alloc: Global, out: &mut Vec<u8>, place: usize) -> Result<(), Memo
     Ok(out.extend_from_slice(digits.as_bytes())?)
 }
 
-/// Whether a line spells a number of a hand: a decimal number without leading zeros, of at most
-/// eighteen digits.
+/// Whether a line can write a hand number: a decimal number without leading zeros, of at most 18
+/// digits.
 #[tactic(auto, unfolding(crate::specs::Names::is_spelled_hand))]
 pub fn is_spelled_hand(text: &[u8]) -> bool
     ensures { result ≡ is_spelled_hand_said text.now }

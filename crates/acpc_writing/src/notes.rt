@@ -1,4 +1,4 @@
-//! The notes of a hand are looked through for what a line does not spell.
+//! Looks through the notes of a hand for one that a line cannot write.
 ghost use Rattle.std.specs.Prelude.{◌≡◌};
 ghost use Rattle.std.specs.List.{list_any};
 ghost use Rattle.hand_records.specs.declared.writing.Keep.TheVariants as keeps;
@@ -10,7 +10,7 @@ use crate::names::{is_spelled_hand, is_spelled_name};
 use first_fault::Text;
 use hand_records::{Keep, NoteName, Notes, Unspelled};
 
-/// The first note that is kept and that a line does not spell.
+/// The first note that is to be kept and that a line cannot write.
 #[tactic(auto, unfolding(crate::specs::Spelled::unspelled_note))]
 pub fn find_other_note(notes: &Notes, keep: Keep) -> Option<Unspelled>
     ensures { result ≡ unspelled_note keep notes.now }
@@ -21,7 +21,7 @@ pub fn find_other_note(notes: &Notes, keep: Keep) -> Option<Unspelled>
     }
 }
 
-// The first of all notes that a line does not spell.
+// The first of all notes that a line cannot write.
 #[tactic(auto, unfolding(crate::specs::Spelled::unspelled_note))]
 fn find_any(notes: &Notes) -> Option<Unspelled>
     ensures { result ≡ unspelled_note keeps.All notes.now }
@@ -32,7 +32,7 @@ fn find_any(notes: &Notes) -> Option<Unspelled>
     }
 }
 
-// The first note of seats and texts that a line does not spell.
+// The first note of seats and texts that a line cannot write.
 fn find_text(notes: &Notes) -> Option<Unspelled>
     ensures { result ≡ first_where (text_conditions notes.now) }
 {
@@ -60,7 +60,7 @@ fn find_text(notes: &Notes) -> Option<Unspelled>
     None
 }
 
-// Whether this is so of one of the names.
+// Whether a line cannot write one of the names.
 fn has_unspelled_name(names: &[Option<Text>]) -> bool
     ensures { result ≡ list_any is_unspelled_name_said names.now }
 {
@@ -72,7 +72,7 @@ fn has_unspelled_name(names: &[Option<Text>]) -> bool
     false
 }
 
-// Whether a name is said that has no spelling.
+// Whether there is a name that a line cannot write.
 fn is_unspelled_name(name: &Option<Text>) -> bool
     ensures { result ≡ is_unspelled_name_said name.now }
 {
@@ -82,7 +82,7 @@ fn is_unspelled_name(name: &Option<Text>) -> bool
     }
 }
 
-// Whether a number of the hand is said that has no spelling.
+// Whether there is a hand number that a line cannot write.
 fn is_unspelled_hand(text: &Option<Text>) -> bool
     ensures { result ≡ is_unspelled_hand_said text.now }
 {
@@ -92,7 +92,7 @@ fn is_unspelled_hand(text: &Option<Text>) -> bool
     }
 }
 
-// The first note of the day and its time that stands: a line spells none.
+// The first note of the day and its time that is present: a line can write none of them.
 fn find_time(notes: &Notes) -> Option<Unspelled>
     ensures { result ≡ first_where (time_conditions notes.now) }
 {

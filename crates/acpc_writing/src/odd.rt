@@ -1,4 +1,4 @@
-//! A pot has an odd chip where one of its winners gets less than another.
+//! Looks for an odd chip: a pot in which one winner gets less than another.
 ghost use Rattle.std.specs.Prelude.{◌≡◌, ◌&&◌, nat_lt};
 ghost use Rattle.std.specs.List.{list_any};
 ghost use Rattle.chip_ledger.specs.PotRow.{shares_in};
@@ -8,7 +8,7 @@ use crate::amounts::amounts_of;
 use acpc_game::greatest;
 use chip_ledger::{SeatRow, ShareRow};
 
-/// Whether this is so of one of the pots.
+/// Whether one of the pots has an odd chip.
 pub fn has_odd_chip(shares: &ShareRow) -> bool
     ensures { result ≡ list_any is_uneven_said (shares_in shares.now) }
 {

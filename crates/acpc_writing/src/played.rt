@@ -1,4 +1,4 @@
-//! The moves and the cards of a hand are looked through for what the logs of a game do not spell.
+//! Looks through the moves and the cards of a hand for a fact that the logs of a game cannot write.
 ghost use Rattle.std.specs.Prelude.{◌≡◌, ◌≤◌, ◌-◌, ◌&&◌, Some, count_by, map};
 ghost use Rattle.std.specs.List.{list_any};
 ghost use Rattle.chip_ledger.specs.Seat.{seats_of};
@@ -15,7 +15,7 @@ use chip_ledger::{LiveRow, Seat};
 use hand_records::{Trace, Unspelled};
 use play_event::{Act, Move, Place};
 
-/// The first fact of the play of a hand that the logs of a game do not spell.
+/// The first fact of the play of a hand that the logs of a game cannot write.
 pub fn find_other_play(game: &Game, trace: &Trace) -> Option<Unspelled>
     ensures { result ≡ first_where (play_conditions game.now trace.now) }
 {
@@ -41,7 +41,7 @@ pub fn find_other_play(game: &Game, trace: &Trace) -> Option<Unspelled>
     None
 }
 
-// Whether one of the moves is such a fold.
+// Whether a seat folds when it owes nothing.
 fn has_free_fold(moves: &[Move]) -> bool
     ensures { result ≡ list_any is_free_fold_said moves.now }
 {
@@ -53,7 +53,7 @@ fn has_free_fold(moves: &[Move]) -> bool
     false
 }
 
-// Whether a seat folds where it owes nothing.
+// Whether the move is a fold of a seat that owes nothing.
 fn is_free_fold(played: Move) -> bool
     ensures { result ≡ is_free_fold_said played }
 {
@@ -70,7 +70,7 @@ fn is_fold(act: Act) -> bool
     }
 }
 
-// Whether one of the four streets has more raises than its cap, where there are caps.
+// Whether one of the four streets has more raises than its cap, if there are caps.
 fn is_above_caps(caps: Option<[u32; 4]>, moves: &[Move]) -> bool
     ensures { result ≡ is_above_caps_said caps moves.now }
 {
@@ -83,7 +83,7 @@ fn is_above_caps(caps: Option<[u32; 4]>, moves: &[Move]) -> bool
         || is_above_cap(caps, moves, 4)
 }
 
-// Whether a street has more raises than its cap.
+// Whether a street has more raises than its cap allows.
 fn is_above_cap(caps: [u32; 4], moves: &[Move], street: u8) -> bool
     requires low { 1 ≤ street }
     requires high { street ≤ 4 }
@@ -93,7 +93,7 @@ fn is_above_cap(caps: [u32; 4], moves: &[Move], street: u8) -> bool
     cap < count_raises(moves, street) as u64
 }
 
-// How many raises a street has.
+// The number of raises of a street.
 fn count_raises(moves: &[Move], street: u8) -> usize
     ensures count { result ≡ count_by (is_raise_on_said street) moves.now }
 {
@@ -113,7 +113,7 @@ fn is_raise_on(played: Move, street: u8) -> bool
     is_raise(played.act) && played.street == street
 }
 
-// Whether one of the moves is such a raise.
+// Whether a raise is not by the unit of the limit game.
 fn has_off_unit(moves: &[Move]) -> bool
     ensures { result ≡ list_any is_off_unit_said moves.now }
 {
@@ -125,7 +125,7 @@ fn has_off_unit(moves: &[Move]) -> bool
     false
 }
 
-// Whether a raise goes elsewhere than one by the unit of the limit.
+// Whether the move is a raise that is not by the unit of the limit game.
 fn is_off_unit(played: Move) -> bool
     ensures { result ≡ is_off_unit_said played }
 {
@@ -142,7 +142,7 @@ fn is_raise(act: Act) -> bool
     }
 }
 
-// Whether this is so of one of the seats of a hand.
+// Whether a seat has one hole card that is known and another that is not.
 fn has_part_known(trace: &Trace) -> bool
     ensures { result ≡ list_any (is_part_known_said (core_said trace.now).places)
         (seats_of trace.now.setup.stacks.seats) }
@@ -155,14 +155,14 @@ fn has_part_known(trace: &Trace) -> bool
     false
 }
 
-// Whether a hole card of a seat is known and another is not.
+// Whether one hole card of the seat is known and another is not.
 fn is_part_known(places: &[Place], seat: Seat) -> bool
     ensures { result ≡ is_part_known_said (map place_said places.now) seat.number }
 {
     has_unknown(places, Some(seat), 1) && has_known(places, Some(seat), 1)
 }
 
-// Whether this is so of one of the seats of a hand.
+// Whether a seat mucked although its hole cards are known.
 fn has_open_muck(trace: &Trace) -> bool
     ensures { result
         ≡ list_any (is_open_muck_said (core_said trace.now).places trace.now.mucked)
@@ -177,7 +177,7 @@ fn has_open_muck(trace: &Trace) -> bool
     false
 }
 
-// Whether a seat mucked, and its hole cards are known.
+// Whether the seat mucked although its hole cards are known.
 fn is_open_muck(places: &[Place], mucked: &LiveRow, seat: Seat) -> bool
     ensures { result ≡ is_open_muck_said (map place_said places.now) mucked.now seat.number }
 {

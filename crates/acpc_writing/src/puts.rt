@@ -1,7 +1,7 @@
-//! What each seat has put, while the moves of a hand are gone through.
+//! The chips that each seat has put, while the moves of a hand are walked through.
 ghost use Rattle.std.specs.Prelude.{◌≡◌, ◌≤◌, ◌<◌, ◌+◌, ◌-◌, [], ◌∷◌, List, slice_index};
 ghost use Rattle.chip_ledger.specs.declared.seat_row.TheConstants.{MOST_AMOUNT};
-ghost use Rattle.canon_script.specs.CanonScript.{plain_move};
+ghost use Rattle.play_event.specs.CanonScript.{plain_move};
 ghost use Rattle.play_event.specs.Chips.{posted as posted_said};
 ghost use Rattle.play_event.specs.Past.{Move as PlainMove};
 ghost use Rattle.play_event.specs.Played.{move_said};
@@ -10,7 +10,7 @@ ghost use Rattle.acpc_writing.specs.Puts.{HavePut};
 
 use play_event::{Move, Setup};
 
-/// What each seat has put before the first move. The first seat's chips are at index 0.
+/// The chips that each seat has put before the first move. Seat 1 is at index 0.
 pub fn posted_chips(setup: &Setup) -> [u64; 10]
     ensures { HavePut setup.now [] result }
 {
@@ -21,7 +21,8 @@ pub fn posted_chips(setup: &Setup) -> [u64; 10]
     put
 }
 
-// What the seat at an index posts: its ante, and its blind as far as the rest of its stack goes.
+// The chips that the seat at an index posts: its ante, and its blind as far as the rest of its
+// stack goes.
 fn posted(setup: &Setup, index: usize) -> u64
     requires { index < 10 }
     ensures { result ≡ posted_said setup.now (index + 1) }
@@ -31,7 +32,7 @@ fn posted(setup: &Setup, index: usize) -> u64
     ante + setup.blinds.amounts[index].min(rest)
 }
 
-/// Puts what a move adds to the chips of its seat.
+/// Adds the chips of a move to those of its seat.
 pub fn add(put: &mut [u64; 10], played: Move)
     requires { slice_index put.old (played.seat.number - 1) + (played.to - played.from)
         ≤ MOST_AMOUNT }

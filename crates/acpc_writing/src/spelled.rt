@@ -1,4 +1,4 @@
-//! The first fact of a play that the logs of a game do not spell is found.
+//! Finds the first fact of a play that the logs of a game cannot write.
 ghost use Rattle.std.specs.Prelude.{◌≡◌, ◌≤◌, length};
 ghost use Rattle.first_fault.specs.declared.limits.TheConstants.{MOST_HANDS};
 ghost use Rattle.acpc_writing.specs.Spelled.{unspelled};
@@ -10,8 +10,7 @@ use crate::played::find_other_play;
 use acpc_game::Game;
 use hand_records::{Keep, Play, Unspelled, WriteRefusal};
 
-/// The refusal of the first play that the logs of a game do not spell. The first hand has the
-/// number 1.
+/// The refusal of the first play that the logs of a game cannot write. Hands are numbered from 1.
 pub fn find_refusal(game: &Game, plays: &[Play], keep: Keep) -> Option<WriteRefusal>
     requires { length plays.now ≤ MOST_HANDS }
     ensures { result ≡ first_refusal (unspelled game.now keep) plays.now }
@@ -27,8 +26,8 @@ pub fn find_refusal(game: &Game, plays: &[Play], keep: Keep) -> Option<WriteRefu
     None
 }
 
-/// The first fact of the play that the logs of this game do not spell. Notes count only where all
-/// of them are kept.
+/// The first fact of the play that the logs of this game cannot write. Notes count only if all of
+/// them are to be kept.
 #[tactic(auto, unfolding(crate::specs::Spelled::unspelled))]
 pub fn spells(game: &Game, play: &Play, keep: Keep) -> Option<Unspelled>
     ensures { result ≡ unspelled game.now keep play.now }

@@ -1,13 +1,13 @@
-//! The values of a line are what each seat won or lost.
+//! Writes the values of a line: what each seat won or lost.
 ghost use Rattle.std.specs.Prelude.{◌≡◌, ◌≤◌, ◌++◌, OnOk};
 ghost use Rattle.acpc_writing.specs.Values.{value_text, values_text};
 
-use card_set::Memory;
 use crate::cards::push_bar;
+use card_set::Memory;
 use chip_ledger::{Seat, SeatRow};
 use std::alloc::Global;
 
-/// The value of each seat, with bars between them.
+/// The value of each seat, separated by bars.
 #[tactic(auto, unfolding(crate::specs::Values::values_text))]
 pub fn push_values(
     alloc: Global,
@@ -26,7 +26,7 @@ pub fn push_values(
     Ok(())
 }
 
-// What a seat ends with less what it began with.
+// What a seat ends with minus what it began with, in chips.
 fn push_value(
     alloc: Global,
     out: &mut Vec<u8>,

@@ -1,4 +1,4 @@
-//! A row is answered by the status, the output and the line of its run.
+//! Runs the program for a row: its answer is the status, the output and the printed line.
 use crate::known_run::run_on;
 use crate::pieces::Pieces;
 use crate::row::{ROOM, Row, read_row};
@@ -7,18 +7,18 @@ use host_io::{MemShelf, MemSink, MemSource};
 use poker_cli::Status;
 use std::alloc::Global;
 
-/// What a row's run came to.
+/// The result of a row's run.
 #[derive(Drop)]
 pub struct RowAnswer {
     pub status: Status,
     pub out: MemSink,
     pub diag: MemSink,
-    /// The most bytes that the output took in a call.
+    /// The most bytes that the output takes in one call.
     pub take: usize,
 }
 
-/// The status of a row's run, and what it left in the output and in the sink for lines, where it
-/// left anything.
+/// The status of a row's run, and what it wrote to the output and to the sink for lines, if
+/// anything.
 pub fn answer_to(alloc: Global, pieces: &Pieces, row: &str) -> Result<String, Memory> {
     let answer = run_row(alloc, pieces, row)?;
     answer.text(alloc, answer.out.held())
@@ -65,7 +65,7 @@ impl RowAnswer {
     }
 }
 
-/// Puts bytes that are there behind their name.
+/// Appends bytes after their name, if there are any.
 pub fn push_named(text: &mut String, name: &str, bytes: &[u8]) -> Result<(), Memory> {
     if !bytes.is_empty() {
         write!(text, ", {name} ")?;
@@ -76,7 +76,7 @@ pub fn push_named(text: &mut String, name: &str, bytes: &[u8]) -> Result<(), Mem
     Ok(())
 }
 
-// Puts a byte so that it can be seen: its letter, or its escape.
+// Appends a byte in visible form: its letter, or its escape.
 fn push_visible(text: &mut String, byte: u8) -> Result<(), Memory> {
     match byte {
         b'\n' => text.push_str("\\n")?,

@@ -1,5 +1,5 @@
-//! What is promised of all answers, and of runs that are looked at together, stands here once more:
-//! without these laws this does not prove.
+//! The promises about all answers, and about several runs together, stated once more: without these
+//! laws this crate does not prove.
 ghost use Rattle.std.specs.Prelude.{◌≡◌, ◌⊎◌, ◌↔◌, ◌≤◌, ℕ, Bool, true, List, None, Some, IfSome, Ok, length};
 ghost use Rattle.std.specs.List.{AllByRecursion};
 ghost use Rattle.acpc_game.specs.declared.game.Game.{Game};
@@ -111,7 +111,7 @@ pub fn legal_inputs_are_answered()
     law_of_legal_inputs();
 }
 
-/// What is read in a notation is spelled there.
+/// What is read in a notation can be written there.
 pub fn hands_that_are_read_are_spelled()
     ensures spelled { (reader : Format) (bytes : List ℕ) (plays : List Play)
         → ReadAsPlays (SayRecords reader bytes) plays
@@ -127,7 +127,8 @@ pub fn hands_that_are_read_are_spelled()
     law_of_read_hands();
 }
 
-/// Answers are the same exactly of equal hands, again and by any way.
+/// Two answers are the same if and only if the hands are; an output converts to itself; and a
+/// conversion through another notation gives the same answer.
 pub fn answers_to_equal_hands_are_the_same()
     ensures equal { (from other to : Format) (keep : Keep) (bytes too : List ℕ)
         → (plays others : List Play) (answer written : Answer)
@@ -153,7 +154,7 @@ pub fn answers_to_equal_hands_are_the_same()
     law_of_equal_answers();
 }
 
-/// Runs write the same exactly of equal hands.
+/// Two runs write the same if and only if the hands are the same.
 pub fn runs_on_equal_hands_write_the_same()
     ensures { (from other to : Format) (keep : Keep) (bytes too output written : List ℕ)
         → (plays others : List Play)
@@ -177,7 +178,7 @@ pub fn run_on_an_output_writes_it()
     law_of_runs_again();
 }
 
-/// Two runs may do the work of one.
+/// One run may be replaced by two.
 pub fn way_of_runs_is_free()
     ensures { (from by to : Format) (keep : Keep) (bytes output : List ℕ)
         → ConvertsInto from by keeps.All bytes output
@@ -190,7 +191,7 @@ pub fn way_of_runs_is_free()
     law_of_runs_by_way();
 }
 
-/// A comparison is done exactly of the same hands, and else names the first difference.
+/// A comparison is done if and only if the hands are the same, and else names the first difference.
 pub fn same_hands_compare_as_the_same()
     ensures same { (notes : Bool) (plays others : List Play)
         → AllByRecursion IsSound plays → AllByRecursion IsSound others
@@ -203,7 +204,7 @@ pub fn same_hands_compare_as_the_same()
     law_of_compared_hands();
 }
 
-/// A run that compares finds the same hands exactly where they are.
+/// A run of `compare` finds the same hands if and only if they are the same.
 pub fn comparison_finds_the_same_hands()
     ensures done { (request : Request) (by : Comparison) (files : Files) (text bytes : List ℕ)
         → (out diag : Sinks) → AsksToCompare files request by text
@@ -225,7 +226,7 @@ pub fn comparison_finds_the_same_hands()
     law_of_comparisons();
 }
 
-/// What was converted compares as its source.
+/// What was converted compares as the same hands as its source.
 pub fn conversion_compares_as_its_source()
     ensures source { (request : Request) (files : Files) (from to : Format) (keep : Keep)
         (notes : Bool)
@@ -246,7 +247,7 @@ pub fn conversion_compares_as_its_source()
     law_of_compared_conversions();
 }
 
-/// Files compare as the same exactly where they are converted into the same output.
+/// Files compare as the same if and only if they convert to the same output.
 pub fn files_of_one_output_compare_as_the_same()
     ensures { (request : Request) (files : Files) (from other to : Format)
         → (bytes too output written : List ℕ) (out diag : Sinks) (status : Status)

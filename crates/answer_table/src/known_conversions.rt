@@ -1,5 +1,5 @@
-//! What is promised of all conversions, over any notations, stands here once more: without these
-//! laws this does not prove.
+//! The promises about all conversions, over any notations, stated once more: without these laws
+//! this crate does not prove.
 ghost use Rattle.std.specs.Prelude.{◌≡◌, ◌<◌, ◌↔◌, ℕ, List, None, Ok, Result, map};
 ghost use Rattle.convert_core.specs.Answers.{Answers};
 ghost use Rattle.convert_core.specs.Conversion.{HasUnspelled, IsConversion, ReadAsPlays, ReadAsRefused, RefusesNothing};
@@ -42,8 +42,8 @@ pub fn outcome_is_one()
     law_of_one_outcome();
 }
 
-/// All verdicts are legal exactly where there are plays, and the first other one is on the first
-/// refused hand.
+/// All verdicts are legal if and only if there are plays; else the first verdict that is not legal
+/// is on the first refused hand.
 pub fn verdicts_are_the_plays()
     ensures legal { (records : List Record) (verdicts : List Verdict) (plays : List Play)
         → AreVerdictsOn records verdicts
@@ -55,7 +55,7 @@ pub fn verdicts_are_the_plays()
     law_of_verdicts();
 }
 
-/// Bytes come to one conversion.
+/// Bytes have one conversion.
 pub fn conversion_is_one<N: Notation, M: Notation>(from: &N, to: &M, keep: Keep)
     ensures read_or_fail { (bytes : List ℕ)
         → ReadOrFail (N.ReadAsHands from.now bytes) (N.HaveFault from.now bytes) }
@@ -80,7 +80,7 @@ pub fn conversion_is_one<N: Notation, M: Notation>(from: &N, to: &M, keep: Keep)
     law_of_one_conversion(from, to, keep);
 }
 
-/// Legal hands whose facts are all spelled are converted, unless memory is wanting.
+/// Legal hands are converted if all their facts can be written, unless memory runs out.
 pub fn legal_hands_are_converted<N: Notation, M: Notation>(from: &N, to: &M, keep: Keep)
     ensures { (bytes : List ℕ) (plays : List Play) (answer : Result (List ℕ) ConvertFault)
         → ReadAsPlays (N.Say from.now bytes) plays
@@ -95,7 +95,7 @@ pub fn legal_hands_are_converted<N: Notation, M: Notation>(from: &N, to: &M, kee
     law_of_legal_conversions(from, to, keep);
 }
 
-/// No note is forgotten, and none is made up.
+/// No note is dropped, and none is made up.
 pub fn notes_are_kept<N: Notation>(notation: &N)
     ensures all { (place : ℕ) (play : Play) → place < MOST_HANDS → IsSound play
         → N.unspelled notation.now keeps.All play ≡ None
@@ -110,7 +110,7 @@ pub fn notes_are_kept<N: Notation>(notation: &N)
     law_of_kept_notes(notation);
 }
 
-/// Equal outputs are those of equal hands.
+/// Equal outputs come from equal hands.
 pub fn equal_outputs_are_of_equal_hands<A: Notation, B: Notation, N: Notation>(
     from: &A,
     other: &B,
@@ -131,7 +131,7 @@ pub fn equal_outputs_are_of_equal_hands<A: Notation, B: Notation, N: Notation>(
     law_of_equal_outputs(from, other, to, keep);
 }
 
-/// An output is converted to its own notation as itself.
+/// An output converts to its own notation unchanged.
 pub fn output_converts_to_itself<A: Notation, N: Notation>(
     from: &A,
     to: &N,
@@ -150,7 +150,7 @@ pub fn output_converts_to_itself<A: Notation, N: Notation>(
     law_of_converting_again(from, to, keep, again);
 }
 
-/// A conversion with all notes may go by another notation.
+/// A conversion with all notes may go through another notation.
 pub fn way_of_a_conversion_is_free<A: Notation, B: Notation, C: Notation>(
     from: &A,
     by: &B,

@@ -1,10 +1,10 @@
-//! What is promised of all traces, and that no notation says what it does not spell, stands here
-//! once more: without these laws this does not prove.
+//! The promises about all traces, and that no notation says what it cannot write, stated once more:
+//! without these laws this crate does not prove.
 ghost use Rattle.std.specs.Prelude.{◌≡◌, ◌↔◌, ℕ, List, ◌+◌, sum_by, true, Some};
 ghost use Rattle.std.specs.List.{AllByRecursion};
-ghost use Rattle.canon_script.specs.CanonScript.{canon_of};
-ghost use Rattle.canon_script.specs.PlayedScript.{IsPlayed};
-ghost use Rattle.canon_script.specs.TraceCore.{core_after, core_of};
+ghost use Rattle.play_event.specs.CanonScript.{canon_of};
+ghost use Rattle.play_event.specs.PlayedScript.{IsPlayed};
+ghost use Rattle.play_event.specs.TraceCore.{core_after, core_of};
 ghost use Rattle.chip_ledger.specs.PotRow.{plain_shares, pots_in, shares_in};
 ghost use Rattle.chip_ledger.specs.Rakes.{nets_of};
 ghost use Rattle.chip_ledger.specs.SeatRow.{total_of};
@@ -20,7 +20,7 @@ ghost use Rattle.hand_records.specs.declared.writing.Unspelled.{Unspelled};
 ghost use Rattle.play_event.specs.Laws.{AreLegal};
 ghost use Rattle.play_event.specs.Past.{Past, moves_of};
 ghost use Rattle.play_event.specs.Played.{IsPlace};
-ghost use Rattle.play_event.specs.Price.{all_chips_put};
+ghost use Rattle.play_event.specs.CurrentBet.{all_chips_put};
 ghost use Rattle.play_event.specs.Said.{Said};
 ghost use Rattle.play_event.specs.Scripts.{past_of, past_at_end};
 ghost use Rattle.play_event.specs.Trace.{TracedPlace};
@@ -31,16 +31,16 @@ ghost use Rattle.play_event.specs.declared.setup.Setup.{Setup};
 ghost use Rattle.trace_laws.specs.Conserved.{IsConserved};
 ghost use Rattle.trace_laws.specs.Winners.{AllGoToBest};
 
-use chip_laws::law_of_conserved_chips;
 use convert_core::{Notation, law_of_sharpness};
 use hand_records::Keep;
+use hand_session::law_of_conserved_chips;
 use trace_laws::{
     law_of_canonical_hands, law_of_finishing_stacks, law_of_one_trace, law_of_places,
     law_of_pots_and_returns, law_of_winners,
 };
 
-/// No bytes say what a notation does not spell: none of the hands that they say is legal with the
-/// trace of a play that has a fact without a spelling, but for an odd chip or a note.
+/// If a notation cannot write a fact of a play, none of the hands that any bytes say is legal with
+/// the trace of that play, unless the fact is an odd chip or a note.
 pub fn unspelled_is_not_said<N: Notation>(notation: &N, keep: Keep)
     ensures { (play : Play) (fact : Unspelled)
         → N.unspelled notation.now keep play ≡ Some fact → is_sharp fact ≡ true
@@ -50,7 +50,7 @@ pub fn unspelled_is_not_said<N: Notation>(notation: &N, keep: Keep)
     law_of_sharpness(notation, keep);
 }
 
-/// A past has one whole trace, and what it leaves fixes the trace.
+/// A past has one whole trace, and what the past leaves fixes the trace.
 pub fn trace_is_one()
     ensures one_past { (setup : Setup) (past : Past) (trace other : Trace)
         → IsTraceOf setup past trace → IsTraceOf setup past other → trace ≡ other }
@@ -73,7 +73,7 @@ pub fn canonical_hand_is_the_hand()
     law_of_canonical_hands();
 }
 
-/// Where a card lies is said in one way.
+/// There is one way to say where a card lies.
 pub fn place_is_said_once()
     ensures { (row : Place) (place : TracedPlace) → IsPlace row place ↔ (place_said row ≡ place) }
 {
@@ -89,7 +89,7 @@ pub fn pots_and_returns_are_what_was_put()
     law_of_pots_and_returns();
 }
 
-/// What leaves a hand is that part of its pots that no seat gets.
+/// What leaves a hand is the part of its pots that no seat gets.
 pub fn what_leaves_a_hand_is_in_its_pots()
     ensures { (setup : Setup) (rules : Rules) (events : List Said) (trace : Trace)
         → IsValid setup → AreLegal setup rules events
@@ -100,8 +100,8 @@ pub fn what_leaves_a_hand_is_in_its_pots()
     law_of_finishing_stacks();
 }
 
-/// Of a pot that two or more seats may win, only those get chips that were shown and that no shown
-/// hand beats.
+/// Of a pot that two or more seats may win, only those seats get chips whose cards are shown and
+/// beaten by no shown hand.
 pub fn best_shown_hands_win()
     ensures { (setup : Setup) (past : Past) (trace : Trace) → IsTraceOf setup past trace
         → AllGoToBest setup.code (showdown_in setup (core_of setup past))

@@ -1,5 +1,5 @@
-//! A run over the devices of the tables, with all that is promised of it: their bytes, files and
-//! faults are known.
+//! A run over devices in memory, with all that is promised of it: their bytes, files and faults are
+//! known.
 ghost use Rattle.std.specs.Prelude.{◌≡◌, ◌↔◌, map, None, Some, IfSome, string_bytes};
 ghost use Rattle.command_words.specs.Words.{request_said};
 ghost use Rattle.hand_records.specs.declared.writing.Keep.{Keep};
@@ -25,9 +25,9 @@ pub fn run_on(
     out: &mut MemSink,
     diag: &mut MemSink,
 ) -> Status
-    // Other words are Usage, and only they are.
+    // The status is Usage for other words, and only for them.
     ensures usage { (result ≡ Status.Usage) ↔ (request_said (map string_bytes words.now) ≡ None) }
-    // The answer itself: what the run came to is that of the request to these files and bytes.
+    // The answer itself: the run gives the answer of the request to these files and bytes.
     ensures ends { IfSome (request_said (map string_bytes words.now)) (λ request.
         WhereTold request (Some (bytes_left input.old)) (Some (shelf_files shelf.old))
         (λ files bytes. EndsLeaving request files bytes
@@ -36,7 +36,7 @@ pub fn run_on(
         (change_of (λ (sink : MemSink). Some (bytes_held sink))
         (λ (sink : MemSink). (sink_plan sink).faults) diag.old diag.new)
         result (out.new ≡ out.old))) }
-    // What a conversion comes to.
+    // The answer of a conversion.
     ensures headline { IfSome (request_said (map string_bytes words.now)) (λ request.
         WhereTold request (Some (bytes_left input.old)) (Some (shelf_files shelf.old))
         (λ files bytes. (from to : Format) (keep : Keep)
@@ -45,7 +45,7 @@ pub fn run_on(
         (λ (sink : MemSink). (sink_plan sink).faults) out.old out.new)
         (change_of (λ (sink : MemSink). Some (bytes_held sink))
         (λ (sink : MemSink). (sink_plan sink).faults) diag.old diag.new) result)) }
-    // A fault is told only where its device failed.
+    // A fault is reported only if its device failed.
     ensures read_fault { result ≡ Status.ReadFault
         → Rose (source_plan input.old).faults (source_plan input.new).faults }
     ensures write_fault { result ≡ Status.WriteFault
@@ -55,7 +55,7 @@ pub fn run_on(
     ensures fixed_line { IfSome (fixed_line result)
         (TellsLine (sink_plan diag.old).faults (sink_plan diag.new).faults
         (Some (bytes_held diag.old)) (Some (bytes_held diag.new))) }
-    // Which devices a run leaves as they were.
+    // Which devices a run leaves unchanged.
     ensures unread { ReadsNothing result → input.new ≡ input.old }
     ensures nothing_written { WritesNothing result → out.new ≡ out.old }
     ensures quiet { result ≡ Status.Done → diag.new ≡ diag.old }

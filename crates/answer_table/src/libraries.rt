@@ -1,5 +1,5 @@
-//! Calls of the libraries that the program does not make, or makes on fewer arguments, are made on
-//! the hands of a row, and their answers are told in words.
+//! Calls library functions that the program does not call, or calls with fewer arguments, on the
+//! hands of a row, and prints their answers in words.
 ghost use Rattle.std.specs.Prelude.{◌≤◌, length};
 ghost use Rattle.std.specs.List.{AllByRecursion};
 ghost use Rattle.first_fault.specs.declared.limits.TheConstants.{MOST_HANDS};
@@ -36,7 +36,7 @@ pub fn answer_to(alloc: Global, pieces: &Pieces, row: &str) -> Result<String, Me
     }
 }
 
-// The session of hands: how many steps and rows there are, each of them, and the text.
+// The session of hands: the number of its steps and rows, each of them, and the text.
 fn told_session(alloc: Global, plays: &[Play]) -> Result<String, Memory>
     requires sound { AllByRecursion IsSound plays.now }
     requires few { length plays.now ≤ MOST_HANDS }
@@ -50,7 +50,7 @@ fn told_session(alloc: Global, plays: &[Play]) -> Result<String, Memory>
     Ok(told)
 }
 
-// Puts how many steps a session has, and of each its hand and its name.
+// Appends the number of steps of a session, and the hand and the name of each.
 fn push_steps(told: &mut String, session: &Session) -> Result<(), Memory> {
     let steps = &session.steps;
     write!(told, "{} steps", steps.len())?;
@@ -61,7 +61,7 @@ fn push_steps(told: &mut String, session: &Session) -> Result<(), Memory> {
     Ok(())
 }
 
-// Puts how many rows a session has, and of each its name and its last stack.
+// Appends the number of rows of a session, and the name and the last stack of each.
 fn push_rows(told: &mut String, session: &Session) -> Result<(), Memory> {
     let rows = &session.rows;
     write!(told, ", {} rows", rows.len())?;

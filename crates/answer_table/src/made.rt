@@ -1,4 +1,4 @@
-//! Made hands are written as one file, and the file is given to the program over devices in memory.
+//! Writes made hands as one file, and gives the file to the program over devices in memory.
 ghost use Rattle.std.specs.Prelude.{◌≤◌, All, length, IfOk};
 ghost use Rattle.first_fault.specs.declared.limits.TheConstants.{MOST_HANDS};
 ghost use Rattle.hand_canon.specs.Sound.{IsSound};
@@ -12,19 +12,19 @@ use host_io::{MemShelf, MemSink, MemSource};
 use poker_cli::{Status, run};
 use std::alloc::Global;
 
-/// A file of made hands, and how many moves they have.
+/// A file of made hands, and their number of moves.
 #[derive(Drop)]
 pub struct MadeFile {
     pub bytes: Vec<u8>,
     pub moves: u64,
 }
 
-/// Why there is no file of made hands.
+/// Why a file of made hands could not be made.
 #[derive(Clone, Copy, Debug, PartialEq, Eq)]
 pub enum NotMade {
     /// The hand with this number is refused.
     Refused { hand: u32 },
-    /// The hand with this number has a fact without a spelling.
+    /// The hand with this number has a fact that cannot be written.
     Unspelled { hand: u32 },
     Memory(Memory),
 }
@@ -40,8 +40,8 @@ impl NotMade {
     }
 }
 
-/// What the program says of the hands that SEED HANDS make, in one file: its status, the last line
-/// of its output, and how many moves they have.
+/// The answer of the program to the hands that SEED HANDS make, in one file: its status, the last
+/// line of its output, and the number of moves of the hands.
 pub fn answer_to(alloc: Global, numbers: &str) -> Result<String, Memory> {
     let (seed, hands) = parted(numbers, " ");
     let (Ok(seed), Ok(hands)) = (seed.parse::<u64>(), hands.parse::<u32>()) else {
@@ -59,12 +59,11 @@ pub fn answer_to(alloc: Global, numbers: &str) -> Result<String, Memory> {
     Ok(format!(in alloc; "status {status}, {last}, moves {moves}")?)
 }
 
-/// The file of so many made hands in the Poker Hand History format, and how many moves they have.
+/// The file of `count` made hands in the Poker Hand History format, and their number of moves.
 ///
 /// # Errors
 ///
-/// Want of memory. Made hands are legal, and the format spells each of them, so that no hand is
-/// named.
+/// Out of memory. Made hands are legal, and the format can write each of them, so no hand is named.
 pub fn file_made(alloc: Global, seed: u64, count: u32) -> Result<MadeFile, NotMade>
     requires few { count ≤ MOST_HANDS }
 {
@@ -81,7 +80,7 @@ pub fn file_made(alloc: Global, seed: u64, count: u32) -> Result<MadeFile, NotMa
     }
 }
 
-// The plays of so many made hands from a seed.
+// The plays of `count` made hands from a seed.
 fn plays_made(alloc: Global, seed: u64, count: u32) -> Result<Vec<Play>, PlaysFault>
     requires few { count ≤ MOST_HANDS }
     ensures few { IfOk result (λ plays. length plays.items ≤ MOST_HANDS) }
@@ -93,7 +92,7 @@ fn plays_made(alloc: Global, seed: u64, count: u32) -> Result<Vec<Play>, PlaysFa
     }
 }
 
-// How many moves plays have.
+// The number of moves of some plays.
 fn moves_of(plays: &[Play]) -> u64 {
     let mut moves = 0u64;
     for play in plays {
@@ -118,7 +117,7 @@ fn check(alloc: Global, file: Vec<u8>) -> Result<(Status, String), Memory> {
     Ok((status, last))
 }
 
-// The last of some lines, without its end.
+// The last line of a text, without its newline.
 fn last_line(alloc: Global, lines: &[u8]) -> Result<String, Memory> {
     let mut line = String::new(alloc);
     let mut ended = false;

@@ -1,5 +1,5 @@
-//! Runs of the program over devices in memory are read from the input, one a line, and each is
-//! printed with its answer. With words the program does a part of that, for `bench/` to time.
+//! Reads rows from the input, one per line, runs the program for each over devices in memory, and
+//! prints each row with its answer. With words it does a part of that, which `bench/` times.
 #![tactic(auto)]
 
 mod answer;
@@ -33,7 +33,7 @@ fn main(rt: HostRuntime) -> io::Result<()> {
     print_answers(&rt)
 }
 
-// Prints each line of the input, and behind it the answer, if it is a row.
+// Prints each line of the input, followed by the answer if the line is a row.
 fn print_answers(rt: &HostRuntime) -> io::Result<()> {
     let alloc = rt.alloc();
     let mut pieces = Pieces::new(alloc);
@@ -43,15 +43,15 @@ fn print_answers(rt: &HostRuntime) -> io::Result<()> {
         match answer_to(alloc, &mut pieces, line.as_str()) {
             Ok(Some(answer)) => println!(rt; "    {answer}")?,
             Ok(None) => {}
-            Err(Memory) => return Err(io::Error::from(io::ErrorKind::OutOfMemory)),
+            Err(_) => return Err(io::Error::from(io::ErrorKind::OutOfMemory)),
         }
     }
     Ok(())
 }
 
 // The answer to a line that is a row. `let NAME = TEXT` names a piece of text, `made SEED HANDS`
-// says which hands are made, `way FROM BY TO GAME` which way a conversion goes besides, and
-// `library CALL` what is called in place of the program; a heading begins with `#`.
+// gives the hands to make, `way FROM BY TO GAME` a conversion to repeat through another notation,
+// and `library CALL` a library call to make in place of a run; a heading begins with `#`.
 fn answer_to(alloc: Global, pieces: &mut Pieces, line: &str) -> Result<Option<String>, Memory> {
     if line.is_empty() || line.starts_with('#') {
         return Ok(None);

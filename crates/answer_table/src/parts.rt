@@ -1,4 +1,4 @@
-//! Hands are read in the notation of a name, and written in another.
+//! Reads hands in one named notation, and writes them in another.
 ghost use Rattle.std.specs.Prelude.{◌≤◌, length, IfSome};
 ghost use Rattle.std.specs.List.{AllByRecursion};
 ghost use Rattle.first_fault.specs.declared.limits.TheConstants.{MOST_HANDS};
@@ -10,12 +10,12 @@ use hand_records::{Keep, Play, Records};
 use ohh_members::Dialect;
 use std::alloc::Global;
 
-// Three seats with 100 chips each, blinds 1 and 2, in no limit.
+// Three seats with 100 chips each, blinds 1 and 2, no-limit.
 const GAME: &[u8] =
     b"GAMEDEF\nnolimit\nnumPlayers = 3\nnumRounds = 4\nstack = 100 100 100\nblind = 1 2 0\n\
 firstPlayer = 3 1 1 1\nnumSuits = 4\nnumRanks = 13\nnumHoleCards = 2\nnumBoardCards = 0 3 1 1\nEND GAMEDEF\n";
 
-/// The records that the bytes say in the notation of this name, if they read as hands there.
+/// The records that the bytes say in the named notation, if they read as hands there.
 pub fn read_hands(alloc: Global, from: &str, bytes: &[u8]) -> Option<Records> {
     match from {
         "phh" => Phh.read(alloc, bytes).ok(),
@@ -25,8 +25,8 @@ pub fn read_hands(alloc: Global, from: &str, bytes: &[u8]) -> Option<Records> {
     }
 }
 
-/// How many bytes the hands have in the notation of the second name. They are read and replayed
-/// once, and written so many times.
+/// The number of bytes of the hands in the second notation. They are read and replayed once, and
+/// written `times` times.
 pub fn write_hands(alloc: Global, from: &str, to: &str, times: u32, bytes: &[u8]) -> Option<usize> {
     let plays = play_hands(alloc, from, bytes)?;
     match to {
@@ -37,7 +37,7 @@ pub fn write_hands(alloc: Global, from: &str, to: &str, times: u32, bytes: &[u8]
     }
 }
 
-/// The plays of the bytes in the notation of this name, if they read as legal hands there.
+/// The plays of the bytes in the named notation, if they read as legal hands there.
 pub fn play_hands(alloc: Global, from: &str, bytes: &[u8]) -> Option<Vec<Play>>
     ensures sound { IfSome result (λ plays. AllByRecursion IsSound plays.items) }
     ensures few { IfSome result (λ plays. length plays.items ≤ MOST_HANDS) }
@@ -50,7 +50,7 @@ pub fn play_hands(alloc: Global, from: &str, bytes: &[u8]) -> Option<Vec<Play>>
     }
 }
 
-// How many bytes plays have in a notation. They are written so many times.
+// The number of bytes of the plays in a notation. They are written `times` times.
 fn write_times<N: Notation>(alloc: Global, to: &N, times: u32, plays: &[Play]) -> Option<usize>
     requires sound { AllByRecursion IsSound plays.now }
     requires few { length plays.now ≤ MOST_HANDS }

@@ -1,4 +1,4 @@
-//! Pieces of text that have names, and text that is put together from them.
+//! Named pieces of text, and text that is put together from them.
 ghost use Rattle.std.specs.Prelude.{◌<◌};
 
 use card_set::Memory;
@@ -19,9 +19,9 @@ impl Pieces {
         Ok(())
     }
 
-    /// The bytes of a text. In it `$(NAME)` is a piece, `$(NAME*3)` three of them, `$(NAME#3)`
-    /// three behind their numbers, `\n` ends a line, and `\xff` is a byte by its hexadecimal
-    /// number.
+    /// The bytes of a text. In it `$(NAME)` is a piece, `$(NAME*3)` three copies of it, `$(NAME#3)`
+    /// three copies each after its number, `\n` ends a line, and `\xff` is a byte by its
+    /// hexadecimal number.
     pub fn bytes_of(&self, alloc: Global, text: &str) -> Result<Vec<u8>, Memory> {
         let mut bytes = Vec::new(alloc);
         let mut parts = text.split("$(");
@@ -43,7 +43,7 @@ impl Pieces {
         }
     }
 
-    // Puts a piece at the end, as often as its reference says.
+    // Appends a piece as often as its reference says.
     fn push_piece(
         &self,
         alloc: Global,
@@ -68,7 +68,7 @@ impl Pieces {
         Ok(())
     }
 
-    /// The bytes of a piece. A name that no piece has stands for itself.
+    /// The bytes of a piece. An unknown name gives its own bytes.
     pub fn piece<'a>(&'a self, name: &'a str) -> &'a [u8] {
         match self.named.iter().find(|piece| piece.0.as_str() == name) {
             Some(piece) => piece.1.as_slice(),
@@ -77,7 +77,7 @@ impl Pieces {
     }
 }
 
-/// What stands before the first separator, and what stands behind it.
+/// The text before the first separator, and the text after it.
 pub fn parted<'a>(text: &'a str, separator: &str) -> (&'a str, &'a str) {
     match text.split_once(separator) {
         Some(parts) => parts,
@@ -85,7 +85,7 @@ pub fn parted<'a>(text: &'a str, separator: &str) -> (&'a str, &'a str) {
     }
 }
 
-// Puts text without pieces at the end.
+// Appends text without pieces.
 fn push_plain(bytes: &mut Vec<u8>, text: &str) -> Result<(), Memory> {
     let mut parts = text.split('\\');
     if let Some(plain) = parts.next() {

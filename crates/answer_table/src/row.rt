@@ -1,4 +1,4 @@
-//! A row says which words the program is run on, over which devices, and how these fail.
+//! A row: the words that the program is run on, its devices, and how these fail.
 use crate::pieces::{Pieces, parted};
 use card_set::Memory;
 use std::alloc::Global;
@@ -9,11 +9,11 @@ pub struct Row {
     pub words: Vec<String>,
     pub input: Vec<u8>,
     pub files: Vec<(String, Vec<u8>)>,
-    /// The most bytes that the input gives in a call.
+    /// The most bytes that the input gives in one call.
     pub give: usize,
-    /// The most bytes that the output takes in a call.
+    /// The most bytes that the output takes in one call.
     pub take: usize,
-    /// How many bytes the output takes in all.
+    /// The number of bytes that the output takes in all.
     pub room: usize,
     pub fails: Fails,
 }
@@ -27,14 +27,14 @@ pub struct Fails {
     pub line: Vec<u64>,
 }
 
-/// The room of an output that is not to be full.
+/// The room of an output that is not meant to fill up.
 pub const ROOM: usize = 1_000;
 
-/// Reads a row: words, `<`, and the input. A word that begins with `@` is none of the program, but
-/// says of a device that a call fails (`@read=1`, `@fetch=0`, `@write=0`, `@line=0`), that the
-/// input comes or the output goes in pieces (`@give=7`, `@take=5`) or both do (`@pieces=7`), that
-/// the input is cut (`@first=30`), that the output takes few bytes (`@room=10`), or that a piece of
-/// text lies on the shelf (`@file=NAME:PIECE`).
+/// Reads a row: words, `<`, and the input. A word that begins with `@` is not given to the program,
+/// but sets a device: a call fails (`@read=1`, `@fetch=0`, `@write=0`, `@line=0`), the input comes
+/// or the output goes in pieces (`@give=7`, `@take=5`) or both do (`@pieces=7`), the input is cut
+/// (`@first=30`), the output takes few bytes (`@room=10`), or a piece of text lies on the shelf
+/// (`@file=NAME:PIECE`).
 pub fn read_row(alloc: Global, pieces: &Pieces, row: &str) -> Result<Row, Memory> {
     let (words, input) = parted(row, "<");
     let input = input.strip_prefix(' ').unwrap_or(input);
@@ -61,7 +61,7 @@ pub fn read_row(alloc: Global, pieces: &Pieces, row: &str) -> Result<Row, Memory
     Ok(read)
 }
 
-// Takes into the row what a word says of a device.
+// Sets in the row what a word says of a device.
 fn read_device(alloc: Global, pieces: &Pieces, row: &mut Row, word: &str) -> Result<(), Memory> {
     let (device, value) = parted(word, "=");
     let number = value.parse::<u32>().unwrap_or(0);

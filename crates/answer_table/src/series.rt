@@ -1,11 +1,11 @@
-//! A row with a series is answered for each of its numbers, and equal answers are told once.
+//! Answers a row with a series for each of its numbers, and prints equal answers once.
 use crate::answer::{RowAnswer, answer_to, run_row};
 use crate::pieces::{Pieces, parted};
 use card_set::Memory;
 use poker_cli::Status;
 use std::alloc::Global;
 
-/// A row with a series of numbers: what stands in front of them, and what behind them.
+/// A row with a series of numbers: the text before them, and the text after them.
 #[derive(Clone, Copy)]
 struct Series<'a> {
     before: &'a str,
@@ -14,8 +14,8 @@ struct Series<'a> {
     behind: &'a str,
 }
 
-/// The answer to a row. Where a device has a series, as `@read=[0-3]`, the row is run with each of
-/// its numbers, and each answer stands behind the numbers that have it, on a line of its own.
+/// The answer to a row. If a device has a series, as in `@read=[0-3]`, the row is run with each of
+/// its numbers, and each answer is printed after the numbers that have it, on a line of its own.
 pub fn answers_to(alloc: Global, pieces: &Pieces, row: &str) -> Result<String, Memory> {
     let (words, _) = parted(row, "<");
     match row.split_once('[') {
@@ -54,8 +54,8 @@ impl Series<'_> {
         Ok(text)
     }
 
-    // The answer to the row of a number. Where the output failed and holds so many pieces of the
-    // whole one, it is not told byte by byte.
+    // The answer to the row of a number. If the output failed and holds that many pieces of the
+    // whole one, it is not printed byte by byte.
     fn answer(
         &self,
         alloc: Global,
@@ -83,7 +83,7 @@ impl Series<'_> {
     }
 }
 
-// Puts an answer behind the numbers that have it.
+// Appends an answer after the numbers that have it.
 fn push_answer(text: &mut String, first: u32, last: u32, answer: &str) -> Result<(), Memory> {
     if first < last {
         write!(text, "{first}-{last} {answer}")?;

@@ -1,4 +1,4 @@
-//! For `bench/` to time: files of hands are made, read, replayed and written by themselves.
+//! For `bench/` to time: makes files of hands, and reads, replays and writes them, each alone.
 ghost use Rattle.std.specs.Prelude.{◌≤◌};
 
 use crate::made::file_made;
@@ -7,11 +7,10 @@ use card_set::Memory;
 use std::io::{self, Read, Write};
 use std::time::Instant;
 
-/// SEED HANDS: prints the file of so many made hands. FROM: reads the input in a notation, and
-/// prints how long it took until the records were there, by the clock on the wall and without the
-/// time to free them. FROM TO TIMES: reads and replays the hands of the input, and writes them so
-/// many times. Notations are `phh`, `ohh` and `acpc`; logs are under the game of the hands of
-/// `bench/convert`.
+/// SEED HANDS: prints the file of HANDS made hands. FROM: reads the input in a notation, and prints
+/// how long it took to get the records, by the wall clock and without the time to free them. FROM
+/// TO TIMES: reads and replays the hands of the input, and writes them TIMES times. Notations are
+/// `phh`, `ohh` and `acpc`; logs are under the game of the hands of `bench/convert`.
 pub fn answer_words(rt: &HostRuntime, words: &[String]) -> io::Result<()> {
     match words {
         [from] => time_reading(rt, from),
@@ -24,7 +23,7 @@ pub fn answer_words(rt: &HostRuntime, words: &[String]) -> io::Result<()> {
     }
 }
 
-// Prints how long it takes to read the input, and how many hands it has.
+// Prints how long it takes to read the input, and its number of hands.
 fn time_reading(rt: &HostRuntime, from: &str) -> io::Result<()> {
     let bytes = input(rt)?;
     let begun = Instant::now(rt)?;
@@ -34,7 +33,7 @@ fn time_reading(rt: &HostRuntime, from: &str) -> io::Result<()> {
     print_count(rt, "hands", hands.map(|hands| hands.len()))
 }
 
-// Prints the file of so many made hands.
+// Prints the file of `hands` made hands.
 fn print_file(rt: &HostRuntime, seed: u64, hands: u32) -> io::Result<()>
     requires { hands ≤ 65536 }
 {
@@ -42,12 +41,12 @@ fn print_file(rt: &HostRuntime, seed: u64, hands: u32) -> io::Result<()>
         Ok(file) => rt.stdout().write_all(&file.bytes),
         Err(why) => match why.text(rt.alloc()) {
             Ok(text) => rt.println(text.as_str()),
-            Err(Memory) => Err(io::Error::from(io::ErrorKind::OutOfMemory)),
+            Err(_) => Err(io::Error::from(io::ErrorKind::OutOfMemory)),
         },
     }
 }
 
-// Writes the hands of the input so many times, and prints how many bytes that was.
+// Writes the hands of the input `times` times, and prints the number of bytes.
 fn count_written(rt: &HostRuntime, from: &str, to: &str, times: u32) -> io::Result<()> {
     let bytes = input(rt)?;
     let written = write_hands(rt.alloc(), from, to, times, &bytes);
@@ -60,7 +59,7 @@ fn input(rt: &HostRuntime) -> io::Result<Vec<u8>> {
     Ok(bytes)
 }
 
-// Prints how many there are of something, if that is known.
+// Prints a count of something, if it is known.
 fn print_count(rt: &HostRuntime, what: &str, count: Option<usize>) -> io::Result<()> {
     match count {
         Some(count) => println!(rt; "{count} {what}"),

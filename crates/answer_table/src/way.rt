@@ -1,13 +1,13 @@
-//! A conversion that goes by another notation is told beside the straight one.
+//! Compares a conversion that goes through another notation with the direct one.
 use crate::answer::{RowAnswer, run};
 use crate::pieces::{Pieces, parted};
 use crate::row::read_row;
 use card_set::Memory;
 use std::alloc::Global;
 
-/// The answer to a row FROM BY TO GAME: what becomes of the input straight, and behind it that the
-/// same becomes of it by way of another notation, or what else. Logs are under the piece of this
-/// name.
+/// The answer to a row FROM BY TO GAME: the result of the direct conversion of the input, and then
+/// that the conversion through another notation gives the same, or what it gives instead. Logs are
+/// under the piece of this name.
 pub fn answer_to(alloc: Global, pieces: &Pieces, row: &str) -> Result<String, Memory> {
     let (words, input) = parted(row, "<");
     let (from, words) = parted(words.trim(), " ");

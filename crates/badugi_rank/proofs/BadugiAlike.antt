@@ -14,9 +14,9 @@ use Rattle.hand_order.specs.Digits.{class_above}
 use Rattle.hand_order.proofs.Alike.{Passes, all_every, every_all, every_map}
 use Rattle.hand_order.proofs.SameChoices.{every_one_of, one_of_every}
 use Rattle.badugi_rank.specs.Badugi.{choice_points, has_in_common, has_nothing_in_common}
-use Rattle.list_laws.proofs.Tests.{or_right, passes_or_not, same_test, both_true, not_and_is}
+use Rattle.card_set.proofs.Tests.{or_right, passes_or_not, same_test, both_true, not_and_is}
 
--- cards that have something in common are one
+-- if cards that have something in common are the same card
 abbrev AreApart : List Card → Type 0
 AreApart cards = (a b : Card) → is_one_of a cards ≡ true → is_one_of b cards ≡ true → has_in_common a b ≡ true → a ≡ b
 

@@ -1,4 +1,4 @@
--- The most points that can be had with one rank of each suit or none are those of the best choice.
+-- The most points that can be had with at most one rank of each suit are those of the best choice.
 use Rattle.std.proofs.Common.{◌≡◌, ℕ, zero, suc, ◌+◌, ◌-◌, ◌*◌, ◌^◌, ◌<◌, ◌≤◌, ◌&&◌, Bool, true, false, List, [], ◌∷◌, ◌++◌, length, filter, Option, Some, None, ◌⊎◌, inl, inr, refl, sym, ◌∙◌, ap, arith}
 use Rattle.std.proofs.lemmas.Bool.{cases_lt}
 use Rattle.std.proofs.lemmas.Option.{same_Some}
@@ -23,7 +23,7 @@ use Rattle.badugi_rank.proofs.RainbowCards.{apart_different, none_made, suit_mad
 use Rattle.badugi_rank.proofs.RainbowRanks.{ShowsCards, points_shown, ranks_shown, once_high}
 use Rattle.badugi_rank.proofs.SuitRanks.{can_take, can_taken}
 use Rattle.badugi_rank.proofs.TakenRanks.{ranks_number}
-use Rattle.list_laws.proofs.Tests.{passes_or_not}
+use Rattle.card_set.proofs.Tests.{passes_or_not}
 
 -- a choice of one to four cards
 record IsChosen (cards choice : List Card) : Type 0 where

@@ -1,4 +1,5 @@
--- The cards of a choice whose ranks and suits all differ are one of each suit or none, and the other way round.
+-- A choice whose ranks and suits all differ has at most one card of each suit, and the other way
+-- round.
 use Rattle.std.proofs.Common.{◌≡◌, ◌≢◌, ℕ, suc, ◌+◌, ◌<◌, ◌≤◌, ◌==◌, ◌&&◌, ◌||◌, not, Bool, true, false, cond, List, [], ◌∷◌, length, filter, ◌⊎◌, inl, inr, refl, sym, ◌∙◌, ap, subst, arith, eqb-true, eq-eqb}
 use Rattle.std.specs.Int.{bit_at}
 use Rattle.std.specs.List.{list_all}
@@ -22,9 +23,9 @@ use Rattle.hand_order.proofs.SetCounts.{height_below, rank_below}
 use Rattle.hand_order.proofs.SuitedHands.{every_filter, of_suit}
 use Rattle.badugi_rank.specs.Badugi.{has_in_common, has_nothing_in_common}
 use Rattle.badugi_rank.proofs.SuitRanks.{IsOneOf}
-use Rattle.list_laws.proofs.Tests.{passes_or_not, same_test, true_false}
+use Rattle.card_set.proofs.Tests.{passes_or_not, same_test, true_false}
 
--- where one card has the suit, none of the others has
+-- if one card has the suit, no other card has it
 none_of_suit : (s : ℕ) (card : Card) (rest : List Card) → of_suit s card ≡ true → list_all (λ other. not (has_in_common card other)) rest ≡ true → filter (of_suit s) rest ≡ []
 none_of_suit s card [] of apart = refl
 none_of_suit s card (other ∷ rest) of apart =
@@ -101,11 +102,12 @@ pub record IsMade (listing : List Card) (from : ℕ) (f : ℕ → ℕ) : Type 0 
 pub none_made : (listing : List Card) → IsMade listing 4 (λ k. 0)
 none_made listing = record { cards = []; apart = refl; above = tt; inside = tt; counts = λ k. times-none high_ace (k + 2); few = omega arith }
 
--- ranks of one low height are one
+-- ranks of the same low height are the same
 rank_same : (a b : Rank) → low_ace a ≡ low_ace b → a ≡ b
 rank_same a b same = sym (IsHeight-low_ace.back a) ∙ ap (rank_with low_ace) same ∙ IsHeight-low_ace.back b
 
--- a card of a suit before the others, and of another rank, has nothing in common with them
+-- a card whose suit comes before those of the others, and of another rank, has nothing in common
+-- with them
 apart_from : (card : Card) (cards : List Card) → Every (λ other. suits_before card.suit < suits_before other.suit) cards → times high_ace cards (high_ace card.rank) ≡ 0 → list_all (λ other. not (has_in_common card other)) cards ≡ true
 apart_from card [] above none = refl
 apart_from card (other ∷ rest) above none =
@@ -124,7 +126,7 @@ apart_from card (other ∷ rest) above none =
     both true q one second = second
     both false q one second = absurd (cc)
 
--- a card more of the suit before
+-- one more card of the suit before
 pub suit_made : (set : CardSet) (listing : List Card) (suit : Suit) (mask from : ℕ) (f g : ℕ → ℕ) → IsListing set listing → IsMaskOf set mask suit → suits_before suit ≡ from → IsMade listing (suc from) f → IsOneOf mask g → ((k : ℕ) → g k + f k ≤ 1) → IsMade listing from (λ k. g k + f k)
 suit_made set listing suit mask from f g lists is at made (inl none) once = record {
   cards = made.cards;

@@ -18,12 +18,12 @@ use Rattle.badugi_rank.specs.BadugiLaw.{once_each}
 use Rattle.badugi_rank.specs.Rainbow.{ranks_in, taken_points}
 use Rattle.std.proofs.lemmas.List.{nil_from_length}
 
--- as many heights from one on, the greatest first
+-- this number of heights from one on, highest first
 abbrev heights_from : ℕ → ℕ → List ℕ
 heights_from zero from = []
 heights_from (suc heights) from = heights_from heights (from + 1) ++ from ∷ []
 
--- where enough are asked for, the lowest heights that pass are all that pass
+-- if enough are asked for, the lowest heights that pass are all that pass
 lowest_all : (has : ℕ → Bool) (heights from need : ℕ) → length (filter has (heights_from heights from)) ≤ need → lowest has heights from need ≡ filter has (heights_from heights from)
 lowest_all has zero from need few = refl
 lowest_all has (suc heights) from zero few = sym (nil_from_length (filter has (heights_from (suc heights) from)) (omega arith))
@@ -51,7 +51,7 @@ lowest_agree has other (suc heights) from need same =
     later : (h : ℕ) → from + 1 ≤ h → h < from + 1 + heights → has h ≡ other h
     later h least below = same h (omega arith) (omega arith)
 
--- where the ace is low, no rank has the height of an ace that is high
+-- with the ace low, no rank has the height of a high ace
 not_fourteen : (rank : Rank) → (low_ace rank == 14) ≡ false
 not_fourteen ranks.Two = refl
 not_fourteen ranks.Three = refl
@@ -90,7 +90,7 @@ bit_of_height mask cards h shows some few =
           ∙ shows 12 ∙ sym (aces cards) ∙ ap (times low_ace cards) (sym is_one)
     ]
 
--- no rank occurs twice, where the ace is high either
+-- no rank occurs twice, even with the ace high
 pub once_high : (cards : List Card) → has_nothing_in_common cards ≡ true → (k : ℕ) → times high_ace cards (k + 2) ≤ 1
 once_high cards apart k =
     elim (cases_lt k 12) [

@@ -1,4 +1,4 @@
--- Of each suit one rank can be taken, or none, where in all no rank is taken twice.
+-- From each suit at most one rank can be taken, and no rank is taken twice.
 use lib.Bits.{bit_and}
 use Rattle.std.proofs.Common.{◌≡◌, ℕ, ◌+◌, ◌-◌, ◌*◌, ◌^◌, ◌%◌, ◌<◌, ◌≤◌, ◌==◌, min, Bool, true, false, cond, [], ◌∷◌, ◌⊎◌, inl, inr, refl, sym, ◌∙◌, ap, subst, arith, eqb-true, eq-eqb, w16}
 use Rattle.std.specs.Int.{bit_at, bit_not}
@@ -7,8 +7,8 @@ use Rattle.std.proofs.lemmas.Nat.{and_le_l, or_lt}
 use Rattle.std.proofs.lemmas.Nat.Bits.{bit_at_and, bit_at-lt, bit_at_not, bit_at_set_other, bit_at_set_same, bit_at-zero}
 use Rattle.badugi_rank.specs.Rainbow.{CanTake, TakesOne}
 use Rattle.badugi_rank.proofs.Taking.{with_rank}
-use Rattle.list_laws.proofs.Tests.{passes_or_not}
-use Rattle.list_laws.proofs.Bits.{place_within}
+use Rattle.card_set.proofs.Tests.{passes_or_not}
+use Rattle.card_set.proofs.Bits.{place_within}
 
 -- the bits of a mask
 pub record AreBits (mask : ℕ) (f : ℕ → ℕ) : Type 0 where
@@ -25,7 +25,7 @@ IsOneOf mask g = ((k : ℕ) → g k ≡ 0) ⊎ ((place : ℕ) × (bit_at mask pl
 here_one : (place : ℕ) → cond {A = ℕ} (place == place) 1 0 ≡ 1
 here_one place = ap (λ (b : Bool). cond {A = ℕ} b 1 0) (eq-eqb place place refl)
 
--- one rank more
+-- one more rank
 with_bits : (taken place : ℕ) (f : ℕ → ℕ) → place < 16 → AreBits taken f → f place ≡ 0 → AreBits (with_rank taken place) (λ k. f k + cond (place == k) 1 0)
 with_bits taken place f within bits free = record {
   small = or_lt 16 taken (1 * 2 ^ place % 2 ^ 16) bits.small (omega arith);
@@ -53,7 +53,7 @@ free_bit : (mask taken place : ℕ) (f : ℕ → ℕ) → AreBits taken f → pl
 free_bit mask taken place f bits within =
     bit_at_and mask (bit_not w16 taken) place ∙ ap (λ (n : ℕ). min (bit_at mask place) n) (bit_at_not w16 taken place bits.small within ∙ ap (λ (n : ℕ). 1 - n) (bits.each place))
 
--- a rank that is not taken is free
+-- a rank that is not taken is still free
 one_free : (mask taken : ℕ) (f g : ℕ → ℕ) → mask < 2 ^ 16 → AreBits taken f → ((k : ℕ) → f k + g k ≤ 1) → IsOneOf mask g → IsOneOf (free_ranks mask taken) g
 one_free mask taken f g small bits once (inl none) = inl none
 one_free mask taken f g small bits once (inr one) =
@@ -69,7 +69,7 @@ one_taken left taken f g small bits once (inr one) =
       bits_same (with_rank taken one.0) (λ k. f k + cond (one.0 == k) 1 0) (λ k. f k + g k) (λ k. omega (arith, one.2 k)) (with_bits taken one.0 f (place_within left one.0 small one.1) bits free),
     )
 
--- one rank of each suit or none
+-- at most one rank of each suit
 pub can_take : (c d h s : ℕ) (a b e g : ℕ → ℕ) → c < 2 ^ 16 → d < 2 ^ 16 → h < 2 ^ 16 → s < 2 ^ 16 → IsOneOf c a → IsOneOf d b → IsOneOf h e → IsOneOf s g → ((k : ℕ) → a k + b k + e k + g k ≤ 1) → (ranks : ℕ) × CanTake c (d ∷ h ∷ s ∷ []) 0 ranks × AreBits ranks (λ k. a k + b k + e k + g k)
 can_take c d h s a b e g small_c small_d small_h small_s one_c one_d one_h one_s once =
     let none : AreBits 0 (λ k. 0) = record { small = omega arith; each = bit_at-zero } in

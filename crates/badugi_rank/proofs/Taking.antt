@@ -1,11 +1,12 @@
--- What can be taken of the ranks that are left is what can be taken without one of them, and what can be taken after it.
+-- What can be taken of the ranks that are left is what can be taken without one of them, plus what
+-- can be taken after it.
 use lib.Bits.{bit_or}
 use Rattle.std.proofs.Common.{◌≡◌, ℕ, ◌*◌, ◌^◌, ◌%◌, ◌≤◌, ◌==◌, Bool, true, false, cond, List, [], ◌∷◌, max, ◌⊎◌, inl, inr, refl, sym, ◌∙◌, ap, arith, eqb-true}
 use Rattle.std.specs.Int.{bit_at}
 use Rattle.std.proofs.lemmas.Bool.{cases_lt}
 use Rattle.badugi_rank.specs.Rainbow.{CanTake, IsMost, TakesOne, taken_points}
-use Rattle.list_laws.proofs.Bits.{no_bit}
-use Rattle.list_laws.proofs.Tests.{passes_or_not}
+use Rattle.card_set.proofs.Bits.{no_bit}
+use Rattle.card_set.proofs.Tests.{passes_or_not}
 
 none_left : (left taken more : ℕ) → left ≡ 0 → TakesOne left taken more → more ≡ taken
 none_left left taken more none (inl same) = same
@@ -45,7 +46,7 @@ can_either left cleared place taken with ranks [] bits is can =
 can_either left cleared place taken with ranks (mask ∷ others) bits is can =
     elim (takes_either left cleared place taken with can.0 bits is can.1) [ inl without ↦ inl (can.0, without, can.2) | inr same ↦ inr (can.0, inl same, can.2) ]
 
--- a mask without a bit has no bit that the mask lacks
+-- a mask without a bit has no bit that the mask does not have
 fewer_bits : (left cleared place : ℕ) → ((k : ℕ) → bit_at cleared k ≡ cond (place == k) 0 (bit_at left k)) → HasBits left cleared
 fewer_bits left cleared place bits k set = by_test (place == k) (sym (bits k) ∙ set)
   where

@@ -1,4 +1,4 @@
--- The order of badugi: a hand of four cards stands for its best choice of cards whose ranks and
+-- The order of badugi: a hand of four cards counts as its best choice of cards whose ranks and
 -- suits all differ.
 use Rattle.std.specs.Prelude.{◌≡◌, ◌<◌, ◌==◌, ◌&&◌, ◌||◌, not, ℕ, ◌-◌, ◌^◌, Bool, true, ◌⊎◌, List, [], ◌∷◌, ◌++◌, length, Option, Some, None, if◌then◌else◌}
 use Rattle.std.specs.List.{list_all}
@@ -26,14 +26,14 @@ has_nothing_in_common (card ∷ rest) =
 abbrev pub IsRainbow : List Card → Type 0
 IsRainbow chosen = has_nothing_in_common chosen ≡ true
 
--- a choice is weaker: it has fewer cards, or as many, and from the top down the first rank that
--- differs is higher, the ace low
+-- a choice is weaker: it has fewer cards, or as many and, from the top down, the first rank that
+-- differs is higher; the ace is low
 abbrev pub IsWeakerChoice : List Card → List Card → Type 0
 IsWeakerChoice a b =
     (length a < length b)
     ⊎ ((length a ≡ length b) × IsLower (ranks_of low_ace b) (ranks_of low_ace a))
 
--- the choices of four, three, two cards and one
+-- the choices of four, three, two cards and one card
 unfoldable pub candidates : List Card → List (List Card)
 candidates cards = choices 4 cards ++ (choices 3 cards ++ (choices 2 cards ++ choices 1 cards))
 
@@ -41,7 +41,7 @@ candidates cards = choices 4 cards ++ (choices 3 cards ++ (choices 2 cards ++ ch
 abbrev pub IsHand : List Card → Type 0
 IsHand cards = Unit {0}
 
--- a hand is weaker than another: the best choice of the other beats its own
+-- a hand is weaker than another if the best choice of the other beats its own best choice
 abbrev pub IsWeaker : List Card → List Card → Type 0
 IsWeaker a b = Beats IsRainbow IsWeakerChoice (candidates b) (candidates a)
 

@@ -19,14 +19,14 @@ use Rattle.hand_order.proofs.Lawful.{greatest_of_holding, beats_exactly, lawful_
 use Rattle.hand_order.proofs.RankDigits.{AreDigits-ranks_of}
 use Rattle.hand_order.proofs.Ranked.{IsRanked, ranked_low_law}
 use Rattle.badugi_rank.specs.Badugi.{has_in_common, has_nothing_in_common, IsRainbow, IsWeakerChoice, candidates, IsHand, IsWeaker, choice_points, points}
-use Rattle.list_laws.proofs.Tests.{passes_or_not}
-use Rattle.list_laws.proofs.Options.{some_where}
+use Rattle.card_set.proofs.Tests.{passes_or_not}
+use Rattle.card_set.proofs.Options.{some_where}
 
 -- at most four cards
 abbrev pub AreFew : List Card → Type 0
 AreFew chosen = length chosen ≤ 4
 
--- no card of a rank that other cards lack
+-- no card of a rank that other cards do not have
 lacks_rank : (card : Card) (rest : List Card)
     → list_all (λ other. not (has_in_common card other)) rest ≡ true
     → times low_ace rest (low_ace card.rank) ≡ 0
@@ -74,15 +74,15 @@ rainbow_ranks chosen differ =
     let once = all_once low_ace IsHeight-low_ace chosen (once_each chosen differ) in
     omega (arith, length-ranks_of low_ace chosen, once.0, once.1, once.2, once.3)
 
--- cards that a choice lacks of four
+-- the number of cards that a choice is short of four
 abbrev pub missing_cards : List Card → ℕ
 missing_cards chosen = 4 - length chosen
 
--- how many ranks fewer than four decide, by how many cards a choice lacks
+-- how many ranks fewer than four decide, by the number of cards that a choice is short of four
 rainbow_missing : List ℕ
 rainbow_missing = 0 ∷ 1 ∷ 2 ∷ 3 ∷ 4 ∷ []
 
--- the ranks of a choice and those that it lacks are four
+-- the ranks of a choice and the cards that it is short of make four
 missing_of : (n : ℕ) → n ≤ 4 → n + get_or rainbow_missing (4 - n) 0 ≡ 4
 unfolding rainbow_missing
 missing_of zero few = refl
@@ -112,7 +112,7 @@ choice_value chosen value is =
     cond_some (has_nothing_in_common chosen)
     (16 ^ 6 - class_above (4 - length chosen) (ranks_of low_ace chosen)) value is
 
--- the points of a choice are less exactly where it is weaker
+-- the points of a choice are less if and only if it is weaker
 choice_ordered : (a b : List Card) (low high : ℕ) → AreFew a → AreFew b → choice_points a ≡ Some low
     → choice_points b ≡ Some high → (low < high) ↔ IsWeakerChoice a b
 choice_ordered a b low high few_a few_b is_low is_high =
@@ -170,7 +170,7 @@ hand_points cards most held is =
     greatest_of_holding AreFew IsRainbow IsWeakerChoice choice_points (candidates cards) most
     lawful_choices (λ choice among. few_chosen cards choice held.1 among) (sym is)
 
--- the points of a hand are less exactly where it is weaker
+-- the points of a hand are less if and only if it is weaker
 hand_ordered : (a b : List Card) (low high : ℕ) → AreHeld 4 a → AreHeld 4 b → points a ≡ Some low
     → points b ≡ Some high → (low < high) ↔ IsWeaker a b
 hand_ordered a b low high held_a held_b is_low is_high =

@@ -1,4 +1,4 @@
--- The choices of badugi, over the masks of the ranks of each suit: bit 0 is the two, and bit 12 the
+-- The choices of badugi, over bit masks of the ranks of each suit: bit 0 is the two, bit 12 the
 -- ace.
 use Rattle.std.specs.Prelude.{◌≡◌, ◌≤◌, ◌⊎◌, ℕ, ◌-◌, ◌*◌, ◌^◌, ◌%◌, List, [], ◌∷◌, length}
 use Rattle.std.specs.Int.{bit_at, bit_not, w16}
@@ -10,18 +10,18 @@ use Rattle.hand_order.specs.Lowest.{has_height, lowest}
 unfoldable pub ranks_in : ℕ → List ℕ
 ranks_in mask = lowest (has_height mask) 13 1 4
 
--- the points of a choice with the ranks of a mask
+-- the points of a choice whose ranks are those of a mask
 abbrev pub taken_points : ℕ → ℕ
 taken_points taken = 16 ^ 6 - class_above (4 - length (ranks_in taken)) (ranks_in taken)
 
--- one rank of those that are left is taken more, or none
+-- one more of the ranks that are left is taken, or none
 abbrev pub TakesOne : ℕ → ℕ → ℕ → Type 0
 TakesOne left taken more =
     (more ≡ taken)
     ⊎ ((place : ℕ) × (bit_at left place ≡ 1) × (more ≡ bit_or taken (1 * 2 ^ place % 2 ^ 16)))
 
--- with the ranks that are taken these can be had: at most one of those left, and of each other suit
--- one that is still free, or none
+-- with the ranks taken so far these ranks can be had: at most one of those left, and of each other
+-- suit at most one that is still free
 abbrev pub CanTake : ℕ → List ℕ → ℕ → ℕ → Type 0
 CanTake left [] taken ranks = TakesOne left taken ranks
 CanTake left (mask ∷ others) taken ranks =

@@ -7,8 +7,9 @@ use crate::rainbow::best_rainbow;
 use card_set::{CardRow, CardSet};
 use hand_order::{HandOrder, Score};
 
-/// The order of badugi, over any four cards: the largest choice whose ranks and suits all differ,
-/// and of as many cards the lower ranks, from the top down.
+/// The order of badugi, over any four cards: the larger choice whose ranks and suits all differ
+/// wins and, of choices with as many cards, the one with the lower ranks, compared from the top
+/// down.
 #[derive(Clone, Copy, Debug)]
 pub struct Badugi;
 

@@ -1,4 +1,4 @@
-//! The best choice of badugi takes of each suit one rank that is still free, or none.
+//! Finds the best choice of badugi: from each suit one rank that is still free, or none.
 ghost use Rattle.std.specs.Prelude.{◌≡◌, List, Some};
 ghost use Rattle.card_set.specs.declared.card.Card.{Card};
 ghost use Rattle.card_set.specs.CardSet.{count_of, IsListing};
@@ -8,7 +8,7 @@ ghost use Rattle.badugi_rank.specs.Rainbow.{IsMost, taken_points};
 use card_set::{CardSet, Suit};
 use hand_order::{Score, class_above, clear, lowest_ranks, top};
 
-/// The score of four cards in badugi. The masks of the four suits tell the best choice.
+/// The score of four cards in badugi. The rank masks of the four suits are all that is needed.
 pub fn best_rainbow(cards: &CardSet) -> Score
     requires { count_of cards.now ≡ 4 }
     ensures { (listing : List Card) → IsListing cards.now listing
@@ -25,8 +25,8 @@ pub fn best_rainbow(cards: &CardSet) -> Score
     }
 }
 
-// The most points that can be had with the ranks that are taken,
-// at most one of those that are left, and at most one of each other suit.
+// The most points that can be had with the ranks taken so far, at most one of those that are left,
+// and at most one of each other suit.
 fn best_taken(left: u16, others: &[u16], taken: u16) -> u32
     ensures { IsMost left others.now taken result }
 {

@@ -1,4 +1,4 @@
-//! The betting of a hand of one game, and what is seen of it.
+//! The betting of a hand of one game, and what can be seen of it.
 ghost use Rattle.std.specs.Prelude.{◌≡◌, [], ℕ, true, IfSome, is_none, is_some};
 ghost use Rattle.play_event.specs.declared.reason.Due.TheVariants as dues;
 ghost use Rattle.play_event.specs.Past.{Past, moves_of};
@@ -11,39 +11,40 @@ ghost use Rattle.betting_numbers.specs.TurnSaid.{turn_of};
 ghost use Rattle.play_event.specs.Streets.{unit};
 ghost use Rattle.betting_core.specs.Kept.{AreOfGame, IsOfTable};
 ghost use Rattle.betting_core.specs.Seen.{TellsLive, TellsSeats};
+ghost use Rattle.betting_core.specs.Seen.{moved_last};
 ghost use Rattle.betting_numbers.specs.Standing.{StandsFor};
 ghost use Rattle.betting_numbers.specs.LegalMoves.{IsTurn, WhereUps};
 ghost use Rattle.betting_numbers.specs.UpTo.{StandsUpTo};
-ghost use Rattle.street_laws.specs.Dues.{IsDueWithin};
+ghost use Rattle.play_laws.specs.Dues.{IsDueWithin};
 ghost use Rattle.betting_numbers.specs.Turn.{IsFirstBehind};
 ghost use Rattle.play_event.specs.ValidSetup.{IsValid};
 ghost use Rattle.betting_numbers.specs.Targeted.{AreEndsFor};
 ghost use Rattle.chip_ledger.specs.SeatsSaid.{seat_said};
 
-use betting_numbers::{RunningNumbers, SeatInTurn, Targets, start};
+use betting_numbers::{BettingState, Targets, ToAct, start};
 use chip_ledger::{LiveRow, Seat, SeatRow};
 use play_event::{Due, Rules, Setup, UpRow};
 use std::marker::{Model, PhantomData};
 use variant_table::{Opener, Size, Variant};
 
-/// The betting of a hand of the game `V`, at some moment of the hand. A contract sees it as its
+/// The betting of a hand of the game `V`, at some moment of the hand. Contracts see it as its
 /// running numbers.
 ///
-/// What it answers is told by pasts: a past is any list of what took place in a hand, and
+/// Its answers are stated by pasts. A past is any list of what took place in a hand, and
 /// `StandsFor` says that the state is what the rules make of that past. A state stands up to its
-/// due (`StandsUpTo`) where the deal, draw or show that it waits for is complete in the past, and
-/// [`dealt`](Betting::dealt) was not called yet.
+/// due (`StandsUpTo`) if the deal, draw or show that it waits for is complete in the past, but
+/// [`dealt`](Betting::dealt) has not been called yet.
 #[derive(Drop)]
 pub struct Betting<V: Variant> {
-    pub(crate) numbers: RunningNumbers,
+    pub(crate) numbers: BettingState,
     game: PhantomData<V>,
 }
 
 impl<V: Variant> Model for Betting<V> {
-    ghost use Rattle.betting_numbers.specs.declared.running.RunningNumbers.{RunningNumbers};
+    ghost use Rattle.betting_numbers.specs.declared.betting_state.BettingState.{BettingState};
     ghost use Rattle.betting_core.specs.Kept.{AreOfGame};
 
-    ghost Value = { RunningNumbers };
+    ghost Value = { BettingState };
 
     ghost view = { λ b. b.numbers };
 
@@ -71,7 +72,7 @@ impl<V: Variant> Betting<V> {
         }
     }
 
-    /// What is due: a deal, a draw, a bring-in, a move, the showdown, or nothing as the hand is
+    /// What is due: a deal, a draw, a bring-in, a move, the showdown, or nothing once the hand is
     /// over.
     pub fn due(&self) -> Due
         ensures value { result ≡ self.now.due }
@@ -84,8 +85,11 @@ impl<V: Variant> Betting<V> {
     }
 
     /// Whether no seat has moved on the street yet.
-    pub fn is_unmoved(&self) -> bool
+    #[tactic(auto, using(crate::proofs::ToCall::unmoved_after))]
+    pub fn nobody_acted(&self) -> bool
         ensures value { result ≡ is_none self.now.last }
+        ensures past { (past : Past) → StandsFor self.now past
+            → result ≡ is_none (moved_last (moves_of past) self.now.street) }
         ensures game { AreOfGame V.CODE V.STREETS self.now }
     {
         self.numbers.last.is_none()
@@ -114,7 +118,7 @@ impl<V: Variant> Betting<V> {
         self.numbers.stacks_left()
     }
 
-    /// Whether the hand is settled: two or more seats are live, and no betting can come any more.
+    /// Whether the hand is settled: two or more seats are live, and no more betting is possible.
     pub fn settled(&self) -> bool
         ensures stands { (past : Past) → StandsFor self.now past
             → result
@@ -127,9 +131,9 @@ impl<V: Variant> Betting<V> {
         self.numbers.settled()
     }
 
-    /// Where the seat in turn may raise to: the least and the greatest legal target, and its
-    /// all-in. `None` where no move or bring-in is due, it is not known whose turn it is, or that
-    /// seat may not raise.
+    /// Where the player to act may raise to: the least and the greatest legal target, and all-in.
+    /// `None` if no move or bring-in is due, if it is not known whose turn it is, or if that seat
+    /// may not raise.
     pub fn targets(&self, up: &UpRow) -> Option<Targets>
         ensures some { WhereUps self.now up.now
             (λ past. is_some result ≡ has_targets self.now.setup self.now.rules past) }
@@ -139,7 +143,7 @@ impl<V: Variant> Betting<V> {
             → AreEndsFor self.now (moves_of past) seat targets)) }
     {
         if betting_due(self.numbers.due) {
-            let turn = self.turn_now(up);
+            let turn = self.to_act(up);
             let size = self.unit();
             self.numbers.targets_of(turn, V::LIMIT, size)
         } else {
@@ -147,9 +151,9 @@ impl<V: Variant> Betting<V> {
         }
     }
 
-    /// Whose turn it is, if it is known, where a bring-in or a move is due. The row is read in
-    /// stud, where no seat has moved on the street yet.
-    pub fn turn_now(&self, up: &UpRow) -> Option<Seat>
+    /// Whose turn it is, if known, when a bring-in or a move is due. The row of up-cards is read
+    /// only in stud, before the first move of a street.
+    pub fn to_act(&self, up: &UpRow) -> Option<Seat>
         requires { is_bet_due self.now.due ≡ true }
         ensures turn { WhereUps self.now up.now
             (λ past. IsTurn self.now past (turn_of (seat_said result))) }
@@ -158,9 +162,9 @@ impl<V: Variant> Betting<V> {
         self.turn_found(up).seat
     }
 
-    // Whose turn it is, if it is known, and who is behind where the row is read. It is nobody's
-    // where neither a bring-in nor a move is due.
-    pub(crate) fn turn_found(&self, up: &UpRow) -> SeatInTurn
+    // Whose turn it is, if known, and the seat after it if the row was read. Nobody if neither a
+    // bring-in nor a move is due.
+    pub(crate) fn turn_found(&self, up: &UpRow) -> ToAct
         ensures turn { WhereUps self.now up.now
             (λ past. is_bet_due self.now.due ≡ true
             → IsTurn self.now past (turn_of (seat_said result.seat))) }
@@ -169,12 +173,12 @@ impl<V: Variant> Betting<V> {
             (λ seat. IfSome result.behind (IsFirstBehind self.now seat.number)) }
     {
         if !betting_due(self.numbers.due) {
-            return SeatInTurn {
+            return ToAct {
                 seat: None,
                 behind: None,
             };
         }
-        let kept = SeatInTurn {
+        let kept = ToAct {
             seat: self.numbers.next,
             behind: None,
         };

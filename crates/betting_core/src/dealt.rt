@@ -1,29 +1,29 @@
-//! A deal, a draw or a show is ended, and the turn passes on.
+//! Ends a deal, a draw or a show, and passes the turn on.
 ghost use Rattle.std.specs.Prelude.{◌≡◌, ◌≤◌, true, false, IfSome, is_some};
 ghost use Rattle.play_event.specs.declared.reason.Due.TheVariants as dues;
 ghost use Rattle.play_event.specs.Past.{Past};
 ghost use Rattle.play_event.specs.Openers.{TheSeat, blinds_opener, in_turn};
 ghost use Rattle.play_event.specs.Streets.{is_stud};
-ghost use Rattle.betting_numbers.specs.Seen.{is_move_due_seen, mover_seen};
+ghost use Rattle.betting_numbers.specs.Seen.{is_move_due_seen, player_to_act_seen};
 ghost use Rattle.betting_core.specs.Kept.{AreKept, IsOfTable, IsReadyToPass, IsSameHand};
 ghost use Rattle.betting_numbers.specs.Standing.{StandsFor};
 ghost use Rattle.betting_numbers.specs.UpTo.{StandsUpTo};
-ghost use Rattle.street_laws.specs.Done.{is_done};
-ghost use Rattle.street_laws.specs.Dues.{is_deal_or_draw, is_cards_due};
+ghost use Rattle.play_laws.specs.Done.{is_done};
+ghost use Rattle.play_laws.specs.Dues.{is_deal_or_draw, is_cards_due};
 ghost use Rattle.betting_numbers.specs.Turn.{IsDealtTo, IsNextUp, IsPassedTo};
-ghost use Rattle.street_laws.specs.Walk.{street_cards};
+ghost use Rattle.play_laws.specs.Walk.{street_cards};
 ghost use Rattle.chip_ledger.specs.SeatsSaid.{seat_said};
 
 use crate::betting::Betting;
-use betting_numbers::RunningNumbers;
+use betting_numbers::BettingState;
 use chip_ledger::Seat;
 use play_event::Due;
 use variant_table::{Opener, Variant};
 
 impl<V: Variant> Betting<V> {
-    /// Ends the deal, the draw or the show that is due: the betting of the street begins, or what
-    /// comes behind it where nobody has to move, as the next street's deal. Where that is complete
-    /// in the past too it is ended by the next call; a showdown that is ended is over.
+    /// Ends the deal, the draw or the show that is due. Then the betting of the street begins or,
+    /// if nobody can act, the hand moves on, as to the next street's deal. If that is complete in
+    /// the past too, the next call ends it. After a showdown the hand is over.
     pub fn dealt(&mut self)
         requires { is_cards_due self.old.due ≡ true }
         ensures stands { (past : Past) → StandsUpTo self.old past
@@ -44,7 +44,7 @@ impl<V: Variant> Betting<V> {
         }
     }
 
-    // The deal or the draw of the street is ended.
+    // Ends the deal or the draw of the street.
     fn bet(&mut self)
         requires { is_deal_or_draw self.old.due ≡ true }
         ensures { IsDealtTo self.old self.new }
@@ -57,7 +57,7 @@ impl<V: Variant> Betting<V> {
     }
 }
 
-// The game is a game of stud.
+// Whether the game is a stud game.
 fn stud<V: Variant>() -> bool
     ensures { result ≡ is_stud V.CODE }
 {
@@ -67,9 +67,9 @@ fn stud<V: Variant>() -> bool
     }
 }
 
-// What is due where no bring-in is: nothing more where the hand is over, else a move of the seat in
-// turn, or the next street begins. Where it is known who is next up, that is this seat.
-pub(crate) fn pass<V: Variant>(table: &mut RunningNumbers, over: bool, behind: Option<Seat>)
+// What comes if no bring-in is due: nothing if the hand is over, else a move of the player to act,
+// the next street, or the showdown. `behind`, if known, is the only seat that can be next to act.
+pub(crate) fn pass<V: Variant>(table: &mut BettingState, over: bool, behind: Option<Seat>)
     requires { IsReadyToPass V.CODE V.STREETS table.old behind }
     ensures passed { IsPassedTo over table.old table.new }
     ensures kept { AreKept V.STREETS table.new }
@@ -79,7 +79,7 @@ pub(crate) fn pass<V: Variant>(table: &mut RunningNumbers, over: bool, behind: O
         return;
     }
     let street = table.street;
-    let next = mover(table, behind);
+    let next = player_to_act(table, behind);
     if next.is_some() {
         table.set_turn(Due::Move, next);
     } else if street < V::STREETS {
@@ -89,24 +89,24 @@ pub(crate) fn pass<V: Variant>(table: &mut RunningNumbers, over: bool, behind: O
     }
 }
 
-// Whose turn it is, where the blinds say who opens: nobody's where no move is due. Where it is
-// known who is next up, no other seat is asked.
-fn mover(table: &RunningNumbers, behind: Option<Seat>) -> Option<Seat>
+// Whose turn it is in a game with blinds: nobody's if no move is due. `behind`, if known, is the
+// only seat that is looked at.
+fn player_to_act(table: &BettingState, behind: Option<Seat>) -> Option<Seat>
     requires behind { IfSome behind (IsNextUp table.now) }
     ensures turn { in_turn (seat_said result)
-        ≡ mover_seen table.now
+        ≡ player_to_act_seen table.now
         (TheSeat (blinds_opener table.now.setup table.now.street)) }
     ensures due { is_some result ≡ is_move_due_seen table.now }
     ensures in_hand { IsOfTable table.now result }
 {
     match behind {
-        None => table.mover(),
+        None => table.player_to_act(),
         Some(seat) if table.to_move(seat) => behind,
         Some(_) => None,
     }
 }
 
-// The cards with which a street begins.
+// The deal or draw with which a street begins.
 fn cards<V: Variant>(street: u8) -> Due
     requires first { 1 ≤ street }
     requires last { street ≤ V.STREETS }

@@ -1,4 +1,4 @@
-//! A move is made where it is legal, and what comes behind it.
+//! Makes a move if it is legal, and passes the turn on.
 ghost use Rattle.std.specs.Prelude.{◌≡◌, ◌≤◌, ◌∷◌, true, false, IfOk, IfSome, OnOk, OnErr};
 ghost use Rattle.play_event.specs.Past.{Past, moves_of};
 ghost use Rattle.play_event.specs.TurnTargets.{is_bet_due};
@@ -9,7 +9,7 @@ ghost use Rattle.betting_numbers.specs.Seen.{all_in_seen};
 ghost use Rattle.betting_core.specs.Kept.{IsOfTable, IsSameHand};
 ghost use Rattle.betting_numbers.specs.Standing.{StandsFor};
 ghost use Rattle.betting_numbers.specs.LegalMoves.{IsLegalMove, IsInTurn, IsRefused, IsAllowed, IsOfHand, IsInReach, IsFit, WhereBets, WhereUps, reason_after, past_with};
-ghost use Rattle.street_laws.specs.CardEvents.{is_card_said};
+ghost use Rattle.play_laws.specs.CardEvents.{is_card_said};
 ghost use Rattle.betting_numbers.specs.Turn.{IsFirstBehind, may_come_at};
 ghost use Rattle.play_event.specs.Said.{Said, said_of};
 
@@ -21,12 +21,11 @@ use play_event::{Event, Illegal, Kind, Move as Moved, UpRow};
 use variant_table::Variant;
 
 impl<V: Variant> Betting<V> {
-    /// Makes the move of a fold, a call, a raise or a bring-in, where it is legal, and gives it as
-    /// the trace keeps it. Else it gives the first reason that holds against the event, and nothing
-    /// changes.
+    /// Makes the fold, call, raise or bring-in if it is legal, and returns it as the trace keeps
+    /// it. Otherwise returns the first reason against the event, and nothing changes.
     ///
-    /// `up` has the up-cards of each seat. They are read in stud, where no seat has moved on the
-    /// street yet: there they decide who opens it.
+    /// `up` has the up-cards of each seat. They are read only in stud, before the first move of a
+    /// street: they decide who opens it.
     pub fn step(&mut self, up: &UpRow, event: &Event) -> Result<Moved, Illegal>
         requires { is_card_said (said_of event.now) ≡ false }
         ensures refused { WhereUps self.old up.now
@@ -77,8 +76,8 @@ impl<V: Variant> Betting<V> {
         }
     }
 
-    // Makes a legal move, and what comes behind it. This seat, if it was looked for, is the first
-    // able one behind.
+    // Makes a legal move and passes the turn on. `behind`, if it was looked for, is the first seat
+    // after it that can act.
     fn play(&mut self, legal: LegalMove, behind: Option<Seat>) -> Moved
         requires in_hand { legal.seat.number ≤ self.old.setup.stacks.seats }
         requires behind { IfSome behind (IsFirstBehind self.old legal.seat.number) }
@@ -100,7 +99,8 @@ impl<V: Variant> Betting<V> {
         let moved = self
             .numbers
             .traced(V::LIMIT, size, legal.seat, legal.act, legal.target);
-        self.numbers.make(legal.seat, legal.act, legal.target, size);
+        self.numbers
+            .apply_move(legal.seat, legal.act, legal.target, size);
         let over = self.numbers.live_count() <= 1;
         pass::<V>(&mut self.numbers, over, behind);
         moved

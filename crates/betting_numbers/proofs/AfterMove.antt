@@ -2,33 +2,33 @@
 use Rattle.std.proofs.Common.{◌≡◌, ◌≢◌, ℕ, ◌+◌, ◌-◌, ◌*◌, Bool, true, false, ◌&&◌, ◌||◌, ◌==◌, not, nat_le, min, max, cond, if◌then◌else◌, inl, inr, List, ◌∷◌, count_by, refl, sym, ap, subst, ◌∙◌, arith}
 use Rattle.std.specs.List.{list_any}
 use Rattle.std.proofs.lemmas.Bool.{cases_eq, eq-eqb}
-use Rattle.list_laws.proofs.Counting.{count_by-cons}
+use Rattle.card_set.proofs.Counting.{count_by-cons}
 use Rattle.chip_ledger.specs.LiveRow.{flag_of}
 use Rattle.chip_ledger.specs.SeatRow.{amount_of}
 use Rattle.play_event.specs.Past.{Move, Act, moves_on, is_fold, is_raise, is_bring_in}
 use Rattle.play_event.specs.Streets as streets
 use Rattle.play_event.specs.Chips.{chips_put, street_chips, chips_added, brought}
 use Rattle.play_event.specs.Seats.{is_live}
-use Rattle.play_event.specs.Price as prices
-use Rattle.play_event.specs.Price.{price, doubled_raises}
+use Rattle.play_event.specs.CurrentBet as prices
+use Rattle.play_event.specs.CurrentBet.{current_bet, doubled_raises}
 use Rattle.chip_ledger.specs.Greatest.{greatest}
-use Rattle.play_event.specs.Due.{has_moved_since_rise, has_opened_betting}
+use Rattle.play_event.specs.Due.{has_acted_since_raise, has_opened_betting}
 use Rattle.play_event.specs.Raising.{has_moved, raises_on}
-use Rattle.betting_numbers.specs.declared.running.RunningNumbers.{RunningNumbers}
+use Rattle.betting_numbers.specs.declared.betting_state.BettingState.{BettingState}
 use Rattle.betting_numbers.specs.Moving.{IsMoved, most_raises}
 use Rattle.betting_numbers.specs.Standing.{Standing, newest_seat}
-use Rattle.betting_numbers.proofs.Bridge.{price_is}
-use Rattle.list_laws.proofs.Numbers.{different_number, same_number}
+use Rattle.betting_numbers.proofs.Bridge.{current_bet_is}
+use Rattle.card_set.proofs.Numbers.{different_number, same_number}
 use Rattle.chip_ledger.specs.Seat.{IsSeatOf}
 
--- of a seat and of the others
+-- by cases: this seat, or another
 by_seat : (P : ℕ → Type 0) (seat k : ℕ) → P seat → (k ≢ seat → P k) → P k
 by_seat P seat k here there = elim (cases_eq k seat) [
   | inl same ↦ subst P (sym same) here
   | inr other ↦ there other
 ]
 
--- a move of this street is the newest of it
+-- a move of this street is its newest
 pub on_street : (street : ℕ) (move : Move) (before : List Move) → move.street ≡ street → moves_on street (move ∷ before) ≡ move ∷ moves_on street before
 on_street street move before same = ap (λ b. cond b (move ∷ moves_on street before) (moves_on street before)) (eq-eqb move.street street same)
 
@@ -56,7 +56,7 @@ doubled_one_more : (r : Bool) (twice : ℕ) (rest : List ℕ) → (if r then max
 doubled_one_more true twice rest = refl
 doubled_one_more false twice rest = refl
 
-module _ (b next : RunningNumbers) (moves : List Move) (seat target unit : ℕ) (act : Act) (st : Standing b.setup b.street b moves) (in_hand : IsSeatOf b.setup.stacks.seats seat) (mv : IsMoved b next seat act target unit) (unit_is : unit ≡ streets.unit b.setup b.street) where
+module _ (b next : BettingState) (moves : List Move) (seat target unit : ℕ) (act : Act) (st : Standing b.setup b.street b moves) (in_hand : IsSeatOf b.setup.stacks.seats seat) (mv : IsMoved b next seat act target unit) (unit_is : unit ≡ streets.unit b.setup b.street) where
   abbrev pub the_move : Move
   the_move = record { street = b.street; seat = seat; act = act; from = street_chips b.setup moves b.street seat; to = target }
 
@@ -104,18 +104,18 @@ module _ (b next : RunningNumbers) (moves : List Move) (seat target unit : ℕ) 
       (λ other i. mv.other_moved k i.first other ∙ st.moved k i ∙ sym (moved_by k false (different_number seat k other)))
       in_k
 
-  since_by : (k : ℕ) (mine : Bool) → (seat == k) ≡ mine → has_moved_since_rise b.setup (the_move ∷ moves) b.street k ≡ (mine || (nat_le target (price b.setup moves b.street) && has_moved_since_rise b.setup moves b.street k))
+  since_by : (k : ℕ) (mine : Bool) → (seat == k) ≡ mine → has_acted_since_raise b.setup (the_move ∷ moves) b.street k ≡ (mine || (nat_le target (current_bet b.setup moves b.street) && has_acted_since_raise b.setup moves b.street k))
   since_by k mine is =
-      ap (λ e. if e then ((seat == k) || (nat_le target (price b.setup moves b.street) && has_moved_since_rise b.setup moves b.street k)) else has_moved_since_rise b.setup moves b.street k) (same_number b.street)
-      ∙ ap (λ e. e || (nat_le target (price b.setup moves b.street) && has_moved_since_rise b.setup moves b.street k)) is
+      ap (λ e. if e then ((seat == k) || (nat_le target (current_bet b.setup moves b.street) && has_acted_since_raise b.setup moves b.street k)) else has_acted_since_raise b.setup moves b.street k) (same_number b.street)
+      ∙ ap (λ e. e || (nat_le target (current_bet b.setup moves b.street) && has_acted_since_raise b.setup moves b.street k)) is
 
-  since_after : (k : ℕ) → IsSeatOf b.setup.stacks.seats k → flag_of next.since_rise k ≡ has_moved_since_rise b.setup (the_move ∷ moves) b.street k
+  since_after : (k : ℕ) → IsSeatOf b.setup.stacks.seats k → flag_of next.acted_since_raise k ≡ has_acted_since_raise b.setup (the_move ∷ moves) b.street k
   since_after k in_k =
-      by_seat (λ k. IsSeatOf b.setup.stacks.seats k → flag_of next.since_rise k ≡ has_moved_since_rise b.setup (the_move ∷ moves) b.street k) seat k
-      (λ i. mv.since_rise ∙ sym (since_by seat true (same_number seat)))
+      by_seat (λ k. IsSeatOf b.setup.stacks.seats k → flag_of next.acted_since_raise k ≡ has_acted_since_raise b.setup (the_move ∷ moves) b.street k) seat k
+      (λ i. mv.acted_since_raise ∙ sym (since_by seat true (same_number seat)))
       (λ other i. mv.other_since k i.first other
-      ∙ ap (λ p. nat_le target p && flag_of b.since_rise k) (price_is b moves st)
-      ∙ ap (λ f. nat_le target (price b.setup moves b.street) && f) (st.since_rise k i)
+      ∙ ap (λ p. nat_le target p && flag_of b.acted_since_raise k) (current_bet_is b moves st)
+      ∙ ap (λ f. nat_le target (current_bet b.setup moves b.street) && f) (st.acted_since_raise k i)
       ∙ sym (since_by k false (different_number seat k other)))
       in_k
 
@@ -131,9 +131,9 @@ module _ (b next : RunningNumbers) (moves : List Move) (seat target unit : ℕ) 
   full_raise_after : next.full_raise ≡ prices.full_raise b.setup (the_move ∷ moves) b.street
   full_raise_after =
       mv.full_raise
-      ∙ ap (λ p. full_raise_by (is_raise act) b.full_raise (target - p)) (price_is b moves st)
-      ∙ ap (λ f. full_raise_by (is_raise act) f (target - price b.setup moves b.street)) st.full_raise
-      ∙ sym (ap (λ e. if e && is_raise act && nat_le (prices.full_raise b.setup moves b.street) (target - price b.setup moves b.street) then max (target - price b.setup moves b.street) (prices.full_raise b.setup moves b.street) else prices.full_raise b.setup moves b.street) (same_number b.street))
+      ∙ ap (λ p. full_raise_by (is_raise act) b.full_raise (target - p)) (current_bet_is b moves st)
+      ∙ ap (λ f. full_raise_by (is_raise act) f (target - current_bet b.setup moves b.street)) st.full_raise
+      ∙ sym (ap (λ e. if e && is_raise act && nat_le (prices.full_raise b.setup moves b.street) (target - current_bet b.setup moves b.street) then max (target - current_bet b.setup moves b.street) (prices.full_raise b.setup moves b.street) else prices.full_raise b.setup moves b.street) (same_number b.street))
 
   full_bet_after : next.full_bet ≡ prices.full_bet b.setup (the_move ∷ moves) b.street
   full_bet_after =
@@ -142,18 +142,18 @@ module _ (b next : RunningNumbers) (moves : List Move) (seat target unit : ℕ) 
       ∙ ap (λ f. full_bet_by (is_raise act || is_bring_in act) f (streets.unit b.setup b.street) target) st.full_bet
       ∙ sym (ap (λ e. if e && (is_raise act || is_bring_in act) && nat_le (prices.full_bet b.setup moves b.street + streets.unit b.setup b.street) target then target else prices.full_bet b.setup moves b.street) (same_number b.street))
 
-  doubled_after : next.doubled ≡ greatest (doubled_raises b.setup (the_move ∷ moves) b.street)
-  doubled_after =
-      mv.doubled
-      ∙ ap (λ p. if is_raise act then max (2 * target - p) b.doubled else b.doubled) (price_is b moves st)
-      ∙ ap (λ d. if is_raise act then max (2 * target - price b.setup moves b.street) d else d) st.doubled
-      ∙ doubled_one_more (is_raise act) (2 * target - price b.setup moves b.street) (doubled_raises b.setup moves b.street)
-      ∙ sym (ap (λ e. greatest (if e && is_raise act then ((2 * target - price b.setup moves b.street) ∷ doubled_raises b.setup moves b.street) else doubled_raises b.setup moves b.street)) (same_number b.street))
+  always_floor_after : next.always_floor ≡ greatest (doubled_raises b.setup (the_move ∷ moves) b.street)
+  always_floor_after =
+      mv.always_floor
+      ∙ ap (λ p. if is_raise act then max (2 * target - p) b.always_floor else b.always_floor) (current_bet_is b moves st)
+      ∙ ap (λ d. if is_raise act then max (2 * target - current_bet b.setup moves b.street) d else d) st.always_floor
+      ∙ doubled_one_more (is_raise act) (2 * target - current_bet b.setup moves b.street) (doubled_raises b.setup moves b.street)
+      ∙ sym (ap (λ e. greatest (if e && is_raise act then ((2 * target - current_bet b.setup moves b.street) ∷ doubled_raises b.setup moves b.street) else doubled_raises b.setup moves b.street)) (same_number b.street))
 
-  opened_after : next.opened ≡ list_any (λ move. has_opened_betting move.act) (moves_on b.street (the_move ∷ moves))
+  opened_after : next.bet_or_bring_in_made ≡ list_any (λ move. has_opened_betting move.act) (moves_on b.street (the_move ∷ moves))
   opened_after =
-      mv.opened
-      ∙ ap (λ o. has_opened_betting act || o) st.opened
+      mv.bet_or_bring_in_made
+      ∙ ap (λ o. has_opened_betting act || o) st.bet_or_bring_in_made
       ∙ sym (ap (list_any (λ (move : Move). has_opened_betting move.act)) this_street)
 
   standing_there : Standing b.setup b.street next (the_move ∷ moves)
@@ -162,16 +162,16 @@ module _ (b next : RunningNumbers) (moves : List Move) (seat target unit : ℕ) 
     bets = bets_after;
     live = live_after;
     moved = moved_after;
-    since_rise = since_after;
+    acted_since_raise = since_after;
     last = mv.last ∙ sym (ap newest_seat this_street);
     raises = raises_after;
     full_raise = full_raise_after;
     full_bet = full_bet_after;
-    doubled = doubled_after;
-    opened = opened_after;
+    always_floor = always_floor_after;
+    bet_or_bring_in_made = opened_after;
   }
 
-  -- so the running numbers stand for one move more
+  -- so the running numbers stand for the moves with one more
   pub standing_after : Standing next.setup next.street next (the_move ∷ moves)
   standing_after =
       subst (λ s. Standing s next.street next (the_move ∷ moves)) (sym mv.setup)

@@ -1,4 +1,5 @@
--- After a legal event of cards the state stands for the past, or up to its due where that is complete.
+-- After a legal event of cards the state stands for the past, or stands for it up to its due if
+-- that is complete.
 use Rattle.std.proofs.Common.{◌≡◌, ℕ, ◌≤◌, Bool, true, false, if◌then◌else◌, List, ◌∷◌, Some, None, refl, sym, ap, subst, ◌∙◌, arith}
 use Rattle.std.proofs.lemmas.Bool.{not-false}
 use Rattle.play_event.specs.declared.reason.Due.{Due}
@@ -10,17 +11,17 @@ use Rattle.play_event.specs.Dealing.{is_deal_due, is_draw_due}
 use Rattle.play_event.specs.Showing.{is_show_due, has_to_show}
 use Rattle.play_event.specs.Due.{turn, due_on, is_bring_in_due, is_move_due, is_settled}
 use Rattle.play_event.proofs.StreetLaws.{due_is_first}
-use Rattle.betting_numbers.specs.declared.running.RunningNumbers.{RunningNumbers}
+use Rattle.betting_numbers.specs.declared.betting_state.BettingState.{BettingState}
 use Rattle.betting_numbers.specs.Standing.{StandsFor}
 use Rattle.betting_numbers.specs.UpTo.{StandsUpTo}
-use Rattle.street_laws.specs.Done.{HasCome, is_done}
-use Rattle.street_laws.proofs.TurnAfter.{due_by, quiet_is_showdown}
-use Rattle.street_laws.specs.CardEvents.{is_card_event}
-use Rattle.street_laws.proofs.CardTurns.{moves_kept, dealt_more, deal_by, draw_by, none_dealt_in_draw}
+use Rattle.play_laws.specs.Done.{HasCome, is_done}
+use Rattle.play_laws.proofs.TurnAfter.{due_by, quiet_is_showdown}
+use Rattle.play_laws.specs.CardEvents.{is_card_event}
+use Rattle.play_laws.proofs.CardTurns.{moves_kept, dealt_more, deal_by, draw_by, none_dealt_in_draw}
 use Rattle.betting_numbers.proofs.CardEvents.{stands_still, stands_up_to, standing_now, early_now, more_now, unshown_now, someone_now}
-use Rattle.street_laws.proofs.Showdown.{nothing_by, show_over, show_is_last}
+use Rattle.play_laws.proofs.Showdown.{nothing_by, show_over, show_is_last}
 
-module _ (b : RunningNumbers) (past : Past) (event : Resolved) (stands : StandsFor b past) (card : is_card_event event ≡ true) (at : street_of event ≡ b.street) (from_one : 1 ≤ b.street) (within : b.street ≤ street_count b.setup.code)
+module _ (b : BettingState) (past : Past) (event : Resolved) (stands : StandsFor b past) (card : is_card_event event ≡ true) (at : street_of event ≡ b.street) (from_one : 1 ≤ b.street) (within : b.street ≤ street_count b.setup.code)
     (still : is_settled b.setup (moves_of past) (b.street, b.due) ≡ false → (seat : ℕ) → is_live (moves_of past) seat ≡ true → has_to_show (event ∷ past) seat ≡ true) where
   turn_at : (due : Due) → b.due ≡ due → turn b.setup past ≡ (b.street, due)
   turn_at due is = stands.turn_is ∙ ap (λ (d : Due). (b.street, d)) is
@@ -70,7 +71,7 @@ module _ (b : RunningNumbers) (past : Past) (event : Resolved) (stands : StandsF
       differ : (n : ℕ) → dues.Draw n ≡ dues.Over → ⊥
       differ n e = cc
 
-  -- while seats show, which leaves the draws as they are
+  -- while seats show, which does not change the draws
   module _ (draws : is_draw_due b.setup past b.street ≡ false → is_draw_due b.setup (event ∷ past) b.street ≡ false) (reached : newest_street past ≤ b.street) where
     quiet_now : b.due ≡ dues.Show → due_on b.setup (event ∷ past) b.street ≡ None
     quiet_now is =

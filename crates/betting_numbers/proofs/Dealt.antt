@@ -1,4 +1,5 @@
--- Where a deal or a draw is ended, the state stands for the past, or up to its new due.
+-- When a deal or a draw is ended, the state stands for the past, or stands for it up to its new
+-- due.
 use Rattle.std.proofs.Common.{◌≡◌, ℕ, ◌+◌, ◌<◌, ◌≤◌, Bool, true, false, ◌&&◌, ◌||◌, not, nat_lt, nat_le, if◌then◌else◌, inl, inr, ◌⊎◌, List, [], Some, None, is_some, refl, sym, ap, subst, ◌∙◌, arith}
 use Rattle.std.specs.List.{list_any}
 use Rattle.std.proofs.lemmas.Bool.{and_left, cases_eq, cases_lt, true≢false, ltb-true, ltb-false, not-true, ne_eqb}
@@ -10,30 +11,30 @@ use Rattle.play_event.specs.Games.{street_count}
 use Rattle.play_event.specs.Streets.{has_draw}
 use Rattle.play_event.specs.Past.{Past, Move, moves_of, moves_on, newest_street}
 use Rattle.play_event.specs.Chips.{street_chips, chips_added, brought, blind_posted}
-use Rattle.play_event.specs.Seats.{is_live, is_able, live_count, able_count, all_seats}
-use Rattle.play_event.specs.Price.{price, owed}
+use Rattle.play_event.specs.Seats.{is_live, can_act, live_count, able_count, all_seats}
+use Rattle.play_event.specs.CurrentBet.{current_bet, to_call}
 use Rattle.play_event.specs.Dealing.{is_deal_due, is_draw_due, next_to_draw, replacements_owed}
 use Rattle.play_event.specs.Showing.{is_show_due, has_to_show}
 use Rattle.play_event.specs.Due.{turn, due_on, showdown, is_bring_in_due, is_move_due, is_settled, has_able_seat_to_call, is_after_betting}
 use Rattle.play_event.specs.ValidSetup.{IsValid}
-use Rattle.betting_numbers.specs.declared.running.RunningNumbers.{RunningNumbers}
+use Rattle.betting_numbers.specs.declared.betting_state.BettingState.{BettingState}
 use Rattle.betting_numbers.specs.Seen.{is_move_due_seen}
 use Rattle.betting_numbers.specs.Standing.{Standing, StandsFor}
-use Rattle.street_laws.specs.Walk.{street_cards, betting_turn, has_no_move_later, walked}
+use Rattle.play_laws.specs.Walk.{street_cards, betting_turn, has_no_move_later, walked}
 use Rattle.betting_numbers.specs.Turn.{with_due, IsDealtTo}
 use Rattle.betting_numbers.specs.UpTo.{StandsUpTo}
-use Rattle.street_laws.specs.Done.{HasCome, is_done}
-use Rattle.list_laws.proofs.Any.{none_passes}
+use Rattle.play_laws.specs.Done.{HasCome, is_done}
+use Rattle.card_set.proofs.Any.{none_passes}
 use Rattle.betting_numbers.proofs.Bridge.{bring_in_due_is, move_due_is}
 use Rattle.betting_numbers.proofs.NextStreet.{standing_next, zero_greatest}
-use Rattle.street_laws.proofs.Later.{early_moves, early_up, none_on}
-use Rattle.street_laws.proofs.TurnAfter.{AreDealt, due_by, cards_come, quiet_is_showdown}
+use Rattle.play_laws.proofs.Later.{early_moves, early_up, none_on}
+use Rattle.play_laws.proofs.TurnAfter.{AreDealt, due_by, cards_come, quiet_is_showdown}
 use Rattle.betting_numbers.proofs.StandsAfter.{standing_with_turn}
-use Rattle.street_laws.proofs.Walk.{walk_on, due_here}
-use Rattle.street_laws.proofs.LiveSeats.{one_of_several}
-use Rattle.list_laws.proofs.Numbers.{two_or_more}
+use Rattle.play_laws.proofs.Walk.{walk_on, due_here}
+use Rattle.play_laws.proofs.LiveSeats.{one_of_several}
+use Rattle.card_set.proofs.Numbers.{two_or_more}
 
--- the cards of a street are dealt where its deal or its draw is complete
+-- the cards of a street are dealt if its deal or its draw is complete
 no_draw : (setup : Setup) (past : Past) (street : ℕ) → has_draw setup.code street ≡ false → is_draw_due setup past street ≡ false
 no_draw setup past street none = and_left (has_draw setup.code street) (is_some (next_to_draw setup past street) || list_any (λ seat. nat_lt 0 (replacements_owed past street seat)) (all_seats setup)) none
 
@@ -55,10 +56,10 @@ no_chips setup moves street seat early low =
 
 pub nobody_owes : (setup : Setup) (moves : List Move) (street : ℕ) → has_no_move_later moves street ≡ true → 1 ≤ street → has_able_seat_to_call setup moves (street + 1) ≡ false
 nobody_owes setup moves street early low =
-    let free : price setup moves (street + 1) ≡ 0 = zero_greatest (street_chips setup moves (street + 1)) 1 setup.stacks.seats (λ k. no_chips setup moves street k early low) in
-    none_passes (λ seat. is_able setup moves seat && nat_lt 0 (owed setup moves (street + 1) seat)) (all_seats setup) (λ seat.
-    let nothing : owed setup moves (street + 1) seat ≡ 0 = omega (arith, free) in
-    ap (λ (n : ℕ). is_able setup moves seat && nat_lt 0 n) nothing ∙ and_nothing (is_able setup moves seat))
+    let free : current_bet setup moves (street + 1) ≡ 0 = zero_greatest (street_chips setup moves (street + 1)) 1 setup.stacks.seats (λ k. no_chips setup moves street k early low) in
+    none_passes (λ seat. can_act setup moves seat && nat_lt 0 (to_call setup moves (street + 1) seat)) (all_seats setup) (λ seat.
+    let nothing : to_call setup moves (street + 1) seat ≡ 0 = omega (arith, free) in
+    ap (λ (n : ℕ). can_act setup moves seat && nat_lt 0 n) nothing ∙ and_nothing (can_act setup moves seat))
   where
     and_nothing : (b : Bool) → (b && false) ≡ false
     and_nothing true = refl
@@ -71,7 +72,7 @@ settled_more true true true after owes_now less is = refl
 settled_more true true false true owes_now less is = absurd (true≢false is)
 settled_more true true false false owes_now less is = absurd (true≢false (sym (ap not (less refl)) ∙ is))
 
--- what comes with the cards of a street is not complete
+-- what is due together with the cards of a street is not complete
 cards_not_done : (street : ℕ) (draws deal draw bring_in move : Bool) → due_by street deal draw bring_in move ≡ Some (if draws then dues.Draw street else dues.Deal street) → (if draws then not draw else not deal) ≡ false
 cards_not_done street true true draw bring_in move is = absurd cc
 cards_not_done street true false true bring_in move is = refl
@@ -88,7 +89,7 @@ done_by : (setup : Setup) (past : Past) (street : ℕ) (draws : Bool) → is_don
 done_by setup past street true = refl
 done_by setup past street false = refl
 
--- what is due where the cards of a street are dealt
+-- what is due once the cards of a street are dealt
 abbrev after_cards : Code → ℕ → (bring_in move before : Bool) → Due → ℕ × Due
 after_cards code street bring_in move before last =
     if bring_in then (street, dues.BringIn) else if move then (street, dues.Move) else if before then (street + 1, street_cards code (street + 1)) else (street, last)
@@ -96,14 +97,14 @@ after_cards code street bring_in move before last =
 abbrev the_showdown : ℕ → ℕ × Due
 the_showdown street = (street, dues.Show)
 
--- the showdown is read where it comes alone
+-- the showdown is read if it comes alone
 walked_other : (code : Code) (street : ℕ) (bring_in move before : Bool) (last : Due) → (after_cards code street bring_in move before dues.Show ≡ the_showdown street → ⊥) → after_cards code street bring_in move before last ≡ after_cards code street bring_in move before dues.Show
 walked_other code street true move before last other = refl
 walked_other code street false true before last other = refl
 walked_other code street false false true last other = refl
 walked_other code street false false false last other = absurd (other refl)
 
--- no betting came before the cards
+-- there was no betting before the cards
 cards_before : (setup : Setup) (past : Past) (street : ℕ) (due : Due) → (due ≡ dues.Show → ⊥) → HasCome setup past street due → is_after_betting due ≡ false
 cards_before setup past street (dues.Deal on) other come = refl
 cards_before setup past street (dues.Draw on) other come = refl
@@ -112,13 +113,13 @@ cards_before setup past street dues.BringIn other come = refl
 cards_before setup past street dues.Move other come = refl
 cards_before setup past street dues.Over other come = absurd come
 
-pub record IsShowdown (b next : RunningNumbers) (past : Past) : Type 0 where
+pub record IsShowdown (b next : BettingState) (past : Past) : Type 0 where
   pub same : next.street ≡ b.street
   pub show : next.due ≡ dues.Show
   pub last : b.street ≡ street_count b.setup.code
   pub quiet : due_on b.setup past b.street ≡ None
 
-module _ (b next : RunningNumbers) (past : Past) (up : StandsUpTo b past) (other : b.due ≡ dues.Show → ⊥) (from_one : 1 ≤ b.street) (within : b.street ≤ street_count b.setup.code) (to : IsDealtTo b next) where
+module _ (b next : BettingState) (past : Past) (up : StandsUpTo b past) (other : b.due ≡ dues.Show → ⊥) (from_one : 1 ≤ b.street) (within : b.street ≤ street_count b.setup.code) (to : IsDealtTo b next) where
   are : AreDealt b.setup past b.street
   are = are_dealt b.setup past b.street b.due other up.come up.done
 
@@ -130,8 +131,8 @@ module _ (b next : RunningNumbers) (past : Past) (up : StandsUpTo b past) (other
   comes : Comes
   comes = elim (cases_eq next.street b.street) [
     | inl same ↦ record {
-      setup = ap (λ (t : RunningNumbers). t.setup) (to.stays same);
-      standing = subst (λ (t : RunningNumbers). Standing t.setup t.street t (moves_of past)) (sym (to.stays same)) (standing_with_turn b.setup b.street b next.due next.next (moves_of past) up.standing);
+      setup = ap (λ (t : BettingState). t.setup) (to.stays same);
+      standing = subst (λ (t : BettingState). Standing t.setup t.street t (moves_of past)) (sym (to.stays same)) (standing_with_turn b.setup b.street b next.due next.next (moves_of past) up.standing);
       street = inl same;
     }
     | inr new ↦ record {
@@ -236,7 +237,7 @@ module _ (b next : RunningNumbers) (past : Past) (up : StandsUpTo b past) (other
   showdown_dealt done = (showdown_by (is_bring_in_due b.setup (moves_of past) b.street) (is_move_due b.setup (moves_of past) b.street) (nat_lt b.street (street_count b.setup.code)) refl refl refl to_is done).show
 
 -- the showdown is ended: the hand is over
-pub show_ended : (b : RunningNumbers) (past : Past) → StandsUpTo b past → b.due ≡ dues.Show → StandsFor (with_due b dues.Over) past
+pub show_ended : (b : BettingState) (past : Past) → StandsUpTo b past → b.due ≡ dues.Show → StandsFor (with_due b dues.Over) past
 show_ended b past up due_is =
     let come : HasCome b.setup past b.street dues.Show = subst (HasCome b.setup past b.street) due_is up.come in
     let shown : is_show_due b.setup past ≡ false = not-true (is_show_due b.setup past) (sym (ap (is_done b.setup past) due_is) ∙ up.done) in

@@ -1,12 +1,13 @@
--- The seats are walked from the last to the first: of those so far one leads, and the first before which none opens is kept.
+-- The seats are walked from the last to the first: one of those so far leads, and the first before
+-- which none opens is kept.
 use Rattle.std.proofs.Common.{◌≡◌, ℕ, ◌+◌, ◌-◌, ◌<◌, ◌≤◌, Bool, true, false, ◌&&◌, ◌||◌, ◌==◌, not, if◌then◌else◌, cond, List, Option, Some, None, find, suc, zero, inl, inr, refl, sym, ap, subst, ◌∙◌, arith}
 use Rattle.std.specs.List.{list_any, range_with_len}
 use Rattle.std.proofs.lemmas.Bool.{true≢false, and_parts, and_from, or_from, or_left, or_right, cases_lt, false_from_ne_true, true_from_ne_false, not-false}
 use Rattle.card_set.specs.declared.card.Card.{Card}
 use Rattle.card_set.specs.Known.{known_cards}
-use Rattle.list_laws.proofs.Finding.{any_agree, find_agree}
-use Rattle.list_laws.proofs.Any.{none_passes}
-use Rattle.list_laws.proofs.Tests.{second_fails}
+use Rattle.card_set.proofs.Finding.{any_agree, find_agree}
+use Rattle.card_set.proofs.Any.{none_passes}
+use Rattle.card_set.proofs.Tests.{second_fails}
 use Rattle.play_event.specs.declared.up_cards.UpRow.{UpRow}
 use Rattle.play_event.specs.declared.limit.Opener.{Opener}
 use Rattle.play_event.specs.Openers.{is_opener_before}
@@ -14,8 +15,8 @@ use Rattle.play_event.specs.SeatSlots.{ups_of}
 use Rattle.play_event.proofs.OpenerOrder.{opens_not}
 use Rattle.chip_ledger.proofs.SeatLists.{none_at}
 use Rattle.up_card_order.proofs.Earlier.{early_opens, late_opens}
-use Rattle.betting_numbers.specs.declared.running.RunningNumbers.{RunningNumbers}
-use Rattle.betting_numbers.specs.Seen.{is_able_seen}
+use Rattle.betting_numbers.specs.declared.betting_state.BettingState.{BettingState}
+use Rattle.betting_numbers.specs.Seen.{can_act_seen}
 use Rattle.betting_numbers.specs.UpSeen.{has_unknown_seen, has_unknown_up_card_seen, is_as_early_seen, is_before_seen, known_opener_seen, up_opener_seen}
 
 -- a number that passes is among those of a range
@@ -26,7 +27,7 @@ some_at p first (suc n) k low high passes = elim (cases_lt first k) [
   | inr here ↦ let same : first ≡ k = omega (arith, low, here) in or_left (p first) (list_any p (range_with_len (first + 1) n)) (ap p same ∙ passes)
 ]
 
--- some number passes where one does that passes wherever another does
+-- some number passes a test if one passes a stronger test
 leads_by : (p : ℕ → Bool) (first n lead : ℕ) → first ≤ lead → lead < first + n → ((k : ℕ) → first ≤ k → k < first + n → p k ≡ true → p lead ≡ true) → (passes : Bool) → p lead ≡ passes → list_any p (range_with_len first n) ≡ passes
 leads_by p first n lead low high leads true is = some_at p first n lead low high is
 leads_by p first n lead low high leads false is =
@@ -41,29 +42,29 @@ known_by : (unknown : Bool) (seat : ℕ) (found : Option ℕ) → Some seat ≡ 
 known_by true seat found is = absurd cc
 known_by false seat found is = (refl, is)
 
--- none of so many seats from a first one on opens before this one, which is able
-abbrev pub opens_from : Opener → RunningNumbers → UpRow → (first count seat : ℕ) → Bool
-opens_from opener b up first count seat = is_able_seen b seat && not (list_any (is_before_seen opener b up seat) (range_with_len first count))
+-- none of `count` seats from a first one on opens before this one, which can act
+abbrev pub opens_from : Opener → BettingState → UpRow → (first count seat : ℕ) → Bool
+opens_from opener b up first count seat = can_act_seen b seat && not (list_any (is_before_seen opener b up seat) (range_with_len first count))
 
 -- a seat opens before each seat before which one of these opens
-abbrev pub Leads : Opener → RunningNumbers → UpRow → (first count lead : ℕ) → Type 0
+abbrev pub Leads : Opener → BettingState → UpRow → (first count lead : ℕ) → Type 0
 Leads opener b up first count lead =
     (seat other : ℕ) → first ≤ other → other < first + count → is_before_seen opener b up seat other ≡ true → is_before_seen opener b up seat lead ≡ true
 
 -- what is kept of the seats so far
-pub record IsWalked (opener : Opener) (b : RunningNumbers) (up : UpRow) (first count lead : ℕ) (found : Option ℕ) : Type 0 where
+pub record IsWalked (opener : Opener) (b : BettingState) (up : UpRow) (first count lead : ℕ) (found : Option ℕ) : Type 0 where
   pub known : list_any (has_unknown_seen b up) (range_with_len first count) ≡ false
   pub leads : Leads opener b up first count lead
   pub found_is : found ≡ find (opens_from opener b up first count) (range_with_len first count)
 
-module _ (opener : Opener) (b : RunningNumbers) (up : UpRow) where
+module _ (opener : Opener) (b : BettingState) (up : UpRow) where
   abbrev before : ℕ → ℕ → Bool
   before seat other = is_before_seen opener b up seat other
 
   -- no seat opens before itself
   never : (seat : ℕ) → before seat seat ≡ true → ⊥
   never seat is =
-      let parts = and_parts (is_able_seen b seat) (is_opener_before opener (b.street == 1) (known_cards (ups_of up seat)) (known_cards (ups_of up seat))) is in
+      let parts = and_parts (can_act_seen b seat) (is_opener_before opener (b.street == 1) (known_cards (ups_of up seat)) (known_cards (ups_of up seat))) is in
       true≢false (sym parts.1 ∙ opens_not opener (b.street == 1) (known_cards (ups_of up seat)))
 
   module _ (first count lead next : ℕ) (leads : Leads opener b up (first + 1) count lead)
@@ -75,22 +76,22 @@ module _ (opener : Opener) (b : RunningNumbers) (up : UpRow) where
       | inr here ↦ let same : other ≡ first = omega (arith, least, here) in new seat (ap (λ (k : ℕ). before seat k) (sym same) ∙ is)
     ]
 
-    -- the new seat opens where the leader does not open before it
-    opens_now : opens_from opener b up first (suc count) first ≡ (is_able_seen b first && not (before first next))
-    opens_now = ap (λ some. is_able_seen b first && not some) (leads_by (before first) first (suc count) next low high (leads_more first) (before first next) refl)
+    -- the new seat opens if the leader does not open before it
+    opens_now : opens_from opener b up first (suc count) first ≡ (can_act_seen b first && not (before first next))
+    opens_now = ap (λ some. can_act_seen b first && not some) (leads_by (before first) first (suc count) next low high (leads_more first) (before first next) refl)
 
-    -- where it does not open, it opens before none before which no other does
-    same_later : (is_able_seen b first && not (before first next)) ≡ false → (seat : ℕ) → opens_from opener b up first (suc count) seat ≡ opens_from opener b up (first + 1) count seat
+    -- if it does not open, it does not open before those before which no other does
+    same_later : (can_act_seen b first && not (before first next)) ≡ false → (seat : ℕ) → opens_from opener b up first (suc count) seat ≡ opens_from opener b up (first + 1) count seat
     same_later fails seat =
-        ap (λ some. is_able_seen b seat && not some) (sym (only_second (before seat first) (list_any (before seat) (range_with_len (first + 1) count)) (λ is.
-        let able : is_able_seen b first ≡ true = (and_parts (is_able_seen b first) (is_opener_before opener (b.street == 1) (known_cards (ups_of up first)) (known_cards (ups_of up seat))) is).0 in
-        let beaten : before first next ≡ true = not-false (before first next) (second_fails (is_able_seen b first) (not (before first next)) able fails) in
+        ap (λ some. can_act_seen b seat && not some) (sym (only_second (before seat first) (list_any (before seat) (range_with_len (first + 1) count)) (λ is.
+        let able : can_act_seen b first ≡ true = (and_parts (can_act_seen b first) (is_opener_before opener (b.street == 1) (known_cards (ups_of up first)) (known_cards (ups_of up seat))) is).0 in
+        let beaten : before first next ≡ true = not-false (before first next) (second_fails (can_act_seen b first) (not (before first next)) able fails) in
         elim (cases_lt first next) [
           | inl above ↦ some_at (before seat) (first + 1) count next (omega (arith, above)) (omega (arith, high)) (new seat is)
           | inr here ↦ let same : next ≡ first = omega (arith, low, here) in absurd (never first (ap (λ (k : ℕ). before first k) (sym same) ∙ beaten))
         ])))
 
-    found_more : (found : Option ℕ) → found ≡ find (opens_from opener b up (first + 1) count) (range_with_len (first + 1) count) → (opens : Bool) → opens ≡ (is_able_seen b first && not (before first next)) → (if opens then Some first else found) ≡ find (opens_from opener b up first (suc count)) (range_with_len first (suc count))
+    found_more : (found : Option ℕ) → found ≡ find (opens_from opener b up (first + 1) count) (range_with_len (first + 1) count) → (opens : Bool) → opens ≡ (can_act_seen b first && not (before first next)) → (if opens then Some first else found) ≡ find (opens_from opener b up first (suc count)) (range_with_len first (suc count))
     found_more found is true opens =
         sym (ap (λ o. cond o (Some first) (find (opens_from opener b up first (suc count)) (range_with_len (first + 1) count))) (opens_now ∙ sym opens))
     found_more found is false opens =
@@ -98,15 +99,15 @@ module _ (opener : Opener) (b : RunningNumbers) (up : UpRow) where
         ∙ sym (find_agree (opens_from opener b up first (suc count)) (opens_from opener b up (first + 1) count) (first + 1) count (λ seat least most. same_later (sym opens) seat))
         ∙ sym (ap (λ o. cond o (Some first) (find (opens_from opener b up first (suc count)) (range_with_len (first + 1) count))) (opens_now ∙ sym opens))
 
-  one_more : (first count lead next : ℕ) (found : Option ℕ) (opens : Bool) → IsWalked opener b up (first + 1) count lead found → has_unknown_seen b up first ≡ false → ((seat : ℕ) → before seat lead ≡ true → before seat next ≡ true) → ((seat : ℕ) → before seat first ≡ true → before seat next ≡ true) → first ≤ next → next < first + suc count → opens ≡ (is_able_seen b first && not (before first next)) → IsWalked opener b up first (suc count) next (if opens then Some first else found)
+  one_more : (first count lead next : ℕ) (found : Option ℕ) (opens : Bool) → IsWalked opener b up (first + 1) count lead found → has_unknown_seen b up first ≡ false → ((seat : ℕ) → before seat lead ≡ true → before seat next ≡ true) → ((seat : ℕ) → before seat first ≡ true → before seat next ≡ true) → first ≤ next → next < first + suc count → opens ≡ (can_act_seen b first && not (before first next)) → IsWalked opener b up first (suc count) next (if opens then Some first else found)
   one_more first count lead next found opens walked known kept new low high is = record {
     known = or_from (has_unknown_seen b up first) (list_any (has_unknown_seen b up) (range_with_len (first + 1) count)) known walked.known;
     leads = leads_more first count lead next walked.leads kept new low high;
     found_is = found_more first count lead next walked.leads kept new low high found walked.found_is opens is;
   }
 
-  -- one seat more, of so many, of which some were walked
-  pub walked_more : (n index seat lead next : ℕ) (found : Option ℕ) (opens : Bool) → index < n → seat ≡ n - index → IsWalked opener b up (n + 1 - index) index lead found → has_unknown_seen b up seat ≡ false → ((other : ℕ) → is_before_seen opener b up other lead ≡ true → is_before_seen opener b up other next ≡ true) → ((other : ℕ) → is_before_seen opener b up other seat ≡ true → is_before_seen opener b up other next ≡ true) → seat ≤ next → next ≤ n → opens ≡ (is_able_seen b seat && not (is_before_seen opener b up seat next)) → IsWalked opener b up (n + 1 - (index + 1)) (index + 1) next (if opens then Some seat else found)
+  -- one more seat, of all, of which some were walked
+  pub walked_more : (n index seat lead next : ℕ) (found : Option ℕ) (opens : Bool) → index < n → seat ≡ n - index → IsWalked opener b up (n + 1 - index) index lead found → has_unknown_seen b up seat ≡ false → ((other : ℕ) → is_before_seen opener b up other lead ≡ true → is_before_seen opener b up other next ≡ true) → ((other : ℕ) → is_before_seen opener b up other seat ≡ true → is_before_seen opener b up other next ≡ true) → seat ≤ next → next ≤ n → opens ≡ (can_act_seen b seat && not (is_before_seen opener b up seat next)) → IsWalked opener b up (n + 1 - (index + 1)) (index + 1) next (if opens then Some seat else found)
   walked_more n index seat lead next found opens less is walked known kept new low high opens_is =
       let from : n + 1 - index ≡ seat + 1 = omega (arith, less, is) in
       let to : seat ≡ n + 1 - (index + 1) = omega (arith, less, is) in
@@ -129,22 +130,22 @@ module _ (opener : Opener) (b : RunningNumbers) (up : UpRow) where
   walked_unknown seat low high is =
       sym (ap (λ (unknown : Bool). if unknown then None else up_opener_seen opener b up) (true_from_ne_false (has_unknown_up_card_seen b up) (λ none. true≢false (sym is ∙ none_at (has_unknown_seen b up) b.setup.stacks.seats seat low high none))))
 
-  -- a seat opens where each up-card is known
+  -- a seat opens if each up-card is known
   pub opens_known : (seat : ℕ) → Some seat ≡ known_opener_seen opener b up → (false ≡ has_unknown_up_card_seen b up) × (Some seat ≡ up_opener_seen opener b up)
   opens_known seat is = known_by (has_unknown_up_card_seen b up) seat (up_opener_seen opener b up) is
 
-  -- the other is able, and as early as the leader
-  pub other_leads : (lead other seat : ℕ) → is_able_seen b other ≡ true → is_as_early_seen opener b up other lead ≡ true → is_before_seen opener b up seat lead ≡ true → is_before_seen opener b up seat other ≡ true
+  -- the other can act, and is as early as the leader
+  pub other_leads : (lead other seat : ℕ) → can_act_seen b other ≡ true → is_as_early_seen opener b up other lead ≡ true → is_before_seen opener b up seat lead ≡ true → is_before_seen opener b up seat other ≡ true
   other_leads lead other seat able early before =
       let first = b.street == 1 in
       let cards : ℕ → List Card = λ (k : ℕ). known_cards (ups_of up k) in
-      and_from (is_able_seen b other) (is_opener_before opener first (cards other) (cards seat)) able
-      (early_opens opener first (cards other) (cards lead) (cards seat) early (and_parts (is_able_seen b lead) (is_opener_before opener first (cards lead) (cards seat)) before).1)
+      and_from (can_act_seen b other) (is_opener_before opener first (cards other) (cards seat)) able
+      (early_opens opener first (cards other) (cards lead) (cards seat) early (and_parts (can_act_seen b lead) (is_opener_before opener first (cards lead) (cards seat)) before).1)
 
   -- the other is not
-  pub lead_stays : (lead other seat : ℕ) → is_able_seen b lead ≡ true → is_as_early_seen opener b up other lead ≡ false → is_before_seen opener b up seat other ≡ true → is_before_seen opener b up seat lead ≡ true
+  pub lead_stays : (lead other seat : ℕ) → can_act_seen b lead ≡ true → is_as_early_seen opener b up other lead ≡ false → is_before_seen opener b up seat other ≡ true → is_before_seen opener b up seat lead ≡ true
   lead_stays lead other seat able late before =
       let first = b.street == 1 in
       let cards : ℕ → List Card = λ (k : ℕ). known_cards (ups_of up k) in
-      and_from (is_able_seen b lead) (is_opener_before opener first (cards lead) (cards seat)) able
-      (late_opens opener first (cards other) (cards lead) (cards seat) late (and_parts (is_able_seen b other) (is_opener_before opener first (cards other) (cards seat)) before).1)
+      and_from (can_act_seen b lead) (is_opener_before opener first (cards lead) (cards seat)) able
+      (late_opens opener first (cards other) (cards lead) (cards seat) late (and_parts (can_act_seen b other) (is_opener_before opener first (cards other) (cards seat)) before).1)

@@ -1,4 +1,5 @@
--- After a legal event of cards the state stands for the longer past, or up to its due where that is complete.
+-- After a legal event of cards the state stands for the longer past, or stands for it up to its due
+-- if that is complete.
 use Rattle.std.proofs.Common.{◌≡◌, ℕ, ◌≤◌, Bool, true, false, nat_le, List, ◌∷◌, None, refl, sym, ap, subst, ◌∙◌, arith}
 use Rattle.std.proofs.lemmas.Bool.{true≢false, not-false, and_from, le-leb}
 use Rattle.play_event.specs.declared.reason.Due.{Due}
@@ -14,23 +15,23 @@ use Rattle.play_event.specs.Reasons.{why, may_come}
 use Rattle.play_event.specs.Scripts.{with_event, resolved_on}
 use Rattle.play_event.specs.TurnTargets.{is_bet_due}
 use Rattle.play_event.proofs.ReasonLaws.{no_reason_holds}
-use Rattle.street_laws.specs.CardEvents.{is_card_event, is_card_said, is_showing}
-use Rattle.street_laws.specs.Done.{is_done}
-use Rattle.street_laws.specs.Walk.{has_nothing_later}
-use Rattle.street_laws.proofs.CardTurns.{several_live, moves_kept}
-use Rattle.street_laws.proofs.Later.{reached_by}
-use Rattle.street_laws.proofs.LegalCards.{at_street, card_resolved, shows_kept, settled_at, betting_event, undrawn}
-use Rattle.street_laws.proofs.Showdown.{one_left, show_over}
-use Rattle.street_laws.proofs.TurnAfter.{few_is_over}
-use Rattle.street_laws.proofs.Unsettled.{unsettled}
-use Rattle.betting_numbers.specs.declared.running.RunningNumbers.{RunningNumbers}
+use Rattle.play_laws.specs.CardEvents.{is_card_event, is_card_said, is_showing}
+use Rattle.play_laws.specs.Done.{is_done}
+use Rattle.play_laws.specs.Walk.{has_nothing_later}
+use Rattle.play_laws.proofs.CardTurns.{several_live, moves_kept}
+use Rattle.play_laws.proofs.Later.{reached_by}
+use Rattle.play_laws.proofs.LegalCards.{at_street, card_resolved, shows_kept, settled_at, betting_event, undrawn}
+use Rattle.play_laws.proofs.Showdown.{one_left, show_over}
+use Rattle.play_laws.proofs.TurnAfter.{few_is_over}
+use Rattle.play_laws.proofs.Unsettled.{unsettled}
+use Rattle.betting_numbers.specs.declared.betting_state.BettingState.{BettingState}
 use Rattle.betting_numbers.specs.Standing.{Standing, StandsFor}
 use Rattle.betting_numbers.specs.UpTo.{StandsUpTo}
 use Rattle.betting_numbers.proofs.Carded.{deal_kept, deal_ended, draw_kept, draw_ended, show_kept, show_done}
-use Rattle.list_laws.proofs.Numbers.{two_or_more}
+use Rattle.card_set.proofs.Numbers.{two_or_more}
 
 -- a legal event may come
-pub comes : (b : RunningNumbers) (rules : Rules) (past : Past) (event : Said) → StandsFor b past → why b.setup rules past event ≡ None → may_come b.setup past (b.street, b.due) event ≡ true
+pub comes : (b : BettingState) (rules : Rules) (past : Past) (event : Said) → StandsFor b past → why b.setup rules past event ≡ None → may_come b.setup past (b.street, b.due) event ≡ true
 comes b rules past event stands legal =
     sym (ap (λ now. may_come b.setup past now event) stands.turn_is)
     ∙ not-false (may_come b.setup past (turn b.setup past) event) (no_reason_holds b.setup rules past event legal).1.0
@@ -42,7 +43,7 @@ draw_over : (n : ℕ) → dues.Draw n ≡ dues.Over → ⊥
 draw_over n e = cc
 
 -- after a legal event of cards
-module _ (b : RunningNumbers) (rules : Rules) (past : Past) (event : Said) (stands : StandsFor b past) (card : is_card_said event ≡ true) (legal : why b.setup rules past event ≡ None) (from_one : 1 ≤ b.street) (within : b.street ≤ street_count b.setup.code) where
+module _ (b : BettingState) (rules : Rules) (past : Past) (event : Said) (stands : StandsFor b past) (card : is_card_said event ≡ true) (legal : why b.setup rules past event ≡ None) (from_one : 1 ≤ b.street) (within : b.street ≤ street_count b.setup.code) where
   abbrev the_event : Resolved
   the_event = resolved_on b.setup past b.street event
 

@@ -1,4 +1,4 @@
--- What the running numbers say is what the rules say of the past for which they stand.
+-- What the running numbers say is what the rules say of the past that they stand for.
 pub mod OneChanged
 pub mod Bridge
 pub mod Passing

@@ -7,22 +7,22 @@ use Rattle.play_event.specs.declared.setup.Setup.{Setup}
 use Rattle.play_event.specs.Past.{Move, moves_on, is_raise, is_bring_in}
 use Rattle.play_event.specs.Streets as streets
 use Rattle.play_event.specs.Chips.{street_chips, chips_added, brought, blind_posted}
-use Rattle.play_event.specs.Price as prices
-use Rattle.play_event.specs.Price.{price, rise, doubled_raises, starting_price}
+use Rattle.play_event.specs.CurrentBet as prices
+use Rattle.play_event.specs.CurrentBet.{current_bet, rise, doubled_raises, starting_bet}
 use Rattle.chip_ledger.specs.Greatest.{greatest}
-use Rattle.play_event.specs.Due.{has_moved_since_rise, has_opened_betting}
-use Rattle.betting_numbers.specs.declared.running.RunningNumbers.{RunningNumbers}
+use Rattle.play_event.specs.Due.{has_acted_since_raise, has_opened_betting}
+use Rattle.betting_numbers.specs.declared.betting_state.BettingState.{BettingState}
 use Rattle.betting_numbers.specs.Moving.{IsNextStreet, most_raises}
 use Rattle.betting_numbers.specs.Standing.{Standing, newest_seat}
-use Rattle.street_laws.specs.Walk.{has_no_move_later}
-use Rattle.street_laws.proofs.Later.{newest_other, none_on}
+use Rattle.play_laws.specs.Walk.{has_no_move_later}
+use Rattle.play_laws.proofs.Later.{newest_other, none_on}
 use Rattle.chip_ledger.specs.Seat.{IsSeatOf}
 
-pub none_since : (setup : Setup) (moves : List Move) (street later seat : ℕ) → has_no_move_later moves street ≡ true → street < later → has_moved_since_rise setup moves later seat ≡ false
+pub none_since : (setup : Setup) (moves : List Move) (street later seat : ℕ) → has_no_move_later moves street ≡ true → street < later → has_acted_since_raise setup moves later seat ≡ false
 none_since setup [] street later seat early less = refl
 none_since setup (move ∷ before) street later seat early less =
     let parts = newest_other move before street later early less in
-    ap (λ b. if b then ((move.seat == seat) || (nat_le move.to (price setup before later) && has_moved_since_rise setup before later seat)) else has_moved_since_rise setup before later seat) parts.0
+    ap (λ b. if b then ((move.seat == seat) || (nat_le move.to (current_bet setup before later) && has_acted_since_raise setup before later seat)) else has_acted_since_raise setup before later seat) parts.0
     ∙ none_since setup before street later seat parts.1 less
 
 pub least_raise : (setup : Setup) (moves : List Move) (street later : ℕ) → has_no_move_later moves street ≡ true → street < later → prices.full_raise setup moves later ≡ setup.min_bet
@@ -36,7 +36,7 @@ pub none_doubled : (setup : Setup) (moves : List Move) (street later : ℕ) → 
 none_doubled setup [] street later early less = refl
 none_doubled setup (move ∷ before) street later early less =
     let parts = newest_other move before street later early less in
-    ap (λ b. if b && is_raise move.act then ((2 * move.to - price setup before later) ∷ doubled_raises setup before later) else doubled_raises setup before later) parts.0
+    ap (λ b. if b && is_raise move.act then ((2 * move.to - current_bet setup before later) ∷ doubled_raises setup before later) else doubled_raises setup before later) parts.0
     ∙ none_doubled setup before street later parts.1 less
 
 pub bet_at_start : (setup : Setup) (moves : List Move) (street later : ℕ) → has_no_move_later moves street ≡ true → street < later → prices.full_bet setup moves later ≡ prices.full_bet setup [] later
@@ -46,7 +46,7 @@ bet_at_start setup (move ∷ before) street later early less =
     ap (λ b. if b && (is_raise move.act || is_bring_in move.act) && nat_le (prices.full_bet setup before later + streets.unit setup later) move.to then move.to else prices.full_bet setup before later) parts.0
     ∙ bet_at_start setup before street later parts.1 less
 
--- a later street than the first begins without chips
+-- a street after the first begins without chips
 nothing_brought : (setup : Setup) (later seat : ℕ) → 1 < later → brought setup later seat ≡ 0
 nothing_brought setup later seat less = ap (λ b. if b then blind_posted setup seat else 0) (ne_eqb later 1 (λ same. omega (arith, same, less)))
 
@@ -55,14 +55,14 @@ pub zero_greatest : (f : ℕ → ℕ) (first n : ℕ) → ((k : ℕ) → f k ≡
 zero_greatest f first zero none = refl
 zero_greatest f first (suc n) none = omega (arith, none first, zero_greatest f (first + 1) n none)
 
-pub starts_at_zero : (setup : Setup) (later : ℕ) → 1 < later → starting_price setup later ≡ 0
+pub starts_at_zero : (setup : Setup) (later : ℕ) → 1 < later → starting_bet setup later ≡ 0
 starts_at_zero setup later less = zero_greatest (street_chips setup [] later) 1 setup.stacks.seats (λ k. omega (arith, nothing_brought setup later k less))
 
 no_bet_by : (full : Bool) (start : ℕ) → start ≡ 0 → (if full then start else 0) ≡ 0
 no_bet_by true start is = is
 no_bet_by false start is = refl
 
-module _ (b next : RunningNumbers) (moves : List Move) (st : Standing b.setup b.street b moves) (early : has_no_move_later moves b.street ≡ true) (from_one : 1 ≤ b.street) (new : IsNextStreet b next) where
+module _ (b next : BettingState) (moves : List Move) (st : Standing b.setup b.street b moves) (early : has_no_move_later moves b.street ≡ true) (from_one : 1 ≤ b.street) (new : IsNextStreet b next) where
   later : ℕ
   later = b.street + 1
 
@@ -78,13 +78,13 @@ module _ (b next : RunningNumbers) (moves : List Move) (st : Standing b.setup b.
     bets = bets_next;
     live = λ seat in_hand. new.live seat ∙ st.live seat in_hand;
     moved = λ seat in_hand. new.moved seat ∙ sym (ap (list_any (λ (move : Move). move.seat == seat)) empty);
-    since_rise = λ seat in_hand. new.since_rise seat ∙ sym (none_since b.setup moves b.street (b.street + 1) seat early (omega arith));
+    acted_since_raise = λ seat in_hand. new.acted_since_raise seat ∙ sym (none_since b.setup moves b.street (b.street + 1) seat early (omega arith));
     last = new.last ∙ sym (ap newest_seat empty);
     raises = new.raises ∙ sym (ap (λ (ms : List Move). min (count_by (λ move. is_raise move.act) ms) most_raises) empty);
     full_raise = new.full_raise ∙ sym (least_raise b.setup moves b.street (b.street + 1) early (omega arith));
-    full_bet = new.full_bet ∙ sym (bet_at_start b.setup moves b.street (b.street + 1) early (omega arith) ∙ no_bet_by (nat_le (streets.unit b.setup (b.street + 1)) (starting_price b.setup (b.street + 1))) (starting_price b.setup (b.street + 1)) (starts_at_zero b.setup (b.street + 1) (omega (arith, from_one))));
-    doubled = new.doubled ∙ sym (ap greatest (none_doubled b.setup moves b.street (b.street + 1) early (omega arith)));
-    opened = new.opened ∙ sym (ap (list_any (λ (move : Move). has_opened_betting move.act)) empty);
+    full_bet = new.full_bet ∙ sym (bet_at_start b.setup moves b.street (b.street + 1) early (omega arith) ∙ no_bet_by (nat_le (streets.unit b.setup (b.street + 1)) (starting_bet b.setup (b.street + 1))) (starting_bet b.setup (b.street + 1)) (starts_at_zero b.setup (b.street + 1) (omega (arith, from_one))));
+    always_floor = new.always_floor ∙ sym (ap greatest (none_doubled b.setup moves b.street (b.street + 1) early (omega arith)));
+    bet_or_bring_in_made = new.bet_or_bring_in_made ∙ sym (ap (list_any (λ (move : Move). has_opened_betting move.act)) empty);
   }
 
   pub standing_next : Standing next.setup next.street next moves

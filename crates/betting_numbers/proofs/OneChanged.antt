@@ -5,9 +5,9 @@ use Rattle.std.proofs.lemmas.Bool.{true≢false, cases_lt, eq-eqb, ne_eqb}
 use Rattle.std.proofs.lemmas.Bool.Decides.{nat_tests}
 use Rattle.std.proofs.lemmas.List.Sums.{sum_by-cons}
 use Rattle.chip_ledger.specs.Greatest.{greatest}
-use Rattle.list_laws.proofs.Counting.{count_by-cons}
-use Rattle.list_laws.proofs.Finding.{any_agree}
-use Rattle.list_laws.proofs.NumbersOfRange.{map_agree, sum_agree}
+use Rattle.card_set.proofs.Counting.{count_by-cons}
+use Rattle.card_set.proofs.Finding.{any_agree}
+use Rattle.card_set.proofs.NumbersOfRange.{map_agree, sum_agree}
 
 -- the sum
 pub sum_changed : (f g : ℕ → ℕ) (first n k : ℕ) → first ≤ k → k < first + n
@@ -25,7 +25,7 @@ sum_changed f g first (suc n) k low high others = elim (cases_lt first k) [
       omega (arith, sum_by-cons f first (range_with_len (first + 1) n), sum_by-cons g first (range_with_len (first + 1) n), later, ap f same, ap g same)
 ]
 
--- how many pass a test
+-- the number that passes a test
 pub count_changed : (p q : ℕ → Bool) (first n k : ℕ) → first ≤ k → k < first + n
     → ((j : ℕ) → first ≤ j → j < first + n → j ≢ k → q j ≡ p j)
     → count_by q (range_with_len first n) + cond (p k) 1 0 ≡ count_by p (range_with_len first n) + cond (q k) 1 0
@@ -39,7 +39,7 @@ fell_by count rest true false h sum = omega (arith, sum)
 fell_by count rest false true h sum = absurd (true≢false (sym (h refl)))
 fell_by count rest false false h sum = omega (arith, sum)
 
--- and where the number does not pass a test that it did not pass before
+-- and if the number does not pass a test that it did not pass before
 pub count_fell : (p q : ℕ → Bool) (first n k : ℕ) (was is : Bool) → first ≤ k → k < first + n → was ≡ p k → is ≡ q k → (is ≡ true → was ≡ true)
     → ((j : ℕ) → first ≤ j → j < first + n → j ≢ k → q j ≡ p j)
     → count_by q (range_with_len first n) ≡ (if was && not is then count_by p (range_with_len first n) - 1 else count_by p (range_with_len first n))
@@ -47,7 +47,7 @@ count_fell p q first n k was is low high was_is is_is none_new others =
     fell_by (count_by p (range_with_len first n)) (count_by q (range_with_len first n)) was is none_new
     (omega (arith, ap (λ (b : Bool). cond {A = ℕ} b 1 0) was_is, ap (λ (b : Bool). cond {A = ℕ} b 1 0) is_is, count_changed p q first n k low high others))
 
--- the greatest, where the value did not fall
+-- the greatest value, if the value did not fall
 pub greatest_changed : (f g : ℕ → ℕ) (first n k : ℕ) → first ≤ k → k < first + n → f k ≤ g k
     → ((j : ℕ) → first ≤ j → j < first + n → j ≢ k → g j ≡ f j)
     → greatest (map g (range_with_len first n)) ≡ max (greatest (map f (range_with_len first n))) (g k)
@@ -63,7 +63,7 @@ greatest_changed f g first (suc n) k low high more others = elim (cases_lt first
       omega (arith, later, more, ap f same, ap g same)
 ]
 
--- an element passes where the count of those that pass is not 0
+-- an element passes if the count of those that pass is not 0
 any_by : (b : Bool) (any : Bool) (count : ℕ) → any ≡ nat_lt 0 count → (b || any) ≡ nat_lt 0 (cond b 1 0 + count)
 any_by true any count is = grind (arith, nat_tests)
 any_by false any count is = let same : count ≡ 0 + count = omega arith in is ∙ ap (nat_lt 0) same
@@ -83,7 +83,7 @@ and_same false e is = refl
 others_by : (others own all none : ℕ) → none ≡ 0 → others + own ≡ all + none → nat_lt 0 others ≡ nat_lt own all
 others_by others own all none is sum = grind (arith, nat_tests)
 
--- another number passes where more pass than this one
+-- another number passes if more pass than this one
 pub another_passes : (p : ℕ → Bool) (first n k : ℕ) → first ≤ k → k < first + n
     → list_any (λ j. p j && not (j == k)) (range_with_len first n) ≡ nat_lt (cond (p k) 1 0) (count_by p (range_with_len first n))
 another_passes p first n k low high =
@@ -93,7 +93,7 @@ another_passes p first n k low high =
     ∙ others_by (count_by q (range_with_len first n)) (cond (p k) 1 0) (count_by p (range_with_len first n)) (cond (q k) 1 0) none
     (count_changed p q first n k low high (λ j from to other. and_other (p j) (j == k) (ne_eqb j k other)))
 
--- and where any passes, if this one is not among the numbers
+-- and if any passes, when this one is not among the numbers
 pub any_passes : (p : ℕ → Bool) (first n k : ℕ) → first + n ≤ k
     → list_any (λ j. p j && not (j == k)) (range_with_len first n) ≡ nat_lt 0 (count_by p (range_with_len first n))
 any_passes p first n k out =

@@ -1,4 +1,4 @@
--- What is posted, one seat more at a time.
+-- What is posted, one more seat at a time.
 use Rattle.std.proofs.Common.{◌≡◌, ◌≢◌, ℕ, ◌+◌, ◌-◌, ◌≤◌, Bool, true, false, nat_lt, ◌==◌, cond, [], find, reverse, unwrap_or, max, sum_by, zero, suc, inl, inr, sym, ap, subst, ◌∙◌, arith, refl}
 use Rattle.std.proofs.lemmas.Bool.{cases_lt, eqb-false}
 use Rattle.std.proofs.lemmas.Bool.Decides.{nat_tests}
@@ -9,12 +9,12 @@ use Rattle.chip_ledger.specs.Greatest.{greatest}
 use Rattle.chip_ledger.proofs.Seats.{map-seats, sum_of_seats_more}
 use Rattle.chip_ledger.proofs.SeatLists.{greatest_more, last_more}
 use Rattle.play_event.specs.Chips.{blind_posted, street_chips}
-use Rattle.play_event.specs.Price.{starting_price}
+use Rattle.play_event.specs.CurrentBet.{starting_bet}
 use Rattle.play_event.specs.declared.setup.Setup.{Setup}
 use Rattle.betting_numbers.specs.Posting.{HasPosted, big_of, last_of}
 use Rattle.betting_numbers.specs.declared.starting.Posted.{Posted}
 
--- of the seats so far and of one more
+-- the seats so far and one more
 pub one_more : (P : ℕ → Type 0) (count : ℕ) → ((k : ℕ) → 1 ≤ k → k ≤ count → P k) → P (count + 1) → (k : ℕ) → 1 ≤ k → k ≤ count + 1 → P k
 one_more P count before here k low high = elim (cases_lt k (count + 1)) [
   | inl below ↦ before k low (omega (arith, below))
@@ -38,14 +38,14 @@ last_by f n false is =
       | inr more ↦ omega (arith, more)
     ]
 
--- the last seat with the greatest blind, one seat more
+-- the last seat with the greatest blind, one more seat
 pub last_of_more : (f : ℕ → ℕ) (n : ℕ) → last_of f (n + 1) ≡ cond (f (n + 1) == max (big_of f n) (f (n + 1))) (n + 1) (last_of f n)
 last_of_more f n =
     ap (λ (g : ℕ). unwrap_or (find (λ seat. f seat == g) (reverse (seats_of (n + 1)))) 0) (greatest_more f n)
     ∙ last_more (λ seat. f seat == max (big_of f n) (f (n + 1))) n
     ∙ last_by f n (f (n + 1) == max (big_of f n) (f (n + 1))) refl
 
--- sums over the seats are equal where the terms are
+-- sums over the seats are equal if the terms are
 pub sum_seats : (f g : ℕ → ℕ) (n : ℕ) → ((k : ℕ) → 1 ≤ k → k ≤ n → f k ≡ g k) → sum_by f (seats_of n) ≡ sum_by g (seats_of n)
 sum_seats f g zero h = refl
 sum_seats f g (suc n) h =
@@ -57,10 +57,10 @@ sum_seats f g (suc n) h =
 
 module _ (setup : Setup) (p : Posted) (has : HasPosted setup setup.stacks.seats p) where
   -- the first street starts with the blinds
-  pub price_at_start : p.price ≡ starting_price setup 1
-  price_at_start = has.price ∙ ap greatest (map-seats (blind_posted setup) (street_chips setup [] 1) setup.stacks.seats (λ k low high. omega arith))
+  pub blind_bet_at_start : p.current_bet ≡ starting_bet setup 1
+  blind_bet_at_start = has.current_bet ∙ ap greatest (map-seats (blind_posted setup) (street_chips setup [] 1) setup.stacks.seats (λ k low high. omega arith))
 
-  -- behind the last seat nothing is put
+  -- after the last seat nothing is put
   none_behind : (row : SeatRow) → row.seats ≡ setup.stacks.seats → (k : ℕ) → setup.stacks.seats + 1 ≤ k → amount_of row k ≡ 0
   none_behind row same k above = row.filler (k - 1) (omega (arith, same, above))
 

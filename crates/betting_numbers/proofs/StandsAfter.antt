@@ -9,57 +9,57 @@ use Rattle.play_event.specs.declared.setup.Setup.{Setup}
 use Rattle.play_event.specs.Games.{street_count}
 use Rattle.play_event.specs.Streets as streets
 use Rattle.play_event.specs.Past.{Past, Move, Act, Moved, moves_of, moves_on}
-use Rattle.play_event.specs.Seats.{is_live, is_able, live_count, all_seats, able_count}
+use Rattle.play_event.specs.Seats.{is_live, can_act, live_count, all_seats, able_count}
 use Rattle.play_event.specs.Showing.{has_to_show, has_shown, has_mucked}
 use Rattle.std.specs.List.{list_any}
 use Rattle.play_event.specs.Streets.{is_stud}
 use Rattle.play_event.specs.Due.{has_opened_betting, turn, is_bring_in_due, is_move_due}
-use Rattle.betting_numbers.specs.declared.running.RunningNumbers.{RunningNumbers}
+use Rattle.betting_numbers.specs.declared.betting_state.BettingState.{BettingState}
 use Rattle.betting_numbers.specs.Seen.{live_count_seen, is_move_due_seen}
 use Rattle.betting_numbers.specs.Moving.{IsMoved, IsNextStreet}
 use Rattle.betting_numbers.specs.Standing.{Standing, StandsFor}
-use Rattle.street_laws.specs.Walk.{has_nothing_later, street_cards, turn_after}
+use Rattle.play_laws.specs.Walk.{has_nothing_later, street_cards, turn_after}
 use Rattle.play_event.specs.ValidSetup.{IsValid}
-use Rattle.street_laws.specs.Dues.{is_move}
+use Rattle.play_laws.specs.Dues.{is_move}
 use Rattle.play_event.specs.TurnTargets.{is_bet_due}
 use Rattle.betting_numbers.specs.Turn.{may_come_at, with_turn, IsSettledTo}
 use Rattle.betting_numbers.proofs.Bridge.{live_count_is, move_due_is}
 use Rattle.betting_numbers.proofs.AfterMove.{the_move, standing_after, on_street}
-use Rattle.list_laws.proofs.Counting.{counts_fewer}
+use Rattle.card_set.proofs.Counting.{counts_fewer}
 use Rattle.betting_numbers.proofs.NextStreet.{standing_next}
-use Rattle.street_laws.proofs.Later.{early_moves, early_up}
-use Rattle.street_laws.proofs.TurnAfter.{cards_are_dealt, dealt_still, due_by}
-use Rattle.street_laws.proofs.Walk.{turn_after_move}
-use Rattle.street_laws.proofs.Unsettled.{due_after_cards, unsettled}
-use Rattle.street_laws.proofs.LiveSeats.{some_left}
-use Rattle.street_laws.proofs.CardTurns.{several_live}
+use Rattle.play_laws.proofs.Later.{early_moves, early_up}
+use Rattle.play_laws.proofs.TurnAfter.{cards_are_dealt, dealt_still, due_by}
+use Rattle.play_laws.proofs.Walk.{turn_after_move}
+use Rattle.play_laws.proofs.Unsettled.{due_after_cards, unsettled}
+use Rattle.play_laws.proofs.LiveSeats.{some_left}
+use Rattle.play_laws.proofs.CardTurns.{several_live}
 use Rattle.play_event.proofs.StillAble.{able_still, still_live}
 use Rattle.play_event.proofs.FloorLaws.{bet_unfinished}
 use Rattle.chip_ledger.specs.Seat.{IsSeatOf}
 
--- the numbers stand whatever is due
-pub standing_with_turn : (setup : Setup) (street : ℕ) (b : RunningNumbers) (due : Due) (next : Option Seat) (moves : List Move) → Standing setup street b moves → Standing setup street (with_turn b due next) moves
+-- the numbers stand for the same moves, whatever is due
+pub standing_with_turn : (setup : Setup) (street : ℕ) (b : BettingState) (due : Due) (next : Option Seat) (moves : List Move) → Standing setup street b moves → Standing setup street (with_turn b due next) moves
 standing_with_turn setup street b due next moves st = record {
   puts = st.puts;
   bets = st.bets;
   live = st.live;
   moved = st.moved;
-  since_rise = st.since_rise;
+  acted_since_raise = st.acted_since_raise;
   last = st.last;
   raises = st.raises;
   full_raise = st.full_raise;
   full_bet = st.full_bet;
-  doubled = st.doubled;
-  opened = st.opened;
+  always_floor = st.always_floor;
+  bet_or_bring_in_made = st.bet_or_bring_in_made;
 }
 
-bring_in_closed_by : (stud first : Bool) (few many : ℕ) (opens opened : Bool) → few ≤ many → (opens ≡ false → (stud && first && nat_le 2 many && not opened) ≡ false) → (stud && first && nat_le 2 few && not (opens || opened)) ≡ false
-bring_in_closed_by stud first few many true opened less before = and_right (stud && first && nat_le 2 few) false refl
-bring_in_closed_by stud first few many false opened less before = false_from_ne_true (stud && first && nat_le 2 few && not opened) (λ is.
-    let parts = and_parts (stud && first && nat_le 2 few) (not opened) is in
+bring_in_closed_by : (stud first : Bool) (few many : ℕ) (opens bet_or_bring_in_made : Bool) → few ≤ many → (opens ≡ false → (stud && first && nat_le 2 many && not bet_or_bring_in_made) ≡ false) → (stud && first && nat_le 2 few && not (opens || bet_or_bring_in_made)) ≡ false
+bring_in_closed_by stud first few many true bet_or_bring_in_made less before = and_right (stud && first && nat_le 2 few) false refl
+bring_in_closed_by stud first few many false bet_or_bring_in_made less before = false_from_ne_true (stud && first && nat_le 2 few && not bet_or_bring_in_made) (λ is.
+    let parts = and_parts (stud && first && nat_le 2 few) (not bet_or_bring_in_made) is in
     let inner = and_parts (stud && first) (nat_le 2 few) parts.0 in
     let two : 2 ≤ few = leb-true 2 few inner.1 in
-    true≢false (sym (and_from (stud && first && nat_le 2 many) (not opened) (and_from (stud && first) (nat_le 2 many) inner.0 (le-leb 2 many (omega (arith, two, less)))) parts.1) ∙ before refl))
+    true≢false (sym (and_from (stud && first && nat_le 2 many) (not bet_or_bring_in_made) (and_from (stud && first) (nat_le 2 many) inner.0 (le-leb 2 many (omega (arith, two, less)))) parts.1) ∙ before refl))
 
 fits_move : (act : Act) (due : Due) → may_come_at act due ≡ true → has_opened_betting act ≡ false → due ≡ dues.Move
 fits_move act due fits none = by due (sym (ap (λ o. o || is_move due) none) ∙ fits)
@@ -76,7 +76,7 @@ no_bring_in_by : (street : ℕ) (bring_in move : Bool) → due_by street false f
 no_bring_in_by street true move is = absurd cc
 no_bring_in_by street false move is = refl
 
--- a seat that had to show has still to show after a move that leaves it live
+-- a seat that had to show still has to show after a move that leaves it live
 shows_still : (past : Past) (move : Move) → ((seat : ℕ) → is_live (moves_of past) seat ≡ true → has_to_show past seat ≡ true) → (seat : ℕ) → is_live (move ∷ moves_of past) seat ≡ true → has_to_show (Moved move ∷ past) seat ≡ true
 shows_still past move each seat live =
     let both = and_parts (is_live (moves_of past) seat) (not (has_shown past seat || has_mucked past seat)) (each seat (still_live move (moves_of past) seat live)) in
@@ -96,7 +96,7 @@ street_after code street false true move = omega arith
 street_after code street false false true = omega arith
 street_after code street false false false = behind_by street (nat_lt street (street_count code)) (street_cards code (street + 1)) dues.Show
 
-module _ (b mid next : RunningNumbers) (past : Past) (seat target unit : ℕ) (act : Act) (stands : StandsFor b past) (bets : is_bet_due b.due ≡ true) (in_hand : IsSeatOf b.setup.stacks.seats seat) (mv : IsMoved b mid seat act target unit) (unit_is : unit ≡ streets.unit b.setup b.street) (from_one : 1 ≤ b.street) (within : b.street ≤ street_count b.setup.code) (fits : may_come_at act b.due ≡ true) (to : IsSettledTo mid next) where
+module _ (b mid next : BettingState) (past : Past) (seat target unit : ℕ) (act : Act) (stands : StandsFor b past) (bets : is_bet_due b.due ≡ true) (in_hand : IsSeatOf b.setup.stacks.seats seat) (mv : IsMoved b mid seat act target unit) (unit_is : unit ≡ streets.unit b.setup b.street) (from_one : 1 ≤ b.street) (within : b.street ≤ street_count b.setup.code) (fits : may_come_at act b.due ≡ true) (to : IsSettledTo mid next) where
   abbrev pub new_move : Move
   new_move = the_move b mid (moves_of past) seat target unit act stands.standing in_hand mv unit_is
 
@@ -114,15 +114,15 @@ module _ (b mid next : RunningNumbers) (past : Past) (seat target unit : ℕ) (a
   each_shows : (k : ℕ) → is_live (new_move ∷ moves_of past) k ≡ true → has_to_show (Moved new_move ∷ past) k ≡ true
   each_shows = shows_still past new_move (stands.unshown (λ over. true≢false (sym bets ∙ ap is_bet_due over)) (unsettled b.setup past b.street b.due stands.turn_is bets))
 
-  -- of the numbers, and where they are
+  -- what the numbers are, and where
   record Comes : Type 0 where
     setup : next.setup ≡ b.setup
     standing : Standing next.setup next.street next (new_move ∷ moves_of past)
 
   stays_by : next ≡ with_turn mid next.due next.next → Comes
   stays_by is = record {
-    setup = ap (λ (t : RunningNumbers). t.setup) is ∙ mv.setup;
-    standing = subst (λ (t : RunningNumbers). Standing t.setup t.street t (new_move ∷ moves_of past)) (sym is) (standing_with_turn mid.setup mid.street mid next.due next.next (new_move ∷ moves_of past) mid_stands);
+    setup = ap (λ (t : BettingState). t.setup) is ∙ mv.setup;
+    standing = subst (λ (t : BettingState). Standing t.setup t.street t (new_move ∷ moves_of past)) (sym is) (standing_with_turn mid.setup mid.street mid next.due next.next (new_move ∷ moves_of past) mid_stands);
   }
 
   goes_by : IsNextStreet mid next → Comes
@@ -147,7 +147,7 @@ module _ (b mid next : RunningNumbers) (past : Past) (seat target unit : ℕ) (a
   closed =
       ap (λ ms. is_stud b.setup.code && (b.street == 1) && nat_le 2 (able_count b.setup (new_move ∷ moves_of past)) && not (list_any (λ (move : Move). has_opened_betting move.act) ms)) (on_street b.street new_move (moves_of past) refl)
       ∙ bring_in_closed_by (is_stud b.setup.code) (b.street == 1) (able_count b.setup (new_move ∷ moves_of past)) (able_count b.setup (moves_of past)) (has_opened_betting act) (list_any (λ (move : Move). has_opened_betting move.act) (moves_on b.street (moves_of past)))
-      (counts_fewer (is_able b.setup (new_move ∷ moves_of past)) (is_able b.setup (moves_of past)) (able_still b.setup new_move (moves_of past)) (all_seats b.setup))
+      (counts_fewer (can_act b.setup (new_move ∷ moves_of past)) (can_act b.setup (moves_of past)) (able_still b.setup new_move (moves_of past)) (all_seats b.setup))
       bring_in_before
 
   turn_there : turn b.setup (Moved new_move ∷ past) ≡ (next.street, next.due)
@@ -170,7 +170,7 @@ module _ (b mid next : RunningNumbers) (past : Past) (seat target unit : ℕ) (a
       let at : next.street ≡ (turn_after mid.setup.code mid.street (nat_le (live_count_seen mid) 1) false (is_move_due_seen mid)).0 = ap (λ (p : ℕ × Due). p.0) to.turn_is in
       omega (arith, up, at, mv.street)
 
-  -- so the state stands for one move more
+  -- so the state stands for the past with one more move
   pub stands_after : StandsFor next (Moved new_move ∷ past)
   stands_after = record {
     valid = subst (λ s. IsValid s) (sym comes.setup) stands.valid;

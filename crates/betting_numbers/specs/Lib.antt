@@ -1,4 +1,4 @@
--- What the running numbers say, and for which past they stand.
+-- The running numbers of the betting: what they say, and which past they stand for.
 pub mod Caps
 pub mod TurnSaid
 pub mod Seen

@@ -1,4 +1,4 @@
--- What the seats post before the first card, and what it comes to.
+-- What the seats post before the first card.
 use Rattle.std.specs.Prelude.{◌≡◌, ℕ, ◌-◌, ◌*◌, ◌≤◌, ◌==◌, true, nat_lt, map, count_by, sum_by, find, reverse, unwrap_or}
 use Rattle.chip_ledger.specs.Greatest.{greatest}
 use Rattle.chip_ledger.specs.LiveRow.{flag_of}
@@ -9,11 +9,11 @@ use Rattle.play_event.specs.Chips.{blind_posted, posted}
 use Rattle.play_event.specs.declared.setup.Setup.{Setup}
 use Rattle.betting_numbers.specs.declared.starting.Posted.{Posted}
 
--- the greatest blind that is named, of so many seats
+-- the greatest blind of the first `count` seats, in chips as the setup has it
 abbrev pub big_of : (ℕ → ℕ) → ℕ → ℕ
 big_of blinds count = greatest (map blinds (seats_of count))
 
--- the number of the last of them with that blind, or 0
+-- the number of the last of these seats with that blind, or 0
 abbrev pub last_of : (ℕ → ℕ) → ℕ → ℕ
 last_of blinds count =
     unwrap_or (find (λ seat. blinds seat == big_of blinds count) (reverse (seats_of count))) 0
@@ -26,32 +26,32 @@ pub record IsPostable (setup : Setup) : Type 0 where
   -- no ante is more than the stack
   pub reach : (seat : ℕ) → amount_of setup.antes seat ≤ amount_of setup.stacks seat
 
--- the first so many seats have posted
+-- the first `count` seats have posted
 pub record HasPosted (setup : Setup) (count : ℕ) (p : Posted) : Type 0 where
   -- each row has the seats of the hand
   pub bet_seats : p.bets.seats ≡ setup.stacks.seats
   pub put_seats : p.puts.seats ≡ setup.stacks.seats
   pub live_seats : p.live.seats ≡ setup.stacks.seats
-  -- the blinds as far as the stacks go
+  -- blinds as far as the stacks go
   pub bets : (seat : ℕ) → 1 ≤ seat → seat ≤ count → amount_of p.bets seat ≡ blind_posted setup seat
-  -- the antes and those blinds
+  -- antes and those blinds
   pub puts : (seat : ℕ) → 1 ≤ seat → seat ≤ count → amount_of p.puts seat ≡ posted setup seat
-  -- the seats so far
+  -- the seats so far are live
   pub live : (seat : ℕ) → 1 ≤ seat → seat ≤ count → flag_of p.live seat ≡ true
-  -- the chips of the seats so far together, which a sum can hold
+  -- the chips of the seats so far, which a sum can hold
   pub pot : p.pot ≡ sum_by (posted setup) (seats_of count)
   pub pot_bounded : p.pot ≤ count * MOST_AMOUNT
-  -- the greatest of those blinds, which is no more than a stack
-  pub price : p.price ≡ greatest (map (blind_posted setup) (seats_of count))
-  pub price_bounded : p.price ≤ MOST_AMOUNT
-  -- how many of the seats so far have chips left
+  -- the greatest of the posted blinds, which is not more than a stack
+  pub current_bet : p.current_bet ≡ greatest (map (blind_posted setup) (seats_of count))
+  pub current_bet_bounded : p.current_bet ≤ MOST_AMOUNT
+  -- the number of seats so far with chips left
   pub able :
       p.able_count
       ≡ count_by (λ seat. nat_lt 0 (amount_of setup.stacks seat - posted setup seat))
       (seats_of count)
   pub able_within : p.able_count ≤ count
-  -- the greatest blind that is named
+  -- the greatest blind of the setup
   pub big : p.big_blind ≡ big_of (amount_of setup.blinds) count
-  -- the number of the last of the seats so far with it
+  -- the number of the last seat so far with it
   pub last : p.last_big ≡ last_of (amount_of setup.blinds) count
   pub last_within : p.last_big ≤ count

@@ -1,4 +1,4 @@
--- A move of the trace by the running numbers before it.
+-- A move of the trace, by the running numbers before it.
 use Rattle.std.specs.Prelude.{ℕ, Bool, ◌&&◌, ◌||◌, not}
 use Rattle.chip_ledger.specs.LiveRow.{flag_of}
 use Rattle.chip_ledger.specs.SeatRow.{amount_of}
@@ -9,26 +9,26 @@ use Rattle.play_event.specs.declared.limit.Limit.TheVariants as limits
 use Rattle.play_event.specs.Past.{Act, is_raise}
 use Rattle.play_event.specs.Streets.{unit}
 use Rattle.play_event.specs.Trace.{TracedMove}
-use Rattle.betting_numbers.specs.declared.running.RunningNumbers.{RunningNumbers}
-use Rattle.betting_numbers.specs.Seen.{price_seen, owed_seen}
+use Rattle.betting_numbers.specs.declared.betting_state.BettingState.{BettingState}
+use Rattle.betting_numbers.specs.Seen.{current_bet_seen, to_call_seen}
 use Rattle.betting_numbers.specs.Why.{is_open_by, is_legal_seen, floor_by, target_seen}
 
--- a raise needs rules by which betting always reopens
-abbrev pub is_closed_seen : Limit → RunningNumbers → (seat target : ℕ) → Bool
+-- a raise is legal only under rules by which a raise always reopens the betting
+abbrev pub is_closed_seen : Limit → BettingState → (seat target : ℕ) → Bool
 is_closed_seen limit b seat target =
     not
     (is_open_by reopen.Full limit (flag_of b.moved seat) b.full_raise (unit b.setup b.street)
-    (owed_seen b seat))
+    (to_call_seen b seat))
     || not (is_legal_seen limit b (floor_by reopen.Full 0 b) seat target)
 
--- where a raise by the unit goes, in fixed limit
-abbrev pub unit_seen : Limit → RunningNumbers → ℕ → ℕ
+-- the target of a raise by the bet size, in fixed limit
+abbrev pub unit_seen : Limit → BettingState → ℕ → ℕ
 unit_seen limits.Fixed b seat = target_seen b seat spelled.Unit
 unit_seen limits.Pot b seat = 0
 unit_seen limits.No b seat = 0
 
 -- the move as the trace keeps it
-abbrev pub traced_seen : Limit → RunningNumbers → (seat : ℕ) → Act → (target : ℕ) → TracedMove
+abbrev pub traced_seen : Limit → BettingState → (seat : ℕ) → Act → (target : ℕ) → TracedMove
 traced_seen limit b seat act target =
     record {
       street = b.street;
@@ -36,7 +36,7 @@ traced_seen limit b seat act target =
       act = act;
       from = amount_of b.bets seat;
       to = target;
-      price = price_seen b;
+      price = current_bet_seen b;
       closed = is_raise act && is_closed_seen limit b seat target;
       unit_to = unit_seen limit b seat;
     }

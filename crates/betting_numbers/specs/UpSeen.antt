@@ -7,12 +7,12 @@ use Rattle.play_event.specs.declared.limit.Opener.{Opener}
 use Rattle.play_event.specs.Openers.{is_opener_before}
 use Rattle.card_set.specs.Known.{is_unknown, known_cards}
 use Rattle.play_event.specs.Past.{Past}
-use Rattle.up_card_order.specs.Earliest.{is_as_early}
+use Rattle.up_card_order.specs.Earliest.{opens_no_later}
 use Rattle.play_event.specs.SeatSlots.{ups_of}
 use Rattle.play_event.specs.Seats.{all_seats}
 use Rattle.play_event.specs.Table.{up_cards}
-use Rattle.betting_numbers.specs.declared.running.RunningNumbers.{RunningNumbers}
-use Rattle.betting_numbers.specs.Seen.{is_able_seen}
+use Rattle.betting_numbers.specs.declared.betting_state.BettingState.{BettingState}
+use Rattle.betting_numbers.specs.Seen.{can_act_seen}
 
 -- a row holds the up-cards of a past
 abbrev pub HoldsUps : Setup → UpRow → Past → Type 0
@@ -20,49 +20,49 @@ HoldsUps setup up past =
     (seat : ℕ) → 1 ≤ seat → seat ≤ setup.stacks.seats
     → ups_of up seat ≡ up_cards setup.code past seat
 
--- a row holds what is read of the up-cards of a past: who opens a street is asked only until a seat
--- has moved on it
-pub record HoldsOpeningUps (b : RunningNumbers) (up : UpRow) (past : Past) : Type 0 where
-  -- the row holds the up-cards of the past, where no seat has moved on the street yet
+-- a row has the up-cards of a past that are read: who opens is asked only until a seat has moved on
+-- the street
+pub record HoldsOpeningUps (b : BettingState) (up : UpRow) (past : Past) : Type 0 where
+  -- the row has the up-cards of the past if no seat has moved on the street yet
   pub held : b.last ≡ None → HoldsUps b.setup up past
 
--- an up-card of an able seat is unknown
-abbrev pub has_unknown_seen : RunningNumbers → UpRow → ℕ → Bool
-has_unknown_seen b up seat = is_able_seen b seat && list_any is_unknown (ups_of up seat)
+-- the seat can act and has an unknown up-card
+abbrev pub has_unknown_seen : BettingState → UpRow → ℕ → Bool
+has_unknown_seen b up seat = can_act_seen b seat && list_any is_unknown (ups_of up seat)
 
--- such a seat is there
-abbrev pub has_unknown_up_card_seen : RunningNumbers → UpRow → Bool
+-- some seat that can act has an unknown up-card
+abbrev pub has_unknown_up_card_seen : BettingState → UpRow → Bool
 has_unknown_up_card_seen b up = list_any (has_unknown_seen b up) (all_seats b.setup)
 
--- an able seat opens before this one
-abbrev pub is_before_seen : Opener → RunningNumbers → UpRow → (seat other : ℕ) → Bool
+-- the other seat can act and opens before this one
+abbrev pub is_before_seen : Opener → BettingState → UpRow → (seat other : ℕ) → Bool
 is_before_seen opener b up seat other =
-    is_able_seen b other
+    can_act_seen b other
     && is_opener_before opener (b.street == 1) (known_cards (ups_of up other))
     (known_cards (ups_of up seat))
 
--- a seat opens before each seat that the leader opens before
-abbrev pub LeadsAsWell : Opener → RunningNumbers → UpRow → (lead other : ℕ) → Type 0
+-- a seat opens before each seat before which the leader opens
+abbrev pub LeadsAsWell : Opener → BettingState → UpRow → (lead other : ℕ) → Type 0
 LeadsAsWell opener b up lead other =
     (seat : ℕ) → is_before_seen opener b up seat lead ≡ true
     → is_before_seen opener b up seat other ≡ true
 
--- a seat's up-cards open before all that another's open before
-abbrev pub is_as_early_seen : Opener → RunningNumbers → UpRow → (seat other : ℕ) → Bool
+-- the seat's up-cards open before all before which the other's open
+abbrev pub is_as_early_seen : Opener → BettingState → UpRow → (seat other : ℕ) → Bool
 is_as_early_seen opener b up seat other =
-    is_as_early opener (b.street == 1) (known_cards (ups_of up seat))
+    opens_no_later opener (b.street == 1) (known_cards (ups_of up seat))
     (known_cards (ups_of up other))
 
--- a seat is able, and no able seat opens before it
-abbrev pub is_opener_seen : Opener → RunningNumbers → UpRow → ℕ → Bool
+-- the seat can act, and no seat that can act opens before it
+abbrev pub is_opener_seen : Opener → BettingState → UpRow → ℕ → Bool
 is_opener_seen opener b up seat =
-    is_able_seen b seat && not (list_any (is_before_seen opener b up seat) (all_seats b.setup))
+    can_act_seen b seat && not (list_any (is_before_seen opener b up seat) (all_seats b.setup))
 
--- the first able seat before which no other opens
-abbrev pub up_opener_seen : Opener → RunningNumbers → UpRow → Option ℕ
+-- the first seat that can act and before which none opens
+abbrev pub up_opener_seen : Opener → BettingState → UpRow → Option ℕ
 up_opener_seen opener b up = find (is_opener_seen opener b up) (all_seats b.setup)
 
--- who opens, where each up-card of an able seat is known
-abbrev pub known_opener_seen : Opener → RunningNumbers → UpRow → Option ℕ
+-- who opens, if no seat that can act has an unknown up-card
+abbrev pub known_opener_seen : Opener → BettingState → UpRow → Option ℕ
 known_opener_seen opener b up =
     if has_unknown_up_card_seen b up then None else up_opener_seen opener b up

@@ -1,4 +1,4 @@
--- Why a move is refused, by the running numbers, where it is known whose turn it is.
+-- Why a move is refused, by the running numbers, if it is known whose turn it is.
 use Rattle.std.specs.Prelude.{ℕ, ◌+◌, ◌-◌, ◌*◌, Bool, true, false, ◌&&◌, ◌||◌, ◌==◌, nat_lt, nat_le, not, min, max, if◌then◌else◌, List, [], ◌∷◌, slice_index, Option, Some, None, Result, Ok, Err}
 use Rattle.std.specs.Option.{option_map_or}
 use Rattle.chip_ledger.specs.declared.numbers.Seat.{Seat}
@@ -15,60 +15,61 @@ use Rattle.play_event.specs.declared.setup.Reopen.TheVariants as reopen
 use Rattle.play_event.specs.declared.limit.Limit.{Limit}
 use Rattle.play_event.specs.declared.limit.Limit.TheVariants as limits
 use Rattle.play_event.specs.Streets.{unit}
-use Rattle.play_event.specs.Targets.{above_price, is_legal_by, greatest_by}
-use Rattle.betting_numbers.specs.declared.running.RunningNumbers.{RunningNumbers}
-use Rattle.betting_numbers.specs.Seen.{price_seen, owed_seen, is_able_seen, all_in_seen, has_opponent_seen}
-use Rattle.play_event.specs.Price.{starting_price}
+use Rattle.play_event.specs.Targets.{above_current_bet, is_legal_by, greatest_by}
+use Rattle.betting_numbers.specs.declared.betting_state.BettingState.{BettingState}
+use Rattle.betting_numbers.specs.Seen.{current_bet_seen, to_call_seen, can_act_seen, all_in_seen, has_opponent_seen}
+use Rattle.play_event.specs.CurrentBet.{starting_bet}
 
--- a seat is named whose turn it is not
+-- the event names a seat whose turn it is not
 abbrev pub is_another : Option ℕ → ℕ → Bool
-is_another None mover = false
-is_another (Some seat) mover = not (seat == mover)
+is_another None player_to_act = false
+is_another (Some seat) player_to_act = not (seat == player_to_act)
 
 -- why a fold is refused
-abbrev pub fold_why : RunningNumbers → Option ℕ → ℕ → Option Illegal
-fold_why b named mover =
-    if is_another named mover then Some reasons.WrongSeat
-    else if not b.rules.free_fold && (owed_seen b mover == 0) then Some reasons.NothingToCall
+abbrev pub fold_reason : BettingState → Option ℕ → ℕ → Option Illegal
+fold_reason b named player_to_act =
+    if is_another named player_to_act then Some reasons.WrongSeat
+    else if not b.rules.free_fold && (to_call_seen b player_to_act == 0)
+    then Some reasons.NothingToCall
     else None
 
--- where a call goes
-abbrev pub call_seen : RunningNumbers → ℕ → ℕ
-call_seen b seat = min (price_seen b) (all_in_seen b seat)
+-- the target of a call: the current bet, or all-in if that is less
+abbrev pub call_seen : BettingState → ℕ → ℕ
+call_seen b seat = min (current_bet_seen b) (all_in_seen b seat)
 
--- a call states other chips than it adds
-abbrev pub stated_why : Option ℕ → ℕ → Option Illegal
-stated_why None due = None
-stated_why (Some stated) due =
+-- a call states a different number of chips than it adds
+abbrev pub stated_reason : Option ℕ → ℕ → Option Illegal
+stated_reason None due = None
+stated_reason (Some stated) due =
     if not (stated == due) then Some (reasons.AmountDiffers stated due) else None
 
 -- why a call is refused
-abbrev pub call_why : RunningNumbers → Option ℕ → Option ℕ → ℕ → Option Illegal
-call_why b named stated mover =
-    if is_another named mover
+abbrev pub call_reason : BettingState → Option ℕ → Option ℕ → ℕ → Option Illegal
+call_reason b named stated player_to_act =
+    if is_another named player_to_act
     then Some reasons.WrongSeat
-    else stated_why stated (call_seen b mover - amount_of b.bets mover)
+    else stated_reason stated (call_seen b player_to_act - amount_of b.bets player_to_act)
 
--- where a raise goes
-abbrev pub target_seen : RunningNumbers → ℕ → Spelled → ℕ
+-- the target of a raise
+abbrev pub target_seen : BettingState → ℕ → Spelled → ℕ
 target_seen b seat (spelled.To amount) = amount
 target_seen b seat (spelled.Added amount) = amount_of b.bets seat + amount
 target_seen b seat (spelled.HandTotal amount) =
     amount - (amount_of b.puts seat - amount_of b.bets seat)
 target_seen b seat spelled.Unit =
     min
-    (if nat_lt (price_seen b) (unit b.setup b.street)
+    (if nat_lt (current_bet_seen b) (unit b.setup b.street)
     then unit b.setup b.street
-    else price_seen b + unit b.setup b.street)
+    else current_bet_seen b + unit b.setup b.street)
     (all_in_seen b seat)
 
--- the raises are within the cap
+-- the number of raises is within the cap
 abbrev pub is_within_cap_by : Option (List ℕ) → ℕ → ℕ → Bool
 is_within_cap_by None raises street = true
 is_within_cap_by (Some caps) raises street =
     nat_lt 4 street || nat_lt raises (slice_index caps (street - 1))
 
--- what a seat owes reopens the betting to it
+-- what a seat owes is enough to reopen the betting to it
 abbrev pub is_reopened_by : Limit → (least size owes : ℕ) → Bool
 is_reopened_by limits.No least size owes = nat_le least owes
 is_reopened_by limits.Pot least size owes = nat_le least owes
@@ -81,106 +82,112 @@ is_open_by reopen.Full limit moved least size owes =
     not moved || is_reopened_by limit least size owes
 
 -- the seat may raise
-abbrev pub may_raise_seen : Limit → RunningNumbers → ℕ → Bool
+abbrev pub may_raise_seen : Limit → BettingState → ℕ → Bool
 may_raise_seen limit b seat =
-    has_opponent_seen b seat && nat_lt (price_seen b) (all_in_seen b seat)
+    has_opponent_seen b seat && nat_lt (current_bet_seen b) (all_in_seen b seat)
     && is_within_cap_by b.rules.caps b.raises b.street
     && is_open_by b.rules.reopen limit (flag_of b.moved seat) b.full_raise (unit b.setup b.street)
-    (owed_seen b seat)
+    (to_call_seen b seat)
 
--- the least raise that is not all-in, in no limit, where the street started at this price
-abbrev pub floor_by : Reopen → (start : ℕ) → RunningNumbers → ℕ
-floor_by reopen.Full start b = price_seen b + b.full_raise
-floor_by reopen.Always start b = max (start + b.setup.min_bet) b.doubled
+-- the least no-limit raise that is not all-in, given the current bet at the start of the street
+abbrev pub floor_by : Reopen → (start : ℕ) → BettingState → ℕ
+floor_by reopen.Full start b = current_bet_seen b + b.full_raise
+floor_by reopen.Always start b = max (start + b.setup.min_bet) b.always_floor
 
--- and where it started at the price of the rules
-abbrev pub floor_seen : RunningNumbers → ℕ
-floor_seen b = floor_by b.rules.reopen (starting_price b.setup b.street) b
+-- the least no-limit raise that is not all-in, by the rules of the hand
+abbrev pub floor_seen : BettingState → ℕ
+floor_seen b = floor_by b.rules.reopen (starting_bet b.setup b.street) b
 
--- the greatest raise of pot limit
-abbrev pub ceiling_seen : RunningNumbers → ℕ → ℕ
+-- the greatest raise in pot limit
+abbrev pub ceiling_seen : BettingState → ℕ → ℕ
 ceiling_seen b seat =
-    max (price_seen b + b.full_raise) (price_seen b + total_of b.puts + owed_seen b seat)
+    max (current_bet_seen b + b.full_raise)
+    (current_bet_seen b + total_of b.puts + to_call_seen b seat)
 
--- the full raises of fixed limit
-abbrev pub fulls_by : (price size full_bet : ℕ) → List ℕ
-fulls_by price size full_bet =
-    if nat_lt price size
+-- the full raises in fixed limit
+abbrev pub full_raise_targets_by : (current_bet size full_bet : ℕ) → List ℕ
+full_raise_targets_by current_bet size full_bet =
+    if nat_lt current_bet size
     then (size ∷ [])
-    else ((price + size) ∷ above_price price (full_bet + size))
+    else ((current_bet + size) ∷ above_current_bet current_bet (full_bet + size))
 
--- those of the street
-abbrev pub fulls_seen : RunningNumbers → List ℕ
-fulls_seen b = fulls_by (price_seen b) (unit b.setup b.street) b.full_bet
+-- the full raises of the street
+abbrev pub full_raise_targets_seen : BettingState → List ℕ
+full_raise_targets_seen b = full_raise_targets_by (current_bet_seen b) (unit b.setup b.street)
+    b.full_bet
 
--- a target of a seat is legal, where the floor is this
-abbrev pub is_legal_seen : Limit → RunningNumbers → (floor seat target : ℕ) → Bool
+-- a target of a seat is legal, given the floor (the least no-limit raise that is not all-in)
+abbrev pub is_legal_seen : Limit → BettingState → (floor seat target : ℕ) → Bool
 is_legal_seen limit b floor seat target =
-    is_legal_by limit floor (price_seen b + b.full_raise) (all_in_seen b seat) (ceiling_seen b seat)
-    (fulls_seen b) target
+    is_legal_by limit floor (current_bet_seen b + b.full_raise) (all_in_seen b seat)
+    (ceiling_seen b seat)
+    (full_raise_targets_seen b) target
 
 -- the greatest legal target of a seat
-abbrev pub greatest_seen : Limit → RunningNumbers → ℕ → ℕ
+abbrev pub greatest_seen : Limit → BettingState → ℕ → ℕ
 greatest_seen limit b seat =
-    greatest_by limit (all_in_seen b seat) (ceiling_seen b seat) (fulls_seen b)
+    greatest_by limit (all_in_seen b seat) (ceiling_seen b seat) (full_raise_targets_seen b)
 
 -- why a raise to a target is refused
-abbrev pub raise_to_why : Limit → RunningNumbers → (floor mover target : ℕ) → Option Illegal
-raise_to_why limit b floor mover target =
-    if not (may_raise_seen limit b mover) then Some reasons.RaiseClosed
-    else if not (is_legal_seen limit b floor mover target)
-    && nat_lt target (greatest_seen limit b mover)
+abbrev pub raise_to_reason : Limit → BettingState → (floor player_to_act target : ℕ)
+    → Option Illegal
+raise_to_reason limit b floor player_to_act target =
+    if not (may_raise_seen limit b player_to_act) then Some reasons.RaiseClosed
+    else if not (is_legal_seen limit b floor player_to_act target)
+    && nat_lt target (greatest_seen limit b player_to_act)
     then Some reasons.RaiseTooSmall
-    else if nat_lt (greatest_seen limit b mover) target then Some reasons.RaiseTooBig
+    else if nat_lt (greatest_seen limit b player_to_act) target then Some reasons.RaiseTooBig
     else None
 
--- why a raise is refused, however it is spelled
-abbrev pub raise_why : Limit → RunningNumbers → (floor : ℕ) → Option ℕ → Spelled → ℕ
+-- why a raise is refused, in whatever form it is written
+abbrev pub raise_reason : Limit → BettingState → (floor : ℕ) → Option ℕ → Spelled → ℕ
     → Option Illegal
-raise_why limit b floor named amount mover =
-    if is_another named mover
+raise_reason limit b floor named amount player_to_act =
+    if is_another named player_to_act
     then Some reasons.WrongSeat
-    else raise_to_why limit b floor mover (target_seen b mover amount)
+    else raise_to_reason limit b floor player_to_act (target_seen b player_to_act amount)
 
--- why an event may not come that may come at a move or not, and at a bring-in or not: the hand is
--- over, or something else is due
-abbrev pub now_why : (at_move at_bring_in : Bool) → Due → Option Illegal
-now_why at_move at_bring_in dues.Move = if at_move then None else Some reasons.WrongKind
-now_why at_move at_bring_in dues.BringIn = if at_bring_in then None else Some reasons.WrongKind
-now_why at_move at_bring_in dues.Over = Some reasons.HandOver
-now_why at_move at_bring_in (dues.Deal street) = Some reasons.WrongKind
-now_why at_move at_bring_in (dues.Draw street) = Some reasons.WrongKind
-now_why at_move at_bring_in dues.Show = Some reasons.WrongKind
+-- why an event may not come now: the hand is over, or something else is due; the event is possible
+-- at a move or not, and at a bring-in or not
+abbrev pub now_reason : (at_move at_bring_in : Bool) → Due → Option Illegal
+now_reason at_move at_bring_in dues.Move = if at_move then None else Some reasons.WrongKind
+now_reason at_move at_bring_in dues.BringIn = if at_bring_in then None else Some reasons.WrongKind
+now_reason at_move at_bring_in dues.Over = Some reasons.HandOver
+now_reason at_move at_bring_in (dues.Deal street) = Some reasons.WrongKind
+now_reason at_move at_bring_in (dues.Draw street) = Some reasons.WrongKind
+now_reason at_move at_bring_in dues.Show = Some reasons.WrongKind
 
--- the seat that is named is not able
-abbrev pub is_unable : RunningNumbers → Option ℕ → Bool
-is_unable b None = false
-is_unable b (Some seat) = not (is_able_seen b seat)
+-- the seat that the event names cannot act
+abbrev pub cannot_act_seen : BettingState → Option ℕ → Bool
+cannot_act_seen b None = false
+cannot_act_seen b (Some seat) = not (can_act_seen b seat)
 
--- why a move is refused where it is not known whose turn it is
-abbrev pub unknown_why : RunningNumbers → Option ℕ → Illegal
-unknown_why b named = if is_unable b named then reasons.WrongSeat else reasons.UpCardUnknown
+-- why a move is refused if it is not known whose turn it is
+abbrev pub unknown_reason : BettingState → Option ℕ → Illegal
+unknown_reason b named = if cannot_act_seen b named then reasons.WrongSeat
+    else reasons.UpCardUnknown
 
--- the seat in turn, or why a move is refused where it is not known
-abbrev pub turn_or_why : RunningNumbers → Option ℕ → Option Seat → Result Seat Illegal
-turn_or_why b named None = Err (unknown_why b named)
-turn_or_why b named (Some seat) = Ok seat
+-- the seat whose turn it is, or why a move is refused if that is not known
+abbrev pub turn_or_reason : BettingState → Option ℕ → Option Seat → Result Seat Illegal
+turn_or_reason b named None = Err (unknown_reason b named)
+turn_or_reason b named (Some seat) = Ok seat
 
--- the seat that is to move, or why a move is refused where it may not come now or where it is not
--- known whose turn it is
-abbrev pub mover_or_why : RunningNumbers → Option ℕ → Option Seat → Option Illegal
+-- the seat that moves, or why the move is refused: it may not come now, or it is not known whose
+-- turn it is
+abbrev pub player_or_reason : BettingState → Option ℕ → Option Seat → Option Illegal
     → Result Seat Illegal
-mover_or_why b named in_turn (Some reason) = Err reason
-mover_or_why b named in_turn None = turn_or_why b named in_turn
+player_or_reason b named in_turn (Some reason) = Err reason
+player_or_reason b named in_turn None = turn_or_reason b named in_turn
 
--- where a bring-in goes
-abbrev pub bring_in_seen : RunningNumbers → ℕ → ℕ
+-- the target of a bring-in: the bring-in, or all-in if that is less
+abbrev pub bring_in_seen : BettingState → ℕ → ℕ
 bring_in_seen b seat = min b.setup.bring_in (all_in_seen b seat)
 
 -- why a bring-in is refused
-abbrev pub bring_in_why : Option ℕ → ℕ → Option Illegal
-bring_in_why named mover = if is_another named mover then Some reasons.WrongSeat else None
+abbrev pub bring_in_reason : Option ℕ → ℕ → Option Illegal
+bring_in_reason named player_to_act = if is_another named player_to_act then Some reasons.WrongSeat
+    else None
 
 -- one or two full raises as a list
-abbrev pub fulls_list : ℕ × Option ℕ → List ℕ
-fulls_list pair = pair.0 ∷ option_map_or (λ other. other ∷ []) pair.1 []
+abbrev pub full_raise_target_list : ℕ × Option ℕ → List ℕ
+full_raise_target_list pair = pair.0 ∷ option_map_or (λ other. other ∷ []) pair.1 []

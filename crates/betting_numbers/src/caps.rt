@@ -1,10 +1,10 @@
-//! What the types say of caps.
+//! Caps on raises are numbers of 32 bits.
 ghost use Rattle.std.specs.Prelude.{◌≤◌, ℕ, slice_index};
 ghost use Rattle.betting_numbers.specs.Caps.{cap_at};
 
 use play_event::Rules;
 
-/// Each cap is a u32, by cases.
+/// Each cap is a u32, proved by cases.
 pub fn caps_fit(rules: &Rules)
     ensures { (k : ℕ) → cap_at rules.now.caps k ≤ 4294967295 }
 {

@@ -1,19 +1,20 @@
-//! An event is allowed as a legal move: whose it is, and where it goes. It is made elsewhere.
+//! Checks whether an event is a legal move: which seat's, and to which target. The move is made
+//! elsewhere.
 ghost use Rattle.std.specs.Prelude.{◌≡◌, ◌≤◌, Some};
 ghost use Rattle.chip_ledger.specs.declared.numbers.Seat.{Seat};
 ghost use Rattle.play_event.specs.Said as said;
 ghost use Rattle.play_event.specs.Streets.{limit_of, unit};
 ghost use Rattle.betting_numbers.specs.LegalMoves.{IsAnswered};
-ghost use Rattle.betting_numbers.specs.Why.{is_unable, mover_or_why, now_why, unknown_why};
+ghost use Rattle.betting_numbers.specs.Why.{cannot_act_seen, player_or_reason, now_reason, unknown_reason};
 ghost use Rattle.chip_ledger.specs.SeatsSaid.{seat_said};
 
+use crate::betting_state::BettingState;
 use crate::raising::Raiser;
-use crate::running::RunningNumbers;
 use chip_ledger::Seat;
 use play_event::{Act, Due, Illegal, Limit, Spelled};
 
-/// A legal move before it is made: the seat, what it does, and the chips of the street that it has
-/// then.
+/// A legal move before it is made: the seat, what it does, and the seat's chips of the street after
+/// it.
 #[derive(Clone, Copy, Debug, PartialEq, Eq)]
 pub struct LegalMove {
     pub seat: Seat,
@@ -21,10 +22,10 @@ pub struct LegalMove {
     pub target: u64,
 }
 
-/// The seat in turn, if it is known, as events are answered by it.
+/// The betting and the player to act, if known: what events are answered by.
 #[derive(Clone, Copy)]
 pub struct Turn<'a> {
-    pub numbers: &'a RunningNumbers,
+    pub numbers: &'a BettingState,
     pub seat: Option<Seat>,
     pub ghost in_hand: { (s : Seat) → seat ≡ Some s → s.number ≤ numbers.now.setup.stacks.seats },
 }
@@ -36,7 +37,7 @@ impl Turn<'_> {
             result }
     {
         let seat = self.seat_to_move(true, false, actor)?;
-        if let Some(reason) = self.numbers.against_fold(actor, seat) {
+        if let Some(reason) = self.numbers.illegal_fold(actor, seat) {
             return Err(reason);
         }
         Ok(LegalMove {
@@ -52,7 +53,7 @@ impl Turn<'_> {
             (said.Call (seat_said actor) stated) result }
     {
         let seat = self.seat_to_move(true, false, actor)?;
-        if let Some(reason) = self.numbers.against_call(actor, stated, seat) {
+        if let Some(reason) = self.numbers.illegal_call(actor, stated, seat) {
             return Err(reason);
         }
         Ok(LegalMove {
@@ -62,7 +63,7 @@ impl Turn<'_> {
         })
     }
 
-    /// The bet or raise that an event says, if it is legal, where bets have this size.
+    /// The bet or raise that an event says, if it is legal; `size` is the bet size.
     pub fn raise(
         &self,
         limit: Limit,
@@ -83,7 +84,7 @@ impl Turn<'_> {
             limit,
             size,
         };
-        let floor = numbers.floor(numbers.start_price());
+        let floor = numbers.floor(numbers.start_bet());
         if let Some(reason) = raiser.against(floor, actor, amount) {
             return Err(reason);
         }
@@ -100,7 +101,7 @@ impl Turn<'_> {
             result }
     {
         let seat = self.seat_to_move(false, true, actor)?;
-        if let Some(reason) = self.numbers.against_bring_in(actor, seat) {
+        if let Some(reason) = self.numbers.illegal_bring_in(actor, seat) {
             return Err(reason);
         }
         Ok(LegalMove {
@@ -110,16 +111,15 @@ impl Turn<'_> {
         })
     }
 
-    // The seat that is to move, where an event may come that may come at a move or not, and at a
-    // bring-in or not.
+    // The seat that moves. The event is possible at a move or not, and at a bring-in or not.
     fn seat_to_move(
         &self,
         at_move: bool,
         at_bring_in: bool,
         named: Option<Seat>,
     ) -> Result<Seat, Illegal>
-        ensures { result ≡ mover_or_why self.now.numbers.now (seat_said named) self.now.seat
-            (now_why at_move at_bring_in self.now.numbers.now.due) }
+        ensures { result ≡ player_or_reason self.now.numbers.now (seat_said named) self.now.seat
+            (now_reason at_move at_bring_in self.now.numbers.now.due) }
     {
         let numbers = self.numbers;
         if let Some(reason) = not_now(numbers.due, at_move, at_bring_in) {
@@ -132,32 +132,32 @@ impl Turn<'_> {
     }
 }
 
-impl RunningNumbers {
-    // Why a move is refused where it is not known whose turn it is.
+impl BettingState {
+    // Why a move is refused if it is not known whose turn it is.
     fn unknown(&self, named: Option<Seat>) -> Illegal
-        ensures { result ≡ unknown_why self.now (seat_said named) }
+        ensures { result ≡ unknown_reason self.now (seat_said named) }
     {
-        if self.unable(named) {
+        if self.cannot_act(named) {
             Illegal::WrongSeat
         } else {
             Illegal::UpCardUnknown
         }
     }
 
-    // The seat that is named is not able.
-    fn unable(&self, named: Option<Seat>) -> bool
-        ensures { result ≡ is_unable self.now (seat_said named) }
+    // The seat that the event names cannot act.
+    fn cannot_act(&self, named: Option<Seat>) -> bool
+        ensures { result ≡ cannot_act_seen self.now (seat_said named) }
     {
         match named {
             None => false,
-            Some(seat) => !self.able(seat),
+            Some(seat) => !self.can_act(seat),
         }
     }
 }
 
-// Why an event may not come that may come at a move or not, and at a bring-in or not.
+// Why an event may not come now. It is possible at a move or not, and at a bring-in or not.
 fn not_now(due: Due, at_move: bool, at_bring_in: bool) -> Option<Illegal>
-    ensures { result ≡ now_why at_move at_bring_in due }
+    ensures { result ≡ now_reason at_move at_bring_in due }
 {
     match due {
         Due::Move if at_move => None,

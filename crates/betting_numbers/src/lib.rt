@@ -1,13 +1,13 @@
-//! The running numbers of the betting, and what the rules come to by them.
+//! The running numbers of the betting, and what the rules say by them.
 #![tactic(auto)]
 
+mod betting_state;
 mod caps;
 mod legal_moves;
 mod looking;
 mod moving;
 mod opening;
 mod raising;
-mod running;
 mod starting;
 mod targeting;
 mod tracing;
@@ -15,8 +15,8 @@ mod turns;
 mod up_opening;
 mod viewing;
 
+pub use betting_state::BettingState;
 pub use legal_moves::{LegalMove, Turn};
-pub use running::RunningNumbers;
 pub use starting::start;
 pub use targeting::Targets;
-pub use up_opening::SeatInTurn;
+pub use up_opening::ToAct;

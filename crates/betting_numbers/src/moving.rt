@@ -8,22 +8,22 @@ ghost use Rattle.betting_numbers.specs.Moving.{IsMoved, IsNextStreet, most_raise
 ghost use Rattle.betting_numbers.specs.Turn.{with_due, with_turn};
 ghost use Rattle.betting_numbers.specs.Seen.{all_in_seen};
 
-use crate::running::RunningNumbers;
+use crate::betting_state::BettingState;
 use chip_ledger::{LiveRow, Seat, SeatRow};
 use play_event::{Act, Due};
 
-impl RunningNumbers {
-    /// A move of the seat to a target, where bets have this unit.
-    pub fn make(&mut self, seat: Seat, act: Act, target: u64, unit: u64)
+impl BettingState {
+    /// Makes a move of the seat to a target (chips of the street); `unit` is the bet size.
+    pub fn apply_move(&mut self, seat: Seat, act: Act, target: u64, unit: u64)
         requires in_hand { seat.number ≤ self.old.setup.stacks.seats }
         requires reach { target ≤ all_in_seen self.old seat.number }
         ensures { IsMoved self.old self.new seat.number (act_said act) target unit }
     {
-        let price = self.price;
+        let current_bet = self.current_bet;
         let bet = self.bets.get(seat);
         let put = self.puts.get(seat);
         let was_live = self.live.get(seat);
-        let was_able = self.able(seat);
+        let was_able = self.can_act(seat);
         let live = live_after(was_live, act);
         let added = target.saturating_sub(bet);
         let able = able_after(live, self.setup.stacks.get(seat), put + added);
@@ -31,26 +31,30 @@ impl RunningNumbers {
         let able_count = count_after(self.able_count, was_able, able);
         let raised = raises(act);
         let opens = raised || brings_in(act);
-        let opened = opens || self.opened;
+        let bet_or_bring_in_made = opens || self.bet_or_bring_in_made;
         self.bets.set(seat, bet + added);
         self.puts.set(seat, put + added);
         self.pot += added;
-        self.price = price.max(bet + added);
+        self.current_bet = current_bet.max(bet + added);
         self.live.set(seat, live);
         self.live_count = live_count;
         self.able_count = able_count;
         self.moved.set(seat, true);
-        keep(&mut self.since_rise, target <= price);
-        self.since_rise.set(seat, true);
+        keep(&mut self.acted_since_raise, target <= current_bet);
+        self.acted_since_raise.set(seat, true);
         self.last = Some(seat);
         self.raises = raises_after(self.raises, raised);
-        self.full_raise = full_raise_after(self.full_raise, raised, target.saturating_sub(price));
+        self.full_raise = full_raise_after(
+            self.full_raise,
+            raised,
+            target.saturating_sub(current_bet),
+        );
         self.full_bet = full_bet_after(self.full_bet, opens, unit, target);
-        self.doubled = doubled_after(self.doubled, raised, target, price);
-        self.opened = opened;
+        self.always_floor = always_floor_after(self.always_floor, raised, target, current_bet);
+        self.bet_or_bring_in_made = bet_or_bring_in_made;
     }
 
-    /// The next street begins with this due.
+    /// Begins the next street, on which this is due.
     pub fn next_street(&mut self, due: Due)
         requires { self.old.street < 255 }
         ensures numbers { IsNextStreet self.old self.new }
@@ -60,18 +64,18 @@ impl RunningNumbers {
         self.street += 1;
         self.due = due;
         self.bets = SeatRow::new(self.setup.stacks.seats);
-        self.price = 0;
+        self.current_bet = 0;
         keep(&mut self.moved, false);
-        keep(&mut self.since_rise, false);
+        keep(&mut self.acted_since_raise, false);
         self.last = None;
         self.raises = 0;
         self.full_raise = self.setup.min_bet;
         self.full_bet = 0;
-        self.doubled = 0;
-        self.opened = false;
+        self.always_floor = 0;
+        self.bet_or_bring_in_made = false;
     }
 
-    /// Something else is due.
+    /// Sets what is due.
     pub fn set_due(&mut self, due: Due)
         ensures { self.new ≡ with_due self.old due }
     {
@@ -79,7 +83,7 @@ impl RunningNumbers {
         self.set_turn(due, next);
     }
 
-    /// Something else is due, of this seat where it is a move.
+    /// Sets what is due and, if that is a move, the player to act.
     pub fn set_turn(&mut self, due: Due, next: Option<Seat>)
         ensures { self.new ≡ with_turn self.old due next }
     {
@@ -108,7 +112,7 @@ fn brings_in(act: Act) -> bool
     }
 }
 
-// The flags stay, or none of them.
+// Keeps the flags, or clears them all.
 fn keep(row: &mut LiveRow, kept: bool)
     ensures seats { row.new.seats ≡ row.old.seats }
     ensures flags { (n : ℕ) → flag_of row.new n ≡ (kept && flag_of row.old n) }
@@ -118,7 +122,7 @@ fn keep(row: &mut LiveRow, kept: bool)
     }
 }
 
-// A live seat stays live, but where it folds.
+// A live seat stays live unless it folds.
 fn live_after(live: bool, act: Act) -> bool
     ensures { result ≡ (live && not (is_fold (act_said act))) }
 {
@@ -135,14 +139,14 @@ fn folds(act: Act) -> bool
     }
 }
 
-// A live seat is able with so many chips put of its stack.
+// Whether a live seat can act after it has put `put` chips of its stack.
 fn able_after(live: bool, stack: u64, put: u64) -> bool
     ensures { result ≡ (live && nat_lt 0 (stack - put)) }
 {
     live && put < stack
 }
 
-// One seat less, where it was counted and is not any more.
+// Decrements the count if the seat no longer belongs to it.
 fn count_after(count: u8, was: bool, is: bool) -> u8
     ensures { result ≡ (if was && not is then count - 1 else count) }
 {
@@ -153,7 +157,7 @@ fn count_after(count: u8, was: bool, is: bool) -> u8
     }
 }
 
-// One raise more, as far as a u32 counts.
+// Increments the number of raises after a raise, up to the greatest u32.
 fn raises_after(count: u32, raised: bool) -> u32
     ensures { result ≡ (if raised then min (count + 1) most_raises else count) }
 {
@@ -164,7 +168,7 @@ fn raises_after(count: u32, raised: bool) -> u32
     }
 }
 
-// The least full raise after a move that goes so far above the price.
+// The size of a full raise after a move that goes `rise` chips above the current bet.
 fn full_raise_after(full_raise: u64, raised: bool, rise: u64) -> u64
     ensures { result
         ≡ (if raised && nat_le full_raise rise then max rise full_raise else full_raise) }
@@ -188,13 +192,14 @@ fn full_bet_after(full_bet: u64, opens: bool, unit: u64, target: u64) -> u64
 }
 
 // The greatest doubled raise after a move to a target.
-fn doubled_after(doubled: u64, raised: bool, target: u64, price: u64) -> u64
+fn always_floor_after(always_floor: u64, raised: bool, target: u64, current_bet: u64) -> u64
     requires { target ≤ MOST_AMOUNT }
-    ensures { result ≡ (if raised then max (2 * target - price) doubled else doubled) }
+    ensures { result ≡ (if raised then max (2 * target - current_bet) always_floor
+        else always_floor) }
 {
     if raised {
-        (2 * target).saturating_sub(price).max(doubled)
+        (2 * target).saturating_sub(current_bet).max(always_floor)
     } else {
-        doubled
+        always_floor
     }
 }

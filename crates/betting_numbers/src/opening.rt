@@ -1,15 +1,15 @@
-//! Who opens a street of a game with blinds, and the price at which a street starts.
+//! Who opens a street in a game with blinds, and the current bet at the start of a street.
 ghost use Rattle.std.specs.Prelude.{◌≡◌, ◌≤◌};
 ghost use Rattle.chip_ledger.specs.declared.seat_row.TheConstants.{MOST_AMOUNT};
 ghost use Rattle.play_event.specs.Openers as openers;
-ghost use Rattle.play_event.specs.Price.{starting_price};
+ghost use Rattle.play_event.specs.CurrentBet.{starting_bet};
 
-use crate::running::RunningNumbers;
+use crate::betting_state::BettingState;
 use chip_ledger::Seat;
 use play_event::Setup;
 
-/// Who opens the first street of a game with blinds, where this is the number of the last seat with
-/// the greatest blind.
+/// Who opens the first street in a game with blinds; `last` is the last seat with the greatest
+/// blind.
 pub fn first_opener(setup: &Setup, last: u8) -> Seat
     requires last { last ≡ openers.last_big_blind setup.now }
     requires within { last ≤ setup.now.stacks.seats }
@@ -25,8 +25,8 @@ pub fn first_opener(setup: &Setup, last: u8) -> Seat
     }
 }
 
-impl RunningNumbers {
-    /// Who opens the street of a game with blinds.
+impl BettingState {
+    /// Who opens the street in a game with blinds.
     pub fn blinds_opener(&self) -> Seat
         ensures value { result.number ≡ openers.blinds_opener self.now.setup self.now.street }
         ensures in_hand { result.number ≤ self.now.setup.stacks.seats }
@@ -38,16 +38,12 @@ impl RunningNumbers {
         }
     }
 
-    /// The price at which the street starts.
+    /// The current bet at the start of the street.
     #[tactic(auto, using(crate::proofs::NextStreet::starts_at_zero))]
-    pub fn start_price(&self) -> u64
-        ensures value { result ≡ starting_price self.now.setup self.now.street }
+    pub fn start_bet(&self) -> u64
+        ensures value { result ≡ starting_bet self.now.setup self.now.street }
         ensures bounded { result ≤ MOST_AMOUNT }
     {
-        if self.street == 1 {
-            self.first_price
-        } else {
-            0
-        }
+        if self.street == 1 { self.blind_bet } else { 0 }
     }
 }

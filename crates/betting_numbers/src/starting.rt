@@ -8,13 +8,13 @@ ghost use Rattle.play_event.specs.ValidSetup.{IsValid};
 ghost use Rattle.betting_numbers.specs.Posting.{HasPosted, IsPostable};
 ghost use Rattle.betting_numbers.specs.Standing.{StandsFor};
 
+use crate::betting_state::BettingState;
 use crate::caps::caps_fit;
 use crate::opening::first_opener;
-use crate::running::RunningNumbers;
 use chip_ledger::{LiveRow, Seat, SeatRow};
 use play_event::{Due, Rules, Setup};
 
-/// What the seats so far post before the first card, and what it comes to.
+/// What the seats so far post before the first card.
 #[derive(Clone, Copy)]
 pub struct Posted {
     /// The blinds as far as the stacks go.
@@ -23,20 +23,20 @@ pub struct Posted {
     pub puts: SeatRow,
     /// The seats so far.
     pub live: LiveRow,
-    /// The chips of all seats together.
+    /// The chips of all seats so far.
     pub pot: u64,
-    /// The greatest of the blinds as far as the stacks go.
-    pub price: u64,
-    /// How many seats have chips left.
+    /// The greatest of the posted blinds.
+    pub current_bet: u64,
+    /// The number of seats with chips left.
     pub able_count: u8,
-    /// The greatest blind that is named.
+    /// The greatest blind of the setup.
     pub big_blind: u64,
     /// The number of the last seat with that blind, or 0.
     pub last_big: u8,
 }
 
-/// The numbers before the first card, where bets have this size on the first street.
-pub fn start(setup: &Setup, rules: &Rules, size: u64) -> RunningNumbers
+/// The numbers before the first card; `size` is the bet size of the first street.
+pub fn start(setup: &Setup, rules: &Rules, size: u64) -> BettingState
     requires valid { IsValid setup.now }
     requires antes { setup.now.antes.seats ≡ setup.now.stacks.seats }
     requires blinds { setup.now.blinds.seats ≡ setup.now.stacks.seats }
@@ -55,29 +55,29 @@ pub fn start(setup: &Setup, rules: &Rules, size: u64) -> RunningNumbers
     for index in 0..seats {
         posted.post(setup, index);
     }
-    RunningNumbers {
+    BettingState {
         setup: *setup,
         rules: *rules,
-        first_price: posted.price,
+        blind_bet: posted.current_bet,
         first_opener: first_opener(setup, posted.last_big),
         street: 1,
         due: Due::Deal(1),
         puts: posted.puts,
         pot: posted.pot,
         bets: posted.bets,
-        price: posted.price,
+        current_bet: posted.current_bet,
         live: posted.live,
         live_count: seats,
         able_count: posted.able_count,
         moved: LiveRow::new(seats),
-        since_rise: LiveRow::new(seats),
+        acted_since_raise: LiveRow::new(seats),
         last: None,
         next: None,
         raises: 0,
         full_raise: setup.min_bet,
-        full_bet: full_bet(posted.price, size),
-        doubled: 0,
-        opened: false,
+        full_bet: full_bet(posted.current_bet, size),
+        always_floor: 0,
+        bet_or_bring_in_made: false,
     }
 }
 
@@ -91,14 +91,14 @@ impl Posted {
             puts: SeatRow::new(setup.stacks.seats),
             live: LiveRow::new(setup.stacks.seats),
             pot: 0,
-            price: 0,
+            current_bet: 0,
             able_count: 0,
             big_blind: 0,
             last_big: 0,
         }
     }
 
-    // One seat more posts, behind so many.
+    // One more seat posts, after the first `index`.
     fn post(&mut self, setup: &Setup, index: u8)
         requires posts { IsPostable setup.now }
         requires less { index < setup.now.stacks.seats }
@@ -115,14 +115,14 @@ impl Posted {
         self.puts.set(seat, put);
         self.live.set(seat, true);
         self.pot += put;
-        self.price = self.price.max(bet);
+        self.current_bet = self.current_bet.max(bet);
         self.able_count = one_more(self.able_count, put < stack);
         self.big_blind = self.big_blind.max(blind);
         self.last_big = last_after(self.last_big, blind == self.big_blind, seat.number);
     }
 }
 
-// One seat more, where it counts.
+// Increments the count if the seat counts.
 fn one_more(count: u8, counts: bool) -> u8
     requires { count < 255 }
     ensures value { result ≡ count + cond counts 1 0 }
@@ -131,7 +131,7 @@ fn one_more(count: u8, counts: bool) -> u8
     if counts { count + 1 } else { count }
 }
 
-// The number of the last seat with the greatest blind, after one seat more.
+// The number of the last seat with the greatest blind, after one more seat.
 fn last_after(last: u8, big: bool, number: u8) -> u8
     requires { last ≤ number }
     ensures value { result ≡ cond big number last }
@@ -140,10 +140,9 @@ fn last_after(last: u8, big: bool, number: u8) -> u8
     if big { number } else { last }
 }
 
-// The full bet at which the first street starts, where it starts at this price and bets have this
-// size.
-fn full_bet(price: u64, size: u64) -> u64
-    ensures { result ≡ (if nat_le size price then price else 0) }
+// The full bet at the start of the first street, given the current bet and the bet size.
+fn full_bet(current_bet: u64, size: u64) -> u64
+    ensures { result ≡ (if nat_le size current_bet then current_bet else 0) }
 {
-    if size <= price { price } else { 0 }
+    if size <= current_bet { current_bet } else { 0 }
 }

@@ -1,4 +1,4 @@
-//! Where the seat in turn may raise to.
+//! Where the player to act may raise to.
 ghost use Rattle.std.specs.Prelude.{◌≡◌, ◌≤◌, ℕ, IfSome, is_some};
 ghost use Rattle.play_event.specs.Openers.{TheSeat};
 ghost use Rattle.play_event.specs.Past.{Past, moves_of};
@@ -9,16 +9,16 @@ ghost use Rattle.betting_numbers.specs.Standing.{StandsFor};
 ghost use Rattle.betting_numbers.specs.Targeted.{least_seen, AreEndsFor};
 ghost use Rattle.play_event.specs.TurnTargets.{may_raise_now};
 ghost use Rattle.play_event.specs.Targets.{smallest};
-ghost use Rattle.betting_numbers.specs.Why.{fulls_list, greatest_seen, floor_seen};
+ghost use Rattle.betting_numbers.specs.Why.{full_raise_target_list, greatest_seen, floor_seen};
 ghost use Rattle.chip_ledger.specs.SeatsSaid.{seat_said};
 
+use crate::betting_state::BettingState;
 use crate::raising::Raiser;
-use crate::running::RunningNumbers;
 use chip_ledger::Seat;
 use play_event::Limit;
 
 /// Where a seat may raise to, in chips of the street: its least and its greatest legal target, and
-/// the target at which it is all-in. Not every amount between the ends is legal.
+/// its all-in. Not every amount between the two is legal.
 #[derive(Clone, Copy, Debug, PartialEq, Eq)]
 pub struct Targets {
     pub least: u64,
@@ -26,8 +26,8 @@ pub struct Targets {
     pub all_in: u64,
 }
 
-impl RunningNumbers {
-    /// Where the seat in turn may raise to, if it is known and may.
+impl BettingState {
+    /// Where the player to act, if known, may raise to; `None` if it may not.
     pub fn targets_of(&self, turn: Option<Seat>, limit: Limit, size: u64) -> Option<Targets>
         requires in_hand { IfSome turn (λ seat. seat.number ≤ self.now.setup.stacks.seats) }
         requires limit { limit_of self.now.setup.code ≡ limit }
@@ -73,9 +73,9 @@ impl Raiser<'_> {
         let numbers = self.numbers;
         let all_in = numbers.all_in(self.seat);
         match self.limit {
-            Limit::No => all_in.min(numbers.floor(numbers.start_price())),
-            Limit::Pot => all_in.min(numbers.price() + numbers.full_raise),
-            Limit::Fixed => u128::from(all_in).min(smaller(self.fulls())) as u64,
+            Limit::No => all_in.min(numbers.floor(numbers.start_bet())),
+            Limit::Pot => all_in.min(numbers.current_bet() + numbers.full_raise),
+            Limit::Fixed => u128::from(all_in).min(smaller(self.full_raise_targets())) as u64,
         }
     }
 
@@ -87,27 +87,27 @@ impl Raiser<'_> {
         match self.limit {
             Limit::No => all_in,
             Limit::Pot => all_in.min(self.ceiling()),
-            Limit::Fixed => u128::from(all_in).min(larger(self.fulls())) as u64,
+            Limit::Fixed => u128::from(all_in).min(larger(self.full_raise_targets())) as u64,
         }
     }
 }
 
 // The smaller of the full targets.
-fn smaller(fulls: (u128, Option<u128>)) -> u128
-    ensures { result ≡ smallest (fulls_list fulls) }
+fn smaller(full_raise_targets: (u128, Option<u128>)) -> u128
+    ensures { result ≡ smallest (full_raise_target_list full_raise_targets) }
 {
-    match fulls.1 {
-        None => fulls.0,
-        Some(other) => fulls.0.min(other),
+    match full_raise_targets.1 {
+        None => full_raise_targets.0,
+        Some(other) => full_raise_targets.0.min(other),
     }
 }
 
 // The larger of the full targets.
-fn larger(fulls: (u128, Option<u128>)) -> u128
-    ensures { result ≡ greatest (fulls_list fulls) }
+fn larger(full_raise_targets: (u128, Option<u128>)) -> u128
+    ensures { result ≡ greatest (full_raise_target_list full_raise_targets) }
 {
-    match fulls.1 {
-        None => fulls.0,
-        Some(other) => fulls.0.max(other),
+    match full_raise_targets.1 {
+        None => full_raise_targets.0,
+        Some(other) => full_raise_targets.0.max(other),
     }
 }

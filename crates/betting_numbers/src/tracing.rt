@@ -8,13 +8,13 @@ ghost use Rattle.betting_numbers.specs.Standing.{Standing};
 ghost use Rattle.betting_numbers.specs.LegalMoves.{move_of};
 ghost use Rattle.betting_numbers.specs.Traced.{is_closed_seen, traced_seen, unit_seen};
 
+use crate::betting_state::BettingState;
 use crate::moving::raises;
 use crate::raising::Raiser;
-use crate::running::RunningNumbers;
 use chip_ledger::Seat;
 use play_event::{Act, Limit, Move, Spelled};
 
-impl RunningNumbers {
+impl BettingState {
     /// The move as the trace keeps it.
     pub fn traced(&self, limit: Limit, size: u64, seat: Seat, act: Act, target: u64) -> Move
         requires in_hand { seat.number ≤ self.now.setup.stacks.seats }
@@ -48,24 +48,27 @@ impl Raiser<'_> {
             act,
             from: self.numbers.bets.get(self.seat),
             to: target,
-            price: self.numbers.price(),
+            price: self.numbers.current_bet(),
             closed: raises(act) && self.closed(target),
             unit_to: self.unit_to(),
         }
     }
 
-    // The raise needs rules by which betting always reopens.
+    // The raise is legal only under rules by which a raise always reopens the betting.
     fn closed(&self, target: u64) -> bool
         ensures { result
             ≡ is_closed_seen self.now.limit self.now.numbers.now self.now.seat.number target }
     {
         let numbers = self.numbers;
-        let (legal, _) = self.judge(numbers.price() + numbers.full_raise, u128::from(target));
+        let (legal, _) = self.check_target(
+            numbers.current_bet() + numbers.full_raise,
+            u128::from(target),
+        );
         let open = !numbers.moved.get(self.seat) || self.owes_enough();
         !open || !legal
     }
 
-    // Where a raise by the unit goes, in fixed limit, else 0.
+    // The target of a raise by the bet size in fixed limit, else 0.
     fn unit_to(&self) -> u64
         ensures { result ≡ unit_seen self.now.limit self.now.numbers.now self.now.seat.number }
     {

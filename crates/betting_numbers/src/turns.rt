@@ -3,17 +3,17 @@ ghost use Rattle.std.specs.Prelude.{◌≡◌, ◌≤◌, ◌+◌, find, IfSome,
 ghost use Rattle.std.specs.List.{range_with_len};
 ghost use Rattle.play_event.specs.Openers as openers;
 ghost use Rattle.play_event.specs.Openers.{TheSeat, in_turn};
-ghost use Rattle.betting_numbers.specs.Seen.{after_last, last_seen, mover_seen, has_to_move_seen, is_move_due_seen};
+ghost use Rattle.betting_numbers.specs.Seen.{after_last, last_seen, player_to_act_seen, has_to_move_seen, is_move_due_seen};
 ghost use Rattle.chip_ledger.specs.SeatsSaid.{seat_said};
 
-use crate::running::RunningNumbers;
+use crate::betting_state::BettingState;
 use chip_ledger::Seat;
 
-impl RunningNumbers {
-    /// Whose turn it is, where the blinds say who opens: nobody's where no move is due.
-    pub fn mover(&self) -> Option<Seat>
+impl BettingState {
+    /// Whose turn it is in a game with blinds: nobody's if no move is due.
+    pub fn player_to_act(&self) -> Option<Seat>
         ensures turn { in_turn (seat_said result)
-            ≡ mover_seen self.now
+            ≡ player_to_act_seen self.now
             (TheSeat (openers.blinds_opener self.now.setup self.now.street)) }
         ensures due { is_some result ≡ is_move_due_seen self.now }
         ensures in_hand { IfSome result (λ seat. seat.number ≤ self.now.setup.stacks.seats) }
@@ -26,8 +26,8 @@ impl RunningNumbers {
         }
     }
 
-    // Where the turn is passed to, where the blinds say who opens: to the seat after the one that
-    // moved last, going round.
+    // The next seat to look at in a game with blinds: the one after the seat that moved last, going
+    // round, or the opener.
     fn passed_to(&self) -> Seat
         ensures value { TheSeat result.number
             ≡ after_last (last_seen self.now) (openers.seat_after self.now.setup)
@@ -48,8 +48,8 @@ impl RunningNumbers {
         }
     }
 
-    // The first of so many seats, from this number on, with a move to make.
-    #[tactic(auto, using(list_laws::proofs::Finding::find_step))]
+    // The first of `count` seats, from seat `first` on, with a move to make.
+    #[tactic(auto, using(card_set::proofs::Finding::find_step))]
     fn first_to_move(&self, first: u8, count: u8) -> Option<Seat>
         requires from_one { 1 ≤ first }
         requires within { first + count ≤ self.now.setup.stacks.seats + 1 }

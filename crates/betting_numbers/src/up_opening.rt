@@ -1,34 +1,34 @@
-//! Who opens a street by up-cards, and who is behind.
+//! Who opens a street by up-cards, and which seat acts after the opener.
 ghost use Rattle.std.specs.Prelude.{◌≡◌, ◌≤◌, ◌&&◌, not, IfSome};
 ghost use Rattle.chip_ledger.specs.SeatsSaid.{seat_said};
 ghost use Rattle.play_event.specs.Openers.{in_turn};
 ghost use Rattle.betting_numbers.specs.UpSeen.{LeadsAsWell, is_before_seen, has_unknown_seen, known_opener_seen};
-ghost use Rattle.betting_numbers.specs.Seen.{first_behind_seen, is_able_seen};
+ghost use Rattle.betting_numbers.specs.Seen.{first_behind_seen, can_act_seen};
 
-use crate::running::RunningNumbers;
+use crate::betting_state::BettingState;
 use chip_ledger::Seat;
 use play_event::{Opener, UpRow};
-use up_card_order::{has_unknown, is_as_early, is_opener_before, known};
+use up_card_order::{has_unknown, is_opener_before, known, opens_no_later};
 
-/// Whose turn it is, if it is known, and who is behind.
+/// Whose turn it is, if known, and the seat after it.
 #[derive(Clone, Copy, Debug, PartialEq, Eq)]
-pub struct SeatInTurn {
+pub struct ToAct {
     pub seat: Option<Seat>,
-    /// The first able seat behind that one, going round, where it was looked for: the same seat
-    /// where no other is able.
+    /// The first seat after that one that can act, going round, if it was looked for: the same seat
+    /// if no other can act.
     pub behind: Option<Seat>,
 }
 
-impl RunningNumbers {
-    /// Who opens, where each up-card of an able seat is known: the first able seat before which no
-    /// other opens. The walk goes from the last seat to the first, and keeps of the seats so far
-    /// the leader, which opens before all that any of them opens before, and the first before which
-    /// none of them opens. Going this way a new seat takes the place of that one, or leaves it as
-    /// it is.
+impl BettingState {
+    /// Who opens, if each up-card of a seat that can act is known: the first seat that can act and
+    /// before which no other opens. The walk goes from the last seat to the first and keeps two of
+    /// the seats so far: the leader, which opens before all that any of them opens before, and the
+    /// first before which none of them opens. In this direction a new seat either replaces the
+    /// latter or leaves it.
     ///
-    /// The same walk finds who is behind the opener: the able seat that was walked last before it
-    /// or, where none was able before it, the one that was walked last of all.
-    pub fn up_opener(&self, opener: Opener, up: &UpRow) -> SeatInTurn
+    /// The same walk finds the seat after the opener: the seat that can act and was walked last
+    /// before the opener or, if there was none, the one that was walked last of all.
+    pub fn up_opener(&self, opener: Opener, up: &UpRow) -> ToAct
         ensures found { seat_said result.seat ≡ known_opener_seen opener self.now up.now }
         ensures behind { IfSome result.seat
             (λ seat. in_turn (seat_said result.behind) ≡ first_behind_seen self.now seat.number) }
@@ -51,7 +51,7 @@ impl RunningNumbers {
                 number: seats - index,
             };
             if ups.unknown(seat) {
-                return SeatInTurn {
+                return ToAct {
                     seat: None,
                     behind: None,
                 };
@@ -61,37 +61,37 @@ impl RunningNumbers {
                 first = Some(seat);
                 behind = nearest;
             }
-            if self.able(seat) {
+            if self.can_act(seat) {
                 nearest = Some(seat);
             }
             lead = next.number;
         }
-        SeatInTurn {
+        ToAct {
             seat: first,
             behind: behind.or(nearest),
         }
     }
 }
 
-// The up-cards of the seats, of which the one that opens is sought.
+// The up-cards of the seats, among which the opener is looked for.
 #[derive(Clone, Copy)]
 struct Ups<'a> {
-    numbers: &'a RunningNumbers,
+    numbers: &'a BettingState,
     up: &'a UpRow,
     // Whether the lowest or the highest up-card opens.
     opener: Opener,
 }
 
 impl Ups<'_> {
-    // The seat is able, and an up-card of it is unknown.
+    // The seat can act and has an unknown up-card.
     fn unknown(&self, seat: Seat) -> bool
         ensures { result ≡ has_unknown_seen self.now.numbers.now self.now.up.now seat.number }
     {
-        self.numbers.able(seat) && has_unknown(self.up.get(seat).as_slice())
+        self.numbers.can_act(seat) && has_unknown(self.up.get(seat).as_slice())
     }
 
-    // The able one of two seats or, where both are, the one that opens before all that the other
-    // opens before.
+    // The one of two seats that can act or, if both can, the one that opens before all that the
+    // other opens before.
     fn earlier(&self, lead: Seat, other: Seat) -> Seat
         requires { other.number ≤ lead.number }
         ensures within { result.number ≤ lead.number }
@@ -101,13 +101,13 @@ impl Ups<'_> {
         ensures other { LeadsAsWell self.now.opener self.now.numbers.now self.now.up.now
             other.number result.number }
     {
-        if !self.numbers.able(lead) {
+        if !self.numbers.can_act(lead) {
             return other;
         }
-        if !self.numbers.able(other) {
+        if !self.numbers.can_act(other) {
             return lead;
         }
-        let early = is_as_early(
+        let early = opens_no_later(
             self.opener,
             self.numbers.street == 1,
             &known(&self.up.get(other)),
@@ -116,16 +116,16 @@ impl Ups<'_> {
         if early { other } else { lead }
     }
 
-    // The seat is able, and the leader does not open before it.
+    // The seat can act, and the leader does not open before it.
     fn opens(&self, lead: Seat, seat: Seat) -> bool
         ensures { result
-            ≡ (is_able_seen self.now.numbers.now seat.number
+            ≡ (can_act_seen self.now.numbers.now seat.number
             && not (is_before_seen self.now.opener self.now.numbers.now self.now.up.now seat.number
             lead.number)) }
     {
         let numbers = self.numbers;
-        numbers.able(seat)
-            && !(numbers.able(lead)
+        numbers.can_act(seat)
+            && !(numbers.can_act(lead)
                 && is_opener_before(
                     self.opener,
                     numbers.street == 1,

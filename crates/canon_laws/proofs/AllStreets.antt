@@ -12,8 +12,8 @@ use Rattle.play_event.specs.Due.{turn, is_unfinished}
 use Rattle.play_event.specs.Trace.{traced_places, streets_of}
 use Rattle.play_event.specs.Scripts.{past_of, with_event}
 use Rattle.play_event.specs.Laws.{AreLegal}
-use Rattle.canon_script.specs.CanonScript.{street_said}
-use Rattle.canon_blocks.proofs.Runs.{Runs, run_append}
+use Rattle.play_event.specs.CanonScript.{street_said}
+use Rattle.canon_laws.proofs.Runs.{Runs, run_append}
 use Rattle.play_laws.proofs.DueAtEvents.{turn_reaches}
 use Rattle.play_laws.proofs.LegalEvents.{Stepped, stepped, deals, boards, mucks, shows, discards, moves}
 use Rattle.play_laws.proofs.LegalPlaces.{legal_past}
@@ -44,7 +44,7 @@ legal_since setup rules (event ∷ events) legal =
     let come = turn_reaches setup before it.past.within in
     since_step setup before (turn setup before).0 _ (omega (arith, come.on, it.past.since)) (stepped setup rules before event legal.0) (legal_since setup rules events legal.1)
 
--- so none is before the first street
+-- so no move is before the first street
 pub none_first : (list : List Move) → AreSince list → moves_before (0 + 1) list ≡ []
 none_first [] since = refl
 none_first (move ∷ rest) since = ap (λ b. if b then (move ∷ moves_before (0 + 1) rest) else moves_before (0 + 1) rest) (le-ltb move.street (0 + 1) (omega (arith, since.0))) ∙ none_first rest since.1
@@ -66,7 +66,7 @@ start setup rules events legal =
       no_mucked = λ seat. refl;
     }
 
--- so many streets
+-- this number of streets
 record AreNext (setup : Setup) (rules : Rules) (script : Past) (before count : ℕ) (mine : Past) : Type 0 where
   after : Past
   run : Runs setup rules mine (flat_map (street_said setup (traced_places setup script) (moves_of script)) (range_with_len (before + 1) count)) after

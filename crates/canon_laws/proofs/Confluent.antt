@@ -1,4 +1,5 @@
--- The confluence of scripts: the canonical script of a legal and complete script's trace is legal and complete, and has this trace.
+-- The confluence of scripts: the canonical script of the trace of a legal and complete script is
+-- legal and complete, and has the same trace.
 use Rattle.std.proofs.Common.{ℕ, List, filter, reverse, sym, ◌∙◌, ap, subst}
 use Rattle.play_event.specs.declared.setup.Setup.{Setup}
 use Rattle.play_event.specs.declared.setup.Rules.{Rules}
@@ -8,11 +9,11 @@ use Rattle.play_event.specs.Seats.{all_seats}
 use Rattle.play_event.specs.Due.{turn, is_unfinished}
 use Rattle.play_event.specs.Trace.{traced_places, is_shown}
 use Rattle.play_event.specs.Scripts.{past_of}
-use Rattle.canon_script.specs.TraceCore.{core_of}
-use Rattle.canon_script.specs.CanonScript.{script_of, canonical_script}
-use Rattle.canon_script.specs.PlayedScript.{IsPlayed}
+use Rattle.play_event.specs.TraceCore.{core_of}
+use Rattle.play_event.specs.CanonScript.{script_of, canonical_script}
+use Rattle.play_event.specs.PlayedScript.{IsPlayed}
 use Rattle.canon_laws.specs.Confluence.{HasTraceOf, IsConfluent}
-use Rattle.canon_blocks.proofs.Runs.{run_of_script}
+use Rattle.canon_laws.proofs.Runs.{run_of_script}
 use Rattle.canon_laws.proofs.LastPast.{IsLast, last_past}
 use Rattle.canon_laws.proofs.SameCore.{plain_again, same_core}
 use Rattle.play_event.proofs.ScriptLaws.{at_end}
@@ -28,7 +29,7 @@ words_confluent setup rules script words played it =
       same = ap (core_of setup) run.past ∙ same_core setup rules (reverse script) words played.legal it;
     }
 
--- the canonical script of a script that is played to its end is so, and leaves its trace
+-- if a script is played to its end, so is its canonical script, with the same trace
 pub confluent : (setup : Setup) (rules : Rules) (script : List Said) → IsPlayed setup rules script → IsConfluent setup rules script
 unfolding canonical_script
 confluent setup rules script played =

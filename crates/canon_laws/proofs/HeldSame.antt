@@ -14,22 +14,22 @@ use Rattle.play_event.specs.Places.{Place, is_same_owner, is_held_by}
 use Rattle.play_event.specs.Table.{places_of}
 use Rattle.play_event.specs.Scripts.{past_of}
 use Rattle.play_event.specs.Laws.{AreLegal, IsAmong}
-use Rattle.list_laws.proofs.Tests.{false_true}
-use Rattle.canon_blocks.proofs.Mirrors.{Mirrors, AreMirrored}
+use Rattle.card_set.proofs.Tests.{false_true}
+use Rattle.canon_laws.proofs.Mirrors.{Mirrors, AreMirrored}
 use Rattle.play_laws.specs.LegalPlaces.{has_owner_folded}
 use Rattle.play_laws.proofs.LegalPlaces.{legal_past}
 use Rattle.play_laws.proofs.FittingMoves.{same_filter}
 use Rattle.play_laws.proofs.DiscardCounts.{is_out_of}
-use Rattle.canon_blocks.proofs.FreeGroups.{is_out_by}
-use Rattle.canon_blocks.proofs.TraceOrder.{finals_of, is_final}
-use Rattle.canon_blocks.proofs.TraceOrderCounts.{legal_owned, seat_same}
+use Rattle.canon_laws.proofs.FreeGroups.{is_out_by}
+use Rattle.canon_laws.proofs.TraceOrder.{finals_of, is_final}
+use Rattle.canon_laws.proofs.TraceOrderCounts.{legal_owned, seat_same}
 use Rattle.play_laws.proofs.UnknownOrder.{legal_sorted}
 use Rattle.play_laws.proofs.InDeck.{legal_cards}
 use Rattle.play_laws.proofs.PlaceLists.{rising}
-use Rattle.canon_blocks.proofs.CleanShow.{HoldsKnown}
+use Rattle.canon_laws.proofs.CleanShow.{HoldsKnown}
 use Rattle.play_event.proofs.OwnerLaws.{is_same_owner-true}
 use Rattle.play_event.proofs.ClashLaws.{not_at}
-use Rattle.list_laws.proofs.Options.{none_by_test}
+use Rattle.card_set.proofs.Options.{none_by_test}
 
 -- the slots of what a seat holds
 abbrev pub slots_held : ℕ → List Place → List Slot
@@ -105,12 +105,12 @@ any_step : (seat : ℕ) (place : Place) (rest : List Place) (a : Bool) → is_he
 any_step seat place rest true is later = ap (λ b. is_unknown place.slot || b) later
 any_step seat place rest false is later = later
 
--- a seat holds an unknown card where one is unknown of what it holds
+-- a seat holds an unknown card if one of its cards is unknown
 pub any_held : (seat : ℕ) (placed : List Place) → list_any (λ place. is_held_by seat place && is_unknown place.slot) placed ≡ list_any is_unknown (slots_held seat placed)
 any_held seat [] = refl
 any_held seat (place ∷ rest) = any_step seat place rest (is_held_by seat place) refl (any_held seat rest)
 
--- the same cards are unknown alike
+-- the same cards have the same unknown cards
 pub unknown_same : (seat : ℕ) (some all : List Place) → slots_held seat some ≡ slots_held seat all → list_any (λ place. is_held_by seat place && is_unknown place.slot) some ≡ list_any (λ place. is_held_by seat place && is_unknown place.slot) all
 unknown_same seat some all same = any_held seat some ∙ (ap (list_any is_unknown) same ∙ sym (any_held seat all))
 

@@ -19,18 +19,18 @@ use Rattle.play_event.specs.Table.{places_of}
 use Rattle.play_event.specs.Trace.{traced_places, streets_of, is_shown, is_contested, has_unknown_card}
 use Rattle.play_event.specs.Scripts.{past_of}
 use Rattle.play_event.specs.Laws.{AreLegal}
-use Rattle.canon_script.specs.CanonScript.{street_said, showdown_said, showing_said, script_of, held_slots}
-use Rattle.canon_blocks.proofs.Mirrors.{AreMirrored}
-use Rattle.canon_blocks.proofs.Runs.{Runs, run_append}
+use Rattle.play_event.specs.CanonScript.{street_said, showdown_said, showing_said, script_of, held_slots}
+use Rattle.canon_laws.proofs.Mirrors.{AreMirrored}
+use Rattle.canon_laws.proofs.Runs.{Runs, run_append}
 use Rattle.play_laws.proofs.DueAtEvents.{turned_by}
 use Rattle.play_laws.proofs.DoneKept.{all_early}
 use Rattle.play_laws.proofs.LegalPlaces.{legal_past, LegalPast}
 use Rattle.play_laws.proofs.PlayedStreets.{IsReached}
-use Rattle.canon_blocks.proofs.FreeGroups.{is_out_by}
-use Rattle.canon_blocks.proofs.TraceOrder.{finals_of}
-use Rattle.canon_blocks.proofs.TracedSlots.{discarded_same}
-use Rattle.list_laws.proofs.NumbersOfRange.{is_in, map_same}
-use Rattle.canon_blocks.proofs.CleanShow.{HoldsKnown, held_cards}
+use Rattle.canon_laws.proofs.FreeGroups.{is_out_by}
+use Rattle.canon_laws.proofs.TraceOrder.{finals_of}
+use Rattle.canon_laws.proofs.TracedSlots.{discarded_same}
+use Rattle.card_set.proofs.NumbersOfRange.{is_in, map_same}
+use Rattle.canon_laws.proofs.CleanShow.{HoldsKnown, held_cards}
 use Rattle.canon_laws.proofs.HeldSame.{slots_held, held_same, held_script, unknown_same, holds_known}
 use Rattle.canon_laws.proofs.ShowdownRun.{AtShow, turn_shows, show_word, shows_run}
 use Rattle.canon_laws.proofs.AllStreets.{AtEnd, at_end}
@@ -45,7 +45,7 @@ pub record IsLast (setup : Setup) (rules : Rules) (script : Past) (words : List 
   pub mucked : nat_le (live_count setup (moves_of script)) 1 ≡ false → (seat : ℕ) → 1 ≤ seat → seat ≤ setup.stacks.seats → is_live (moves_of script) seat ≡ true → has_mucked after seat ≡ not (is_shown setup script seat)
   pub ends : is_unfinished (turn setup after).1 ≡ false
 
--- a hand that one seat alone is left in is over
+-- a hand in which only one seat is left is over
 pub over_ends : (setup : Setup) (mine : Past) → nat_le (live_count setup (moves_of mine)) 1 ≡ true → is_unfinished (turn setup mine).1 ≡ false
 unfolding turn
 over_ends setup mine over = ap (λ b. is_unfinished (turned_by setup mine b (first_due (due_on setup mine) (street_count setup.code + 1 - newest_street mine) (newest_street mine))).1) over

@@ -1,17 +1,17 @@
 -- A past has as many moves as its script says.
 use Rattle.std.proofs.Common.{◌≡◌, ◌≤◌, List, [], ◌∷◌, length, count_by, reverse, refl, arith}
-use Rattle.list_laws.proofs.Counting.{count_by-cons}
-use Rattle.list_laws.proofs.Reversed.{count_reversed}
+use Rattle.card_set.proofs.Counting.{count_by-cons}
+use Rattle.card_set.proofs.Reversed.{count_reversed}
 use Rattle.play_event.specs.Past.{moves_of}
 use Rattle.play_event.specs.Said as said
 use Rattle.play_event.specs.Said.{Said}
 use Rattle.play_event.specs.Scripts.{past_of, with_event}
 use Rattle.play_event.specs.declared.setup.Rules.{Rules}
 use Rattle.play_event.specs.declared.setup.Setup.{Setup}
-use Rattle.canon_script.specs.PlayedScript.{IsPlayed, is_move}
-use Rattle.canon_script.specs.Tidy.{IsTidy}
-use Rattle.canon_script.specs.TraceCore.{core_after}
-use Rattle.canon_script.specs.declared.limits.TheConstants.{MOST_MOVES}
+use Rattle.play_event.specs.PlayedScript.{IsPlayed, is_move}
+use Rattle.play_event.specs.Tidy.{IsTidy}
+use Rattle.play_event.specs.TraceCore.{core_after}
+use Rattle.play_event.specs.declared.hand_limits.TheConstants.{MOST_MOVES}
 use Rattle.canon_laws.proofs.TidyTraces.{tidy_trace}
 
 -- the moves of events, the newest first

@@ -1,11 +1,12 @@
--- Scripts that are played to their ends have one trace exactly where they have one canonical script.
+-- Scripts that are played to their ends have the same trace if and only if they have the same
+-- canonical script.
 use Rattle.std.proofs.Common.{◌≡◌, ◌↔◌, List, ap, sym, ◌∙◌}
 use Rattle.play_event.specs.Said.{Said}
 use Rattle.play_event.specs.declared.setup.Rules.{Rules}
 use Rattle.play_event.specs.declared.setup.Setup.{Setup}
-use Rattle.canon_script.specs.CanonScript.{canonical_script, canon_of}
-use Rattle.canon_script.specs.TraceCore.{core_after}
-use Rattle.canon_script.specs.PlayedScript.{IsPlayed}
+use Rattle.play_event.specs.CanonScript.{canonical_script, canon_of}
+use Rattle.play_event.specs.TraceCore.{core_after}
+use Rattle.play_event.specs.PlayedScript.{IsPlayed}
 use Rattle.canon_laws.proofs.Confluent.{confluent}
 
 -- one trace has one canonical script; and each script has the trace of its canonical script

@@ -13,14 +13,14 @@ use Rattle.play_event.specs.Table.{places_of}
 use Rattle.play_event.specs.Trace.{traced_move, traced_moves, traced_places, is_shown, is_mucked, has_unknown_card, TracedPlace}
 use Rattle.play_event.specs.Scripts.{past_of}
 use Rattle.play_event.specs.Laws.{AreLegal}
-use Rattle.canon_script.specs.TraceCore.{TraceCore, core_of}
+use Rattle.play_event.specs.TraceCore.{TraceCore, core_of}
 use Rattle.play_event.specs.Stakes.{pots_after, returned_after}
-use Rattle.canon_script.specs.CanonScript.{plain_move, plain_moves}
+use Rattle.play_event.specs.CanonScript.{plain_move, plain_moves}
 use Rattle.play_laws.proofs.LegalPlaces.{legal_past}
-use Rattle.canon_blocks.proofs.TraceOrder.{is_final}
-use Rattle.list_laws.proofs.NumbersOfRange.{filter_range}
+use Rattle.canon_laws.proofs.TraceOrder.{is_final}
+use Rattle.card_set.proofs.NumbersOfRange.{filter_range}
 use Rattle.canon_laws.proofs.HeldSame.{held_same, held_script, unknown_same}
-use Rattle.canon_blocks.proofs.SamePlaces.{same_places}
+use Rattle.canon_laws.proofs.SamePlaces.{same_places}
 use Rattle.canon_laws.proofs.LastPast.{IsLast}
 
 -- the moves of a trace are the moves
@@ -31,7 +31,7 @@ plain_again setup (move ∷ before) =
     ∙ (reverse-append (map plain_move (traced_moves setup before)) (move ∷ [])
     ∙ ap (λ l. move ∷ l) (plain_again setup before))
 
--- who is shown
+-- who shows
 same_shown : (m u : Bool) → (not (not (not m && not u)) && not u) ≡ (not m && not u)
 same_shown true true = refl
 same_shown true false = refl
@@ -61,7 +61,7 @@ unfoldable pub core_by : Setup → List TracedPlace → List Move → List ℕ �
 core_by setup places list shown mucked =
     record { places = places; moves = traced_moves setup list; shown = shown; mucked = mucked; pots = pots_after setup list; returned = map (returned_after setup list) (all_seats setup) }
 
--- traces of the same parts are one
+-- traces with the same parts are the same
 pub core_parts : (setup : Setup) (places places' : List TracedPlace) (list list' : List Move) (shown shown' mucked mucked' : List ℕ) → places ≡ places' → list ≡ list' → shown ≡ shown' → mucked ≡ mucked' → core_by setup places list shown mucked ≡ core_by setup places' list' shown' mucked'
 core_parts setup places places' list list' shown shown' mucked mucked' one two three four =
     ap (λ x. core_by setup x list shown mucked) one ∙ (ap (λ x. core_by setup places' x shown mucked) two

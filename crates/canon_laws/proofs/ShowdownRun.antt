@@ -22,11 +22,11 @@ use Rattle.play_event.specs.Table.{places_of, up_cards}
 use Rattle.play_event.specs.CardReasons.{is_seat, may_show, may_show_so_many, is_not_held}
 use Rattle.play_event.specs.Reasons.{why}
 use Rattle.play_event.specs.Scripts.{with_event}
-use Rattle.canon_blocks.proofs.Runs.{Runs}
+use Rattle.canon_laws.proofs.Runs.{Runs}
 use Rattle.play_laws.proofs.DueAtEvents.{turned_by}
-use Rattle.canon_blocks.proofs.CardEvents.{show_legal, muck_legal}
+use Rattle.canon_laws.proofs.CardEvents.{show_legal, muck_legal}
 use Rattle.play_laws.proofs.SeatRanges.{any_seat}
-use Rattle.canon_blocks.proofs.CleanShow.{HoldsKnown, held_cards, clean_show}
+use Rattle.canon_laws.proofs.CleanShow.{HoldsKnown, held_cards, clean_show}
 use Rattle.play_event.specs.Taken.{has_misplaced_card}
 use Rattle.play_event.proofs.DueStreets.{first_quiet}
 
@@ -131,7 +131,7 @@ one_muck setup rules list placed shown first mine several at least most live not
       };
     }
 
--- the word of a seat
+-- the event of a seat
 abbrev pub show_word : List Place → (ℕ → Bool) → ℕ → Said
 show_word placed shown seat = if shown seat then said.Show seat (held_cards seat placed) else said.Muck seat
 
@@ -161,7 +161,7 @@ passed_by setup list placed shown first mine at folded =
       ];
     }
 
--- for so many seats
+-- for this number of seats
 pub AllShown : Setup → Rules → List Move → List Place → (ℕ → Bool) → ℕ → ℕ → Type 0
 AllShown setup rules list placed shown first count = (p : Past) → AtShow setup list placed shown first p → 1 ≤ first → first + count ≤ setup.stacks.seats + 1 → AreShown setup rules list placed shown (first + count) p (map (show_word placed shown) (filter (is_live list) (range_with_len first count)))
 

@@ -14,25 +14,25 @@ use Rattle.play_event.specs.Table.{places_of}
 use Rattle.play_event.specs.Scripts.{past_of}
 use Rattle.play_event.specs.Showing.{has_shown, has_mucked}
 use Rattle.play_event.specs.Laws.{AreLegal}
-use Rattle.canon_blocks.proofs.Mirrors.{AreMirrored}
-use Rattle.canon_blocks.proofs.CardEvents.{HasCome}
-use Rattle.canon_blocks.proofs.MovesRun.{IsLed}
+use Rattle.canon_laws.proofs.Mirrors.{AreMirrored}
+use Rattle.canon_laws.proofs.CardEvents.{HasCome}
+use Rattle.canon_laws.proofs.MovesRun.{IsLed}
 use Rattle.play_laws.proofs.LegalPlaces.{legal_past}
 use Rattle.play_laws.proofs.InDeck.{legal_cards}
 use Rattle.play_laws.proofs.PlaceLists.{rising}
 use Rattle.play_laws.proofs.UnknownOrder.{legal_sorted, street_out}
 use Rattle.play_laws.proofs.PlayedStreets.{IsReached}
-use Rattle.canon_blocks.proofs.StreetOrder.{street_pieces_out}
-use Rattle.canon_blocks.proofs.DiscardTests.{out_is, before_first}
-use Rattle.canon_blocks.proofs.TraceOrderCounts.{legal_owned}
-use Rattle.canon_blocks.proofs.TraceOrder.{finals_of, is_final, on_street_is}
-use Rattle.canon_blocks.proofs.FreeGroups.{is_out_by}
-use Rattle.canon_blocks.proofs.DiscardsRun.{is_out_to, mirrored_as, IsDrawn}
+use Rattle.canon_laws.proofs.StreetOrder.{street_pieces_out}
+use Rattle.canon_laws.proofs.DiscardTests.{out_is, before_first}
+use Rattle.canon_laws.proofs.TraceOrderCounts.{legal_owned}
+use Rattle.canon_laws.proofs.TraceOrder.{finals_of, is_final, on_street_is}
+use Rattle.canon_laws.proofs.FreeGroups.{is_out_by}
+use Rattle.canon_laws.proofs.DiscardsRun.{is_out_to, mirrored_as, IsDrawn}
 use Rattle.play_laws.proofs.DrawTables.{IsDrawStreet}
-use Rattle.canon_blocks.proofs.DrawRun.{AreDiscarded, discards_run, with_discards, out_slots}
+use Rattle.canon_laws.proofs.DrawRun.{AreDiscarded, discards_run, with_discards, out_slots}
 use Rattle.play_event.specs.Trace.{places_on, owners}
 
--- the canonical past where a street begins; the street before it has this number
+-- the canonical past when a street begins; the street before it has this number
 pub record AtStreet (setup : Setup) (rules : Rules) (script : Past) (before : ℕ) (mine : Past) : Type 0 where
   pub led : IsLed setup rules mine
   pub same_moves : moves_of mine ≡ moves_before (before + 1) (moves_of script)
@@ -46,7 +46,7 @@ pub record AtStreet (setup : Setup) (rules : Rules) (script : Past) (before : �
   pub no_shown : (seat : ℕ) → has_shown mine seat ≡ false
   pub no_mucked : (seat : ℕ) → has_mucked mine seat ≡ false
 
--- the hand came to the street
+-- the hand reached the street
 pub at_come : (setup : Setup) (rules : Rules) (script mine : Past) (before : ℕ) → AtStreet setup rules script before mine → IsReached setup (moves_of script) (before + 1) → before + 1 ≤ street_count setup.code → HasCome setup mine (before + 1)
 at_come setup rules script mine before at reached most =
     let P : Past → Type 0 = λ p. 1 ≤ newest_street p in

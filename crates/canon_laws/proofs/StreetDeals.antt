@@ -1,4 +1,4 @@
--- The deals of a street in the canonical script, and what stands after them.
+-- The deals of a street in the canonical script, and the past after them.
 use Rattle.std.proofs.Common.{◌≡◌, ℕ, zero, suc, ◌+◌, ◌-◌, ◌≤◌, ◌<◌, Bool, true, false, ◌&&◌, ◌||◌, ◌==◌, not, nat_lt, nat_le, inl, inr, Option, Some, None, is_some, List, [], ◌∷◌, ◌++◌, map, length, refl, sym, ◌∙◌, ap, subst, arith, if◌then◌else◌}
 use Rattle.std.specs.List.{flat_map, list_any, range_with_len}
 use Rattle.std.proofs.lemmas.Bool.{and_parts, and_left, and_right, or_from, cases_lt, eqb-true, le-ltb, not_from_true, both_ways}
@@ -21,35 +21,35 @@ use Rattle.play_event.specs.Trace.{traced_places, places_on}
 use Rattle.play_event.specs.Scripts.{past_of}
 use Rattle.play_event.specs.Laws.{AreLegal, IsAmong}
 use Rattle.play_event.proofs.ClashLaws.{IsOneOf, among_append}
-use Rattle.canon_script.specs.CanonScript.{deals_said, deal_said, board_said, dealt_slots}
-use Rattle.canon_blocks.proofs.Mirrors.{AreMirrored}
+use Rattle.play_event.specs.CanonScript.{deals_said, deal_said, board_said, dealt_slots}
+use Rattle.canon_laws.proofs.Mirrors.{AreMirrored}
 use Rattle.play_laws.specs.LegalPlaces.{AreLawful}
-use Rattle.canon_blocks.proofs.Runs.{Runs, run_append}
-use Rattle.canon_blocks.proofs.CardEvents.{HasCome}
+use Rattle.canon_laws.proofs.Runs.{Runs, run_append}
+use Rattle.canon_laws.proofs.CardEvents.{HasCome}
 use Rattle.play_laws.proofs.LegalPlaces.{legal_past, PlacesOf}
 use Rattle.play_laws.proofs.InDeck.{legal_cards, lawful}
 use Rattle.play_laws.proofs.PlaceLists.{rising}
 use Rattle.play_laws.proofs.DonePasts.{legal_done}
 use Rattle.play_laws.proofs.PlayedStreets.{IsDone, folded_group, hole_group, board_group}
-use Rattle.canon_blocks.proofs.TraceOrderCounts.{legal_owned, as_late}
-use Rattle.canon_blocks.proofs.TraceOrder.{finals_of, is_final, finals_group, finals_more, street_pieces, IsOwner, a_seat, the_board}
+use Rattle.canon_laws.proofs.TraceOrderCounts.{legal_owned, as_late}
+use Rattle.canon_laws.proofs.TraceOrder.{finals_of, is_final, finals_group, finals_more, street_pieces, IsOwner, a_seat, the_board}
 use Rattle.play_laws.proofs.UnknownOrder.{among_flat}
-use Rattle.canon_blocks.proofs.FreeGroups.{is_out_by, IsBefore, group_not_taken}
+use Rattle.canon_laws.proofs.FreeGroups.{is_out_by, IsBefore, group_not_taken}
 use Rattle.play_laws.proofs.PlaceGroups.{group_slots, passed}
-use Rattle.canon_blocks.proofs.CleanShow.{one_of_map, known_length}
-use Rattle.canon_blocks.proofs.DealsRun.{with_deal, with_deals, street_deals, hole_street, draw_street, AllFree}
-use Rattle.canon_blocks.proofs.DealtGroups.{AreDealt, dealt_out, deal_more, no_cards}
-use Rattle.canon_blocks.proofs.BoardRun.{with_board, board_run, known_again}
+use Rattle.canon_laws.proofs.CleanShow.{one_of_map, known_length}
+use Rattle.canon_laws.proofs.DealsRun.{with_deal, with_deals, street_deals, hole_street, draw_street, AllFree}
+use Rattle.canon_laws.proofs.DealtGroups.{AreDealt, dealt_out, deal_more, no_cards}
+use Rattle.canon_laws.proofs.BoardRun.{with_board, board_run, known_again}
 use Rattle.play_laws.proofs.KnownBoard.{board_known}
 use Rattle.play_laws.proofs.DrawTables.{draw_tables}
-use Rattle.canon_blocks.proofs.StreetCounts.{IsAside, aside_more, aside_deals, aside_board, deals_out, deals_drawn, deals_board, deals_holes, board_holes, board_out, board_drawn, board_own}
-use Rattle.canon_blocks.proofs.StreetLists.{IsBlock, block_more, deals_block, board_block}
-use Rattle.canon_blocks.proofs.TracedSlots.{dealt_same}
-use Rattle.list_laws.proofs.NumbersOfRange.{flat_same, any_none, find_no}
+use Rattle.canon_laws.proofs.StreetCounts.{IsAside, aside_more, aside_deals, aside_board, deals_out, deals_drawn, deals_board, deals_holes, board_holes, board_out, board_drawn, board_own}
+use Rattle.canon_laws.proofs.StreetLists.{IsBlock, block_more, deals_block, board_block}
+use Rattle.canon_laws.proofs.TracedSlots.{dealt_same}
+use Rattle.card_set.proofs.NumbersOfRange.{flat_same, any_none, find_no}
 use Rattle.canon_laws.proofs.StreetDiscards.{AtDeals}
 use Rattle.play_event.proofs.OwnerLaws.{is_same_owner-true}
 
--- events of a street leave the past on it
+-- events of a street keep the past on it
 pub come_block : (setup : Setup) (street : ℕ) (before after : Past) → IsBlock street before after → moves_of after ≡ moves_of before → HasCome setup before street → HasCome setup after street
 come_block setup street before after (inl same) moves come = let P : Past → Type 0 = λ p. HasCome setup p street in subst P (sym same) come
 come_block setup street before after (inr on) moves come =
@@ -78,7 +78,7 @@ owed_cards setup rules events start mine before seat false false legal done at l
     let placed : List Place = places_of setup.code script in
     sym (length-map (group_of placed (before + 1) (Some seat)) (λ (p : Place). p.slot) ∙ folded_group setup script (before + 1) seat (legal_past setup rules events legal).places (sym (ap (λ l. is_live l seat) at.same_moves) ∙ folded))
 
--- a deal of no board cards is none
+-- a deal of no board cards is no deal
 maybe_board : (code : Code) (moves : List Move) (placed : List Place) (street : ℕ) (before : Past) (finals : List Place) (cards : List Slot) (group : List Place) → AreDealt code moves placed street (places_of code before) finals → AreDealt code moves placed street (after_deal code None street cards (places_of code before)) (finals ++ group) → (cards ≡ [] → group ≡ []) → ((slot : Slot) → IsOneOf cards slot → is_unknown slot ≡ false) → AreDealt code moves placed street (places_of code (with_board street cards before)) (finals ++ group)
 maybe_board code moves placed street before finals [] group so_far more none known =
     let P : List Place → Type 0 = λ all. AreDealt code moves placed street (places_of code before) all in

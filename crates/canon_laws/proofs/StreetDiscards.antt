@@ -1,4 +1,4 @@
--- The discards of a street in the canonical script, and what stands after them.
+-- The discards of a street in the canonical script, and the past after them.
 use Rattle.std.proofs.Common.{◌≡◌, ℕ, ◌+◌, ◌≤◌, Bool, true, false, ◌&&◌, ◌==◌, inl, Some, List, [], map, filter, length, refl, sym, ◌∙◌, ap, subst, arith, if◌then◌else◌}
 use Rattle.std.proofs.lemmas.Bool.{and_parts, eqb-true, le-leb, leb-false}
 use Rattle.std.proofs.lemmas.List.{length-map}
@@ -17,31 +17,31 @@ use Rattle.play_event.specs.Table.{places_of}
 use Rattle.play_event.specs.Trace.{traced_places}
 use Rattle.play_event.specs.Scripts.{past_of}
 use Rattle.play_event.specs.Laws.{AreLegal}
-use Rattle.canon_script.specs.CanonScript.{discards_said, discarded_slots, drawing_seats, is_reached}
-use Rattle.canon_blocks.proofs.Mirrors.{AreMirrored}
-use Rattle.canon_blocks.proofs.Runs.{Runs}
-use Rattle.canon_blocks.proofs.CardEvents.{HasCome}
-use Rattle.canon_blocks.proofs.MovesRun.{IsLed, led_on}
+use Rattle.play_event.specs.CanonScript.{discards_said, discarded_slots, drawing_seats, is_reached}
+use Rattle.canon_laws.proofs.Mirrors.{AreMirrored}
+use Rattle.canon_laws.proofs.Runs.{Runs}
+use Rattle.canon_laws.proofs.CardEvents.{HasCome}
+use Rattle.canon_laws.proofs.MovesRun.{IsLed, led_on}
 use Rattle.play_laws.proofs.LegalPlaces.{legal_past, PlacesOf}
 use Rattle.play_laws.proofs.InDeck.{legal_cards}
 use Rattle.play_laws.proofs.PlaceLists.{rising}
 use Rattle.play_laws.proofs.DiscardCounts.{is_out_of, out_counts}
 use Rattle.play_laws.proofs.UnknownOrder.{legal_sorted}
 use Rattle.play_laws.proofs.PlayedStreets.{IsReached, IsDone, folded_group, draw_group}
-use Rattle.canon_blocks.proofs.DiscardTests.{after_last, no_draw_out}
-use Rattle.canon_blocks.proofs.TraceOrderCounts.{legal_owned, seat_same}
-use Rattle.canon_blocks.proofs.TraceOrder.{finals_of, is_final}
-use Rattle.canon_blocks.proofs.FreeGroups.{is_out_by}
+use Rattle.canon_laws.proofs.DiscardTests.{after_last, no_draw_out}
+use Rattle.canon_laws.proofs.TraceOrderCounts.{legal_owned, seat_same}
+use Rattle.canon_laws.proofs.TraceOrder.{finals_of, is_final}
+use Rattle.canon_laws.proofs.FreeGroups.{is_out_by}
 use Rattle.play_laws.proofs.PlaceGroups.{group_slots}
-use Rattle.canon_blocks.proofs.DiscardsRun.{is_out_to, mirrored_as}
-use Rattle.canon_blocks.proofs.DrawRun.{with_discards, out_slots}
+use Rattle.canon_laws.proofs.DiscardsRun.{is_out_to, mirrored_as}
+use Rattle.canon_laws.proofs.DrawRun.{with_discards, out_slots}
 use Rattle.play_laws.proofs.DrawTables.{draw_tables}
-use Rattle.canon_blocks.proofs.StreetCounts.{IsAside, aside_same, aside_discards, discards_holes, discards_board, discards_own}
-use Rattle.canon_blocks.proofs.StreetLists.{IsBlock, discards_block}
-use Rattle.canon_blocks.proofs.TracedSlots.{discarded_same}
-use Rattle.list_laws.proofs.NumbersOfRange.{map_same}
+use Rattle.canon_laws.proofs.StreetCounts.{IsAside, aside_same, aside_discards, discards_holes, discards_board, discards_own}
+use Rattle.canon_laws.proofs.StreetLists.{IsBlock, discards_block}
+use Rattle.canon_laws.proofs.TracedSlots.{discarded_same}
+use Rattle.card_set.proofs.NumbersOfRange.{map_same}
 use Rattle.canon_laws.proofs.Street.{AtStreet, draw_run}
-use Rattle.list_laws.proofs.Tests.{false_true}
+use Rattle.card_set.proofs.Tests.{false_true}
 
 -- the discards of a seat, in the trace's order and in the script's
 pub out_finals : (setup : Setup) (rules : Rules) (events : List Said) (street seat count : ℕ) → AreLegal setup rules events → 1 ≤ street → street ≤ count + 1 → 1 ≤ seat → seat ≤ setup.stacks.seats → filter (is_out_of street seat) (finals_of setup (places_of setup.code (past_of setup events)) count) ≡ filter (is_out_of street seat) (places_of setup.code (past_of setup events))

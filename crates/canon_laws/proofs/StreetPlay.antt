@@ -1,4 +1,5 @@
--- A street that the hand came to, in the canonical script: discards, deals, the board and the moves.
+-- A street that the hand reached, in the canonical script: discards, deals, the board and the
+-- moves.
 use Rattle.std.proofs.Common.{◌≡◌, ℕ, ◌+◌, ◌≤◌, ◌<◌, Bool, true, false, ◌&&◌, nat_lt, nat_le, inl, inr, Some, None, List, [], ◌∷◌, ◌++◌, map, reverse, refl, sym, ◌∙◌, ap, subst, arith, if◌then◌else◌}
 use Rattle.std.proofs.lemmas.Bool.{cases_lt}
 use Rattle.play_event.specs.declared.code.Code.{Code}
@@ -18,27 +19,27 @@ use Rattle.play_event.specs.Table.{places_of}
 use Rattle.play_event.specs.Trace.{traced_places}
 use Rattle.play_event.specs.Scripts.{past_of}
 use Rattle.play_event.specs.Laws.{AreLegal}
-use Rattle.canon_script.specs.CanonScript.{street_said, discards_said, deals_said, move_named}
-use Rattle.canon_blocks.proofs.Mirrors.{Mirrors, AreMirrored}
+use Rattle.play_event.specs.CanonScript.{street_said, discards_said, deals_said, move_named}
+use Rattle.canon_laws.proofs.Mirrors.{Mirrors, AreMirrored}
 use Rattle.play_laws.specs.PastLaws.{DoneLaw}
-use Rattle.canon_blocks.proofs.Runs.{Runs, run_append}
-use Rattle.canon_blocks.proofs.CardEvents.{HasCome}
+use Rattle.canon_laws.proofs.Runs.{Runs, run_append}
+use Rattle.canon_laws.proofs.CardEvents.{HasCome}
 use Rattle.play_laws.proofs.LegalPlaces.{legal_past}
 use Rattle.play_laws.proofs.InDeck.{legal_cards}
 use Rattle.play_laws.proofs.PlaceLists.{rising}
 use Rattle.play_laws.proofs.DonePasts.{legal_done}
 use Rattle.play_laws.proofs.PlayedStreets.{IsReached, IsDone, reached_done, reached_closed}
 use Rattle.play_laws.proofs.UnknownOrder.{legal_sorted}
-use Rattle.canon_blocks.proofs.TraceOrderCounts.{legal_owned, ups_finals}
-use Rattle.canon_blocks.proofs.TraceOrder.{finals_of}
-use Rattle.canon_blocks.proofs.FreeGroups.{is_out_by}
+use Rattle.canon_laws.proofs.TraceOrderCounts.{legal_owned, ups_finals}
+use Rattle.canon_laws.proofs.TraceOrder.{finals_of}
+use Rattle.canon_laws.proofs.FreeGroups.{is_out_by}
 use Rattle.play_laws.proofs.MovesLaw.{is_up_by, ups_by, MovesLaw}
 use Rattle.play_laws.proofs.FittingPasts.{legal_moves}
-use Rattle.canon_blocks.proofs.MovesRun.{IsLed, led_on, with_moves, moves_with, AreAllOn, still_none, newest_with, moves_run}
+use Rattle.canon_laws.proofs.MovesRun.{IsLed, led_on, with_moves, moves_with, AreAllOn, still_none, newest_with, moves_run}
 use Rattle.canon_laws.proofs.HeldSame.{slots_mirrored}
-use Rattle.canon_blocks.proofs.StreetMoves.{legal_falling, own_moves, moves_split, moves_mirrored}
-use Rattle.canon_blocks.proofs.StreetLists.{law_before, own_on, IsBlock, block_more, moves_block}
-use Rattle.canon_blocks.proofs.StreetCounts.{IsAside, aside_more}
+use Rattle.canon_laws.proofs.StreetMoves.{legal_falling, own_moves, moves_split, moves_mirrored}
+use Rattle.canon_laws.proofs.StreetLists.{law_before, own_on, IsBlock, block_more, moves_block}
+use Rattle.canon_laws.proofs.StreetCounts.{IsAside, aside_more}
 use Rattle.canon_laws.proofs.StreetDiscards.{AtDeals, undrawn, all_drawn}
 use Rattle.canon_laws.proofs.StreetDeals.{come_block, with_cards, all_dealt}
 use Rattle.canon_laws.proofs.Street.{AtStreet, at_come}
@@ -61,7 +62,7 @@ up_same code list out street seat mine final mirror =
 ups_mirrored : (code : Code) (list : List Move) (out : Place → Bool) (street seat : ℕ) (mines finals : List Place) → AreMirrored list out mines finals → ups_by code mines street seat ≡ ups_by code finals street seat
 ups_mirrored code list out street seat mines finals = slots_mirrored list out (is_up_by code street seat) (is_up_by code street seat) mines finals (λ mine final among. up_same code list out street seat mine final)
 
--- moves leave all counts of cards
+-- moves do not change the counts of cards
 record KeepsCounts (before after : Past) : Type 0 where
   holes : (street seat : ℕ) → hole_cards_dealt after street seat ≡ hole_cards_dealt before street seat
   board : (street : ℕ) → board_cards_dealt after street ≡ board_cards_dealt before street
@@ -80,7 +81,7 @@ pub record IsNext (setup : Setup) (rules : Rules) (script : Past) (before : ℕ)
   pub run : Runs setup rules mine (street_said setup (traced_places setup script) (moves_of script) (before + 1)) after
   pub at : AtStreet setup rules script (before + 1) after
 
--- a street that the hand came to takes place, and the next one begins as in the script
+-- a street that the hand reached takes place, and the next one begins as in the script
 pub played : (setup : Setup) (rules : Rules) (events : List Said) (mine : Past) (before : ℕ) → AreLegal setup rules events → is_unfinished (turn setup (past_of setup events)).1 ≡ false → AtStreet setup rules (past_of setup events) before mine → IsReached setup (moves_of (past_of setup events)) (before + 1) → before + 1 ≤ street_count setup.code → IsNext setup rules (past_of setup events) before mine
 played setup rules events mine before legal complete at reached last =
     let script : Past = past_of setup events in

@@ -1,4 +1,4 @@
--- A street that the hand did not come to: the canonical script says nothing of it.
+-- A street that the hand did not reach: the canonical script has no events of it.
 use Rattle.std.proofs.Common.{◌≡◌, ℕ, suc, ◌+◌, ◌≤◌, true, false, ◌&&◌, nat_lt, nat_le, inl, inr, Option, Some, None, List, [], ◌++◌, map, reverse, length, refl, sym, ◌∙◌, ap, subst, arith, if◌then◌else◌}
 use Rattle.std.specs.List.{list_any}
 use Rattle.std.proofs.lemmas.Bool.{and_right, both_ways, false_from_ne_true, cases_lt, lt-leb, le-leb, leb-true}
@@ -16,27 +16,27 @@ use Rattle.play_event.specs.Table.{places_of}
 use Rattle.play_event.specs.Trace.{traced_places, places_on}
 use Rattle.play_event.specs.Scripts.{past_of}
 use Rattle.play_event.specs.Laws.{AreLegal, IsAmong}
-use Rattle.canon_script.specs.CanonScript.{street_said, discards_said, deals_said, deal_said, board_said, dealt_slots, moves_named, move_named, is_reached, drawing_seats, discarded_slots}
-use Rattle.canon_blocks.proofs.Mirrors.{AreMirrored}
+use Rattle.play_event.specs.CanonScript.{street_said, discards_said, deals_said, deal_said, board_said, dealt_slots, moves_named, move_named, is_reached, drawing_seats, discarded_slots}
+use Rattle.canon_laws.proofs.Mirrors.{AreMirrored}
 use Rattle.play_laws.specs.PastLaws.{is_played_on}
-use Rattle.canon_blocks.proofs.Runs.{Runs}
+use Rattle.canon_laws.proofs.Runs.{Runs}
 use Rattle.play_laws.proofs.LegalPlaces.{group_count}
 use Rattle.play_laws.proofs.DonePasts.{legal_done}
 use Rattle.play_laws.proofs.PlayedStreets.{board_count}
-use Rattle.canon_blocks.proofs.DiscardTests.{out_is}
+use Rattle.canon_laws.proofs.DiscardTests.{out_is}
 use Rattle.play_laws.proofs.DrawnDiscards.{out_drawn}
-use Rattle.canon_blocks.proofs.TraceOrder.{finals_of, is_final, finals_more, street_pieces, IsOwner, a_seat, the_board}
-use Rattle.canon_blocks.proofs.FreeGroups.{is_out_by}
-use Rattle.canon_blocks.proofs.DiscardsRun.{mirrored_as}
-use Rattle.canon_blocks.proofs.StreetMoves.{legal_falling, moves_split}
-use Rattle.canon_blocks.proofs.StreetLists.{IsUnplayed, unplayed}
+use Rattle.canon_laws.proofs.TraceOrder.{finals_of, is_final, finals_more, street_pieces, IsOwner, a_seat, the_board}
+use Rattle.canon_laws.proofs.FreeGroups.{is_out_by}
+use Rattle.canon_laws.proofs.DiscardsRun.{mirrored_as}
+use Rattle.canon_laws.proofs.StreetMoves.{legal_falling, moves_split}
+use Rattle.canon_laws.proofs.StreetLists.{IsUnplayed, unplayed}
 use Rattle.canon_laws.proofs.StreetDeals.{group_is}
-use Rattle.list_laws.proofs.NumbersOfRange.{flat_none}
+use Rattle.card_set.proofs.NumbersOfRange.{flat_none}
 use Rattle.canon_laws.proofs.StreetPlay.{IsNext}
 use Rattle.canon_laws.proofs.Street.{AtStreet}
 use Rattle.play_event.specs.Dealing.{has_drawn}
 
--- a street that the hand did not come to says nothing, and nothing changes
+-- a street that the hand did not reach has no events, and nothing changes
 pub skipped : (setup : Setup) (rules : Rules) (events : List Said) (mine : Past) (before : ℕ) → AreLegal setup rules events → AtStreet setup rules (past_of setup events) before mine → nat_le (live_count setup (moves_before (before + 1) (moves_of (past_of setup events)))) 1 ≡ true → before + 1 ≤ street_count setup.code → IsNext setup rules (past_of setup events) before mine
 skipped setup rules events mine before legal at over last =
     let script : Past = past_of setup events in

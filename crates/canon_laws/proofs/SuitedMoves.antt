@@ -2,10 +2,10 @@
 use Rattle.std.proofs.Common.{◌≡◌, ℕ, ◌+◌, ◌-◌, ◌≤◌, Bool, true, false, ◌&&◌, ◌==◌, inl, inr, Option, Some, None, IfSome, List, [], ◌∷◌, nat_le, nat_lt, cond, count_by, reverse, slice_index, refl, sym, ◌∙◌, ap, subst, arith, if◌then◌else◌}
 use Rattle.std.specs.List.{list_any}
 use Rattle.std.proofs.lemmas.Bool.{cases_lt, eq-eqb, lt-ltb, or_left, or_parts, or_right}
-use Rattle.list_laws.proofs.Counting.{count_by-cons}
-use Rattle.list_laws.proofs.Finding.{list_any-push}
+use Rattle.card_set.proofs.Counting.{count_by-cons}
+use Rattle.card_set.proofs.Finding.{list_any-push}
 use Rattle.play_event.specs.Past.{Move, is_raise, moves_of, moves_on}
-use Rattle.play_event.specs.Price.{price}
+use Rattle.play_event.specs.CurrentBet.{current_bet}
 use Rattle.play_event.specs.Raising.{is_closed, is_within_cap, raises_on}
 use Rattle.play_event.specs.Said.{Said}
 use Rattle.play_event.specs.Scripts.{past_at_end}
@@ -14,9 +14,9 @@ use Rattle.play_event.specs.ValidSetup.{IsValid}
 use Rattle.play_event.specs.declared.setup.Reopen.TheVariants as reopens
 use Rattle.play_event.specs.declared.setup.Rules.{Rules}
 use Rattle.play_event.specs.declared.setup.Setup.{Setup}
-use Rattle.canon_script.specs.TraceCore.{core_after}
+use Rattle.play_event.specs.TraceCore.{core_after}
 use Rattle.play_laws.proofs.OtherRules.{AreSuited, legal_by}
-use Rattle.canon_script.specs.PlayedScript.{IsPlayed}
+use Rattle.play_event.specs.PlayedScript.{IsPlayed}
 use Rattle.canon_laws.specs.OtherRules.{SuitsRules, is_free_fold}
 use Rattle.canon_laws.proofs.SameCore.{plain_again}
 
@@ -24,7 +24,7 @@ use Rattle.canon_laws.proofs.SameCore.{plain_again}
 abbrev pub AreWithin : Option (List ℕ) → List Move → Type 0
 AreWithin caps moves = IfSome caps (λ caps. (street : ℕ) → street ≤ 4 → raises_on moves street ≤ slice_index caps (street - 1))
 
--- how many raises there are with one move more
+-- the number of raises with one more move
 pub one_more : (move : Move) (older : List Move) (street : ℕ) (b : Bool) → (move.street == street) ≡ b → raises_on (move ∷ older) street ≡ cond (b && is_raise move.act) 1 0 + raises_on older street
 one_more move older street true here =
     ap (λ c. count_by (λ m. is_raise m.act) (if c then (move ∷ moves_on street older) else moves_on street older)) here
@@ -38,7 +38,7 @@ within_older : (caps : Option (List ℕ)) (move : Move) (older : List Move) → 
 within_older None move older within = tt
 within_older (Some caps) move older within = λ street first. omega (arith, within street first, one_more move older street (move.street == street) refl)
 
--- and a raise is one more than the cap allowed before it
+-- and a raise is one more than those before it, which are below the cap
 within_raise : (caps : Option (List ℕ)) (move : Move) (older : List Move) → is_raise move.act ≡ true → AreWithin caps (move ∷ older) → is_within_cap caps older move.street ≡ true
 within_raise None move older raises within = refl
 within_raise (Some caps) move older raises within = elim (cases_lt 4 move.street) [
@@ -50,7 +50,7 @@ within_raise (Some caps) move older raises within = elim (cases_lt 4 move.street
       (lt-ltb (raises_on older move.street) (slice_index caps (move.street - 1)) (omega (arith, within move.street (omega (arith, early)), count, one)))
 ]
 
--- what no traced move is, the newest is not, and none before it
+-- if no traced move passes a test, the newest does not, and none before it does
 newest_not : (p : TracedMove → Bool) (setup : Setup) (move : Move) (older : List Move) → list_any p (traced_moves setup (move ∷ older)) ≡ false → (list_any p (traced_moves setup older) ≡ false) × (p (traced_move setup move older) ≡ false)
 newest_not p setup move older none =
     or_parts (list_any p (traced_moves setup older)) (p (traced_move setup move older)) (sym (list_any-push p (traced_moves setup older) (traced_move setup move older)) ∙ none)
@@ -63,7 +63,7 @@ suited : (others : Rules) (setup : Setup) (moves : List Move)
 suited others setup [] unclosed pays within = tt
 suited others setup (move ∷ older) unclosed pays within = (
   record {
-    folds = λ is free. sym (ap (λ b. b && nat_le (price setup older move.street) move.from) is) ∙ (newest_not is_free_fold setup move older (pays free)).1;
+    folds = λ is free. sym (ap (λ b. b && nat_le (current_bet setup older move.street) move.from) is) ∙ (newest_not is_free_fold setup move older (pays free)).1;
     caps = λ is. within_raise others.caps move older is within;
     reopens = λ is full. sym (ap (λ b. b && is_closed setup older move.street move.seat move.to) is) ∙ (newest_not (λ m. m.closed) setup move older (unclosed full)).1;
   },

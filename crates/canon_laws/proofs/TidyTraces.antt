@@ -21,30 +21,30 @@ use Rattle.play_event.specs.Trace.{is_shown, TracedPlace, traced_place}
 use Rattle.play_event.specs.Scripts.{past_of, past_at_end}
 use Rattle.card_set.specs.Known.{is_unknown}
 use Rattle.play_event.specs.Laws.{AreLegal, IsAmong}
-use Rattle.canon_script.specs.TraceCore.{TraceCore, core_of, core_after}
-use Rattle.canon_script.specs.PlayedScript.{IsPlayed}
-use Rattle.canon_script.specs.CanonScript.{dealt_slots, discarded_slots, held_slots}
+use Rattle.play_event.specs.TraceCore.{TraceCore, core_of, core_after}
+use Rattle.play_event.specs.PlayedScript.{IsPlayed}
+use Rattle.play_event.specs.CanonScript.{dealt_slots, discarded_slots, held_slots}
 use Rattle.std.proofs.lemmas.Option.{same_Some}
-use Rattle.list_laws.proofs.Options.{some_is_none}
-use Rattle.canon_script.specs.Tidy.{HasTidyCards, IsTidy}
+use Rattle.card_set.proofs.Options.{some_is_none}
+use Rattle.play_event.specs.Tidy.{HasTidyCards, IsTidy}
 use Rattle.play_laws.proofs.LegalPlaces.{legal_past, group_count}
 use Rattle.play_laws.proofs.DonePasts.{legal_done}
 use Rattle.play_laws.proofs.PlayedStreets.{board_count}
 use Rattle.play_laws.proofs.DiscardCounts.{is_out_of, out_counts}
-use Rattle.canon_blocks.proofs.TraceOrder.{IsOwner, finals_of, is_final, finals_group, a_seat, the_board}
-use Rattle.canon_blocks.proofs.TraceOrderCounts.{legal_owned, seat_same}
+use Rattle.canon_laws.proofs.TraceOrder.{IsOwner, finals_of, is_final, finals_group, a_seat, the_board}
+use Rattle.canon_laws.proofs.TraceOrderCounts.{legal_owned, seat_same}
 use Rattle.play_laws.proofs.UnknownOrder.{legal_sorted}
 use Rattle.play_laws.proofs.InDeck.{legal_cards}
 use Rattle.play_laws.proofs.PlaceLists.{rising}
 use Rattle.play_laws.proofs.PlaceGroups.{Passed, passed}
 use Rattle.play_laws.proofs.KnownBoard.{board_known}
-use Rattle.canon_blocks.proofs.TracedSlots.{dealt_same, discarded_same}
+use Rattle.canon_laws.proofs.TracedSlots.{dealt_same, discarded_same}
 use Rattle.canon_laws.proofs.StreetDiscards.{out_finals}
 use Rattle.canon_laws.proofs.HeldSame.{held_script, any_held}
 use Rattle.canon_laws.proofs.LastPast.{shown_parts}
 use Rattle.play_laws.proofs.HeldFew.{is_held_at, filter_less, held_seven, out_seven, holes_seven}
 use Rattle.play_event.proofs.OwnerLaws.{is_same_owner-true}
-use Rattle.list_laws.proofs.NumbersOfRange.{is_in, not_above, not_in}
+use Rattle.card_set.proofs.NumbersOfRange.{is_in, not_above, not_in}
 use Rattle.play_event.proofs.TracedMoves.{as_many}
 
 few_board : (streets : List Street) (index : ℕ) → list_any (λ s. nat_lt 7 s.board) streets ≡ false → option_map_or (λ s. s.board) (slice_get streets index) 0 ≤ 7

@@ -4,15 +4,15 @@ use Rattle.std.specs.Prelude.{◌≡◌, List}
 use Rattle.play_event.specs.declared.setup.Setup.{Setup}
 use Rattle.play_event.specs.declared.setup.Rules.{Rules}
 use Rattle.play_event.specs.Said.{Said}
-use Rattle.canon_script.specs.TraceCore.{core_after}
-use Rattle.canon_script.specs.CanonScript.{canon_of}
-use Rattle.canon_script.specs.PlayedScript.{IsPlayed}
+use Rattle.play_event.specs.TraceCore.{core_after}
+use Rattle.play_event.specs.CanonScript.{canon_of}
+use Rattle.play_event.specs.PlayedScript.{IsPlayed}
 
--- another script is played to its end, and leaves the trace of this one
+-- the other script is played to its end, and leaves the trace of this one
 pub record HasTraceOf (setup : Setup) (rules : Rules) (script other : List Said) : Type 0 where
   pub played : IsPlayed setup rules other
   pub same : core_after setup other ≡ core_after setup script
 
--- the canonical script of its trace is played to its end, and leaves the trace of a script
+-- the canonical script of a script's trace is played to its end, and leaves the same trace
 abbrev pub IsConfluent : Setup → Rules → List Said → Type 0
 IsConfluent setup rules script = HasTraceOf setup rules script (canon_of setup script)

@@ -6,16 +6,16 @@ use Rattle.play_event.specs.Raising.{raises_on}
 use Rattle.play_event.specs.Trace.{TracedMove}
 use Rattle.play_event.specs.declared.setup.Reopen.TheVariants as reopens
 use Rattle.play_event.specs.declared.setup.Rules.{Rules}
-use Rattle.canon_script.specs.CanonScript.{plain_moves}
-use Rattle.canon_script.specs.TraceCore.{TraceCore}
+use Rattle.play_event.specs.CanonScript.{plain_moves}
+use Rattle.play_event.specs.TraceCore.{TraceCore}
 
--- a fold where nothing is owed
+-- a fold of a seat that owes nothing
 abbrev pub is_free_fold : TracedMove → Bool
 is_free_fold move = is_fold move.act && nat_le move.price move.from
 
--- A play suits rules: where full raises alone reopen the betting no raise is closed, where folds
--- are not free each fold pays for something, and where there are caps the raises of each of the
--- first four streets are within its cap.
+-- A play suits rules: if only full raises reopen the betting, no raise is made where it would be
+-- closed; if a fold needs a bet to fold to, each fold has one; and if there are caps, the raises of
+-- each of the first four streets are within its cap.
 pub record SuitsRules (rules : Rules) (trace : TraceCore) : Type 0 where
   pub no_closed_raise : rules.reopen ≡ reopens.Full
       → list_any (λ move. move.closed) trace.moves ≡ false

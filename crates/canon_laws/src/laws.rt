@@ -4,23 +4,24 @@ ghost use Rattle.play_event.specs.Said.{Said};
 ghost use Rattle.play_event.specs.ValidSetup.{IsValid};
 ghost use Rattle.play_event.specs.declared.setup.Rules.{Rules};
 ghost use Rattle.play_event.specs.declared.setup.Setup.{Setup};
-ghost use Rattle.canon_script.specs.TraceCore.{core_after};
-ghost use Rattle.canon_script.specs.Tidy.{IsTidy};
-ghost use Rattle.canon_script.specs.PlayedScript.{IsPlayed, is_move};
-ghost use Rattle.canon_script.specs.declared.limits.TheConstants.{MOST_MOVES};
-ghost use Rattle.canon_script.specs.CanonScript.{canon_of};
+ghost use Rattle.play_event.specs.TraceCore.{core_after};
+ghost use Rattle.play_event.specs.Tidy.{IsTidy};
+ghost use Rattle.play_event.specs.PlayedScript.{IsPlayed, is_move};
+ghost use Rattle.play_event.specs.declared.hand_limits.TheConstants.{MOST_MOVES};
+ghost use Rattle.play_event.specs.CanonScript.{canon_of};
 ghost use Rattle.canon_laws.specs.Confluence.{IsConfluent};
 ghost use Rattle.canon_laws.specs.OtherRules.{SuitsRules};
 
-/// The canonical script of the trace of a script that is played to its end is played to its end,
-/// under the same rules, and leaves this trace. The function does nothing: its contract is a law.
+/// If a script is played to its end, so is the canonical script of its trace, under the same rules
+/// and with the same trace. The function does nothing: its contract is a law.
 pub fn law_of_confluence()
     ensures confluent { (setup : Setup) (rules : Rules) (script : List Said)
         → IsPlayed setup rules script → IsConfluent setup rules script }
 {}
 
-/// Two scripts that are played to their ends, each under rules of its own, leave one trace exactly
-/// where they have one canonical script; and a canonical script is its own.
+/// Two scripts that are played to their ends, each under its own rules, leave the same trace if and
+/// only if they have the same canonical script; and the canonical script of a canonical script is
+/// itself.
 pub fn law_of_canonical_scripts()
     ensures one_trace { (setup : Setup) (rules others : Rules) (script other : List Said)
         → IsPlayed setup rules script → IsPlayed setup others other
@@ -39,8 +40,8 @@ pub fn law_of_tidy_traces()
 {}
 
 /// A play that is legal under the rules of one notation is legal under those of another if it suits
-/// them: no raise is closed where full raises alone reopen the betting, no fold is free where folds
-/// are not, and raises are within the caps.
+/// them: if only full raises reopen the betting, no raise is made where it would be closed; if a
+/// fold needs a bet to fold to, each fold has one; and raises are within the caps.
 pub fn law_of_other_rules()
     ensures legal { (setup : Setup) (rules others : Rules) (script : List Said)
         → IsValid setup → IsPlayed setup rules script

@@ -1,4 +1,4 @@
--- A search for all cards of a seat covers what the seat holds.
+-- A search for all cards of a seat applies to what the seat holds.
 use Rattle.std.proofs.Common.{◌≡◌, ℕ, Bool, true, false, ◌&&◌, refl}
 use Rattle.play_event.specs.declared.code.Code.{Code}
 use Rattle.play_event.specs.Naming.{is_covered}

@@ -1,8 +1,8 @@
--- One covered place more.
+-- One more place that the event applies to.
 use Rattle.std.proofs.Common.{◌≡◌, ◌+◌, Bool, true, false, ◌&&◌, cond, if◌then◌else◌, List, [], ◌∷◌, ◌++◌, filter, count_by, ap, ◌∙◌, arith}
 use Rattle.std.proofs.lemmas.List.Elements.{filter-append}
 use Rattle.std.proofs.lemmas.List.{append-nil}
-use Rattle.list_laws.proofs.Counting.{count_by-push}
+use Rattle.card_set.proofs.Counting.{count_by-push}
 use Rattle.play_event.specs.Places.{Place}
 
 by_cover : (p : Place → Bool) (b : Bool) (xs : List Place) (x : Place) → count_by p (xs ++ (if b then (x ∷ []) else [])) ≡ count_by p xs + cond (b && p x) 1 0

@@ -1,4 +1,4 @@
--- A table of a game has the streets of the game, and past the last one nothing.
+-- The table of a game has the streets of the game, and nothing after the last one.
 use Rattle.std.proofs.Common.{◌≡◌, ℕ, zero, suc, ◌+◌, ◌-◌, ◌<◌, ◌≤◌, Option, Some, None, List, [], ◌∷◌, length, map, get_or, slice_get, refl, sym, ap, ◌∙◌, arith}
 use Rattle.std.specs.Prelude.{unwrap_or, false}
 use Rattle.std.specs.Option.{option_map_or}
@@ -10,7 +10,7 @@ use Rattle.play_event.specs.declared.street.Street.{Street}
 use Rattle.variant_table.specs.declared.table.GameTable.{GameTable}
 use Rattle.variant_table.specs.Tables.{no_street, IsTableOf, street_at}
 use Rattle.card_places.specs.Marks.{IsStreetOf}
-use Rattle.list_laws.proofs.Entries.{past_end}
+use Rattle.card_set.proofs.Entries.{past_end}
 
 -- a street that is read from those of the game has what they deal
 same_street : (code : Code) (number : ℕ) (row : Street) (found : Option Street) → slice_get (game_of code).streets (number - 1) ≡ found → row ≡ unwrap_or found no_street → IsStreetOf code number row
@@ -59,7 +59,7 @@ five_streets : (code : Code) → length (game_of code).streets ≤ 5
 five_streets games.FT = omega arith
 five_streets _ = omega arith
 
--- past the fifth street nothing is dealt or drawn
+-- after the fifth street nothing is dealt or drawn
 pub past_last : (code : Code) (number : ℕ) (row : Street) → 5 ≤ number - 1 → row ≡ no_street → IsStreetOf code number row
 past_last code number row past is =
     same_street code number row None (past_end (game_of code).streets (number - 1) (omega (arith, past, five_streets code))) is

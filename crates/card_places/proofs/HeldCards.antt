@@ -1,7 +1,7 @@
 -- How many cards an owner has on the table after a deal, a fold, a discard or a show.
 use Rattle.std.proofs.Common.{◌≡◌, ℕ, zero, suc, ◌+◌, ◌≤◌, Bool, true, false, ◌&&◌, cond, if◌then◌else◌, is_none, Option, None, List, [], ◌∷◌, ◌++◌, map, filter, length, count_by, refl, ◌∙◌, arith}
 use Rattle.std.proofs.lemmas.Bool.{ltb-false}
-use Rattle.list_laws.proofs.Counting.{count_by-cons}
+use Rattle.card_set.proofs.Counting.{count_by-cons}
 use Rattle.card_set.specs.declared.card.Card.{Card}
 use Rattle.card_set.specs.declared.card.Slot.{Slot}
 use Rattle.card_set.specs.declared.card.Slot.TheVariants as slots
@@ -34,13 +34,13 @@ dealt_held owner to street past_deck index number (slot ∷ rest) =
     by_owner true later = omega (arith, later)
     by_owner false later = omega (arith, later)
 
--- after a deal the owner has so many more
+-- after a deal the owner has that many more
 pub deal_held : (owner to : Option ℕ) (street : ℕ) (past_deck : Bool) (index number : ℕ) (cards : List Slot) (placed : List Place) → count_by (is_held owner) (placed ++ places_dealt to street past_deck index number cards) ≡ (if is_same_owner to owner then length cards else 0) + count_by (is_held owner) placed
 deal_held owner to street past_deck index number cards placed =
     let news : List Place = places_dealt to street past_deck index number cards in
     omega (arith, count-join (is_held owner) placed news, dealt_held owner to street past_deck index number cards)
 
--- a change that lets no owner have a card that it had not
+-- a change by which no owner gets a card that it did not have
 abbrev pub KeepsFewer : Option ℕ → (Place → Place) → Type 0
 KeepsFewer owner change = (place : Place) → cond (is_held owner (change place)) 1 0 ≤ cond (is_held owner place) 1 0
 
@@ -112,7 +112,7 @@ known_and_blank [] = refl
 known_and_blank (slots.Known card ∷ rest) = omega (arith, count_by-cons is_unknown (slots.Known card) rest, known_and_blank rest)
 known_and_blank (slots.Unknown ∷ rest) = omega (arith, count_by-cons is_unknown slots.Unknown rest, known_and_blank rest)
 
--- a discard whose names find their places takes as many cards as it names, or more
+-- a discard whose names all find a place takes at least as many cards as it names
 pub discard_takes : (street seat : ℕ) (cards : List Slot) (placed : List Place) → has_no_place (filter (is_held_by seat) placed) (known_cards cards) (blanks_in cards) ≡ false → count_by (is_held_by seat) (after_discard street seat cards placed) + length cards ≤ count_by (is_held_by seat) placed
 discard_takes street seat cards placed found =
     let held : List Place = filter (is_held_by seat) placed in

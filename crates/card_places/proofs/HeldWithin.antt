@@ -1,4 +1,4 @@
--- What an owner has, with all that may still come to it, never grows.
+-- What an owner has, with all that it may still be dealt, never grows.
 use Rattle.std.proofs.Common.{◌≡◌, ◌≢◌, ◌⊎◌, inl, inr, ℕ, ◌+◌, ◌-◌, ◌≤◌, Bool, true, false, ◌&&◌, ◌==◌, nat_eq, if◌then◌else◌, Option, Some, None, List, [], ◌++◌, length, count_by, refl, sym, ap, subst, ◌∙◌, arith}
 use Rattle.std.proofs.lemmas.Bool.{eqb-true, eq-eqb}
 use Rattle.std.proofs.lemmas.List.Sums.{length-filter}
@@ -13,8 +13,8 @@ use Rattle.card_places.specs.declared.draws.Draws.{Draws}
 use Rattle.card_places.specs.Drawn.{named_at}
 use Rattle.play_event.specs.Held.{is_held}
 use Rattle.card_places.specs.Room.{may_come, sum_from, held_most, is_owner, AreHeldWithin, IsOwed}
-use Rattle.street_laws.proofs.Groups.{still_group}
-use Rattle.street_laws.specs.Groups.{AreStill}
+use Rattle.play_laws.proofs.Groups.{still_group}
+use Rattle.play_laws.specs.Groups.{AreStill}
 use Rattle.card_places.proofs.HeldCards.{deal_held}
 use Rattle.card_places.proofs.Rooms.{group_more, seat_parts, street_parts}
 use Rattle.card_places.proofs.Sums.{sum_least, sum_more, sum_most_more}
@@ -29,7 +29,7 @@ unfolding to_have
 come_is code draws placed (Some seat) street = refl
 come_is code draws placed None street = refl
 
--- no more may come where the group is as long or longer
+-- no more cards may come if the group is as long or longer
 pub come_less : (code : Code) (draws : Draws) (olds news : List Place) (owner : Option ℕ) (street : ℕ) → count_by (is_in_group owner street) olds ≤ count_by (is_in_group owner street) news → may_come code draws news owner street ≤ may_come code draws olds owner street
 come_less code draws olds news owner street more = omega (arith, come_is code draws olds owner street, come_is code draws news owner street, more)
 
@@ -85,7 +85,7 @@ more_to_have : (draws_here : Bool) (named before count hole old new : ℕ) → n
 more_to_have true named before count hole old new is long = omega (arith, is, long)
 more_to_have false named before count hole old new is long = omega (arith, long)
 
--- what a discard makes of the draws and the cards
+-- what a discard changes in the draws and the cards
 pub record Discards (old new : Draws) (olds news : List Place) (on seat count : ℕ) : Type 0 where
   pub same : AreStill olds news
   pub fewer : (owner : Option ℕ) → count_by (is_held owner) news ≤ count_by (is_held owner) olds
@@ -130,7 +130,7 @@ held_discard code seats old new olds news on seat count ten gone_after held (Som
               (λ j from. same_to_have (has_draw code j) (named_at new j number) (named_at old j number) (hole_cards_on code j) (count_by (is_in_group (Some number) j) olds) (count_by (is_in_group (Some number) j) news) (gone_after.others j number parts.0 (omega (arith, parts.1, ten)) (inr (apart number seat is))) (long j)),
         )
 
--- before any card the streets bring a hand and a board
+-- before any card is dealt, the streets give a hand or a board
 come_first : (code : Code) (draws : Draws) (seat street : ℕ) → named_at draws street seat ≡ 0 → may_come code draws [] (Some seat) street ≤ hole_cards_on code street
 come_first code draws seat street none = by_draw (has_draw code street) (hole_cards_on code street) (named_at draws street seat) none
   where
@@ -152,7 +152,7 @@ held_first code seats draws none (Some seat) inside =
 held_first code seats draws none None inside =
     omega (arith, sum_least (board_cards_on code) (may_come code draws [] None) 1 (street_count code) (λ k from. omega arith), board_of_streets code)
 
--- a hand has at most seven cards, and a board too
+-- a hand has at most seven cards, and so has a board
 few_held : (code : Code) (owner : Option ℕ) → held_most code owner ≤ 7
 few_held games.FT (Some seat) = omega arith
 few_held games.FT None = omega arith

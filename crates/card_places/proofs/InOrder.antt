@@ -1,4 +1,4 @@
--- Where a place stands among those of several owners and streets.
+-- The index of a place among those of several owners and streets.
 use Rattle.std.proofs.Common.{◌≡◌, ℕ, zero, suc, ◌+◌, ◌-◌, ◌<◌, ◌≤◌, Option, Some, None, List, [], ◌∷◌, ◌++◌, map, flat_map, length, count_by, slice_get, refl, sym, ap, subst, ◌∙◌, arith, length-append, append_assoc}
 use Rattle.std.specs.List.{range_with_len}
 use Rattle.std.proofs.lemmas.List.{append-nil}
@@ -23,7 +23,7 @@ got_second [] ys i k is = ap (slice_get ys) (omega (arith, is))
 got_second (x ∷ xs) ys zero k is = absurd (omega (arith, is))
 got_second (x ∷ xs) ys (suc i) k is = got_second xs ys i k (omega (arith, is))
 
--- the cards at the front, and those behind them
+-- the cards at the front, and those after them
 pub record Splits (all front behind : List Place) : Type 0 where
   pub is : all ≡ front ++ behind
 
@@ -53,7 +53,7 @@ split_board seats placed street = record {
   is = flat-append (group_of placed street) (map Some (range_with_len 1 seats)) (None ∷ []) ∙ ap (λ (l : List Place). on_seats placed street 1 seats ++ l) (append-nil (group_of placed street None));
 }
 
--- all cards stand in the order
+-- all cards are in the order
 seats_long : (placed : List Place) (street first count : ℕ) → length (on_seats placed street first count) ≡ sum_from (λ seat. count_by (is_in_group (Some seat) street) placed) first count
 seats_long placed street first zero = refl
 seats_long placed street first (suc n) =

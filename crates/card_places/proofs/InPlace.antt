@@ -1,4 +1,4 @@
--- A walk that changes the places where they stand is one place further.
+-- A walk that changes the places one by one is one place further.
 use Rattle.std.proofs.Common.{◌≡◌, ℕ, ◌+◌, ◌<◌, ◌≤◌, List, [], ◌∷◌, ◌++◌, length, map, take, drop, get_or, set, sym, ap, ◌∙◌, arith, append_assoc}
 use Rattle.std.proofs.Math.Seq.{take-set-lt}
 use Rattle.std.proofs.lemmas.List.{map-append, take_more_set, drop_more, drop-set-lt, get_or-take, length-take}
@@ -6,7 +6,7 @@ use Rattle.play_event.specs.Places.{Place}
 use Rattle.card_places.specs.declared.dealt_card.DealtCard.{DealtCard}
 use Rattle.card_places.specs.Plain.{place_of}
 
--- what the walk makes of the places from here on is what it makes of this one, and of the later ones
+-- the result of the walk from here on is that of this place, followed by that of the later ones
 pub walk_more : (now later : List Place → List Place) (rows : List DealtCard) (i n : ℕ) (d new : DealtCard) (total : List Place) → i < n → n ≤ length rows → ((rest : List Place) → now (place_of (get_or rows i d) ∷ rest) ≡ place_of new ∷ later rest) → map place_of (take i rows) ++ now (map place_of (drop i (take n rows))) ≡ total → map place_of (take (i + 1) (set rows i new)) ++ later (map place_of (drop (i + 1) (take n (set rows i new)))) ≡ total
 walk_more now later rows i n d new total before within step so_far =
     let front : List Place = map place_of (take i rows) in

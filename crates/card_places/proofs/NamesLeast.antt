@@ -1,4 +1,5 @@
--- A discard that finds its places takes at least as many as it names: each name that is no other name is that of a place.
+-- A discard whose names all find a place takes at least as many cards as it names: each name is
+-- that of a known place or one of the other names.
 use Rattle.std.proofs.Common.{◌≡◌, ◌+◌, ◌≤◌, Bool, true, false, ◌||◌, if◌then◌else◌, List, [], ◌∷◌, length, refl, sym, ap, ◌∙◌, arith}
 use Rattle.card_set.specs.declared.card.Card.{Card}
 use Rattle.card_set.specs.declared.card.Slot.{Slot}
@@ -7,7 +8,7 @@ use Rattle.card_set.specs.Deck.{is_same_card}
 use Rattle.play_event.specs.Places.{Place}
 use Rattle.play_event.specs.Naming.{without, other_names, is_named, is_named_slot, named_count}
 
--- each name of one list is one of the other
+-- each name of one list is in the other
 abbrev pub AreNamed : List Card → List Card → Type 0
 AreNamed some names = (card : Card) → is_named card some ≡ true → is_named card names ≡ true
 
@@ -21,7 +22,7 @@ without_named (slots.Known other) (name ∷ rest) card is = by_first (is_same_ca
     by_first true false here found later = found
     by_first false false here found later = later (ap (λ x. x || is_named card (without (slots.Known other) rest)) (sym here) ∙ found)
 
--- at most one name is taken out, and none where the card is not named
+-- at most one name is taken out, and none if the card is not named
 one_out : (card : Card) (some : List Card) → length some ≤ 1 + length (without (slots.Known card) some)
 one_out card [] = omega arith
 one_out card (name ∷ rest) = by_first (is_same_card card name) (one_out card rest)

@@ -1,4 +1,4 @@
--- One card more is dealt.
+-- One more card is dealt.
 use Rattle.std.proofs.Common.{◌≡◌, ℕ, ◌+◌, Bool, Option, None, List, [], ◌∷◌, ◌++◌, length, take, sym, ap, ◌∙◌, arith, append_assoc}
 use Rattle.std.proofs.lemmas.List.{length-take, length-map}
 use Rattle.card_set.specs.declared.card.Slot.{Slot}
@@ -27,7 +27,7 @@ dealt_more owner street past_deck index number (card ∷ cards) slot =
 pub placed_length : (p : DealtCards) → length (placed p) ≡ p.count
 placed_length p = omega (arith, length-map (take p.count p.rows) place_of, length-take p.count p.rows, p.most, p.full)
 
--- the places after one card more
+-- the places after one more card
 pub put_more : (before : List Place) (owner : Option ℕ) (street : ℕ) (past_deck : Bool) (index number : ℕ) (cards more : List Slot) (slot : Slot) (now next : List Place) (i n : ℕ) → now ≡ before ++ places_dealt owner street past_deck index number cards → next ≡ now ++ fresh owner street past_deck i n slot ∷ [] → more ≡ cards ++ slot ∷ [] → i ≡ index + length cards → n ≡ number + length cards → next ≡ before ++ places_dealt owner street past_deck index number more
 put_more before owner street past_deck index number cards more slot now next i n now_is next_is more_is i_is n_is =
     next_is

@@ -1,6 +1,6 @@
 -- There is room for the next card that passes.
 use Rattle.std.proofs.Common.{◌≡◌, ℕ, zero, suc, ◌+◌, ◌<◌, ◌≤◌, Bool, true, cond, List, [], ◌∷◌, map, take, length, count_by, get_or, ap, arith}
-use Rattle.list_laws.proofs.Counting.{count_by-cons}
+use Rattle.card_set.proofs.Counting.{count_by-cons}
 use Rattle.play_event.specs.Places.{Place}
 use Rattle.card_places.specs.declared.dealt_card.DealtCard.{DealtCard}
 use Rattle.card_places.specs.Plain.{place_of}

@@ -1,8 +1,8 @@
--- Where each owner has at most its cards of each street, 120 rooms are enough for all.
+-- If each owner has at most its cards of each street, 120 rooms are enough for all.
 use Rattle.std.proofs.Common.{◌≡◌, ℕ, suc, ◌+◌, ◌*◌, ◌≤◌, Bool, true, false, ◌&&◌, ◌==◌, nat_le, cond, inl, inr, if◌then◌else◌, Option, Some, None, List, [], ◌∷◌, ◌++◌, length, count_by, refl, ap, subst, ◌∙◌, arith, length-append}
 use Rattle.std.proofs.lemmas.Bool.{and_parts, leb-true, eqb-true, eq-eqb}
 use Rattle.std.proofs.lemmas.List.Sums.{length-filter}
-use Rattle.list_laws.proofs.Counting.{count_by-cons}
+use Rattle.card_set.proofs.Counting.{count_by-cons}
 use Rattle.card_set.specs.declared.card.Slot.{Slot}
 use Rattle.play_event.specs.declared.code.Code.{Code}
 use Rattle.play_event.specs.declared.code.Code.TheVariants as games
@@ -11,9 +11,9 @@ use Rattle.play_event.specs.Places.{Place, is_same_owner, is_in_group, places_de
 use Rattle.play_event.proofs.OwnerLaws.{is_same_owner-self, is_same_owner-true}
 use Rattle.play_event.specs.Laws.{IsAmong}
 use Rattle.card_places.specs.Room.{is_seat_of, is_street, hole_most, most_of, IsWithin, sum_from, is_owner}
-use Rattle.street_laws.proofs.Groups.{deal_group}
+use Rattle.play_laws.proofs.Groups.{deal_group}
 use Rattle.card_places.proofs.Sums.{sum_least, sum_more, sum_most}
-use Rattle.list_laws.proofs.Tests.{if_most}
+use Rattle.card_set.proofs.Tests.{if_most}
 
 -- all cards of a street, by owner
 abbrev pub on_street : ℕ → List Place → ℕ → ℕ
@@ -29,7 +29,7 @@ one_more p place rest = omega (arith, count_by-cons p place rest)
 this_more : (p : Place → Bool) (place : Place) (rest : List Place) → p place ≡ true → count_by p rest + 1 ≤ count_by p (place ∷ rest)
 this_more p place rest is = let one : ◌≡◌ {A = ℕ} (cond (p place) 1 0) 1 = ap (λ b. cond b 1 0) is in omega (arith, count_by-cons p place rest, one)
 
--- a place lies on a street of the game, and with a seat of the hand or on the board
+-- a place is on a street of the game, and belongs to a seat of the hand or to the board
 record IsInside (code : Code) (seats : ℕ) (place : Place) : Type 0 where
   owner : is_owner seats place.owner ≡ true
   first : 1 ≤ place.street
@@ -126,12 +126,12 @@ game_most games.N2L1D seats few = omega (arith, few)
 game_most games.F2L3D seats few = omega (arith, few)
 game_most games.FB seats few = omega (arith, few)
 
--- so many rooms are enough
+-- this number of rooms is enough
 pub enough : (code : Code) (seats : ℕ) (placed : List Place) → seats ≤ (game_of code).seats → IsWithin code seats placed → length placed ≤ 120
 enough code seats placed few within =
     omega (arith, all_counted code seats placed within, sum_least (street_most code seats) (on_street seats placed) 1 (street_count code) (λ k from. on_street_most code seats placed within k), game_most code seats few)
 
--- after a deal of no more than the rest
+-- after a deal of at most the rest
 dealt_within : (b : Bool) (n k most : ℕ) → k ≤ most → (b ≡ true → k + n ≤ most) → (if b then n else 0) + k ≤ most
 dealt_within true n k most less fits = omega (arith, fits refl)
 dealt_within false n k most less fits = omega (arith, less)

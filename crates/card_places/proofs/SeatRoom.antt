@@ -3,8 +3,8 @@ use Rattle.std.proofs.Common.{◌≡◌, ℕ, ◌+◌, ◌<◌, ◌≤◌, Bool,
 use Rattle.std.proofs.lemmas.Bool.{and_from, eq-eqb}
 use Rattle.std.proofs.lemmas.List.{length-map}
 use Rattle.std.proofs.lemmas.List.Sums.{length-filter}
-use Rattle.list_laws.proofs.Counting.{counts_fewer}
-use Rattle.list_laws.proofs.Tests.{first_of_both}
+use Rattle.card_set.proofs.Counting.{counts_fewer}
+use Rattle.card_set.proofs.Tests.{first_of_both}
 use Rattle.card_set.specs.declared.card.Slot.{Slot}
 use Rattle.chip_ledger.specs.declared.numbers.Seat.{Seat}
 use Rattle.play_event.proofs.OwnerLaws.{is_same_owner-self}

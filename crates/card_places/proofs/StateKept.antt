@@ -1,4 +1,4 @@
--- What is asked of a state holds after each change of it.
+-- The conditions of a state hold after each change of it.
 use Rattle.std.proofs.Common.{◌≡◌, ◌≢◌, ◌⊎◌, inl, inr, ℕ, ◌+◌, ◌≤◌, Bool, true, false, nat_eq, Some, List, length, count_by, refl, sym, ap, subst, ◌∙◌, arith}
 use Rattle.std.proofs.lemmas.Bool.{eqb-true, eq-eqb}
 use Rattle.card_set.specs.declared.card.Card.{Card}
@@ -11,7 +11,7 @@ use Rattle.card_places.specs.declared.draws.Draws.{Draws}
 use Rattle.card_places.specs.Drawn.{named_at}
 use Rattle.play_event.specs.Held.{is_held}
 use Rattle.card_places.specs.Room.{is_seat_of, IsWithin, AreNamedWithin, AreHeldWithin}
-use Rattle.street_laws.specs.Groups.{AreStill}
+use Rattle.play_laws.specs.Groups.{AreStill}
 use Rattle.card_places.proofs.HeldCards.{discard_fewer, show_fewer, fold_fewer}
 use Rattle.card_places.proofs.HeldWithin.{held_still, held_discard}
 use Rattle.card_places.proofs.StillWithin.{within_still, discard_still, show_still, folded_still}
@@ -40,7 +40,7 @@ bounded_show code seats draws before after seat cards is bounded =
       held = held_still code seats draws before (after_show code seat cards before) (show_still code seat cards before) (λ owner. show_fewer owner code seat cards before) bounded.held;
     })
 
--- a seat named so many cards in a draw, and the other draws are as they were
+-- a seat discarded `count` cards in a draw, and the other draws are unchanged
 pub record IsDrawnBy (old new : Draws) (on seat count : ℕ) : Type 0 where
   pub named : named_at new on seat ≡ count
   pub others : (street number : ℕ) → 1 ≤ number → number ≤ 10 → (street ≢ on) ⊎ (number ≢ seat) → named_at new street number ≡ named_at old street number

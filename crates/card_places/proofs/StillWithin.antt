@@ -1,4 +1,4 @@
--- Folds, discards and shows leave each owner as many cards.
+-- Folds, discards and shows do not change how many cards each owner was dealt.
 use Rattle.std.proofs.Common.{ℕ, Bool, List, filter, length, refl, arith}
 use Rattle.std.proofs.lemmas.List.Sums.{length-filter}
 use Rattle.card_set.specs.declared.card.Card.{Card}
@@ -8,8 +8,8 @@ use Rattle.card_set.specs.Known.{known_cards}
 use Rattle.play_event.specs.Places.{Place, is_in_group, is_held_by, after_fold}
 use Rattle.play_event.specs.Naming.{after_discard, after_show, discarded_now, other_names, blanks_in, is_covered, is_show_of_all}
 use Rattle.card_places.specs.Room.{IsWithin}
-use Rattle.street_laws.proofs.Groups.{still, still_group, names_still, fold_still}
-use Rattle.street_laws.specs.Groups.{AreStill}
+use Rattle.play_laws.proofs.Groups.{still, still_group, names_still, fold_still}
+use Rattle.play_laws.specs.Groups.{AreStill}
 
 pub within_still : (code : Code) (seats : ℕ) (olds news : List Place) → AreStill olds news → IsWithin code seats olds → IsWithin code seats news
 within_still code seats olds news same within owner street =

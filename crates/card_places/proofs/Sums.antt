@@ -2,13 +2,13 @@
 use Rattle.std.proofs.Common.{◌≡◌, ◌≢◌, ℕ, zero, suc, ◌+◌, ◌*◌, ◌<◌, ◌≤◌, Bool, true, false, nat_eq, refl, sym, subst, arith}
 use Rattle.std.proofs.lemmas.Bool.{eqb-true}
 use Rattle.card_places.specs.Room.{sum_from}
-use Rattle.list_laws.proofs.Numbers.{next_above, unequal}
+use Rattle.card_set.proofs.Numbers.{next_above, unequal}
 
 pub sum_least : (f g : ℕ → ℕ) (first n : ℕ) → ((k : ℕ) → first ≤ k → g k ≤ f k) → sum_from g first n ≤ sum_from f first n
 sum_least f g first zero less = omega arith
 sum_least f g first (suc n) less = omega (arith, less first (omega arith), sum_least f g (first + 1) n (λ k from. less k (omega (arith, from))))
 
--- one summand is greater by so much
+-- one term is greater by this much
 pub sum_more : (f g : ℕ → ℕ) (first n k c : ℕ) → ((j : ℕ) → g j ≤ f j) → first ≤ k → k < first + n → g k + c ≤ f k → sum_from g first n + c ≤ sum_from f first n
 sum_more f g first zero k c less low high more = absurd (omega (arith, low, high))
 sum_more f g first (suc n) k c less low high more = by_first (nat_eq first k) refl
@@ -20,7 +20,7 @@ sum_more f g first (suc n) k c less low high more = by_first (nat_eq first k) re
         omega (arith, here, sum_least f g (first + 1) n (λ j from. less j))
     by_first false is later = omega (arith, less first, later (next_above first k low is))
 
--- at most one summand is greater, and by no more than so much
+-- at most one term is greater, and by at most `c`
 pub sum_most_more : (f g : ℕ → ℕ) (first n k c : ℕ) → ((j : ℕ) → j ≢ k → f j ≤ g j) → f k ≤ g k + c → sum_from f first n ≤ sum_from g first n + c
 sum_most_more f g first zero k c less more = omega arith
 sum_most_more f g first (suc n) k c less more = by_first (nat_eq first k) refl (sum_most_more f g (first + 1) n k c less more)

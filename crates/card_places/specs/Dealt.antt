@@ -1,4 +1,4 @@
--- What changes in the state where cards are dealt.
+-- What changes when cards are dealt.
 use Rattle.std.specs.Prelude.{◌≡◌, ℕ, List, Option}
 use Rattle.card_set.specs.declared.card.Slot.{Slot}
 use Rattle.play_event.specs.Places.{after_deal}

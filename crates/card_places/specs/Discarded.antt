@@ -1,4 +1,4 @@
--- What changes in the state where a seat discards.
+-- What changes when a seat discards.
 use Rattle.std.specs.Prelude.{◌≡◌, ◌≢◌, ◌⊎◌, ℕ, ◌≤◌, true, List, filter, length}
 use Rattle.card_set.specs.declared.card.Slot.{Slot}
 use Rattle.card_set.specs.Known.{known_cards}
@@ -7,13 +7,13 @@ use Rattle.play_event.specs.CardReasons.{has_no_place}
 use Rattle.play_event.specs.Naming.{after_discard, blanks_in}
 use Rattle.play_event.specs.Places.{Place, is_held_by}
 use Rattle.card_places.specs.declared.card_state.CardState.{CardState}
-use Rattle.card_places.specs.declared.search.Search.{Search}
+use Rattle.card_places.specs.declared.search.NamedCards.{NamedCards}
 use Rattle.card_places.specs.Drawn.{has_drawn_at, named_at}
 use Rattle.card_places.specs.Placed.{placed}
 use Rattle.card_places.specs.Searches.{has_unplaced_name, searched}
 
--- a search is that of a discard: what it makes of the places, and whether it lacks some
-pub record IsDiscardSearch (code : Code) (s : Search) (placed : List Place) (on seat : ℕ)
+-- a search is that of a discard: what it makes of the places, and whether some names find no place
+pub record IsDiscardSearch (code : Code) (s : NamedCards) (placed : List Place) (on seat : ℕ)
     (cards : List Slot) : Type 0 where
   pub after : searched code s placed ≡ after_discard on seat cards placed
   pub lacking :

@@ -1,4 +1,4 @@
--- What changes in the state where a seat folds.
+-- What changes when a seat folds.
 use Rattle.std.specs.Prelude.{◌≡◌, ℕ}
 use Rattle.play_event.specs.Places.{after_fold}
 use Rattle.card_places.specs.declared.card_state.CardState.{CardState}

@@ -1,4 +1,4 @@
--- The state of the cards, and what is read from it.
+-- The cards of a hand: where they are, and what is read from that.
 pub mod Plain
 pub mod Placed
 pub mod Covered

@@ -1,4 +1,4 @@
--- What a discard or a show makes of a place.
+-- What a discard or a show changes in a place.
 use Rattle.std.specs.Prelude.{◌≡◌, ℕ, ◌+◌, List, drop, Option, Some, None}
 use Rattle.card_set.specs.declared.card.Card.{Card}
 use Rattle.play_event.specs.declared.code.Code.{Code}
@@ -11,12 +11,13 @@ use Rattle.play_event.specs.Naming.{discarded_now}
 use Rattle.card_places.specs.declared.finding.FoundPlace.{FoundPlace}
 use Rattle.card_places.specs.Plain.{place_of}
 
--- a card that is discarded on a street is gone, after so many deals; one that is shown stays
+-- a card that is discarded on a street is gone after `count` dealt cards; a card that is shown
+-- stays
 abbrev pub mark_by : Option ℕ → ℕ → Place → Place
 mark_by (Some street) count place = discarded_now street count place
 mark_by None count place = place
 
--- what was found in code is this
+-- the code found what the definitions find
 pub record IsFound (code : FoundPlace) (found : naming.Found) (others : List Card) : Type 0 where
   pub place : place_of code.card ≡ found.place
   pub others_left : drop code.taken others ≡ found.others

@@ -8,17 +8,17 @@ use Rattle.play_event.specs.Places.{Place, group_of}
 use Rattle.play_event.specs.Played.{IsPlace}
 use Rattle.play_event.specs.Trace.{traced_place}
 
--- those of so many seats, from the first one on
+-- the places of `count` seats, from seat `first` on
 abbrev pub on_seats : List Place → ℕ → (first count : ℕ) → List Place
 on_seats placed street first count =
     flat_map (group_of placed street) (map Some (range_with_len first count))
 
--- those of the seats and the board
+-- the places of the seats and the board
 abbrev pub on_street : ℕ → List Place → ℕ → List Place
 on_street seats placed street =
     flat_map (group_of placed street) (map Some (range_with_len 1 seats) ++ None ∷ [])
 
--- those of so many streets, from the first one on
+-- the places of `count` streets, from street `first` on
 abbrev pub on_streets : ℕ → List Place → (first count : ℕ) → List Place
 on_streets seats placed first count = flat_map (on_street seats placed) (range_with_len first count)
 
@@ -26,7 +26,7 @@ on_streets seats placed first count = flat_map (on_street seats placed) (range_w
 abbrev pub ordered : Code → ℕ → List Place → List Place
 ordered code seats placed = on_streets seats placed 1 (street_count code)
 
--- a row is what the trace has of a place that is there
+-- a row is what the trace keeps of a place
 pub record IsPlaceOf (row : rows.Place) (place : Option Place) : Type 0 where
   pub there : IsSome place
   pub same : IfSome place (λ p. IsPlace row (traced_place p))

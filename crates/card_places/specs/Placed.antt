@@ -1,4 +1,4 @@
--- The places that were dealt so far.
+-- The places of the cards dealt so far.
 use Rattle.std.specs.Prelude.{List, map, take}
 use Rattle.play_event.specs.Places.{Place}
 use Rattle.card_places.specs.declared.dealt_cards.DealtCards.{DealtCards}

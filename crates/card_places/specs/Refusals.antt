@@ -1,4 +1,4 @@
--- Why cards may not be dealt, by the state.
+-- Why cards may not be dealt, discarded, shown or mucked, by the state.
 use Rattle.std.specs.Prelude.{ℕ, ◌-◌, Bool, false, ◌&&◌, ◌||◌, ◌==◌, nat_lt, not, if◌then◌else◌, List, length, filter, find, count_by, Option, Some, None, is_some}
 use Rattle.std.specs.Option.{option_map_or}
 use Rattle.chip_ledger.specs.Seat.{seats_of}
@@ -24,32 +24,32 @@ use Rattle.card_places.specs.Drawn.{has_drawn_at, named_at}
 use Rattle.card_places.specs.Placed.{placed}
 use Rattle.card_places.specs.Room.{is_seat_of}
 
--- how many cards a seat is owed
+-- the number of cards that a seat is owed
 abbrev pub owed_of : (draws live : Bool) (hole named dealt : ℕ) → ℕ
 owed_of draws live hole named dealt =
     if draws then named - dealt else (if live then hole - dealt else 0)
 
--- how many cards of the street a seat is owed
+-- the number of cards of the street that a seat is owed
 abbrev pub owed_in : CardState → LiveRow → ℕ → ℕ → ℕ
 owed_in t live on seat =
     owed_of (has_draw t.table.code on) (flag_of live seat) (hole_cards_on t.table.code on)
     (named_at t.draws on seat) (count_by (is_in_group (Some seat) on) (placed t.places))
 
--- how many cards of the street the board is owed
+-- the number of cards of the street that the board is owed
 abbrev pub board_owed_in : CardState → ℕ → ℕ
 board_owed_in t on =
     board_cards_on t.table.code on - count_by (is_in_group None on) (placed t.places)
 
--- the first seat that is owed cards of the street, if one is
+-- the first seat that is owed cards of the street, if there is one
 abbrev pub first_owed_in : CardState → LiveRow → ℕ → Option ℕ
 first_owed_in t live on = find (λ seat. nat_lt 0 (owed_in t live on seat)) (seats_of t.seats)
 
--- how many cards of the street an owner is owed
+-- the number of cards of the street that an owner is owed
 abbrev pub owed_to_in : CardState → LiveRow → ℕ → Option ℕ → ℕ
 owed_to_in t live on (Some seat) = owed_in t live on seat
 owed_to_in t live on None = board_owed_in t on
 
--- the reasons of a deal in their order
+-- the reasons against a deal, in their order
 abbrev pub deal_chain : (wrong_seat : Bool) (owed count : ℕ) (taken : Bool) → Option Illegal
 deal_chain wrong_seat owed count taken =
     if wrong_seat then Some reasons.WrongSeat
@@ -58,45 +58,45 @@ deal_chain wrong_seat owed count taken =
     else None
 
 -- why hole cards of the street may not be dealt to a seat
-abbrev pub hole_why_on : CardState → LiveRow → ℕ → ℕ → List Slot → Option Illegal
-hole_why_on t live on seat cards =
+abbrev pub illegal_hole_deal_on : CardState → LiveRow → ℕ → ℕ → List Slot → Option Illegal
+illegal_hole_deal_on t live on seat cards =
     let owed = owed_in t live on seat in
     deal_chain (not (is_seat_of t.seats seat) || (owed == 0)) owed (length cards)
     (has_taken_card t.table.code (placed t.places) on cards)
 
 -- why cards of the street may not be dealt to the board
-abbrev pub board_why_on : CardState → ℕ → List Slot → Option Illegal
-board_why_on t on cards =
+abbrev pub illegal_board_deal_on : CardState → ℕ → List Slot → Option Illegal
+illegal_board_deal_on t on cards =
     let owed = board_owed_in t on in
     if is_wrong_deal owed (length cards) then Some reasons.WrongCount
     else if has_taken_card t.table.code (placed t.places) on cards then Some reasons.CardTaken
     else None
 
 -- why hole cards may not be dealt now
-abbrev pub hole_why : CardState → LiveRow → Due → ℕ → List Slot → Option Illegal
-hole_why t live dues.Over seat cards = Some reasons.HandOver
-hole_why t live (dues.Deal on) seat cards =
+abbrev pub illegal_hole_deal : CardState → LiveRow → Due → ℕ → List Slot → Option Illegal
+illegal_hole_deal t live dues.Over seat cards = Some reasons.HandOver
+illegal_hole_deal t live (dues.Deal on) seat cards =
     if nat_lt 0 (hole_cards_on t.table.code on)
-    then hole_why_on t live on seat cards
+    then illegal_hole_deal_on t live on seat cards
     else Some reasons.WrongKind
-hole_why t live (dues.Draw on) seat cards = hole_why_on t live on seat cards
-hole_why t live dues.BringIn seat cards = Some reasons.WrongKind
-hole_why t live dues.Move seat cards = Some reasons.WrongKind
-hole_why t live dues.Show seat cards = Some reasons.WrongKind
+illegal_hole_deal t live (dues.Draw on) seat cards = illegal_hole_deal_on t live on seat cards
+illegal_hole_deal t live dues.BringIn seat cards = Some reasons.WrongKind
+illegal_hole_deal t live dues.Move seat cards = Some reasons.WrongKind
+illegal_hole_deal t live dues.Show seat cards = Some reasons.WrongKind
 
 -- why board cards may not be dealt now
-abbrev pub board_why : CardState → Due → List Slot → Option Illegal
-board_why t dues.Over cards = Some reasons.HandOver
-board_why t (dues.Deal on) cards =
+abbrev pub illegal_board_deal : CardState → Due → List Slot → Option Illegal
+illegal_board_deal t dues.Over cards = Some reasons.HandOver
+illegal_board_deal t (dues.Deal on) cards =
     if nat_lt 0 (board_cards_on t.table.code on)
-    then board_why_on t on cards
+    then illegal_board_deal_on t on cards
     else Some reasons.WrongKind
-board_why t (dues.Draw on) cards = Some reasons.WrongKind
-board_why t dues.BringIn cards = Some reasons.WrongKind
-board_why t dues.Move cards = Some reasons.WrongKind
-board_why t dues.Show cards = Some reasons.WrongKind
+illegal_board_deal t (dues.Draw on) cards = Some reasons.WrongKind
+illegal_board_deal t dues.BringIn cards = Some reasons.WrongKind
+illegal_board_deal t dues.Move cards = Some reasons.WrongKind
+illegal_board_deal t dues.Show cards = Some reasons.WrongKind
 
--- a live seat did not draw on the street
+-- a live seat has not drawn on the street
 abbrev pub has_to_draw : CardState → LiveRow → ℕ → ℕ → Bool
 has_to_draw t live on seat = flag_of live seat && not (has_drawn_at t.draws on seat)
 
@@ -108,7 +108,7 @@ next_to_draw_in t live on = find (has_to_draw t live on) (seats_of t.seats)
 abbrev pub is_next_in : CardState → LiveRow → ℕ → ℕ → Bool
 is_next_in t live on seat = option_map_or (λ next. next == seat) (next_to_draw_in t live on) false
 
--- the reasons of a discard in their order
+-- the reasons against a discard, in their order
 abbrev pub discard_chain : (next : Bool) (held count : ℕ) (taken lacking : Bool) → Option Illegal
 discard_chain next held count taken lacking =
     if not next then Some reasons.WrongSeat
@@ -118,8 +118,8 @@ discard_chain next held count taken lacking =
     else None
 
 -- why a seat may not discard these cards on the street
-abbrev pub discard_why_on : CardState → LiveRow → ℕ → ℕ → List Slot → Option Illegal
-discard_why_on t live on seat cards =
+abbrev pub illegal_discard_on : CardState → LiveRow → ℕ → ℕ → List Slot → Option Illegal
+illegal_discard_on t live on seat cards =
     discard_chain (is_next_in t live on seat) (held_count (placed t.places) seat) (length cards)
     (has_misplaced_card t.table.code (placed t.places)
     (after_discard on seat cards (placed t.places)))
@@ -127,29 +127,29 @@ discard_why_on t live on seat cards =
     (blanks_in cards))
 
 -- why a seat may not discard these cards now
-abbrev pub discard_why : CardState → LiveRow → Due → ℕ → List Slot → Option Illegal
-discard_why t live dues.Over seat cards = Some reasons.HandOver
-discard_why t live (dues.Draw on) seat cards = discard_why_on t live on seat cards
-discard_why t live (dues.Deal on) seat cards = Some reasons.WrongKind
-discard_why t live dues.BringIn seat cards = Some reasons.WrongKind
-discard_why t live dues.Move seat cards = Some reasons.WrongKind
-discard_why t live dues.Show seat cards = Some reasons.WrongKind
+abbrev pub illegal_discard : CardState → LiveRow → Due → ℕ → List Slot → Option Illegal
+illegal_discard t live dues.Over seat cards = Some reasons.HandOver
+illegal_discard t live (dues.Draw on) seat cards = illegal_discard_on t live on seat cards
+illegal_discard t live (dues.Deal on) seat cards = Some reasons.WrongKind
+illegal_discard t live dues.BringIn seat cards = Some reasons.WrongKind
+illegal_discard t live dues.Move seat cards = Some reasons.WrongKind
+illegal_discard t live dues.Show seat cards = Some reasons.WrongKind
 
--- a seat may show or muck: it is live, and did neither
+-- a seat may show or muck: it is live, and has done neither
 abbrev pub may_show_in : CardState → LiveRow → ℕ → Bool
 may_show_in t live seat =
     is_seat_of t.seats seat
     && (flag_of live seat && not (flag_of t.shown seat || flag_of t.mucked seat))
 
--- a show may have so many cards: all that the seat holds, or its down-cards alone where its
--- up-cards are known
+-- a show may have `count` cards: all that the seat holds, or only its down-cards if its up-cards
+-- are known
 abbrev pub may_show_many : Code → List Place → ℕ → ℕ → Bool
 may_show_many code placed seat count =
     (count == held_count placed seat)
     || ((count == held_down_count code placed seat)
     && not (list_any is_unknown (up_slots code placed seat)))
 
--- the reasons of a show in their order
+-- the reasons against a show, in their order
 abbrev pub show_chain : (may many taken others : Bool) → Option Illegal
 show_chain may many taken others =
     if not may then Some reasons.WrongSeat
@@ -158,9 +158,9 @@ show_chain may many taken others =
     else if others then Some reasons.NotHeld
     else None
 
--- why a seat may not show these cards, when a show may come
-abbrev pub show_why_on : CardState → LiveRow → ℕ → List Card → Option Illegal
-show_why_on t live seat cards =
+-- why a seat may not show these cards, when a show is due
+abbrev pub illegal_show_on : CardState → LiveRow → ℕ → List Card → Option Illegal
+illegal_show_on t live seat cards =
     show_chain (may_show_in t live seat)
     (may_show_many t.table.code (placed t.places) seat (length cards))
     (has_misplaced_card t.table.code (placed t.places)
@@ -170,28 +170,29 @@ show_why_on t live seat cards =
     (placed t.places))
     cards)
 
--- why a seat may not show these cards now, the hand being settled or not
-abbrev pub show_why : CardState → LiveRow → Due → Bool → ℕ → List Card → Option Illegal
-show_why t live dues.Over settled seat cards =
-    if may_show_in t live seat then show_why_on t live seat cards else Some reasons.HandOver
-show_why t live dues.Show settled seat cards = show_why_on t live seat cards
-show_why t live (dues.Deal on) settled seat cards =
-    if settled then show_why_on t live seat cards else Some reasons.WrongKind
-show_why t live (dues.Draw on) settled seat cards =
-    if settled then show_why_on t live seat cards else Some reasons.WrongKind
-show_why t live dues.BringIn settled seat cards =
-    if settled then show_why_on t live seat cards else Some reasons.WrongKind
-show_why t live dues.Move settled seat cards =
-    if settled then show_why_on t live seat cards else Some reasons.WrongKind
+-- why a seat may not show these cards now; `settled` says whether no more betting is possible
+abbrev pub illegal_show : CardState → LiveRow → Due → Bool → ℕ → List Card → Option Illegal
+illegal_show t live dues.Over settled seat cards =
+    if may_show_in t live seat then illegal_show_on t live seat cards else Some reasons.HandOver
+illegal_show t live dues.Show settled seat cards = illegal_show_on t live seat cards
+illegal_show t live (dues.Deal on) settled seat cards =
+    if settled then illegal_show_on t live seat cards else Some reasons.WrongKind
+illegal_show t live (dues.Draw on) settled seat cards =
+    if settled then illegal_show_on t live seat cards else Some reasons.WrongKind
+illegal_show t live dues.BringIn settled seat cards =
+    if settled then illegal_show_on t live seat cards else Some reasons.WrongKind
+illegal_show t live dues.Move settled seat cards =
+    if settled then illegal_show_on t live seat cards else Some reasons.WrongKind
 
 -- why a seat may not muck now
-abbrev pub muck_why : CardState → LiveRow → Due → ℕ → Option Illegal
-muck_why t live dues.Over seat = if may_show_in t live seat then None else Some reasons.HandOver
-muck_why t live dues.Show seat = if may_show_in t live seat then None else Some reasons.WrongSeat
-muck_why t live (dues.Deal on) seat = Some reasons.WrongKind
-muck_why t live (dues.Draw on) seat = Some reasons.WrongKind
-muck_why t live dues.BringIn seat = Some reasons.WrongKind
-muck_why t live dues.Move seat = Some reasons.WrongKind
+abbrev pub illegal_muck : CardState → LiveRow → Due → ℕ → Option Illegal
+illegal_muck t live dues.Over seat = if may_show_in t live seat then None else Some reasons.HandOver
+illegal_muck t live dues.Show seat = if may_show_in t live seat then None
+    else Some reasons.WrongSeat
+illegal_muck t live (dues.Deal on) seat = Some reasons.WrongKind
+illegal_muck t live (dues.Draw on) seat = Some reasons.WrongKind
+illegal_muck t live dues.BringIn seat = Some reasons.WrongKind
+illegal_muck t live dues.Move seat = Some reasons.WrongKind
 
 -- a live seat is owed hole cards of the street
 abbrev pub is_owed_deal_in : CardState → LiveRow → ℕ → ℕ → Bool
@@ -207,7 +208,7 @@ abbrev pub is_owed_draw_in : CardState → ℕ → ℕ → Bool
 is_owed_draw_in t on seat =
     nat_lt 0 (named_at t.draws on seat - count_by (is_in_group (Some seat) on) (placed t.places))
 
--- a live seat did not show or muck
+-- a live seat has not shown or mucked
 abbrev pub has_to_show_in : CardState → LiveRow → ℕ → Bool
 has_to_show_in t live seat =
     flag_of live seat && not (flag_of t.shown seat || flag_of t.mucked seat)

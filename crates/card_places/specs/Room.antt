@@ -1,4 +1,4 @@
--- How many cards an owner may have: of each street, and on the table.
+-- The most cards that an owner may have: of each street, and on the table.
 use Rattle.std.specs.Prelude.{◌≡◌, ℕ, zero, suc, ◌+◌, ◌-◌, ◌≤◌, Bool, true, ◌&&◌, nat_le, if◌then◌else◌, List, count_by, Option, Some, None}
 use Rattle.play_event.specs.declared.code.Code.{Code}
 use Rattle.play_event.specs.Games.{game_of, hole_cards_on, board_cards_on, street_count}
@@ -8,7 +8,7 @@ use Rattle.card_places.specs.declared.draws.Draws.{Draws}
 use Rattle.card_places.specs.Drawn.{named_at}
 use Rattle.play_event.specs.Held.{is_held}
 
--- a number is that of a seat of so many
+-- the number is that of one of `seats` seats
 abbrev pub is_seat_of : ℕ → ℕ → Bool
 is_seat_of seats seat = nat_le 1 seat && nat_le seat seats
 
@@ -16,18 +16,18 @@ is_seat_of seats seat = nat_le 1 seat && nat_le seat seats
 abbrev pub is_street : Code → ℕ → Bool
 is_street code street = nat_le 1 street && nat_le street (street_count code)
 
--- the most cards of the street that a seat may be dealt: in a draw as many as a hand has
+-- the most cards that a seat may be dealt on the street: in a draw as many as a hand has
 abbrev pub hole_most : Code → ℕ → ℕ
 hole_most code street =
     if has_draw code street then (game_of code).hole else hole_cards_on code street
 
--- the most cards of the street that an owner may be dealt
+-- the most cards that an owner may be dealt on the street
 abbrev pub most_of : Code → ℕ → Option ℕ → ℕ → ℕ
 most_of code seats (Some seat) street =
     if is_seat_of seats seat && is_street code street then hole_most code street else 0
 most_of code seats None street = if is_street code street then board_cards_on code street else 0
 
--- each owner was dealt at most so many cards of each street
+-- no owner was dealt more than its most cards on any street
 abbrev pub IsWithin : Code → ℕ → List Place → Type 0
 IsWithin code seats placed =
     (owner : Option ℕ) (street : ℕ)
@@ -39,8 +39,8 @@ AreNamedWithin code draws =
     (street seat : ℕ) → street ≤ 5 → 1 ≤ seat → seat ≤ 10
     → named_at draws street seat ≤ (game_of code).hole
 
--- how many cards of the street may still come to an owner, by its deal, or in a draw for those that
--- it discarded
+-- the number of cards of the street that an owner may still be dealt, in the deal or in a draw in
+-- place of discards
 abbrev pub may_come : Code → Draws → List Place → Option ℕ → ℕ → ℕ
 may_come code draws placed (Some seat) street =
     (if has_draw code street then named_at draws street seat else hole_cards_on code street)
@@ -48,7 +48,7 @@ may_come code draws placed (Some seat) street =
 may_come code draws placed None street =
     board_cards_on code street - count_by (is_in_group None street) placed
 
--- the sum over so many numbers from the first on
+-- the sum over a number of streets, from the first on
 abbrev pub sum_from : (ℕ → ℕ) → ℕ → ℕ → ℕ
 sum_from f first zero = 0
 sum_from f first (suc n) = f first + sum_from f (first + 1) n
@@ -63,7 +63,7 @@ abbrev pub is_owner : ℕ → Option ℕ → Bool
 is_owner seats (Some seat) = is_seat_of seats seat
 is_owner seats None = true
 
--- what an owner has on the table, with all that may still come to it, is no more than a hand or a
+-- what an owner has on the table, with all that it may still be dealt, is no more than a hand or a
 -- board
 abbrev pub AreHeldWithin : Code → ℕ → Draws → List Place → Type 0
 AreHeldWithin code seats draws placed =
@@ -72,7 +72,7 @@ AreHeldWithin code seats draws placed =
     + sum_from (may_come code draws placed owner) 1 (street_count code)
     ≤ held_most code owner
 
--- so many cards of the street may be dealt to an owner
+-- `count` cards of the street may be dealt to an owner
 pub record IsOwed (code : Code) (seats : ℕ) (draws : Draws) (placed : List Place) (owner : Option ℕ)
     (street count : ℕ) : Type 0 where
   pub owner_in : is_owner seats owner ≡ true

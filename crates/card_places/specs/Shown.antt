@@ -1,4 +1,4 @@
--- What changes in the state where a seat shows or mucks.
+-- What changes when a seat shows or mucks.
 use Rattle.std.specs.Prelude.{◌≡◌, ◌≢◌, ℕ, ◌≤◌, ◌||◌, true, List}
 use Rattle.card_set.specs.declared.card.Card.{Card}
 use Rattle.chip_ledger.specs.LiveRow.{flag_of}
@@ -8,13 +8,13 @@ use Rattle.play_event.specs.Naming.{after_show, is_show_of_all}
 use Rattle.play_event.specs.Places.{Place}
 use Rattle.card_places.specs.Covered.{covered}
 use Rattle.card_places.specs.declared.card_state.CardState.{CardState}
-use Rattle.card_places.specs.declared.search.Search.{Search}
+use Rattle.card_places.specs.declared.search.NamedCards.{NamedCards}
 use Rattle.card_places.specs.Placed.{placed}
 use Rattle.card_places.specs.Searches.{has_unplaced_name, has_left_out_card, searched}
 
--- a search is that of a show: what it makes of the places, and whether it names others than they
--- have
-pub record IsShowSearch (code : Code) (s : Search) (placed : List Place) (seat : ℕ)
+-- a search is that of a show: what it makes of the places, and whether it names other cards than
+-- they have
+pub record IsShowSearch (code : Code) (s : NamedCards) (placed : List Place) (seat : ℕ)
     (cards : List Card) : Type 0 where
   pub after : searched code s placed ≡ after_show code seat cards placed
   pub others :

@@ -1,4 +1,4 @@
-//! A state of the cards never has more of them than a legal hand can have.
+//! The cards of a hand; never more of them than a legal hand can have.
 ghost use Rattle.std.specs.Prelude.{◌≡◌, ◌≤◌};
 ghost use Rattle.play_event.specs.Games.{game_of};
 ghost use Rattle.card_places.specs.Placed.{placed};
@@ -16,15 +16,15 @@ pub struct CardState {
     pub seats: u8,
     pub places: DealtCards,
     pub draws: Draws,
-    /// Who showed.
+    /// Which seats showed.
     pub shown: LiveRow,
-    /// Who mucked.
+    /// Which seats mucked.
     pub mucked: LiveRow,
     pub ghost shown_seats: { shown.seats ≡ seats },
     pub ghost mucked_seats: { mucked.seats ≡ seats },
     pub ghost few: { seats ≤ (game_of table.code).seats },
-    // No owner has more cards of a street than it deals, no seat discards more than a hand, and
-    // none holds more.
+    // No owner has more cards of a street than the street deals; no seat discards more cards than a
+    // hand has, and none holds more.
     pub ghost within: { IsWithin table.code seats (placed places) },
     pub ghost named: { AreNamedWithin table.code draws },
     pub ghost held: { AreHeldWithin table.code seats draws (placed places) },

@@ -1,4 +1,5 @@
-//! A deal, a draw or a show is complete exactly where nobody lacks anything of it.
+//! Whether a deal, a draw or a show is complete: no owner is owed cards, or no seat still has to
+//! show.
 ghost use Rattle.std.specs.Prelude.{◌≡◌, count_by, Some, None};
 ghost use Rattle.std.specs.List.{list_any};
 ghost use Rattle.chip_ledger.specs.Seat.{seats_of};
@@ -13,8 +14,8 @@ use crate::owing::next_to_draw;
 use chip_ledger::{LiveRow, Seat};
 use play_event::Due;
 
-/// Whether what is due is complete: no seat, nor the board, lacks a card of a deal or draw, and
-/// all have shown or mucked at a show. What is no matter of cards is never complete here.
+/// Whether what is due is complete: no seat is owed a card of the deal or draw, nor is the board,
+/// or at a showdown all have shown or mucked. What does not concern cards is never complete here.
 pub fn done(state: &CardState, live: &LiveRow, due: Due) -> bool
     ensures { result ≡ why.is_done_in state.now live.now due }
 {
@@ -32,7 +33,7 @@ pub fn done(state: &CardState, live: &LiveRow, due: Due) -> bool
     }
 }
 
-// Some seat lacks cards of the street's deal.
+// Some seat is owed cards of the street's deal.
 fn some_lacks(state: &CardState, live: &LiveRow, on: u8, dealt: &OwnerCounts) -> bool
     requires { AreCounts dealt.now.numbers on (placed state.now.places) }
     ensures { result
@@ -48,7 +49,7 @@ fn some_lacks(state: &CardState, live: &LiveRow, on: u8, dealt: &OwnerCounts) ->
     any
 }
 
-// The board, which was dealt so many cards of the street, lacks cards of it.
+// The board is owed cards of the street; it was dealt `dealt` of them.
 fn board_lacks(state: &CardState, on: u8, dealt: u8) -> bool
     requires { dealt ≡ count_by (is_in_group None on) (placed state.now.places) }
     ensures { result ≡ why.is_board_owed_in state.now on }
@@ -70,7 +71,7 @@ fn some_owed(state: &CardState, on: u8) -> bool
     any
 }
 
-// Some seat has still to show or muck.
+// Some seat still has to show or muck.
 #[tactic(auto, using(chip_ledger::proofs::SeatLists::any_more))]
 fn some_to_show(state: &CardState, live: &LiveRow) -> bool
     ensures { result ≡ list_any (why.has_to_show_in state.now live.now) (seats_of state.now.seats) }

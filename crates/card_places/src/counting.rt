@@ -1,4 +1,4 @@
-//! One walk over the places counts the cards of a street for each owner.
+//! Counts the cards of a street for each owner, in one walk over the places.
 ghost use Rattle.std.specs.Prelude.{◌≡◌, ◌≤◌, length};
 ghost use Rattle.card_places.specs.Counted as counted;
 ghost use Rattle.card_places.specs.Counted.{AreCounts, count_of};
@@ -8,7 +8,8 @@ ghost use Rattle.chip_ledger.specs.SeatsSaid.{seat_said};
 use crate::dealt_cards::DealtCards;
 use chip_ledger::Seat;
 
-/// How many cards of one street each owner was dealt: first the board's count, then each seat's.
+/// How many cards of one street each owner was dealt: the board's count at index 0, then each
+/// seat's.
 #[derive(Clone, Copy)]
 pub struct OwnerCounts {
     pub numbers: [u8; 11],
@@ -29,7 +30,7 @@ impl OwnerCounts {
         OwnerCounts { numbers }
     }
 
-    /// How many cards the owner was dealt.
+    /// The number of cards that the owner was dealt.
     pub fn of(&self, owner: Option<Seat>) -> u8
         ensures { result ≡ count_of self.now.numbers (seat_said owner) }
     {

@@ -1,4 +1,4 @@
-//! A street of the game has what its table says, and past the last one nothing.
+//! The deck, the streets and the deals of a game. After its last street a game deals nothing.
 ghost use Rattle.std.specs.Prelude.{◌≡◌, ◌≤◌};
 ghost use Rattle.play_event.specs.Games.{game_of, street_count};
 ghost use Rattle.play_event.specs.Places as places;
@@ -13,7 +13,7 @@ use card_set::{Card, Rank, place_of_rank};
 use play_event::Code;
 use variant_table::{GameTable, Size, Street, table_of};
 
-// A deck of so many cards begins with the sixes.
+// A deck of this size starts with the sixes.
 const SHORT_DECK: u8 = 36;
 
 /// A game by its code, with its table.
@@ -35,14 +35,14 @@ impl DealTable {
         }
     }
 
-    /// How many cards the deck has.
+    /// The number of cards of the deck.
     pub fn deck(&self) -> u8
         ensures { result ≡ deck_of self.now.code }
     {
         self.game.deck
     }
 
-    /// How many streets there are.
+    /// The number of streets.
     pub fn streets(&self) -> u8
         ensures streets { result ≡ street_count self.now.code }
         ensures most { result ≤ 5 }
@@ -65,7 +65,7 @@ impl DealTable {
         street.up > 0 && street.down <= card.index
     }
 
-    /// The street with this number, from 1; past the last one a street that deals and draws
+    /// The street with this number, from 1; after the last one, a street that deals and draws
     /// nothing.
     pub fn street(&self, number: u8) -> Street
         ensures { IsStreetOf self.now.code number result }

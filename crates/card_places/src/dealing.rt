@@ -1,4 +1,4 @@
-//! Cards are dealt one behind the other, and counted.
+//! Appends dealt cards and counts them.
 ghost use Rattle.std.specs.Prelude.{◌≡◌, ◌≤◌, ◌<◌, ◌+◌, ◌++◌, ◌∷◌, [], length, count_by, map, take};
 ghost use Rattle.play_event.specs.Places.{is_in_group, places_dealt};
 ghost use Rattle.play_event.specs.Held.{is_held};
@@ -21,7 +21,7 @@ impl DealtCards {
         &self.rows[..self.count as usize]
     }
 
-    /// How many cards the owner has that are not gone.
+    /// The number of cards of the owner that are not gone.
     pub fn held(&self, owner: Option<Seat>) -> u8
         ensures { result ≡ count_by (is_held (seat_said owner)) (placed self.now) }
     {
@@ -59,7 +59,7 @@ impl DealtCards {
         }
     }
 
-    /// How many cards of the street the owner was dealt.
+    /// The number of cards of the street that the owner was dealt.
     pub fn in_group(&self, owner: Option<Seat>, street: u8) -> u8
         ensures value { result ≡ count_by (is_in_group (seat_said owner) street) (placed self.now) }
         ensures bounded { result ≤ self.now.count }
@@ -73,7 +73,7 @@ impl DealtCards {
         count
     }
 
-    /// Puts a card after the others.
+    /// Appends a card.
     pub fn push(&mut self, card: DealtCard)
         requires { self.old.count < MOST_CARDS }
         ensures places { placed self.new ≡ placed self.old ++ place_of card ∷ [] }

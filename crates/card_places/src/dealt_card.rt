@@ -1,4 +1,4 @@
-//! A dealt card says whose it is, when it was dealt, what is known of it, and whether it is gone.
+//! A dealt card: its owner, when it was dealt, what is known of it, and whether it is gone.
 ghost use Rattle.std.specs.Prelude.{◌≡◌, ℕ, Some};
 ghost use Rattle.play_event.specs.Places as places;
 ghost use Rattle.play_event.specs.Places.{is_in_group};
@@ -16,14 +16,14 @@ pub struct DealtCard {
     pub owner: Option<Seat>,
     /// From 1.
     pub street: u8,
-    /// How many cards of the street its owner was dealt before it.
+    /// The number of cards of the street that its owner was dealt before it.
     pub index: u8,
-    /// How many cards were dealt before it in all.
+    /// The number of cards that were dealt before it in all.
     pub number: u8,
     pub slot: Slot,
-    /// Whether it was dealt past the deck.
+    /// Whether it was dealt after the deck ran out.
     pub past_deck: bool,
-    /// How many cards were dealt when it was discarded or folded, if it was.
+    /// The number of cards dealt when it was discarded or folded, if it was.
     pub gone_after: Option<u8>,
     /// The street of the draw that discarded it, or 0.
     pub discarded: u8,
@@ -37,7 +37,7 @@ impl DealtCard {
         is_same_owner(self.owner, owner) && self.gone_after.is_none()
     }
 
-    /// The seat that has the card. None has one of the board, or one that is gone.
+    /// The seat that has the card: none for a board card, or one that is gone.
     pub fn holder(&self) -> Option<Seat>
         ensures { (seat : ℕ) → places.is_held_by seat (place_of self.now)
             ≡ places.is_same_owner (seat_said result) (Some seat) }
@@ -49,7 +49,7 @@ impl DealtCard {
         }
     }
 
-    /// The card is one of the street and the owner.
+    /// The card belongs to the street and the owner.
     pub fn in_group(&self, owner: Option<Seat>, street: u8) -> bool
         ensures { result ≡ is_in_group (seat_said owner) street (place_of self.now) }
     {
@@ -57,7 +57,7 @@ impl DealtCard {
     }
 }
 
-// Two owners are one.
+// Whether two owners are the same.
 fn is_same_owner(a: Option<Seat>, b: Option<Seat>) -> bool
     ensures { result ≡ places.is_same_owner (seat_said a) (seat_said b) }
 {

@@ -1,4 +1,4 @@
-//! A discard is refused exactly by the rules, and else takes the cards that its names find.
+//! Refuses a discard by the rules, or removes the cards that it names.
 ghost use Rattle.std.specs.Prelude.{◌≡◌, ◌≤◌, None, Some, IfErr, OnErr, OnOk};
 ghost use Rattle.card_set.specs.Row.{slots_of};
 ghost use Rattle.card_places.specs.Placed.{placed};
@@ -12,13 +12,13 @@ use crate::misplacing::is_misplacing;
 use crate::names::{blanks, known};
 use crate::naming::has_unplaced_name;
 use crate::owing::next_to_draw;
-use crate::search::{Search, run, search_of};
+use crate::search::{NamedCards, apply_names, named_cards};
 use card_set::SlotRow;
 use chip_ledger::{LiveRow, Seat};
 use play_event::Illegal;
 
-/// The seat discards the cards on the street, where it may; else the state is as it was.
-pub fn discard_on(
+/// Discards the cards on the street if that is legal; otherwise changes nothing.
+pub fn discard_cards(
     state: &mut CardState,
     live: &LiveRow,
     on: u8,
@@ -26,9 +26,9 @@ pub fn discard_on(
     cards: &SlotRow,
 ) -> Result<(), Illegal>
     requires street { on ≤ 5 }
-    ensures right { OnOk result (why.discard_why_on state.old live.now on seat.number
+    ensures right { OnOk result (why.illegal_discard_on state.old live.now on seat.number
         (slots_of cards.now) ≡ None) }
-    ensures wrong { IfErr result (λ reason. why.discard_why_on state.old live.now on seat.number
+    ensures wrong { IfErr result (λ reason. why.illegal_discard_on state.old live.now on seat.number
         (slots_of cards.now) ≡ Some reason) }
     ensures discarded { OnOk result
         (IsDiscarded state.old state.new on seat.number (slots_of cards.now)) }
@@ -37,10 +37,10 @@ pub fn discard_on(
     ensures seats { state.new.seats ≡ state.old.seats }
 {
     let search = discard_search(&state.table, &state.places, on, seat, cards);
-    match discard_why_on(state, live, on, seat, cards, &search) {
+    match illegal_discard_on(state, live, on, seat, cards, &search) {
         Some(reason) => Err(reason),
         None => {
-            run(&state.table, &mut state.places, &search);
+            apply_names(&state.table, &mut state.places, &search);
             state.draws.set(on, seat, cards.len);
             Ok(())
         }
@@ -48,17 +48,18 @@ pub fn discard_on(
 }
 
 // Why the seat may not discard the cards on the street.
-fn discard_why_on(
+fn illegal_discard_on(
     state: &CardState,
     live: &LiveRow,
     on: u8,
     seat: Seat,
     cards: &SlotRow,
-    search: &Search,
+    search: &NamedCards,
 ) -> Option<Illegal>
     requires { IsDiscardSearch state.now.table.code search.now (placed state.now.places) on
         seat.number (slots_of cards.now) }
-    ensures { result ≡ why.discard_why_on state.now live.now on seat.number (slots_of cards.now) }
+    ensures { result ≡ why.illegal_discard_on state.now live.now on seat.number
+        (slots_of cards.now) }
 {
     let rows = state.places.as_slice();
     if !is_next_to_draw(state, live, on, seat) {
@@ -91,11 +92,11 @@ fn discard_search(
     on: u8,
     seat: Seat,
     cards: &SlotRow,
-) -> Search
+) -> NamedCards
     ensures { IsDiscardSearch table.now.code result (placed places.now) on seat.number
         (slots_of cards.now) }
 {
     let names = known(cards);
     let blanks = blanks(cards.as_slice()) as u8;
-    search_of(table, places, seat, true, Some(on), &names, blanks)
+    named_cards(table, places, seat, true, Some(on), &names, blanks)
 }

@@ -1,10 +1,10 @@
-//! Who drew on which street, and how many cards it named, is kept for the whole hand.
+//! Who drew on which street and how many cards it discarded, kept for the whole hand.
 ghost use Rattle.std.specs.Prelude.{◌≡◌, ◌≢◌, ◌≤◌, ◌⊎◌, ℕ, length, slice_index, true, false};
 
 use chip_ledger::Seat;
 
-/// For each street up to the fifth, and each seat: how many cards it named in the draw, and whether
-/// it drew.
+/// For each street up to the fifth and each seat: the number of cards that it discarded in the
+/// draw, and whether it drew.
 #[derive(Clone, Copy, Debug, PartialEq, Eq)]
 pub struct Draws {
     pub named: [u8; 60],
@@ -28,7 +28,7 @@ impl Draws {
         }
     }
 
-    /// The seat drew on the street. Past the fifth street none did.
+    /// Whether the seat drew on the street. After the fifth street nobody did.
     pub fn drew(&self, street: u8, seat: Seat) -> bool
         ensures { result ≡ has_drawn_at self.now street seat.number }
     {
@@ -41,7 +41,8 @@ impl Draws {
         }
     }
 
-    /// How many cards the seat named in the draw of the street; past the fifth street 0.
+    /// The number of cards that the seat discarded in the draw of the street; 0 after the fifth
+    /// street.
     pub fn named(&self, street: u8, seat: Seat) -> u8
         ensures value { result ≡ named_at self.now street seat.number }
         ensures most { result ≤ 7 }
@@ -55,7 +56,7 @@ impl Draws {
         }
     }
 
-    /// The seat draws on the street, and names so many cards.
+    /// Notes that the seat draws on the street and discards `count` cards.
     pub fn set(&mut self, street: u8, seat: Seat, count: u8)
         requires street { street ≤ 5 }
         requires most { count ≤ 7 }

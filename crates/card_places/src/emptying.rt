@@ -1,4 +1,4 @@
-//! Before the first card nothing is dealt, drawn, shown or mucked.
+//! The cards before the deal: nothing is dealt, drawn, shown or mucked.
 ghost use Rattle.std.specs.Prelude.{◌≡◌, ◌≤◌, ℕ, [], false};
 ghost use Rattle.chip_ledger.specs.LiveRow.{flag_of};
 ghost use Rattle.play_event.specs.Games.{game_of};
@@ -14,8 +14,8 @@ use card_set::{Card, Rank, Slot, Suit};
 use chip_ledger::LiveRow;
 use play_event::Code;
 
-/// No cards yet, for so many seats of the game.
-pub fn empty(code: Code, seats: u8) -> CardState
+/// No cards yet, for this number of seats of the game.
+pub fn new_card_state(code: Code, seats: u8) -> CardState
     requires least { 2 ≤ seats }
     requires most { seats ≤ (game_of code).seats }
     ensures code { result.table.code ≡ code }
@@ -37,8 +37,7 @@ pub fn empty(code: Code, seats: u8) -> CardState
     }
 }
 
-// No places. Where no card is dealt stands what has no bytes but zeros, so that the row is cleared
-// at once.
+// No places. Unused rows consist of zero bytes, so that all of them are cleared at once.
 fn no_places() -> DealtCards
     ensures { placed result ≡ [] }
 {

@@ -1,4 +1,4 @@
-//! A covered place becomes what the names make of it.
+//! Matches a place with the names.
 ghost use Rattle.std.specs.Prelude.{◌≡◌, drop};
 ghost use Rattle.card_set.specs.Row.{cards_of};
 ghost use Rattle.play_event.specs.Naming.{found_by};
@@ -9,19 +9,20 @@ use crate::dealt_card::DealtCard;
 use crate::names::is_named;
 use card_set::{CardRow, Slot};
 
-/// A place that was looked at, and how far the names went.
+/// A place that was looked at, and how far the names got.
 #[derive(Clone, Copy)]
 pub struct FoundPlace {
     pub card: DealtCard,
-    /// How many of the other names are taken.
+    /// The number of the other names that are used up.
     pub taken: u8,
-    /// How many blanks are left.
+    /// The number of blanks that are left.
     pub blanks: u8,
 }
 
-/// What the names make of a covered place. A known card is marked where it is named; an unknown
-/// one takes the next of the other names, of which `taken` are gone, and else one of the blanks.
-pub fn find(
+/// Matches a place that the event applies to with the names. A known card is marked if it is named;
+/// an unknown one takes the next of the other names, `taken` of which are used up, or else one of
+/// the blanks.
+pub fn match_name(
     card: DealtCard,
     street: Option<u8>,
     count: u8,
@@ -70,8 +71,8 @@ pub fn find(
     }
 }
 
-/// A card that is discarded on this street, after `count` dealt cards, is gone; without a street
-/// it stays.
+/// A card that is discarded on this street, after `count` dealt cards, is gone; without a street it
+/// stays.
 pub fn marked(card: DealtCard, street: Option<u8>, count: u8) -> DealtCard
     ensures { place_of result ≡ mark_by street count (place_of card) }
 {

@@ -17,7 +17,7 @@ pub fn fold(state: &mut CardState, seat: Seat)
     take_away(&mut state.places, seat);
 }
 
-// The seat folded: what it held is gone after as many cards as were dealt.
+// Takes away what the seat held: gone after the cards dealt so far.
 fn take_away(places: &mut DealtCards, seat: Seat)
     ensures { placed places.new ≡ plain.after_fold seat.number (placed places.old) }
 {
@@ -26,7 +26,7 @@ fn take_away(places: &mut DealtCards, seat: Seat)
     }
 }
 
-// The card after the seat folded, so many cards being dealt.
+// The card after the seat folded, when `count` cards were dealt.
 fn folded(card: DealtCard, seat: Seat, count: u8) -> DealtCard
     ensures { place_of result ≡ plain.folded_place seat.number count (place_of card) }
 {

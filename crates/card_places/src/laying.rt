@@ -1,4 +1,4 @@
-//! Cards are dealt behind those that were dealt before, and what is owed has room.
+//! Deals cards that are owed; there is room for them.
 ghost use Rattle.std.specs.Prelude.{length};
 ghost use Rattle.card_places.specs.Dealt.{IsDealt};
 ghost use Rattle.card_places.specs.Placed.{placed};
@@ -11,7 +11,7 @@ use card_set::Slot;
 use chip_ledger::Seat;
 
 /// Deals an owner cards of a street that it is owed.
-pub fn lay(state: &mut CardState, owner: Option<Seat>, on: u8, cards: &[Slot])
+pub fn deal_cards(state: &mut CardState, owner: Option<Seat>, on: u8, cards: &[Slot])
     requires { IsOwed state.old.table.code state.old.seats state.old.draws (placed state.old.places)
         (seat_said owner) on (length cards.now) }
     ensures { IsDealt state.old state.new (seat_said owner) on cards.now }

@@ -1,5 +1,5 @@
-//! Each dealt card of a hand has its place, and deals, discards, shows, mucks and folds change
-//! places as the rules say.
+//! The place of each dealt card of a hand, changed by deals, discards, shows, mucks and folds as
+//! the rules say.
 #![tactic(auto)]
 
 mod card_state;
@@ -31,14 +31,14 @@ pub use completing::done;
 pub use deal_table::DealTable;
 pub use dealt_card::DealtCard;
 pub use dealt_cards::{DealtCards, MOST_CARDS};
-pub use discarding::discard_on;
+pub use discarding::discard_cards;
 pub use draws::Draws;
-pub use emptying::empty;
+pub use emptying::new_card_state;
 pub use folding::fold;
-pub use laying::lay;
+pub use laying::deal_cards;
 pub use names::slots;
 pub use ordering::place;
 pub use owing::{NextDeal, next_deal, next_to_draw};
-pub use planning::{board_why, hole_why, street_due};
-pub use showing::{muck_why, set_muck, show_on, shut};
+pub use planning::{illegal_board_deal, illegal_hole_deal, street_due};
+pub use showing::{illegal_muck, muck_cards, show_cards, show_not_due};
 pub use viewing::{board, hands, unknown, up};

@@ -1,4 +1,4 @@
-//! Names and slots are compared card by card, as the rules do.
+//! Compares names and cards one by one, as the rules do.
 ghost use Rattle.std.specs.Prelude.{◌≡◌, ◌≤◌, length, ◌&&◌};
 ghost use Rattle.std.specs.List.{list_any};
 ghost use Rattle.card_set.specs.Deck as decks;
@@ -11,17 +11,17 @@ ghost use Rattle.play_event.specs.CardReasons as reasons;
 
 use card_set::{Card, CardRow, Slot, SlotRow, place_in_deck};
 
-/// Whether two slots bear one card. An unknown slot bears none.
+/// Whether both are known and the same card.
 pub fn is_one_card(a: Slot, b: Slot) -> bool
     ensures { result ≡ taken.is_one_card a b }
 {
     match a {
-        Slot::Known(card) => is_borne_by(card, b),
+        Slot::Known(card) => slot_is_card(card, b),
         Slot::Unknown => false,
     }
 }
 
-/// Whether the card of a known slot is not among the names.
+/// Whether a known card is not among the names.
 pub fn left_out(slot: Slot, names: &[Card]) -> bool
     ensures { result ≡ reasons.is_left_out names.now slot }
 {
@@ -41,7 +41,7 @@ pub fn is_named(card: Card, names: &[Card]) -> bool
     }
 }
 
-/// Whether two of the slots bear one card.
+/// Whether two of the known cards are the same.
 pub fn has_repeat(slots: &[Slot]) -> bool
     ensures { result ≡ taken.has_repeat slots.now }
 {
@@ -51,29 +51,29 @@ pub fn has_repeat(slots: &[Slot]) -> bool
     }
 }
 
-// The card of the slot stands again among the others.
+// The card is also among the others.
 fn is_repeated(slot: Slot, others: &[Slot]) -> bool
     ensures { result ≡ taken.is_repeated slot others.now }
 {
     match slot {
-        Slot::Known(card) => any_bears(card, others),
+        Slot::Known(card) => any_slot_is_card(card, others),
         Slot::Unknown => false,
     }
 }
 
-// One of the slots bears the card.
-fn any_bears(card: Card, slots: &[Slot]) -> bool
-    ensures { result ≡ list_any (taken.is_borne_by card) slots.now }
+// One of the slots has the card.
+fn any_slot_is_card(card: Card, slots: &[Slot]) -> bool
+    ensures { result ≡ list_any (taken.slot_is_card card) slots.now }
 {
     match slots {
         [] => false,
-        [slot, rest @ ..] => is_borne_by(card, *slot) || any_bears(card, rest),
+        [slot, rest @ ..] => slot_is_card(card, *slot) || any_slot_is_card(card, rest),
     }
 }
 
-/// Whether the slot is known to bear the card.
-pub fn is_borne_by(card: Card, slot: Slot) -> bool
-    ensures { result ≡ taken.is_borne_by card slot }
+/// Whether the slot is known to have the card.
+pub fn slot_is_card(card: Card, slot: Slot) -> bool
+    ensures { result ≡ taken.slot_is_card card slot }
 {
     match slot {
         Slot::Known(other) => is_same_card(card, other),
@@ -81,7 +81,7 @@ pub fn is_borne_by(card: Card, slot: Slot) -> bool
     }
 }
 
-/// How many of the slots are blank: they name no card.
+/// The number of blank slots: those that name no card.
 pub fn blanks(slots: &[Slot]) -> usize
     ensures blanks { result ≡ naming.blanks_in slots.now }
     ensures most { result ≤ length slots.now }
@@ -118,7 +118,7 @@ pub fn known(slots: &SlotRow) -> CardRow
     cards
 }
 
-/// The names without the first that is the card of this slot.
+/// The names without the first that is this card.
 pub fn without(slot: Slot, names: &CardRow) -> CardRow
     ensures { cards_of result ≡ naming.without slot (cards_of names.now) }
 {
@@ -144,14 +144,14 @@ fn without_card(card: Card, names: &CardRow) -> CardRow
     left
 }
 
-/// Whether both are one card: of one rank and one suit.
+/// Whether both are the same card: same rank and same suit.
 pub fn is_same_card(a: Card, b: Card) -> bool
     ensures { result ≡ decks.is_same_card a b }
 {
     place_in_deck(a) == place_in_deck(b)
 }
 
-/// The cards as slots, all of them known: the form in which an event of a script names cards.
+/// The cards as known slots: the form in which a script's event names cards.
 pub fn slots(cards: &CardRow) -> SlotRow
     ensures { slots_of result ≡ known.known_slots (cards_of cards.now) }
 {

@@ -1,4 +1,4 @@
-//! Names may find no place among the covered ones, and a show may leave a known card out.
+//! Finds names without a place, and known cards that a show leaves out.
 ghost use Rattle.std.specs.Prelude.{◌≡◌, ◌≤◌, map, length, count_by, ◌&&◌};
 ghost use Rattle.play_event.specs.Naming as naming;
 ghost use Rattle.card_set.specs.Known as known;
@@ -9,10 +9,10 @@ ghost use Rattle.card_places.specs.Searches as searches;
 use crate::deal_table::DealTable;
 use crate::dealt_card::DealtCard;
 use crate::names::{is_unknown, left_out};
-use crate::search::{Search, covers};
+use crate::search::{NamedCards, covers};
 
-/// Whether a known card of the covered places is not named.
-pub fn has_left_out_card(table: &DealTable, rows: &[DealtCard], search: &Search) -> bool
+/// Whether a known card that the event applies to is not named.
+pub fn has_left_out_card(table: &DealTable, rows: &[DealtCard], search: &NamedCards) -> bool
     ensures { result
         ≡ searches.has_left_out_card table.now.code search.now (map place_of rows.now) }
 {
@@ -26,17 +26,17 @@ pub fn has_left_out_card(table: &DealTable, rows: &[DealtCard], search: &Search)
     false
 }
 
-/// Whether fewer of the covered places are unknown than names and blanks look for one.
-pub fn has_unplaced_name(table: &DealTable, rows: &[DealtCard], search: &Search) -> bool
+/// Whether more names and blanks need an unknown place than there are.
+pub fn has_unplaced_name(table: &DealTable, rows: &[DealtCard], search: &NamedCards) -> bool
     ensures { result
         ≡ searches.has_unplaced_name table.now.code search.now (map place_of rows.now) }
 {
     free_count(table, rows, search) < search.others.len as usize + search.blanks as usize
 }
 
-// How many covered places are unknown.
+// The number of unknown places that the event applies to.
 #[tactic(auto, using(crate::proofs::Covered::free_more))]
-fn free_count(table: &DealTable, rows: &[DealtCard], search: &Search) -> usize
+fn free_count(table: &DealTable, rows: &[DealtCard], search: &NamedCards) -> usize
     ensures value { result ≡ count_by (λ place. known.is_unknown place.slot)
         (covered table.now.code search.now.seat.number search.now.all (map place_of rows.now)) }
     ensures most { result ≤ length rows.now }
@@ -50,8 +50,8 @@ fn free_count(table: &DealTable, rows: &[DealtCard], search: &Search) -> usize
     count
 }
 
-// A covered place is unknown.
-fn is_free(table: &DealTable, card: &DealtCard, search: &Search) -> bool
+// The event applies to the place, and its card is unknown.
+fn is_free(table: &DealTable, card: &DealtCard, search: &NamedCards) -> bool
     ensures { result ≡ (naming.is_covered table.now.code search.now.seat.number search.now.all
         (place_of card.now) && known.is_unknown card.now.slot) }
 {

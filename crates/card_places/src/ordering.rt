@@ -1,4 +1,4 @@
-//! The places are told by street, then by owner, then in the order of dealing, as a trace has them.
+//! The places as a trace has them: by street, then by owner, then in the order of dealing.
 ghost use Rattle.std.specs.Prelude.{◌≡◌, ◌+◌, ◌<◌, ◌≤◌, Some, None, length, map, slice_get, IfOk, IfErr};
 ghost use Rattle.play_event.specs.Places.{Place, group_of};
 ghost use Rattle.card_places.specs.Ordered.{IsPlaceOf, on_seats, on_street, on_streets, ordered};
@@ -25,7 +25,7 @@ pub fn place(state: &CardState, index: u8) -> Place
             slot: card.slot,
             gone: card.discarded,
         },
-        // No index below the count is past all cards.
+        // An index below the count is never past all cards.
         Err(_) => Place {
             owner: None,
             street: 0,
@@ -35,7 +35,7 @@ pub fn place(state: &CardState, index: u8) -> Place
     }
 }
 
-// The same of the cards of so many streets, from this one on.
+// The card at an index of `count` streets, from this one on, or how far the index is past them.
 fn in_streets(state: &CardState, first: u8, count: u8, index: u8) -> Result<DealtCard, u8>
     requires { first + count ≤ 6 }
     ensures found { IfOk result (λ card. slice_get
@@ -53,7 +53,8 @@ fn in_streets(state: &CardState, first: u8, count: u8, index: u8) -> Result<Deal
     }
 }
 
-// The same of all cards of a street: first those of the seats, and then the board's.
+// The card at an index of one street, first those of the seats and then the board's, or how far the
+// index is past them.
 fn in_street(state: &CardState, street: u8, index: u8) -> Result<DealtCard, u8>
     ensures found { IfOk result (λ card. slice_get
         (on_street state.now.seats (placed state.now.places) street) index ≡ Some (place_of card)) }
@@ -66,7 +67,8 @@ fn in_street(state: &CardState, street: u8, index: u8) -> Result<DealtCard, u8>
     }
 }
 
-// The same of the cards of a street that so many seats have, from this one on.
+// The card at an index of those that `count` seats have of a street, from this seat on, or how far
+// the index is past them.
 fn in_seats(state: &CardState, street: u8, first: u8, count: u8, index: u8) -> Result<DealtCard, u8>
     requires from_one { 1 ≤ first }
     requires within { first + count ≤ 11 }

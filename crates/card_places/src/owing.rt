@@ -1,4 +1,5 @@
-//! A street deals next to the first seat that is owed cards, and where none is, to the board.
+//! What a street deals next: to the first seat that is owed cards or, if there is none, to the
+//! board.
 ghost use Rattle.std.specs.Prelude.{◌≡◌, ◌≤◌, IfSome};
 ghost use Rattle.card_places.specs.Refusals as why;
 ghost use Rattle.chip_ledger.specs.SeatsSaid.{seat_said};
@@ -6,15 +7,15 @@ ghost use Rattle.chip_ledger.specs.SeatsSaid.{seat_said};
 use crate::card_state::CardState;
 use chip_ledger::{LiveRow, Seat};
 
-/// What a street deals next: to a seat or, as `None`, to the board, and how many cards.
+/// What a street deals next: to a seat or (`None`) to the board, and the number of cards.
 #[derive(Clone, Copy, Debug, PartialEq, Eq)]
 pub struct NextDeal {
     pub owner: Option<Seat>,
     pub count: u8,
 }
 
-/// What the street deals next: to the first seat that is owed cards all that it is owed, and where
-/// no seat is owed any, to the board.
+/// What the street deals next: to the first seat that is owed cards, all that it is owed; if no
+/// seat is owed any, to the board.
 #[tactic(auto, using(chip_ledger::proofs::SeatLists::any_more))]
 pub fn next_deal(state: &CardState, live: &LiveRow, on: u8) -> NextDeal
     ensures owner { seat_said result.owner ≡ why.first_owed_in state.now live.now on }
@@ -38,7 +39,7 @@ pub fn next_deal(state: &CardState, live: &LiveRow, on: u8) -> NextDeal
     }
 }
 
-/// How many cards of the street the seat is still owed: in place of those that it discarded, or by
+/// The number of cards of the street that the seat is still owed: in place of its discards, or by
 /// the deal while it is live.
 pub fn owed(state: &CardState, live: &LiveRow, on: u8, seat: Seat) -> u8
     ensures value { result ≡ why.owed_in state.now live.now on seat.number }
@@ -55,7 +56,7 @@ pub fn owed(state: &CardState, live: &LiveRow, on: u8, seat: Seat) -> u8
     }
 }
 
-/// How many cards of the street the board is still owed.
+/// The number of cards of the street that the board is still owed.
 pub fn board_owed(state: &CardState, on: u8) -> u8
     ensures value { result ≡ why.board_owed_in state.now on }
     ensures most { result ≤ 7 }
@@ -64,7 +65,7 @@ pub fn board_owed(state: &CardState, on: u8) -> u8
     state.table.street(on).board.saturating_sub(dealt)
 }
 
-/// The seat that draws next on the street: the first live one that did not draw there.
+/// The seat that draws next on the street: the first live one that has not drawn there.
 #[tactic(auto, using(chip_ledger::proofs::SeatLists::any_more))]
 pub fn next_to_draw(state: &CardState, live: &LiveRow, on: u8) -> Option<Seat>
     ensures found { seat_said result ≡ why.next_to_draw_in state.now live.now on }

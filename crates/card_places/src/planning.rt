@@ -1,4 +1,4 @@
-//! A deal is refused exactly by the rules.
+//! Why a deal is refused.
 ghost use Rattle.std.specs.Prelude.{◌≡◌, ◌||◌, ◌==◌, Some};
 ghost use Rattle.play_event.specs.CardReasons as reasons;
 ghost use Rattle.card_places.specs.Refusals as why;
@@ -12,39 +12,39 @@ use chip_ledger::{LiveRow, Seat};
 use play_event::{Due, Illegal};
 
 /// Why the seat may not be dealt these cards now.
-pub fn hole_why(
+pub fn illegal_hole_deal(
     state: &CardState,
     live: &LiveRow,
     due: Due,
     seat: Seat,
     cards: &[Slot],
 ) -> Option<Illegal>
-    ensures { result ≡ why.hole_why state.now live.now due seat.number cards.now }
+    ensures { result ≡ why.illegal_hole_deal state.now live.now due seat.number cards.now }
 {
     match due {
         Due::Over => Some(Illegal::HandOver),
         Due::Deal(on) => {
             let street = state.table.street(on);
             if street.down + street.up > 0 {
-                hole_why_on(state, live, on, seat, cards)
+                illegal_hole_deal_on(state, live, on, seat, cards)
             } else {
                 Some(Illegal::WrongKind)
             }
         }
-        Due::Draw(on) => hole_why_on(state, live, on, seat, cards),
+        Due::Draw(on) => illegal_hole_deal_on(state, live, on, seat, cards),
         Due::BringIn | Due::Move | Due::Show => Some(Illegal::WrongKind),
     }
 }
 
 // Why the seat may not be dealt these cards on the street.
-fn hole_why_on(
+fn illegal_hole_deal_on(
     state: &CardState,
     live: &LiveRow,
     on: u8,
     seat: Seat,
     cards: &[Slot],
 ) -> Option<Illegal>
-    ensures { result ≡ why.hole_why_on state.now live.now on seat.number cards.now }
+    ensures { result ≡ why.illegal_hole_deal_on state.now live.now on seat.number cards.now }
 {
     if seat.number > state.seats {
         return Some(Illegal::WrongSeat);
@@ -62,14 +62,14 @@ fn hole_why_on(
 }
 
 /// Why the board may not be dealt these cards now.
-pub fn board_why(state: &CardState, due: Due, cards: &[Slot]) -> Option<Illegal>
-    ensures { result ≡ why.board_why state.now due cards.now }
+pub fn illegal_board_deal(state: &CardState, due: Due, cards: &[Slot]) -> Option<Illegal>
+    ensures { result ≡ why.illegal_board_deal state.now due cards.now }
 {
     match due {
         Due::Over => Some(Illegal::HandOver),
         Due::Deal(on) => {
             if state.table.street(on).board > 0 {
-                board_why_on(state, on, cards)
+                illegal_board_deal_on(state, on, cards)
             } else {
                 Some(Illegal::WrongKind)
             }
@@ -79,8 +79,8 @@ pub fn board_why(state: &CardState, due: Due, cards: &[Slot]) -> Option<Illegal>
 }
 
 // Why the board may not be dealt these cards on the street.
-fn board_why_on(state: &CardState, on: u8, cards: &[Slot]) -> Option<Illegal>
-    ensures { result ≡ why.board_why_on state.now on cards.now }
+fn illegal_board_deal_on(state: &CardState, on: u8, cards: &[Slot]) -> Option<Illegal>
+    ensures { result ≡ why.illegal_board_deal_on state.now on cards.now }
 {
     let owed = board_owed(state, on);
     if is_wrong_deal(owed, cards.len()) {
@@ -92,7 +92,7 @@ fn board_why_on(state: &CardState, on: u8, cards: &[Slot]) -> Option<Illegal>
     }
 }
 
-// A deal has no card, or more than are owed.
+// Whether a deal has no card, or more than are owed.
 fn is_wrong_deal(owed: u8, count: usize) -> bool
     ensures { result ≡ reasons.is_wrong_deal owed count }
 {

@@ -1,4 +1,4 @@
-//! The names of a discard or a show find the places that it covers in the order of dealing.
+//! Matches the names of a discard or a show with places, in the order of dealing.
 ghost use Rattle.std.specs.Prelude.{◌≡◌, ◌∷◌, List, length, map};
 ghost use Rattle.std.specs.List.{list_any};
 ghost use Rattle.card_set.specs.Row.{cards_of};
@@ -15,16 +15,16 @@ ghost use Rattle.card_places.specs.Searches.{search_from};
 use crate::deal_table::DealTable;
 use crate::dealt_card::DealtCard;
 use crate::dealt_cards::DealtCards;
-use crate::finding::{FoundPlace, find};
+use crate::finding::{FoundPlace, match_name};
 use crate::names::without;
 use card_set::CardRow;
 use chip_ledger::Seat;
 
-/// What is looked for: cards of a seat, all of them or those face down; where they are discarded on
-/// a street, after so many deals; the names, those of them that no known card bears, and how many
-/// blanks come with them.
+/// What is looked for: cards of a seat, all of them or those face down; the street on which they
+/// are discarded, if they are, and after how many dealt cards; the names, which of them no known
+/// card has, and the number of blanks that come with them.
 #[derive(Clone, Copy)]
-pub struct Search {
+pub struct NamedCards {
     pub seat: Seat,
     pub all: bool,
     pub street: Option<u8>,
@@ -34,9 +34,9 @@ pub struct Search {
     pub blanks: u8,
 }
 
-/// Looks for the names and so many blanks among the covered places. With a street, the cards that
-/// are found are discarded on it; without one they stay.
-pub fn search_of(
+/// Looks for the names and `blanks` blanks among the places that the event applies to. With a
+/// street, the cards found are discarded on it; without one they stay.
+pub fn named_cards(
     table: &DealTable,
     places: &DealtCards,
     seat: Seat,
@@ -44,7 +44,7 @@ pub fn search_of(
     street: Option<u8>,
     names: &CardRow,
     blanks: u8,
-) -> Search
+) -> NamedCards
     ensures after { searches.searched table.now.code result (placed places.now)
         ≡ after_named table.now.code seat.number all
         (mark_by street (length (placed places.now))) (cards_of names.now) blanks
@@ -56,7 +56,7 @@ pub fn search_of(
         ≡ list_any (λ place. reasons.is_left_out (cards_of names.now) place.slot)
         (covered table.now.code seat.number all (placed places.now)) }
 {
-    Search {
+    NamedCards {
         seat,
         all,
         street,
@@ -67,7 +67,8 @@ pub fn search_of(
     }
 }
 
-// The names that no known card of the covered places bears: unknown places may take them.
+// The names that no known card has among the places that the event applies to: unknown places may
+// take them.
 fn other_names(
     table: &DealTable,
     rows: &[DealtCard],
@@ -87,26 +88,25 @@ fn other_names(
     others
 }
 
-/// The names find their places, in the order of dealing.
-pub fn run(table: &DealTable, places: &mut DealtCards, search: &Search)
+/// Matches the names with places, in the order of dealing.
+pub fn apply_names(table: &DealTable, places: &mut DealtCards, search: &NamedCards)
     ensures { placed places.new
         ≡ searches.searched table.now.code search.now (placed places.old) }
 {
     let mut taken = 0;
     let mut blanks = search.blanks;
     for index in 0..places.count as usize {
-        let found = look(table, search, places.rows[index], taken, blanks);
+        let found = peek(table, search, places.rows[index], taken, blanks);
         places.rows[index] = found.card;
         taken = found.taken;
         blanks = found.blanks;
     }
 }
 
-/// What the names make of the next place, so many of the other names being taken and so many
-/// blanks left.
-pub fn look(
+/// Matches the next place with the names; `taken` and `blanks` say how far earlier places got.
+pub fn peek(
     table: &DealTable,
-    search: &Search,
+    search: &NamedCards,
     card: DealtCard,
     taken: u8,
     blanks: u8,
@@ -117,7 +117,7 @@ pub fn look(
         ∷ search_from table.now.code search.now result.taken result.blanks rest }
 {
     if covers(table, &card, search.seat, search.all) {
-        find(
+        match_name(
             card,
             search.street,
             search.count,
@@ -135,7 +135,8 @@ pub fn look(
     }
 }
 
-/// Whether a discard or a show of the seat covers the card: all its cards, or those face down.
+/// Whether a discard or a show of the seat applies to the card: to all its cards, or those face
+/// down.
 pub fn covers(table: &DealTable, card: &DealtCard, seat: Seat, all: bool) -> bool
     ensures { result ≡ naming.is_covered table.now.code seat.number all (place_of card.now) }
 {

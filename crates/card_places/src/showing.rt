@@ -1,4 +1,4 @@
-//! A show or a muck is refused exactly by the rules, and a show makes its cards known.
+//! Refuses a show or a muck by the rules; a show makes its cards known.
 ghost use Rattle.std.specs.Prelude.{◌≡◌, ◌≤◌, ◌&&◌, map, length, count_by, Some, IfErr, OnErr, OnOk, IsTrue, List, IfNone, IfSome, None};
 ghost use Rattle.card_set.specs.declared.card.Card.{Card};
 ghost use Rattle.std.specs.List.{list_any};
@@ -18,21 +18,21 @@ use crate::dealt_cards::DealtCards;
 use crate::misplacing::is_misplacing;
 use crate::names::is_unknown;
 use crate::naming::{has_left_out_card, has_unplaced_name};
-use crate::search::{Search, run, search_of};
+use crate::search::{NamedCards, apply_names, named_cards};
 use card_set::CardRow;
 use chip_ledger::{LiveRow, Seat};
 use play_event::{Due, Illegal};
 
-/// The seat shows the cards, where it may; else the state is as it was.
-pub fn show_on(
+/// Shows the cards if that is legal; otherwise changes nothing.
+pub fn show_cards(
     state: &mut CardState,
     live: &LiveRow,
     seat: Seat,
     cards: &CardRow,
 ) -> Result<(), Illegal>
-    ensures right { OnOk result (why.show_why_on state.old live.now seat.number
+    ensures right { OnOk result (why.illegal_show_on state.old live.now seat.number
         (cards_of cards.now) ≡ None) }
-    ensures wrong { IfErr result (λ reason. why.show_why_on state.old live.now seat.number
+    ensures wrong { IfErr result (λ reason. why.illegal_show_on state.old live.now seat.number
         (cards_of cards.now) ≡ Some reason) }
     ensures shown { OnOk result (IsShown state.old state.new seat.number (cards_of cards.now)) }
     ensures unchanged { OnErr result (state.new ≡ state.old) }
@@ -40,10 +40,10 @@ pub fn show_on(
     ensures seats { state.new.seats ≡ state.old.seats }
 {
     let search = show_search(&state.table, &state.places, seat, cards);
-    match show_why_on(state, live, seat, cards, &search) {
+    match illegal_show_on(state, live, seat, cards, &search) {
         Some(reason) => Err(reason),
         None => {
-            run(&state.table, &mut state.places, &search);
+            apply_names(&state.table, &mut state.places, &search);
             state.shown.set(seat, true);
             Ok(())
         }
@@ -51,16 +51,17 @@ pub fn show_on(
 }
 
 // Why the seat may not show the cards.
-fn show_why_on(
+fn illegal_show_on(
     state: &CardState,
     live: &LiveRow,
     seat: Seat,
     cards: &CardRow,
-    search: &Search,
+    search: &NamedCards,
 ) -> Option<Illegal>
     requires { IsShowSearch state.now.table.code search.now (placed state.now.places)
         seat.number (cards_of cards.now) }
-    ensures value { result ≡ why.show_why_on state.now live.now seat.number (cards_of cards.now) }
+    ensures value { result ≡ why.illegal_show_on state.now live.now seat.number
+        (cards_of cards.now) }
     ensures in_hand { IfNone result (seat.number ≤ state.now.seats) }
 {
     let rows = state.places.as_slice();
@@ -79,7 +80,7 @@ fn show_why_on(
     }
 }
 
-// A show may have so many cards.
+// Whether a show may have `count` cards.
 fn may_show_many(state: &CardState, seat: Seat, count: u8) -> bool
     ensures { result ≡ why.may_show_many state.now.table.code
         (placed state.now.places) seat.number count }
@@ -90,7 +91,7 @@ fn may_show_many(state: &CardState, seat: Seat, count: u8) -> bool
             && !hides_up(&state.table, rows, seat)
 }
 
-// How many cards the seat holds face down.
+// The number of cards that the seat holds face down.
 fn held_down(table: &DealTable, rows: &[DealtCard], seat: Seat) -> usize
     ensures value { result ≡ count_by (naming.is_held_down table.now.code seat.number)
         (map place_of rows.now) }
@@ -126,12 +127,12 @@ fn hides_up(table: &DealTable, rows: &[DealtCard], seat: Seat) -> bool
 }
 
 // What a show looks for: all cards of the seat, or those face down.
-fn show_search(table: &DealTable, places: &DealtCards, seat: Seat, cards: &CardRow) -> Search
+fn show_search(table: &DealTable, places: &DealtCards, seat: Seat, cards: &CardRow) -> NamedCards
     ensures { IsShowSearch table.now.code result (placed places.now) seat.number
         (cards_of cards.now) }
 {
     let all = is_show_of_all(places, seat, cards);
-    search_of(table, places, seat, all, None, cards, 0)
+    named_cards(table, places, seat, all, None, cards, 0)
 }
 
 // The show names all cards that the seat holds.
@@ -141,19 +142,19 @@ fn is_show_of_all(places: &DealtCards, seat: Seat, cards: &CardRow) -> bool
     cards.len == places.held(Some(seat))
 }
 
-/// Why no show may come now, if none may.
-pub fn shut(
+/// Why a show is not due, if it is not.
+pub fn show_not_due(
     state: &CardState,
     live: &LiveRow,
     due: Due,
     settled: bool,
     seat: Seat,
 ) -> Option<Illegal>
-    ensures not_shut { IfNone result ((cards : List Card)
-        → why.show_why state.now live.now due settled seat.number cards
-        ≡ why.show_why_on state.now live.now seat.number cards) }
-    ensures is_shut { IfSome result (λ reason. (cards : List Card)
-        → why.show_why state.now live.now due settled seat.number cards ≡ Some reason) }
+    ensures show_is_due { IfNone result ((cards : List Card)
+        → why.illegal_show state.now live.now due settled seat.number cards
+        ≡ why.illegal_show_on state.now live.now seat.number cards) }
+    ensures show_is_not_due { IfSome result (λ reason. (cards : List Card)
+        → why.illegal_show state.now live.now due settled seat.number cards ≡ Some reason) }
 {
     match due {
         Due::Show => None,
@@ -175,8 +176,8 @@ pub fn shut(
 }
 
 /// Why the seat may not muck now.
-pub fn muck_why(state: &CardState, live: &LiveRow, due: Due, seat: Seat) -> Option<Illegal>
-    ensures wrong { result ≡ why.muck_why state.now live.now due seat.number }
+pub fn illegal_muck(state: &CardState, live: &LiveRow, due: Due, seat: Seat) -> Option<Illegal>
+    ensures wrong { result ≡ why.illegal_muck state.now live.now due seat.number }
     ensures in_hand { IfNone result (seat.number ≤ state.now.seats) }
 {
     match due {
@@ -209,7 +210,7 @@ fn may_show(state: &CardState, live: &LiveRow, seat: Seat) -> bool
 }
 
 /// The seat mucked.
-pub fn set_muck(state: &mut CardState, seat: Seat)
+pub fn muck_cards(state: &mut CardState, seat: Seat)
     requires { seat.number ≤ state.old.seats }
     ensures { IsMucked state.old state.new seat.number }
 {

@@ -1,4 +1,4 @@
-//! A card is taken exactly where the deck lacks it, or where it clashes with another.
+//! Whether a card is taken: it is not in the deck, or it clashes with another place.
 ghost use Rattle.std.specs.Prelude.{◌≡◌, ◌+◌, ◌&&◌, ◌==◌, map, not, count_by, nat_lt, is_some};
 ghost use Rattle.std.specs.List.{list_any};
 ghost use Rattle.play_event.specs.Places as places;
@@ -7,11 +7,11 @@ ghost use Rattle.card_places.specs.Plain.{place_of};
 
 use crate::deal_table::DealTable;
 use crate::dealt_card::DealtCard;
-use crate::names::{has_repeat, is_borne_by, is_one_card};
+use crate::names::{has_repeat, is_one_card, slot_is_card};
 use card_set::{Card, Slot};
 
-/// Whether one of the slots may not be dealt on this street: the deck lacks its card, a place has
-/// it, or two of the slots bear it.
+/// Whether one of the slots may not be dealt on this street: its card is not in the deck, a place
+/// has it, or two of the slots have it.
 pub fn has_taken_card(table: &DealTable, rows: &[DealtCard], street: u8, slots: &[Slot]) -> bool
     ensures { result ≡ taken.has_taken_card table.now.code
         (map place_of rows.now) street slots.now }
@@ -19,7 +19,7 @@ pub fn has_taken_card(table: &DealTable, rows: &[DealtCard], street: u8, slots: 
     some_taken(table, rows, is_past_deck(table, rows, street), slots) || has_repeat(slots)
 }
 
-// One of the slots may not be dealt behind these places.
+// One of the slots may not be dealt after these places.
 fn some_taken(table: &DealTable, rows: &[DealtCard], past_deck: bool, slots: &[Slot]) -> bool
     ensures { result ≡ list_any (taken.is_taken table.now.code
         (map place_of rows.now) past_deck) slots.now }
@@ -31,7 +31,7 @@ fn some_taken(table: &DealTable, rows: &[DealtCard], past_deck: bool, slots: &[S
     }
 }
 
-// The slot may not be dealt behind these places.
+// The slot may not be dealt after these places.
 fn is_taken(table: &DealTable, rows: &[DealtCard], past_deck: bool, slot: Slot) -> bool
     ensures { result ≡ taken.is_taken table.now.code (map place_of rows.now) past_deck slot }
 {
@@ -41,29 +41,29 @@ fn is_taken(table: &DealTable, rows: &[DealtCard], past_deck: bool, slot: Slot) 
     }
 }
 
-// A place bears the card, and is not gone where it is dealt past the deck.
+// A place has the card; if the deck has run out, gone places do not count.
 fn lies(rows: &[DealtCard], past_deck: bool, card: Card) -> bool
     ensures { result ≡ list_any (λ place. not (past_deck && is_some place.gone_after)
-        && taken.is_borne_by card place.slot) (map place_of rows.now) }
+        && taken.slot_is_card card place.slot) (map place_of rows.now) }
 {
     match rows {
         [] => false,
         [row, rest @ ..] => {
-            !(past_deck && row.gone_after.is_some()) && is_borne_by(card, row.slot)
+            !(past_deck && row.gone_after.is_some()) && slot_is_card(card, row.slot)
                 || lies(rest, past_deck, card)
         }
     }
 }
 
-/// Whether a card that is dealt now on this street is dealt past the deck: only then may cards
-/// come back that are gone.
+/// Whether a card that is dealt now on this street is dealt after the deck ran out: only then may
+/// cards that are gone come back.
 pub fn is_past_deck(table: &DealTable, rows: &[DealtCard], street: u8) -> bool
     ensures { result ≡ places.is_past_deck table.now.code (map place_of rows.now) street }
 {
     table.street(street).draws && (table.deck() as usize) < count_drawn(rows, street)
 }
 
-// How many cards were dealt before the street, and how many were discarded on it, both together.
+// The number of cards dealt before the street plus the number discarded on it.
 fn count_drawn(rows: &[DealtCard], street: u8) -> usize
     ensures { result ≡ count_by (λ place. nat_lt place.street street) (map place_of rows.now)
         + count_by (λ place. place.discarded == street) (map place_of rows.now) }
@@ -80,9 +80,9 @@ fn count_drawn(rows: &[DealtCard], street: u8) -> usize
     count
 }
 
-/// Whether the deck lacks the card of a slot.
-pub fn is_foreign(table: &DealTable, slot: Slot) -> bool
-    ensures { result ≡ taken.is_foreign table.now.code slot }
+/// Whether the card of a slot is not in the deck.
+pub fn is_not_in_deck(table: &DealTable, slot: Slot) -> bool
+    ensures { result ≡ taken.is_not_in_deck table.now.code slot }
 {
     match slot {
         Slot::Known(card) => !table.in_deck(card),
@@ -90,21 +90,21 @@ pub fn is_foreign(table: &DealTable, slot: Slot) -> bool
     }
 }
 
-/// Whether two places clash: both bear one card, and neither may repeat the other.
+/// Whether two places clash: both have the same card, and neither may repeat the other.
 pub fn is_clash(a: &DealtCard, b: &DealtCard) -> bool
     ensures { result ≡ taken.is_clash (place_of a.now) (place_of b.now) }
 {
     !(may_repeat(a, b) || may_repeat(b, a)) && is_one_card(a.slot, b.slot)
 }
 
-// A place may bear the card of another.
+// A place may repeat the card of another.
 fn may_repeat(card: &DealtCard, other: &DealtCard) -> bool
     ensures { result ≡ taken.may_repeat (place_of card.now) (place_of other.now) }
 {
     card.past_deck && is_gone_before(other.gone_after, card.number)
 }
 
-// The card was gone before so many cards were dealt.
+// The card was gone before `number` cards were dealt.
 fn is_gone_before(gone_after: Option<u8>, number: u8) -> bool
     ensures { result ≡ taken.is_gone_before gone_after number }
 {

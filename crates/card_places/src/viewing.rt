@@ -1,4 +1,4 @@
-//! Hands, up-cards and the board are read from the places.
+//! Reads hands, up-cards and the board from the places.
 ghost use Rattle.std.specs.Prelude.{◌≡◌, ◌≢◌, ℕ, ◌<◌, ◌≤◌, ◌&&◌, None, Some, [], ◌∷◌, ◌++◌, length};
 ghost use Rattle.std.specs.List.{list_any};
 ghost use Rattle.card_set.specs.Known as known;
@@ -31,7 +31,7 @@ pub fn hands(state: &CardState) -> HandRow
     row
 }
 
-// Puts a slot behind the others of the seat's hand.
+// Appends a card to the seat's hand.
 fn put_held(row: &mut HandRow, seat: Seat, slot: Slot)
     requires seat { seat.number ≤ row.old.seats }
     requires room { length (slots_of_hand row.old seat.number) < 7 }
@@ -63,7 +63,7 @@ pub fn up(state: &CardState) -> UpRow
     row
 }
 
-// Puts a slot behind the other up-cards of the seat.
+// Appends a card to the seat's up-cards.
 fn put_up(row: &mut UpRow, seat: Seat, slot: Slot)
     requires seat { seat.number ≤ row.old.seats }
     requires room { length (ups_of row.old seat.number) < 7 }
@@ -85,7 +85,7 @@ pub fn board(state: &CardState) -> CardRow
     known(&board_slots(state))
 }
 
-// What lies on the board, in the order of dealing.
+// The cards of the board, in the order of dealing.
 fn board_slots(state: &CardState) -> SlotRow
     ensures { slots_of result ≡ held.held_slots None (placed state.now.places) }
 {
@@ -98,7 +98,7 @@ fn board_slots(state: &CardState) -> SlotRow
     slots
 }
 
-/// Which seats have a card that is unknown.
+/// Which seats have an unknown card.
 pub fn unknown(state: &CardState) -> LiveRow
     ensures seats { result.seats ≡ state.now.seats }
     ensures unknown { (seat : ℕ) → 1 ≤ seat → seat ≤ state.now.seats → flag_of result seat

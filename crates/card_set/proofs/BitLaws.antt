@@ -1,4 +1,4 @@
--- The bits of a set of cards: one that is set or cleared, those of a suit, and how many are set.
+-- The bits of a set of cards: setting and clearing one, those of a suit, and how many are set.
 use Rattle.std.proofs.Common.{◌≡◌, ◌≢◌, ℕ, ◌+◌, ◌-◌, ◌*◌, ◌/◌, ◌%◌, ◌^◌, ◌<◌, ◌==◌, min, true, false, cond, sum_by, sym, ◌∙◌, ap, subst, arith, bit_and, bit_or, count_ones, w64}
 use Rattle.std.specs.Int.{bit_at, bit_not}
 use Rattle.std.proofs.lemmas.List.Sums.{length-filter}
@@ -12,7 +12,7 @@ use Rattle.card_set.specs.declared.set.CardSet.{CardSet}
 use Rattle.card_set.specs.CardSet.{bit_place, count_of, every_card, is_in}
 use Rattle.card_set.specs.Deck.{ranks_below}
 use Rattle.card_set.proofs.DeckLaws.{ranks_same, suits_before-few, suits_same}
-use Rattle.list_laws.proofs.Bits.{bit_counts, first_sum, first_sum-agree, ones_sum}
+use Rattle.card_set.proofs.Bits.{bit_counts, first_sum, first_sum-agree, ones_sum}
 
 pub ranks_below-few : (rank : Rank) → ranks_below rank < 13
 ranks_below-few ranks.Two = omega arith
@@ -29,7 +29,7 @@ ranks_below-few ranks.Queen = omega arith
 ranks_below-few ranks.King = omega arith
 ranks_below-few ranks.Ace = omega arith
 
--- cards with one bit are one
+-- cards with the same bit are the same
 pub bit_place-same : (a b : Card) → bit_place a ≡ bit_place b → a ≡ b
 bit_place-same a b same =
     let few_a = ranks_below-few a.rank in
@@ -45,33 +45,33 @@ other_place card other place is apart same = apart (bit_place-same other card (s
 bit_place-few : (card : Card) → bit_place card < 52
 bit_place-few card = omega (arith, ranks_below-few card.rank, suits_before-few card.suit)
 
--- a bit that is set stays within the number
+-- a number with one more bit set is within its bounds
 pub set_within : (bits place : ℕ) → bits < 2 ^ 52 → place < 52 → bit_or bits (1 * 2 ^ place % 2 ^ 64) < 2 ^ 52
 set_within bits place small within =
     let one = one_shl place 64 (omega arith) in
     or_lt 52 bits (1 * 2 ^ place % 2 ^ 64) small (subst (λ (n : ℕ). n < 2 ^ 52) (sym one) (pow-lt within))
 
--- a bit that is set stands at the place of its card
+-- a bit that is set is that of its card
 pub set_here : (bits place : ℕ) (card : Card) → place < 52 → place ≡ bit_place card → (bit_at (bit_or bits (1 * 2 ^ place % 2 ^ 64)) (bit_place card) == 1) ≡ true
 set_here bits place card within is =
     ap (λ (k : ℕ). bit_at (bit_or bits (1 * 2 ^ place % 2 ^ 64)) k == 1) (sym is)
     ∙ ap (λ (n : ℕ). n == 1) (bit_at_set_same w64 bits place (omega arith))
 
--- and the others stay
+-- and the others are unchanged
 pub set_there : (bits place : ℕ) (card other : Card) → place < 52 → place ≡ bit_place card → other ≢ card → (bit_at (bit_or bits (1 * 2 ^ place % 2 ^ 64)) (bit_place other) == 1) ≡ (bit_at bits (bit_place other) == 1)
 set_there bits place card other within is apart = ap (λ (n : ℕ). n == 1) (bit_at_set_other w64 bits place (omega arith) (bit_place other) (other_place card other place is apart))
 
--- a bit that is cleared stays within the number
+-- a number with a bit cleared is within its bounds
 pub clear_within : (bits place : ℕ) → bits < 2 ^ 52 → bit_and bits (bit_not w64 (1 * 2 ^ place % 2 ^ 64)) < 2 ^ 52
 clear_within bits place small = omega (arith, and_le_l bits (bit_not w64 (1 * 2 ^ place % 2 ^ 64)), small)
 
--- a bit that is cleared stands at the place of its card
+-- a bit that is cleared is that of its card
 pub clear_here : (bits place : ℕ) (card : Card) → place < 52 → place ≡ bit_place card → (bit_at (bit_and bits (bit_not w64 (1 * 2 ^ place % 2 ^ 64))) (bit_place card) == 1) ≡ false
 clear_here bits place card within is =
     ap (λ (k : ℕ). bit_at (bit_and bits (bit_not w64 (1 * 2 ^ place % 2 ^ 64))) k == 1) (sym is)
     ∙ ap (λ (n : ℕ). n == 1) (bit_at_clear_same w64 bits place (omega arith))
 
--- and the others stay
+-- and the others are unchanged
 pub clear_there : (bits place : ℕ) (card other : Card) → place < 52 → place ≡ bit_place card → other ≢ card → (bit_at (bit_and bits (bit_not w64 (1 * 2 ^ place % 2 ^ 64))) (bit_place other) == 1) ≡ (bit_at bits (bit_place other) == 1)
 clear_there bits place card other within is apart =
     ap (λ (n : ℕ). n == 1) (bit_at_clear_other w64 bits place (omega arith) (bit_place other) (omega (arith, bit_place-few other)) (other_place card other place is apart))
@@ -91,7 +91,7 @@ all_places : (f : ℕ → ℕ) → sum_by (λ card. f (bit_place card)) every_ca
 unfolding every_card first_sum
 all_places f = omega arith
 
--- the bits that are set are as many as the cards of the set
+-- there are as many set bits as cards in the set
 pub ones_count : (set : CardSet) → count_ones set.bits ≡ count_of set
 unfolding is_in
 ones_count set =

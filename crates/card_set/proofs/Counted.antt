@@ -1,4 +1,5 @@
--- How often ranks occur adds up to the number of cards, so the class of a hand tells how many different ranks it has.
+-- How often ranks occur adds up to the number of cards, so the class of a hand decides how many
+-- different ranks it has.
 use Rattle.std.proofs.Common.{◌≡◌, ℕ, ◌+◌, ◌*◌, ◌≤◌, ◌==◌, Bool, true, false, cond, ◌&&◌, List, [], ◌∷◌, ◌++◌, length, count_by, sum_by, find, unwrap_or, refl, sym, ◌∙◌, ap, arith, length-append, eqb-true, inl, inr}
 use Rattle.std.specs.List.{list_all}
 use Rattle.std.proofs.lemmas.List.Sums.{sum_by-cons, length-filter}
@@ -12,9 +13,9 @@ use Rattle.card_set.specs.Deck.{suits_before, all_ranks}
 use Rattle.card_set.specs.Ranks.{high_ace, low_ace, falling_heights, times, occurring, ranks_occurring, ranks_of, is_one_suit}
 use Rattle.card_set.proofs.DeckLaws.{suits_same}
 use Rattle.card_set.specs.Different.{Lacks, AllDifferent}
-use Rattle.list_laws.proofs.Counting.{count_by-cons, count_by-none, counts-le-sum, sum_by-values}
-use Rattle.list_laws.proofs.Sums.{sum_by-plus, sum_by-same}
-use Rattle.list_laws.proofs.Tests.{and_true, passes_or_not}
+use Rattle.card_set.proofs.Counting.{count_by-cons, count_by-none, counts-le-sum, sum_by-values}
+use Rattle.card_set.proofs.Sums.{sum_by-plus, sum_by-same}
+use Rattle.card_set.proofs.Tests.{and_true, passes_or_not}
 
 -- no card has this height
 pub times-none : (height : Rank → ℕ) (h : ℕ) → times height [] h ≡ 0
@@ -30,7 +31,7 @@ pub record IsHeight (height : Rank → ℕ) : Type 0 where
   pub one : (rank : Rank) → sum_by (λ h. cond (height rank == h) 1 0) falling_heights ≡ 1
   pub back : (rank : Rank) → rank_with height (height rank) ≡ rank
 
--- one card more
+-- one more card
 pub times-cons : (height : Rank → ℕ) (card : Card) (cards : List Card) (h : ℕ) → times height (card ∷ cards) h ≡ cond (height card.rank == h) 1 0 + times height cards h
 unfolding times
 times-cons height card cards h = sum_by-cons (λ c. cond (height c.rank == h) 1 0) card cards
@@ -40,7 +41,7 @@ no_times : (height : Rank → ℕ) → sum_by (times height []) falling_heights 
 unfolding times falling_heights
 no_times height = refl
 
--- the times of all heights are the cards
+-- the times of all heights add up to the cards
 pub all_times : (height : Rank → ℕ) → IsHeight height → (cards : List Card) → sum_by (times height cards) falling_heights ≡ length cards
 all_times height is [] = no_times height
 all_times height is (card ∷ cards) =
@@ -48,12 +49,13 @@ all_times height is (card ∷ cards) =
     ∙ sum_by-plus (λ h. cond (height card.rank == h) 1 0) (times height cards) falling_heights
     ∙ omega (arith, is.one card.rank, all_times height is cards)
 
--- as many ranks occur so many times as heights do
+-- as many ranks as heights occur exactly `n` times
 pub ranks_occurring_count : (height : Rank → ℕ) (cards : List Card) (n : ℕ) → ranks_occurring height cards n ≡ count_by (λ h. times height cards h == n) falling_heights
 unfolding occurring
 ranks_occurring_count height cards n = length-filter (λ h. times height cards h == n) falling_heights
 
--- where no rank occurs more than four times, the cards are those of the ranks that occur four times, three times, twice and once
+-- if no rank occurs more than four times, the cards are those of the ranks that occur four times,
+-- three times, twice and once
 pub counted : (height : Rank → ℕ) → IsHeight height → (cards : List Card) → ((h : ℕ) → times height cards h ≤ 4) → length cards ≡ 4 * ranks_occurring height cards 4 + 3 * ranks_occurring height cards 3 + 2 * ranks_occurring height cards 2 + ranks_occurring height cards 1
 counted height is cards few =
     omega (arith, all_times height is cards, sum_by-values (times height cards) falling_heights few, ranks_occurring_count height cards 4, ranks_occurring_count height cards 3, ranks_occurring_count height cards 2, ranks_occurring_count height cards 1)
@@ -64,14 +66,14 @@ unfolding ranks_of
 length-ranks_of height cards =
     omega (arith, length-append (occurring height cards 4) (occurring height cards 3 ++ (occurring height cards 2 ++ occurring height cards 1)), length-append (occurring height cards 3) (occurring height cards 2 ++ occurring height cards 1), length-append (occurring height cards 2) (occurring height cards 1))
 
--- a count, an element more that does not pass, or one that does
+-- a count with one more element, which does not pass or does
 count_by-no : (p : Card → Bool) (card : Card) (rest : List Card) → p card ≡ false → count_by p (card ∷ rest) ≡ count_by p rest
 count_by-no p card rest is = let b = ap {B = ℕ} (λ t. cond t 1 0) is in omega (arith, count_by-cons p card rest, b)
 
 count_by-yes : (p : Card → Bool) (card : Card) (rest : List Card) → p card ≡ true → count_by p (card ∷ rest) ≡ 1 + count_by p rest
 count_by-yes p card rest is = let b = ap {B = ℕ} (λ t. cond t 1 0) is in omega (arith, count_by-cons p card rest, b)
 
--- no card of a list passes a test that only a card passes which the list lacks
+-- no card of a list passes a test that only a card passes which is not in the list
 none_like : (p : Card → Bool) (card : Card) (cards : List Card) → Lacks card cards → ((other : Card) → p other ≡ true → card ≡ other) → count_by p cards ≡ 0
 none_like p card [] lacks only = refl
 none_like p card (other ∷ rest) lacks only =
@@ -128,7 +130,7 @@ pub few_times : (height : Rank → ℕ) → IsHeight height → (cards : List Ca
 few_times height is cards different h =
     omega (arith, by_suits height cards h, at_most_one (is_card height h 0) cards different (only_card height is h 0), at_most_one (is_card height h 1) cards different (only_card height is h 1), at_most_one (is_card height h 2) cards different (only_card height is h 2), at_most_one (is_card height h 3) cards different (only_card height is h 3))
 
--- where all cards have a suit, those of a height are those of the height and the suit
+-- if all cards have a suit, those of a height are those of the height and the suit
 times_in_suit : (height : Rank → ℕ) (cards : List Card) (h s : ℕ) → list_all (λ card. suits_before card.suit == s) cards ≡ true → times height cards h ≡ count_by (is_card height h s) cards
 times_in_suit height [] h s all = times-none height h
 times_in_suit height (card ∷ rest) h s all =
@@ -143,7 +145,7 @@ once_in_suit height is (card ∷ rest) different suited h =
     let s = suits_before card.suit in
     omega (arith, times_in_suit height (card ∷ rest) h s suited, at_most_one (is_card height h s) (card ∷ rest) different (only_card height is h s))
 
--- where no rank occurs more than once, as many ranks as cards occur once
+-- if no rank occurs more than once, as many ranks as cards occur once
 pub all_once : (height : Rank → ℕ) → IsHeight height → (cards : List Card) → ((h : ℕ) → times height cards h ≤ 1) → (ranks_occurring height cards 4 ≡ 0) × (ranks_occurring height cards 3 ≡ 0) × (ranks_occurring height cards 2 ≡ 0) × (ranks_occurring height cards 1 ≡ length cards)
 all_once height is cards once =
     let four = ranks_occurring_count height cards 4 ∙ count_by-none (times height cards) 4 falling_heights once (omega arith) in
@@ -151,7 +153,7 @@ all_once height is cards once =
     let two = ranks_occurring_count height cards 2 ∙ count_by-none (times height cards) 2 falling_heights once (omega arith) in
     (four, three, two, omega (arith, counted height is cards (λ h. omega (arith, once h)), four, three, two))
 
--- where the ace is the highest, each rank has one height, and is found by it
+-- with the ace high, each rank has one height, and is found by it
 high_ace-one : (rank : Rank) → sum_by (λ h. cond (high_ace rank == h) 1 0) falling_heights ≡ 1
 unfolding falling_heights
 high_ace-one ranks.Two = refl
@@ -186,7 +188,7 @@ high_ace-back ranks.Ace = refl
 pub IsHeight-high_ace : IsHeight high_ace
 IsHeight-high_ace = record { one = high_ace-one; back = high_ace-back }
 
--- where the ace is the lowest, each rank has one height, and is found by it
+-- with the ace low, each rank has one height, and is found by it
 low_ace-one : (rank : Rank) → sum_by (λ h. cond (low_ace rank == h) 1 0) falling_heights ≡ 1
 unfolding falling_heights
 low_ace-one ranks.Two = refl
@@ -221,7 +223,7 @@ low_ace-back ranks.Ace = refl
 pub IsHeight-low_ace : IsHeight low_ace
 IsHeight-low_ace = record { one = low_ace-one; back = low_ace-back }
 
--- cards have at most as many different ranks
+-- there are at most as many different ranks as cards
 pub ranks_of-le : (height : Rank → ℕ) → IsHeight height → (cards : List Card) → length (ranks_of height cards) ≤ length cards
 ranks_of-le height is cards =
     omega (arith, length-ranks_of height cards, all_times height is cards, counts-le-sum (times height cards) falling_heights, ranks_occurring_count height cards 4, ranks_occurring_count height cards 3, ranks_occurring_count height cards 2, ranks_occurring_count height cards 1)

@@ -8,7 +8,7 @@ use Rattle.card_set.specs.declared.card.Suit.{Suit}
 use Rattle.card_set.specs.declared.card.Suit.TheVariants as suits
 use Rattle.card_set.specs.Deck.{ranks_below, suits_before, deck_place, is_same_card, all_ranks, all_suits}
 
--- the rank with so many below it
+-- the rank with this number of ranks below it
 rank_at : (rank : Rank) → slice_get all_ranks (ranks_below rank) ≡ Some rank
 rank_at ranks.Two = refl
 rank_at ranks.Three = refl
@@ -24,7 +24,7 @@ rank_at ranks.Queen = refl
 rank_at ranks.King = refl
 rank_at ranks.Ace = refl
 
--- the suit with so many before it
+-- the suit with this number of suits before it
 suit_at : (suit : Suit) → slice_get all_suits (suits_before suit) ≡ Some suit
 suit_at suits.C = refl
 suit_at suits.D = refl
@@ -37,19 +37,19 @@ suits_before-few suits.D = omega arith
 suits_before-few suits.H = omega arith
 suits_before-few suits.S = omega arith
 
--- ranks with as many below them are one
+-- ranks with the same number below them are the same
 pub ranks_same : (a b : Rank) → ranks_below a ≡ ranks_below b → a ≡ b
 ranks_same a b same =
     let read : Some a ≡ Some b = sym (rank_at a) ∙ ap (slice_get all_ranks) same ∙ rank_at b in
     cc
 
--- suits with as many before them are one
+-- suits with the same number before them are the same
 pub suits_same : (a b : Suit) → suits_before a ≡ suits_before b → a ≡ b
 suits_same a b same =
     let read : Some a ≡ Some b = sym (suit_at a) ∙ ap (slice_get all_suits) same ∙ suit_at b in
     cc
 
--- cards with one place in the deck are one
+-- cards with the same place in the deck are the same
 pub deck_place-same : (a b : Card) → deck_place a ≡ deck_place b → a ≡ b
 deck_place-same a b same =
     let few_a = suits_before-few a.suit in
@@ -58,7 +58,7 @@ deck_place-same a b same =
     let suit : a.suit ≡ b.suit = suits_same a.suit b.suit (omega (arith, same, few_a, few_b)) in
     ap (λ r. record { rank = r; suit = a.suit }) rank ∙ ap (λ s. record { rank = b.rank; suit = s }) suit
 
--- the test of one card is true only at one card
+-- the test for one card is true only for this card
 pub is_same_card-true : (a b : Card) → is_same_card a b ≡ true → a ≡ b
 is_same_card-true a b same = deck_place-same a b (eqb-true (deck_place a) (deck_place b) same)
 

@@ -12,7 +12,7 @@ known_append [] second = refl
 known_append (slots.Known card ∷ rest) second = ap (λ (cards : List Card). card ∷ cards) (known_append rest second)
 known_append (slots.Unknown ∷ rest) second = known_append rest second
 
--- the known cards of one slot more
+-- the known cards of one more slot
 pub one_known_more : (cards : List Slot) (i : ℕ) (d : Slot) → i < length cards → known_cards (take (i + 1) cards) ≡ known_cards (take i cards) ++ known_cards (get_or cards i d ∷ [])
 one_known_more cards i d inside = ap known_cards (take_more cards i d inside) ∙ known_append (take i cards) (get_or cards i d ∷ [])
 

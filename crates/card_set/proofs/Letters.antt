@@ -1,4 +1,4 @@
--- The letters of ranks and suits are bytes of ASCII, so a card is spelled by two bytes.
+-- The letters of ranks and suits are ASCII bytes, so a card is written as two bytes.
 use Rattle.card_set.specs.Spelling.{rank_letter, slot_spelling, suit_letter}
 use Rattle.card_set.specs.declared.card.Rank.{Rank}
 use Rattle.card_set.specs.declared.card.Slot.{Slot}

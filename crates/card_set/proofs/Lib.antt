@@ -1,3 +1,27 @@
+-- Facts about lists, tests and numbers, of whatever kind.
+pub mod Tests
+pub mod Any
+pub mod Sums
+pub mod Ranges
+pub mod Numbers
+pub mod Lists
+pub mod Entries
+pub mod FlatMaps
+pub mod Rising
+pub mod Options
+pub mod Results
+pub mod Counting
+pub mod Finding
+pub mod Earliest
+pub mod Bits
+pub mod NumbersOfRange
+pub mod Reversed
+pub mod Words
+pub mod Each
+pub mod Integers
+pub mod Digits
+pub mod Bytes
+pub mod Orderings
 pub mod BitLaws
 pub mod Counted
 pub mod DeckLaws

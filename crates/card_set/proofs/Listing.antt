@@ -1,4 +1,5 @@
--- Each of the 52 cards stands once in the deck, so what is counted among different cards is told by which cards they are.
+-- Each of the 52 cards is once in the deck, so what is counted among different cards depends only
+-- on which cards they are.
 use Rattle.std.proofs.Common.{◌≡◌, ℕ, ◌+◌, ◌<◌, ◌==◌, ◌&&◌, ◌||◌, Bool, true, false, cond, List, [], ◌∷◌, ◌++◌, ◌⊎◌, length, filter, map, get_or, count_by, inl, inr, refl, sym, ◌∙◌, ap, subst, arith, eq-eqb}
 use Rattle.std.specs.List.{range_with_len}
 use Rattle.std.specs.Prelude.{nat_le}
@@ -15,24 +16,24 @@ use Rattle.card_set.specs.Filler.{filler_card}
 use Rattle.card_set.specs.Ranks.{falling_heights, occurring, ranks_of, times}
 use Rattle.card_set.proofs.BitLaws.{ranks_below-few}
 use Rattle.card_set.proofs.DeckLaws.{deck_place-same, is_same_card-true, suits_before-few}
-use Rattle.list_laws.proofs.Counting.{count_by-cons, count_by-map, counted_never, range_once}
-use Rattle.list_laws.proofs.Lists.{filter-agree}
-use Rattle.list_laws.proofs.Sums.{sum_by-plus, sum_by-same}
-use Rattle.list_laws.proofs.Tests.{and_false, passes_or_not, true_false}
+use Rattle.card_set.proofs.Counting.{count_by-cons, count_by-map, counted_never, range_once}
+use Rattle.card_set.proofs.Lists.{filter-agree}
+use Rattle.card_set.proofs.Sums.{sum_by-plus, sum_by-same}
+use Rattle.card_set.proofs.Tests.{and_false, passes_or_not, true_false}
 
 -- the places of the 52 cards are all places
 places : map deck_place every_card ≡ range_with_len 0 52
 unfolding every_card
 places = refl
 
--- each card stands once in the deck
+-- each card is once in the deck
 deck_once : (card : Card) → deck_place card < 52 → count_by (is_same_card card) every_card ≡ 1
 deck_once card within =
     sym (count_by-map (λ k. deck_place card == k) deck_place every_card)
     ∙ ap (count_by (λ k. deck_place card == k)) places
     ∙ range_once (deck_place card) 0 52 (omega arith) within
 
--- a card that is not one of others is counted among them no time
+-- a card that is not among others is counted 0 times among them
 not_counted : (card : Card) (cards : List Card) → is_one_of card cards ≡ false → count_by (is_same_card card) cards ≡ 0
 not_counted card [] absent = refl
 not_counted card (other ∷ rest) absent = by_tests (is_same_card other card) refl (is_one_of card rest) refl absent (not_counted card rest)
@@ -51,7 +52,7 @@ in_deck card within =
       | inr absent ↦ absurd (omega (arith, not_counted card every_card absent, deck_once card within))
     ]
 
--- a card that others lack is not one of them
+-- a card that is not in the rest is not one of them
 pub lacks_one_of : (card : Card) (rest : List Card) → Lacks card rest → is_one_of card rest ≡ false
 lacks_one_of card [] lacks = refl
 lacks_one_of card (other ∷ rest) lacks =
@@ -60,7 +61,7 @@ lacks_one_of card (other ∷ rest) lacks =
       | inr apart ↦ ap (λ (b : Bool). b || is_one_of card rest) apart ∙ lacks_one_of card rest lacks.1
     ]
 
--- a card is one of those that pass where it is one of them and passes
+-- a card is one of those that pass if it is one of them and passes
 pub is_one_of-filter : (p : Card → Bool) (card : Card) (cards : List Card) → is_one_of card (filter p cards) ≡ (is_one_of card cards && p card)
 is_one_of-filter p card [] = refl
 is_one_of-filter p card (first ∷ rest) = by_tests (p first) refl (passes_or_not (is_same_card first card)) (is_one_of-filter p card rest)
@@ -171,7 +172,7 @@ counted_in_deck p (card ∷ rest) different =
     ∙ sum_by-plus (λ other. cond (is_same_card card other && p card) 1 0) (λ other. cond (is_one_of other rest && p other) 1 0) every_card in
     omega (arith, count_by-cons p card rest, all, counted_card p card, counted_in_deck p rest different.1)
 
--- the same different cards are counted alike
+-- the same different cards give the same counts
 pub count_by-same : (p : Card → Bool) (a b : List Card) → AllDifferent a → AllDifferent b → AreSameCards a b → count_by p a ≡ count_by p b
 count_by-same p a b different_a different_b same =
     counted_in_deck p a different_a
@@ -182,11 +183,11 @@ length-count : (cards : List Card) → length cards ≡ count_by (λ card. true)
 length-count [] = refl
 length-count (card ∷ rest) = omega (arith, count_by-cons (λ c. true) card rest, length-count rest)
 
--- they are as many
+-- there are as many of them
 pub length-same : (a b : List Card) → AllDifferent a → AllDifferent b → AreSameCards a b → length a ≡ length b
 length-same a b different_a different_b same = length-count a ∙ count_by-same (λ card. true) a b different_a different_b same ∙ sym (length-count b)
 
--- their ranks occur as often
+-- their ranks occur equally often
 pub times-same : (height : Rank → ℕ) (a b : List Card) → AllDifferent a → AllDifferent b → AreSameCards a b → (h : ℕ) → times height a h ≡ times height b h
 unfolding times
 times-same height a b different_a different_b same h = count_by-same (λ card. height card.rank == h) a b different_a different_b same

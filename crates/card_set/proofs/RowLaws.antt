@@ -1,4 +1,4 @@
--- Two rows with the same entries are one row.
+-- Two rows with the same entries are the same.
 use Rattle.std.proofs.Common.{◌≡◌, ℕ, ◌≤◌, ◌<◌, List, length, take, get_or, slice_get, Some, sym, ◌∙◌, ap, subst, arith, ⊎_elim, length-take}
 use Rattle.std.proofs.Props.{props}
 use Rattle.std.proofs.lemmas.Bool.{cases_lt}
@@ -27,7 +27,7 @@ slot_row len slots kept =
 kept_slots : (row : SlotRow) → KeptSlots row.len row.slots
 kept_slots row = record { fits = row.fits; entries = row.entries; filled = row.filled }
 
--- rows with the same number and the same entries, fillers among them, are one
+-- rows with the same number and the same entries, fillers included, are the same
 pub slot_row_same : (a b : SlotRow) → a.len ≡ b.len → a.slots ≡ b.slots → a ≡ b
 unfolding slot_row kept_slots
 slot_row_same a b len slots =
@@ -52,7 +52,7 @@ card_row len cards kept =
 kept_cards : (row : CardRow) → KeptCards row.len row.cards
 kept_cards row = record { fits = row.fits; entries = row.entries; filled = row.filled }
 
--- rows with the same number and the same entries, fillers among them, are one
+-- rows with the same number and the same entries, fillers included, are the same
 pub card_row_same : (a b : CardRow) → a.len ≡ b.len → a.cards ≡ b.cards → a ≡ b
 unfolding card_row kept_cards
 card_row_same a b len cards =
@@ -61,7 +61,7 @@ card_row_same a b len cards =
     λ kept. ap (card_row a.len a.cards) (KeptCards-prop a.len a.cards (kept_cards a) kept) in
     subst (λ xs. P b.len xs) cards (subst (λ n. P n a.cards) len here) (kept_cards b)
 
--- lists of one length with the same front, and the filler behind it, are one
+-- lists of one length with the same front, followed by fillers, are the same
 same_filled : {X : Type 0} (filler : X) (xs ys : List X) (len : ℕ) → length xs ≡ 7 → length ys ≡ 7 → take len xs ≡ take len ys → ((k : ℕ) → len ≤ k → k < 7 → slice_get xs k ≡ Some filler) → ((k : ℕ) → len ≤ k → k < 7 → slice_get ys k ≡ Some filler) → xs ≡ ys
 same_filled filler xs ys len full whole front behind after =
     ext_get_or filler xs ys (full ∙ sym whole) (λ k within.
@@ -70,14 +70,14 @@ same_filled filler xs ys len full whole front behind after =
     (λ (late : len ≤ k). get_or_from_slice_get xs k filler filler (behind k late (omega arith)) ∙ sym (get_or_from_slice_get ys k filler filler (after k late (omega arith))))
     (cases_lt k len))
 
--- rows with the same slots are one
+-- rows with the same slots are the same
 pub slots_same : (a b : SlotRow) → slots_of a ≡ slots_of b → a ≡ b
 slots_same a b same =
     let len : a.len ≡ b.len =
     omega (arith, a.fits, b.fits, a.entries, b.entries, ap length same, length-take a.len a.slots, length-take b.len b.slots) in
     slot_row_same a b len (same_filled filler_slot a.slots b.slots a.len a.entries b.entries (same ∙ ap (λ n. take n b.slots) (sym len)) a.filled (λ k late. b.filled k (omega (arith, late, len))))
 
--- rows with the same cards are one
+-- rows with the same cards are the same
 pub cards_same : (a b : CardRow) → cards_of a ≡ cards_of b → a ≡ b
 cards_same a b same =
     let len : a.len ≡ b.len =

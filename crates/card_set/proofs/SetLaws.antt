@@ -1,4 +1,4 @@
--- A set with one card more, and the cards of a set so far in the order of the deck.
+-- A set with one more card, and the cards of a set so far in the order of the deck.
 use Rattle.std.proofs.Common.{◌≡◌, ◌≢◌, ℕ, ◌+◌, ◌<◌, ◌≤◌, ◌||◌, Bool, true, false, cond, List, [], ◌∷◌, ◌++◌, length, filter, take, drop, get_or, ◌⊎◌, inl, inr, sym, ◌∙◌, ap, arith, length-append, take-append-drop, length-take, take_all}
 use Rattle.std.proofs.lemmas.List.{take_more}
 use Rattle.std.proofs.lemmas.List.Elements.{filter_more, filter-append}
@@ -10,7 +10,7 @@ use Rattle.card_set.specs.Filler.{filler_card}
 use Rattle.card_set.specs.Row.{cards_of}
 use Rattle.card_set.proofs.DeckLaws.{is_same_card-true, is_same_card-self}
 use Rattle.card_set.proofs.Listing.{deck_at, deck_length}
-use Rattle.list_laws.proofs.Tests.{or_assoc, or_false, or_right, passes_or_not, true_false}
+use Rattle.card_set.proofs.Tests.{or_assoc, or_false, or_right, passes_or_not, true_false}
 
 -- a card at the end
 pub is_one_of-more : (card other : Card) (cards : List Card) → is_one_of card (cards ++ other ∷ []) ≡ (is_one_of card cards || is_same_card other card)
@@ -18,7 +18,7 @@ is_one_of-more card other [] = or_false (is_same_card other card)
 is_one_of-more card other (first ∷ cards) =
     ap (λ (b : Bool). is_same_card first card || b) (is_one_of-more card other cards) ∙ or_assoc (is_same_card first card) (is_one_of card cards) (is_same_card other card)
 
--- a set with one card more has the cards so far and this one
+-- a set with one more card has the cards so far and this one
 pub inserted : (before after : Card → Bool) (items : List Card) (i : ℕ) (put filler : Card) → i < length items → put ≡ get_or items i filler → ((card : Card) → before card ≡ is_one_of card (take i items)) → after put ≡ true → ((other : Card) → other ≢ put → after other ≡ before other) → (card : Card) → after card ≡ is_one_of card (take (i + 1) items)
 inserted before after items i put filler within is so_far inside others card =
     by_test (passes_or_not (is_same_card put card))
@@ -38,7 +38,7 @@ deck_more p card place b is within passes =
     ∙ ap (λ (c : Card). filter p (take place every_card) ++ cond (p c) (c ∷ []) []) (deck_at card place is within)
     ∙ ap (λ (t : Bool). filter p (take place every_card) ++ cond t (card ∷ []) []) passes
 
--- the first cards that pass are no more than all
+-- the first cards that pass are at most as many as all
 pub deck_first-le : (p : Card → Bool) (k : ℕ) → length (filter p (take k every_card)) ≤ length (filter p every_card)
 deck_first-le p k =
     let split = ap (length {A = Card}) (ap (filter p) (sym (take-append-drop k every_card)) ∙ filter-append p (take k every_card) (drop k every_card)) in
@@ -48,6 +48,6 @@ deck_first-le p k =
 pub row_length : (row : CardRow) → length (cards_of row) ≡ row.len
 row_length row = omega (arith, length-take row.len row.cards, row.entries, row.fits)
 
--- and past the last place they are all
+-- and after the last place they are all
 pub deck_all : (p : Card → Bool) (k : ℕ) → 52 ≤ k → filter p (take k every_card) ≡ filter p every_card
 deck_all p k past = ap (filter p) (take_all k every_card (omega (arith, deck_length)))

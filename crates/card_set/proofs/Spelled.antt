@@ -1,4 +1,4 @@
--- Laws of the spelling of slots: it has one reading, and its first fault is one.
+-- Laws of writing slots: what is written has one reading, and its first fault is unique.
 use Rattle.std.proofs.Common.{◌≡◌, ℕ, ◌+◌, ◌*◌, ◌%◌, ◌<◌, ◌≤◌, ◌==◌, Bool, true, false, not, ◌&&◌, List, [], ◌∷◌, ◌++◌, length, take, drop, get_or, take-append-drop, Option, Some, None, refl, sym, ◌∙◌, ap, subst, arith, append_assoc, length-append, inl, inr, find, option_and_then, eqb-true}
 use Rattle.std.specs.Option.{option_map}
 use Rattle.std.proofs.lemmas.Bool.{and_parts, not-true}
@@ -14,10 +14,10 @@ use Rattle.card_set.specs.declared.spelling.CardFault.TheVariants as faults
 use Rattle.card_set.specs.Deck.{all_ranks, all_suits}
 use Rattle.card_set.specs.Spelling.{rank_letter, suit_letter, slot_spelling, spelling, rank_lettered, suit_lettered, slot_spelled, slots_spelled, HasFault, PairFault, BeginsSlot, SpellsSlot, FirstBadPair}
 use Rattle.card_set.proofs.Letters.{each_rank}
-use Rattle.list_laws.proofs.Lists.{pair_more}
-use Rattle.list_laws.proofs.Tests.{chosen_either}
+use Rattle.card_set.proofs.Lists.{pair_more}
+use Rattle.card_set.proofs.Tests.{chosen_either}
 
--- one slot more is its two letters more
+-- one more slot is its two letters more
 pub spelling-push : (row : List Slot) (slot : Slot) → spelling (row ++ slot ∷ []) ≡ spelling row ++ slot_spelling slot
 spelling-push [] (slots.Known card) = refl
 spelling-push [] slots.Unknown = refl
@@ -91,7 +91,7 @@ pub slot_spelled-unknown : slot_spelled 63 63 ≡ Some slots.Unknown
 unfolding slot_spelled
 slot_spelled-unknown = refl
 
--- two letters, one after the other
+-- two letters, one after another
 two_letters : (a b c d : ℕ) → a ≡ c → b ≡ d → a ∷ b ∷ [] ≡ c ∷ d ∷ []
 two_letters a b c d one other = cc
 
@@ -102,7 +102,7 @@ card_letters first second (Some r) (Some s) slot ranked suited is =
     let same : slots.Known (record { rank = r; suit = s }) ≡ slot = cc in
     ap slot_spelling (sym same) ∙ two_letters _ _ _ _ (ranked r refl) (suited s refl)
 
--- what two letters are read as is spelled with them
+-- what two letters are read as is written with them
 pub slot_spelling-slot_spelled : (first second : ℕ) (slot : Slot) → slot_spelled first second ≡ Some slot → slot_spelling slot ≡ first ∷ second ∷ []
 unfolding slot_spelled
 slot_spelling-slot_spelled first second slot is =
@@ -119,7 +119,7 @@ slots_spelled-cons : (slot : Slot) (rest : List ℕ) → slots_spelled (slot_spe
 slots_spelled-cons (slots.Known card) rest = ap (option_and_then (λ slot. option_map (λ others. slot ∷ others) (slots_spelled rest))) (slot_spelled-card card.rank card.suit)
 slots_spelled-cons slots.Unknown rest = ap (option_and_then (λ slot. option_map (λ others. slot ∷ others) (slots_spelled rest))) slot_spelled-unknown
 
--- what is spelled is read back
+-- what is written is read back
 pub slots_spelled-spelling : (row : List Slot) → slots_spelled (spelling row) ≡ Some row
 slots_spelled-spelling [] = refl
 slots_spelled-spelling (slot ∷ rest) = slots_spelled-cons slot (spelling rest) ∙ ap (option_map (λ others. slot ∷ others)) (slots_spelled-spelling rest)
@@ -133,13 +133,13 @@ read_pair first second rest (Some slot) (Some found) row is_slot is_rest spelled
     ∙ ap (λ (l : List ℕ). l ++ spelling found) (sym (slot_spelling-slot_spelled first second slot is_slot))
     ∙ ap spelling same
 
--- what is read was spelled so
+-- what is read was written like that
 pub spelling-slots_spelled : (bytes : List ℕ) (row : List Slot) → slots_spelled bytes ≡ Some row → bytes ≡ spelling row
 spelling-slots_spelled [] row is = let same : [] ≡ row = cc in ap spelling same
 spelling-slots_spelled (first ∷ []) row is = absurd (cc)
 spelling-slots_spelled (first ∷ second ∷ rest) row is = read_pair first second rest (slot_spelled first second) (slots_spelled rest) row refl refl (spelling-slots_spelled rest) is
 
--- two rows with one spelling are one
+-- two rows that are written the same are the same
 pub same_slots : (a b : List Slot) → spelling a ≡ spelling b → a ≡ b
 same_slots a b same = let read : Some a ≡ Some b = sym (slots_spelled-spelling a) ∙ ap slots_spelled same ∙ slots_spelled-spelling b in cc
 
@@ -148,7 +148,7 @@ begins : (slot : Slot) (first second : ℕ) → slot_spelling slot ≡ first ∷
 begins (slots.Known card) first second is = let same : rank_letter card.rank ≡ first = cc in inl (card.rank, same)
 begins slots.Unknown first second is = let same : first ≡ 63 = cc in inr same
 
--- a pair with a fault spells no slot
+-- a pair with a fault writes no slot
 pub pair_spells_nothing : (first second : ℕ) (fault : CardFault) → PairFault first second fault → SpellsSlot first second → ⊥
 pair_spells_nothing first second faults.OddLength bad spelled = bad
 pair_spells_nothing first second faults.BadRank bad spelled = bad (begins spelled.0 first second spelled.1)
@@ -179,7 +179,7 @@ behind (slots.Known card) slots.Unknown x y is = cc
 behind slots.Unknown (slots.Known card) x y is = cc
 behind slots.Unknown slots.Unknown x y is = cc
 
--- behind slots, the first pair that spells none is one pair
+-- after slots, the first pair that writes none is one pair
 first_pair : (before others : List Slot) (a b c d : ℕ) (after rest : List ℕ) → spelling before ++ a ∷ b ∷ after ≡ spelling others ++ c ∷ d ∷ rest → (SpellsSlot a b → ⊥) → (SpellsSlot c d → ⊥) → (a ≡ c) × (b ≡ d)
 first_pair [] [] a b c d after rest is one other = (cc, cc)
 first_pair (s ∷ before) [] a b c d after rest is one other =
@@ -191,7 +191,7 @@ first_pair [] (s ∷ others) a b c d after rest is one other =
 first_pair (s ∷ before) (t ∷ others) a b c d after rest is one other =
     first_pair before others a b c d after rest (behind s t (spelling before ++ a ∷ b ∷ after) (spelling others ++ c ∷ d ∷ rest) (sym (append_assoc (slot_spelling s) (spelling before) (a ∷ b ∷ after)) ∙ is ∙ append_assoc (slot_spelling t) (spelling others) (c ∷ d ∷ rest))) one other
 
--- behind slots, a pair that spells none is not the spelling of slots
+-- after slots, a pair that writes none does not make the bytes slots
 no_slots : (before row : List Slot) (a b : ℕ) (after : List ℕ) → spelling before ++ a ∷ b ∷ after ≡ spelling row → (SpellsSlot a b → ⊥) → ⊥
 no_slots [] [] a b after is none = absurd (cc)
 no_slots (s ∷ before) [] a b after is none =
@@ -200,7 +200,7 @@ no_slots [] (s ∷ row) a b after is none = none (s, (heads s a b (spelling row)
 no_slots (s ∷ before) (t ∷ row) a b after is none =
     no_slots before row a b after (behind s t (spelling before ++ a ∷ b ∷ after) (spelling row) (sym (append_assoc (slot_spelling s) (spelling before) (a ∷ b ∷ after)) ∙ is)) none
 
--- bytes with a fault spell no row
+-- bytes with a fault write no row
 pub fault_spells_nothing : (bytes : List ℕ) (fault : CardFault) → HasFault bytes fault → (row : List Slot) → length row ≤ 7 → bytes ≡ spelling row → ⊥
 fault_spells_nothing bytes faults.OddLength has row few is = omega (arith, ap length is, length-spelling row)
 fault_spells_nothing bytes faults.TooMany has row few is = omega (arith, ap length is, length-spelling row)
@@ -232,7 +232,7 @@ one_fault bytes faults.BadSuit faults.TooMany x y = absurd (omega (arith, y.1, x
 one_fault bytes faults.BadSuit faults.BadRank x y = one_bad_pair bytes faults.BadSuit faults.BadRank x y
 one_fault bytes faults.BadSuit faults.BadSuit x y = refl
 
--- one pair more spells one slot more
+-- one more pair writes one more slot
 pub row_more : (bytes : List ℕ) (before row : List Slot) (slot : Slot) (index : ℕ) → take (2 * index) bytes ≡ spelling before → slot_spelling slot ≡ get_or bytes (2 * index) 0 ∷ get_or bytes (2 * index + 1) 0 ∷ [] → row ≡ before ++ slot ∷ [] → 2 * index + 1 < length bytes → take (2 * (index + 1)) bytes ≡ spelling row
 row_more bytes before row slot index read spelled longer within =
     pair_more bytes index within
@@ -248,7 +248,7 @@ has_fault bytes faults.TooMany first second pair bad = absurd bad
 has_fault bytes faults.BadRank first second pair bad = pair
 has_fault bytes faults.BadSuit first second pair bad = pair
 
--- the first pair behind spelled slots that spells none is the fault of the bytes
+-- the first pair after written slots that writes none is the fault of the bytes
 pub pair_fault : (bytes : List ℕ) (before : List Slot) (index : ℕ) (fault : CardFault) → PairFault (get_or bytes (2 * index) 0) (get_or bytes (2 * index + 1) 0) fault → take (2 * index) bytes ≡ spelling before → 2 * index + 1 < length bytes → length bytes % 2 ≡ 0 → length bytes ≤ 14 → HasFault bytes fault
 pair_fault bytes before index fault bad read within pairs few = has_fault bytes fault first second bad_pair bad
   where

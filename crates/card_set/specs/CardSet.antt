@@ -1,4 +1,4 @@
--- A set of cards, by which of the 52 are in it.
+-- A set of cards: which of the 52 cards are in it.
 use Rattle.std.specs.Prelude.{ℕ, ◌+◌, ◌*◌, ◌==◌, ◌≡◌, ◌||◌, Bool, false, List, [], ◌∷◌, length, filter, map}
 use Rattle.std.specs.Int.{bit_at}
 use Rattle.std.specs.List.{flat_map}
@@ -7,7 +7,7 @@ use Rattle.card_set.specs.declared.set.CardSet.{CardSet}
 use Rattle.card_set.specs.Deck.{ranks_below, suits_before, is_same_card, all_ranks, all_suits}
 use Rattle.card_set.specs.Different.{AllDifferent}
 
--- the place of a card among the bits of a set: suit by suit, and in a suit from the two to the ace
+-- the bit of a card in a set (from 0): suit by suit, and in a suit from the two to the ace
 abbrev pub bit_place : Card → ℕ
 bit_place card = 13 * suits_before card.suit + ranks_below card.rank
 
@@ -24,7 +24,7 @@ every_card =
 abbrev pub listed : CardSet → List Card
 listed set = filter (is_in set) every_card
 
--- how many of the 52 cards are in the set
+-- the number of cards in the set
 abbrev pub count_of : CardSet → ℕ
 count_of set = length (filter (is_in set) every_card)
 

@@ -33,24 +33,25 @@ has_no_pair height cards =
     ranks_occurring height cards 4 == 0 && ranks_occurring height cards 3 == 0
     && ranks_occurring height cards 2 == 0
 
--- how many classes of a table, whose first is the best, stand before the first that a hand has
+-- in a list of classes from the best to the worst, the number of classes before the first that a
+-- hand has
 abbrev pub place : List Bool → ℕ
 place [] = 0
 place (true ∷ rest) = 0
 place (false ∷ rest) = 1 + place rest
 
--- at the first place where the lists differ the left one is lower
+-- at the first place where the lists differ, the left one is lower
 abbrev pub IsLower : List ℕ → List ℕ → Type 0
 IsLower [] ys = ⊥
 IsLower (x ∷ xs) [] = ⊥
 IsLower (x ∷ xs) (y ∷ ys) = (x < y) ⊎ ((x ≡ y) × IsLower xs ys)
 
--- a hand is weaker than another by a table of classes and a list of ranks: its class comes later in
--- the table, or it is the same and the first rank that differs is lower
+-- a hand is weaker than another, if high ranks are good: its class is worse, or the class is the
+-- same and the first rank that differs is lower
 abbrev pub IsBelow : (List Card → ℕ) → (List Card → List ℕ) → List Card → List Card → Type 0
 IsBelow class list a b = (class b < class a) ⊎ ((class a ≡ class b) × IsLower (list a) (list b))
 
--- a hand is weaker than another where low ranks are good: its class comes later in the table, or it
--- is the same and the first rank that differs is higher
+-- a hand is weaker than another, if low ranks are good: its class is worse, or the class is the
+-- same and the first rank that differs is higher
 abbrev pub IsBelowLow : (List Card → ℕ) → (List Card → List ℕ) → List Card → List Card → Type 0
 IsBelowLow class list a b = (class b < class a) ⊎ ((class a ≡ class b) × IsLower (list b) (list a))

@@ -6,7 +6,7 @@ use Rattle.card_set.specs.declared.card.Rank.TheVariants as ranks
 use Rattle.card_set.specs.declared.card.Suit.{Suit}
 use Rattle.card_set.specs.declared.card.Suit.TheVariants as suits
 
--- how many ranks are below this one
+-- the number of ranks below this one
 abbrev pub ranks_below : Rank → ℕ
 ranks_below ranks.Two = 0
 ranks_below ranks.Three = 1
@@ -22,7 +22,7 @@ ranks_below ranks.Queen = 10
 ranks_below ranks.King = 11
 ranks_below ranks.Ace = 12
 
--- how many suits stand before this one
+-- the number of suits before this one
 abbrev pub suits_before : Suit → ℕ
 suits_before suits.C = 0
 suits_before suits.D = 1
@@ -44,11 +44,11 @@ all_suits = suits.C ∷ suits.D ∷ suits.H ∷ suits.S ∷ []
 abbrev pub deck_place : Card → ℕ
 deck_place card = 4 * ranks_below card.rank + suits_before card.suit
 
--- both are one card
+-- both are the same card
 abbrev pub is_same_card : Card → Card → Bool
 is_same_card a b = deck_place a == deck_place b
 
--- the card at a place of the deck, from 0; past the last place its rank is the ace
+-- the card at a place of the deck (from 0); after the last place its rank is the ace
 unfoldable pub card_placed : ℕ → Card
 card_placed place = record {
   rank = unwrap_or (slice_get all_ranks (place / 4)) ranks.Ace;

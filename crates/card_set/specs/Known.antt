@@ -1,4 +1,4 @@
--- Which slots are unknown, and the cards that are known among slots.
+-- Which slots are unknown, and the known cards among slots.
 use Rattle.std.specs.Prelude.{Bool, true, false, List, [], ◌∷◌, map}
 use Rattle.card_set.specs.declared.card.Card.{Card}
 use Rattle.card_set.specs.declared.card.Slot.{Slot}
@@ -9,7 +9,7 @@ abbrev pub is_unknown : Slot → Bool
 is_unknown slots.Unknown = true
 is_unknown (slots.Known card) = false
 
--- the slots that bear some cards, in order
+-- these cards as known slots, in order
 abbrev pub known_slots : List Card → List Slot
 known_slots cards = map (λ card. slots.Known card) cards
 

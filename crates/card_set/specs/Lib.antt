@@ -1,5 +1,4 @@
--- Sets and rows of cards, their order in the deck, their ranks and classes, and how they are
--- spelled.
+-- Sets and rows of cards, the order of the deck, ranks and classes, and how cards are written.
 pub mod CardSet
 pub mod Classes
 pub mod Deck

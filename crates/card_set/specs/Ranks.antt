@@ -6,7 +6,7 @@ use Rattle.card_set.specs.declared.card.Rank.{Rank}
 use Rattle.card_set.specs.declared.card.Rank.TheVariants as ranks
 use Rattle.card_set.specs.Deck.{suits_before}
 
--- the height of a rank where the ace is the highest
+-- the height of a rank when the ace is high
 abbrev pub high_ace : Rank → ℕ
 high_ace ranks.Two = 2
 high_ace ranks.Three = 3
@@ -22,7 +22,7 @@ high_ace ranks.Queen = 12
 high_ace ranks.King = 13
 high_ace ranks.Ace = 14
 
--- the height of a rank where the ace is the lowest
+-- the height of a rank when the ace is low
 abbrev pub low_ace : Rank → ℕ
 low_ace ranks.Two = 2
 low_ace ranks.Three = 3
@@ -42,25 +42,25 @@ low_ace ranks.Ace = 1
 unfoldable pub falling_heights : List ℕ
 falling_heights = 14 ∷ 13 ∷ 12 ∷ 11 ∷ 10 ∷ 9 ∷ 8 ∷ 7 ∷ 6 ∷ 5 ∷ 4 ∷ 3 ∷ 2 ∷ 1 ∷ []
 
--- how many of the cards have this height
+-- the number of cards of this height
 unfoldable pub times : (Rank → ℕ) → List Card → ℕ → ℕ
 times height cards h = count_by (λ card. height card.rank == h) cards
 
--- the heights that so many cards have, from the greatest
+-- the heights that exactly `n` of the cards have, highest first
 unfoldable pub occurring : (Rank → ℕ) → List Card → ℕ → List ℕ
 occurring height cards n = filter (λ h. times height cards h == n) falling_heights
 
--- how many ranks occur so many times
+-- the number of ranks that occur exactly `n` times
 abbrev pub ranks_occurring : (Rank → ℕ) → List Card → ℕ → ℕ
 ranks_occurring height cards n = length (occurring height cards n)
 
--- the different heights of the cards, first those that occur oftener, then the greater
+-- the different heights of the cards: those that occur more often first, then the higher ones
 unfoldable pub ranks_of : (Rank → ℕ) → List Card → List ℕ
 ranks_of height cards =
     occurring height cards 4
     ++ (occurring height cards 3 ++ (occurring height cards 2 ++ occurring height cards 1))
 
--- the cards are of one suit: each has that of the first
+-- the cards are all of one suit: each has the suit of the first
 abbrev pub is_one_suit : List Card → Bool
 is_one_suit [] = false
 is_one_suit (card ∷ rest) =

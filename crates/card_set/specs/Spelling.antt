@@ -1,5 +1,5 @@
--- How cards and slots are spelled: a letter for the rank and a letter for the suit, or two question
--- marks.
+-- How cards are written: a letter for the rank and a letter for the suit, or ?? for an unknown
+-- card.
 use Rattle.std.specs.Prelude.{◌≡◌, ◌⊎◌, ℕ, ◌%◌, ◌≤◌, ◌<◌, ◌==◌, ◌&&◌, if◌then◌else◌, List, [], ◌∷◌, ◌++◌, length, find, Option, Some, None, option_and_then}
 use Rattle.std.specs.Option.{option_map}
 use Rattle.card_set.specs.declared.card.Rank.{Rank}
@@ -44,7 +44,7 @@ abbrev pub slot_spelling : Slot → List ℕ
 slot_spelling (slots.Known card) = rank_letter card.rank ∷ suit_letter card.suit ∷ []
 slot_spelling slots.Unknown = unknown_sign ∷ unknown_sign ∷ []
 
--- the letters of slots, one slot after the other
+-- the letters of slots, one slot after another
 abbrev pub spelling : List Slot → List ℕ
 spelling [] = []
 spelling (slot ∷ rest) = slot_spelling slot ++ spelling rest
@@ -57,23 +57,23 @@ IsRankLetter letter = (rank : Rank) × (rank_letter rank ≡ letter)
 abbrev pub IsSuitLetter : ℕ → Type 0
 IsSuitLetter letter = (suit : Suit) × (suit_letter suit ≡ letter)
 
--- a slot can begin with this letter: it is the letter of a rank, or ?
+-- a slot can begin with this letter: a letter of a rank, or ?
 abbrev pub BeginsSlot : ℕ → Type 0
 BeginsSlot first = IsRankLetter first ⊎ (first ≡ unknown_sign)
 
--- some slot is spelled with these two letters
+-- these two letters write a slot
 abbrev pub SpellsSlot : ℕ → ℕ → Type 0
 SpellsSlot first second = (slot : Slot) × (slot_spelling slot ≡ first ∷ second ∷ [])
 
 -- what is wrong with a pair of letters: no slot begins with the first, or the second does not fit
--- it
+-- the first
 abbrev pub PairFault : ℕ → ℕ → CardFault → Type 0
 PairFault first second faults.BadRank = ¬ (BeginsSlot first)
 PairFault first second faults.BadSuit = BeginsSlot first × ¬ (SpellsSlot first second)
 PairFault first second faults.OddLength = ⊥
 PairFault first second faults.TooMany = ⊥
 
--- the bytes are at most seven pairs, and the first pair that spells no slot has this fault
+-- the bytes are at most seven pairs, and the first pair that writes no slot has this fault
 pub record FirstBadPair (bytes : List ℕ) (fault : CardFault) : Type 0 where
   pub pairs : length bytes % 2 ≡ 0
   pub few : length bytes ≤ 14
@@ -84,22 +84,22 @@ pub record FirstBadPair (bytes : List ℕ) (fault : CardFault) : Type 0 where
   pub stands : bytes ≡ spelling before ++ first ∷ second ∷ after
   pub bad : PairFault first second fault
 
--- why the bytes are no spelling of at most seven slots
+-- why the bytes do not write at most seven slots
 abbrev pub HasFault : List ℕ → CardFault → Type 0
 HasFault bytes faults.OddLength = length bytes % 2 ≡ 1
 HasFault bytes faults.TooMany = (length bytes % 2 ≡ 0) × (14 < length bytes)
 HasFault bytes faults.BadRank = FirstBadPair bytes faults.BadRank
 HasFault bytes faults.BadSuit = FirstBadPair bytes faults.BadSuit
 
--- the rank with this letter, where there is one
+-- the rank with this letter, if there is one
 unfoldable pub rank_lettered : ℕ → Option Rank
 rank_lettered letter = find (λ rank. rank_letter rank == letter) all_ranks
 
--- the suit with this letter, where there is one
+-- the suit with this letter, if there is one
 unfoldable pub suit_lettered : ℕ → Option Suit
 suit_lettered letter = find (λ suit. suit_letter suit == letter) all_suits
 
--- the slot that two letters spell, where they spell one
+-- the slot that two letters write, if they write one
 unfoldable pub slot_spelled : ℕ → ℕ → Option Slot
 slot_spelled first second =
     if first == unknown_sign && second == unknown_sign
@@ -110,7 +110,7 @@ slot_spelled first second =
     (suit_lettered second))
     (rank_lettered first)
 
--- the slots that letters spell, two letters each, where they spell some
+-- the slots that letters write, two letters each, if all pairs write one
 abbrev pub slots_spelled : List ℕ → Option (List Slot)
 slots_spelled [] = Some []
 slots_spelled (first ∷ []) = None

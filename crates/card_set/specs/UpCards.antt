@@ -1,4 +1,4 @@
--- The orders of up-cards, one to four of them: straights and flushes do not count.
+-- The orders of one to four up-cards: straights and flushes do not count.
 use Rattle.std.specs.Prelude.{◌≤◌, ℕ, List, [], ◌∷◌, length}
 use Rattle.card_set.specs.declared.card.Card.{Card}
 use Rattle.card_set.specs.Different.{AllDifferent}
@@ -11,7 +11,8 @@ pub record AreUpCards (cards : List Card) : Type 0 where
   pub few : length cards ≤ 4
   pub different : AllDifferent cards
 
--- the classes of high up-cards from the best: four, three, two pair, pair, high card
+-- the classes of high up-cards, best first: four of a kind, three of a kind, two pair, pair, high
+-- card
 unfoldable pub up_high_class : List Card → ℕ
 up_high_class cards =
     place
@@ -23,7 +24,8 @@ up_high_class cards =
 abbrev pub IsWeakerUpHigh : List Card → List Card → Type 0
 IsWeakerUpHigh a b = IsBelow up_high_class (ranks_of high_ace) a b
 
--- the classes of low cards from the best: no pair, pair, two pair, three, full house, four
+-- the classes of low cards, best first: no pair, pair, two pair, three of a kind, full house, four
+-- of a kind
 unfoldable pub low_class : List Card → ℕ
 low_class cards =
     place
@@ -31,7 +33,6 @@ low_class cards =
     ∷ has_three_of_a_kind low_ace cards ∷ has_full_house low_ace cards
     ∷ has_four_of_a_kind low_ace cards ∷ [])
 
--- low cards are weaker, up-cards and whole hands of razz: the ace is low, and lower ranks are
--- better
+-- low cards (up-cards and whole razz hands) are weaker: the ace is low, and lower ranks are better
 abbrev pub IsWeakerLow : List Card → List Card → Type 0
 IsWeakerLow a b = IsBelowLow low_class (ranks_of low_ace) a b

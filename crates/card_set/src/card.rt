@@ -1,4 +1,4 @@
-//! A card is a rank and a suit; a slot holds a card that is known, or one that is not.
+//! Cards (a rank and a suit), and slots, which hold a known or an unknown card.
 
 /// The thirteen ranks, from the lowest to the ace.
 #[derive(Clone, Copy, Debug, PartialEq, Eq, PartialOrd, Ord, Hash)]
@@ -34,7 +34,7 @@ pub struct Card {
     pub suit: Suit,
 }
 
-/// A card as it lies on the table: face up for the reader of the hand, or not.
+/// A card on the table, known or unknown to the reader of the hand.
 #[derive(Clone, Copy, Debug, PartialEq, Eq, Hash)]
 pub enum Slot {
     Known(Card),

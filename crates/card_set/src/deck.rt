@@ -1,4 +1,4 @@
-//! Each card has a place in the deck: by rank from the lowest, and then by suit c, d, h, s.
+//! The place of each card in the deck: by rank from the lowest, and then by suit c, d, h, s.
 ghost use Rattle.std.specs.Prelude.{◌≡◌, ◌<◌, slice_get, unwrap_or};
 ghost use Rattle.card_set.specs.declared.card.Rank.TheVariants as ranks;
 ghost use Rattle.card_set.specs.declared.card.Suit.TheVariants as suits;
@@ -15,7 +15,7 @@ pub fn place_in_deck(card: Card) -> u8
     4 * place_of_rank(card.rank) + place_of_suit(card.suit)
 }
 
-/// How many ranks are below this one, the ace the highest.
+/// The number of ranks below this one; the ace is the highest.
 pub fn place_of_rank(rank: Rank) -> u8
     ensures place { result ≡ ranks_below rank }
     ensures within { result < 13 }
@@ -37,7 +37,7 @@ pub fn place_of_rank(rank: Rank) -> u8
     }
 }
 
-/// How many suits stand before this one. It tells suits apart; they order no hands.
+/// The number of suits before this one. It tells suits apart, but does not order hands.
 pub fn place_of_suit(suit: Suit) -> u8
     ensures place { result ≡ suits_before suit }
     ensures within { result < 4 }
@@ -58,7 +58,7 @@ pub fn card_at(place: u8) -> Card
     card_placed(place)
 }
 
-/// The card at a place of the deck, which may lie past its end: there its rank is the ace.
+/// The card at a place of the deck; after the end of the deck its rank is the ace.
 #[tactic(auto, unfolding(crate::specs::Deck::card_placed))]
 pub fn card_placed(place: u8) -> Card
     ensures card { result ≡ deck.card_placed place }
@@ -70,7 +70,7 @@ pub fn card_placed(place: u8) -> Card
     }
 }
 
-// The rank with so many below it; past the last the ace.
+// The rank with this number of ranks below it; after the last, the ace.
 fn rank_at(place: u8) -> Rank
     ensures rank { result ≡ unwrap_or (slice_get all_ranks place) ranks.Ace }
     ensures place { place < 13 → ranks_below result ≡ place }
@@ -92,7 +92,7 @@ fn rank_at(place: u8) -> Rank
     }
 }
 
-// The suit with so many before it; past the last the spades.
+// The suit with this number of suits before it; after the last, spades.
 fn suit_at(place: u8) -> Suit
     ensures suit { result ≡ unwrap_or (slice_get all_suits place) suits.S }
     ensures place { place < 4 → suits_before result ≡ place }

@@ -1,4 +1,4 @@
-//! The known cards of a row of slots are a row of cards.
+//! Collects the known cards of a row of slots.
 ghost use Rattle.std.specs.Prelude.{◌≡◌, ◌≤◌, ◌<◌, ◌+◌, [], ◌∷◌, ◌++◌};
 ghost use Rattle.card_set.specs.declared.row.TheConstants.{ROW_ENTRIES};
 ghost use Rattle.card_set.specs.Row.{cards_of, slots_of};
@@ -19,7 +19,7 @@ pub fn known_row(slots: &SlotRow) -> CardRow
     cards
 }
 
-// The cards and one more, where it is known.
+// The cards, and one more if it is known.
 fn with_known(cards: CardRow, slot: Slot) -> CardRow
     requires { cards.len < ROW_ENTRIES }
     ensures cards { cards_of result ≡ cards_of cards ++ known_cards (slot ∷ []) }

@@ -1,4 +1,5 @@
-//! Playing cards, slots whose card may be unknown, rows of both, and their spelling.
+//! Playing cards, slots whose card may be unknown, rows of both, and their spelling. Below them are
+//! laws of lists, tests and numbers, whatever they stand for, which proofs of every crate may cite.
 #![tactic(auto)]
 
 mod card;
@@ -6,6 +7,7 @@ mod deck;
 mod known;
 mod memory;
 mod pick;
+mod room;
 mod row;
 mod set;
 mod spelling;
@@ -15,6 +17,7 @@ pub use deck::{card_at, card_placed, place_in_deck, place_of_rank, place_of_suit
 pub use known::known_row;
 pub use memory::Memory;
 pub use pick::Pick;
+pub use room::{MOST_ROOM, list_with_room};
 pub use row::{CardRow, ROW_ENTRIES, SlotRow};
 pub use set::CardSet;
 pub use spelling::{CardFault, read_slots, slot_text};

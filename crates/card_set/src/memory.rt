@@ -1,10 +1,10 @@
-//! Want of memory is one fault, the same in every crate. It comes through two doors: a call of the
-//! library answered that memory was refused.
+//! Out of memory: one fault, the same in every crate. It is made here from the two errors by which
+//! a call of the library reports that memory was refused.
 ghost use Rattle.card_set.specs.Refusal.{WasRefused, WasRefused-prop};
 
 use std::alloc::{AllocError, AllocFailed};
 
-/// A request for memory was refused. It has no cause beyond that.
+/// A request for memory was refused, for whatever reason.
 #[derive(Clone, Copy, Debug, PartialEq, Eq)]
 pub struct Memory {
     pub ghost refused: { WasRefused } by { WasRefused-prop },

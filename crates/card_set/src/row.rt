@@ -1,11 +1,11 @@
-//! A row has up to seven entries, and after them only the filler, so two rows with the same entries
-//! are one.
+//! Rows of up to seven entries. After them a row has only fillers, so two rows with the same
+//! entries are equal.
 ghost use Rattle.std.specs.Prelude.{◌≡◌, ℕ, ◌+◌, ◌<◌, ◌≤◌, [], ◌∷◌, ◌++◌, length, slice_get, Some};
 ghost use Rattle.card_set.specs.Filler.{filler_card, filler_slot};
 
 use crate::card::{Card, Rank, Slot, Suit};
 
-/// How many entries a row has room for: the most cards that a seat ever holds.
+/// The number of entries that a row has room for: the most cards that a seat ever holds.
 pub const ROW_ENTRIES: u8 = 7;
 
 /// Slots in order: the first `len` of `slots`. The other entries are unknown slots.
@@ -41,7 +41,7 @@ impl SlotRow {
         }
     }
 
-    /// Puts a slot after the others. Ask first that `len` is below `ROW_ENTRIES`.
+    /// Appends a slot. Check first that `len` is below `ROW_ENTRIES`.
     pub fn push(&mut self, slot: Slot)
         requires { self.old.len < ROW_ENTRIES }
         ensures entries { slots_of self.new ≡ slots_of self.old ++ slot ∷ [] }
@@ -75,7 +75,7 @@ impl CardRow {
         }
     }
 
-    /// Puts a card after the others. Ask first that `len` is below `ROW_ENTRIES`.
+    /// Appends a card. Check first that `len` is below `ROW_ENTRIES`.
     pub fn push(&mut self, card: Card)
         requires { self.old.len < ROW_ENTRIES }
         ensures entries { cards_of self.new ≡ cards_of self.old ++ card ∷ [] }

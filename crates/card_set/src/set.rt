@@ -1,4 +1,4 @@
-//! A set of cards is 52 bits of one number: a suit's thirteen ranks stand side by side.
+//! A set of cards as 52 bits of one number, the thirteen ranks of a suit next to each other.
 ghost use Rattle.std.specs.Prelude.{◌<◌, ◌^◌};
 
 use crate::card::{Card, Suit};
@@ -40,7 +40,7 @@ impl CardSet {
         CardSet { bits: 0 }
     }
 
-    /// Puts the card into the set; one that is in it stays.
+    /// Puts the card into the set; nothing changes if it is in it already.
     pub fn insert(&mut self, card: Card)
         ensures inside { is_in self.new card ≡ true }
         ensures others { (other : Card) → other ≢ card
@@ -49,7 +49,7 @@ impl CardSet {
         self.bits |= 1 << Self::place_among_bits(card);
     }
 
-    /// Takes the card out of the set; one that is not in it stays out.
+    /// Takes the card out of the set; nothing changes if it is not in it.
     pub fn remove(&mut self, card: Card)
         ensures outside { is_in self.new card ≡ false }
         ensures others { (other : Card) → other ≢ card
@@ -58,7 +58,7 @@ impl CardSet {
         self.bits &= !(1 << Self::place_among_bits(card));
     }
 
-    /// How many cards are in the set.
+    /// The number of cards in the set.
     pub fn len(&self) -> u8
         ensures { result ≡ count_of self.now }
     {
@@ -96,7 +96,7 @@ impl CardSet {
         self.bits >> Self::place_among_bits(card) & 1 == 1
     }
 
-    // The place of a card among the bits of a set.
+    // The bit of a card in a set.
     fn place_among_bits(card: Card) -> u8
         ensures place { result ≡ bit_place card }
         ensures within { result < 52 }

@@ -1,5 +1,5 @@
-//! A card is spelled by the letter of its rank and the letter of its suit, an unknown one by two
-//! question marks.
+//! Reads and writes cards: the letter of the rank and the letter of the suit, or `??` for an
+//! unknown card.
 ghost use Rattle.std.specs.Prelude.{◌≡◌, ◌≤◌, List, [], ◌∷◌, length, IfOk, IfErr, IfSome, IfNone, IsOkAnd};
 ghost use Rattle.card_set.specs.declared.card.Rank.{Rank};
 ghost use Rattle.card_set.specs.declared.card.Suit.{Suit};
@@ -10,12 +10,12 @@ ghost use Rattle.card_set.specs.Spelling.{rank_letter, suit_letter, slot_spellin
 use crate::card::{Card, Rank, Slot, Suit};
 use crate::row::SlotRow;
 
-/// Why bytes are no spelling of a row of slots.
+/// Why bytes do not write a row of slots.
 #[derive(Clone, Copy, Debug, PartialEq, Eq)]
 pub enum CardFault {
     /// An odd number of bytes.
     OddLength,
-    /// The first byte of a pair is no letter of a rank and no `?`.
+    /// The first byte of a pair is neither a letter of a rank nor `?`.
     BadRank,
     /// The second byte of a pair does not fit its first.
     BadSuit,
@@ -23,7 +23,7 @@ pub enum CardFault {
     TooMany,
 }
 
-/// The two letters of a slot, as every notation spells it.
+/// The two letters of a slot, the same in every notation.
 pub fn slot_text(slot: Slot) -> [u8; 2]
     ensures { result ≡ slot_spelling slot }
 {
@@ -64,8 +64,8 @@ fn letter_of_suit(suit: Suit) -> u8
     }
 }
 
-/// The slots that the bytes spell, two letters each and at most seven of them.
-/// An odd length is told before more than seven pairs, and both before the first bad pair.
+/// The slots that the bytes write, two letters each and at most seven of them. An odd length is
+/// reported before more than seven pairs, and both before the first bad pair.
 #[tactic(auto, using(crate::proofs::Spelled::pair_fault))]
 pub fn read_slots(bytes: &[u8]) -> Result<SlotRow, CardFault>
     ensures read { IfOk result (λ row. bytes.now ≡ spelling (slots_of row)) }
@@ -90,7 +90,7 @@ pub fn read_slots(bytes: &[u8]) -> Result<SlotRow, CardFault>
     Ok(row)
 }
 
-// The slot that a pair of letters spells.
+// The slot that a pair of letters writes.
 fn read_slot(first: u8, second: u8) -> Result<Slot, CardFault>
     ensures read { IfOk result (λ slot. slot_spelling slot ≡ first ∷ second ∷ []) }
     ensures fault { IfErr result (PairFault first second) }

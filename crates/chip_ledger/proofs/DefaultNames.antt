@@ -1,4 +1,4 @@
--- The name of a seat where no other is said: p and one digit, or p10.
+-- The default name of a seat: p and one digit, or p10.
 use Rattle.std.proofs.Common.{List, ap, refl, ℕ, ◌+◌, ◌<◌, ◌∷◌, ◌≡◌, []}
 use Rattle.std.proofs.lemmas.Fmt.{decimal_digit}
 use Rattle.std.specs.Fmt.{digits}

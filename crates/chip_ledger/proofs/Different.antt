@@ -1,13 +1,13 @@
--- The different numbers of a list rise, and are exactly its numbers.
+-- The different numbers of a list are ascending, and are just its numbers.
 use Rattle.std.proofs.Common.{◌≡◌, ℕ, ◌+◌, ◌<◌, ◌≤◌, Bool, true, false, ◌||◌, ◌==◌, cond, List, [], ◌∷◌, length, refl, sym, ap, ◌∙◌, subst, arith, nat_lt, filter, fold, Some, Option, min, slice_get}
 use Rattle.std.specs.Option.{option_map_or}
 use Rattle.std.specs.List.{list_any, All}
 use Rattle.std.proofs.lemmas.Bool.{ltb-true, eqb-true, lt-ltb}
 use Rattle.std.proofs.lemmas.List.Elements.{All-head, All-tail}
-use Rattle.list_laws.proofs.Rising.{Rising}
-use Rattle.list_laws.proofs.Lists.{first_of_kept}
-use Rattle.list_laws.proofs.Numbers.{above_from_tests}
-use Rattle.list_laws.proofs.Tests.{or_again, or_swap, or_regroup, or_false}
+use Rattle.card_set.proofs.Rising.{Rising}
+use Rattle.card_set.proofs.Lists.{first_of_kept}
+use Rattle.card_set.proofs.Numbers.{above_from_tests}
+use Rattle.card_set.proofs.Tests.{or_again, or_swap, or_regroup, or_false}
 use Rattle.chip_ledger.specs.Pots.{with_number, different}
 
 -- the three places of a new number: at an equal one, before the first, or further on
@@ -36,7 +36,7 @@ any_added p ys (x ∷ xs) =
     ∙ ap (λ b. list_any p xs || b) (list_any-with_number p ys x)
     ∙ or_regroup (list_any p xs) (p x) (list_any p ys)
 
--- a test passes at one of the different numbers exactly where it passes at one of the numbers
+-- a test passes at one of the different numbers if and only if it passes at one of the numbers
 pub list_any-different : (p : ℕ → Bool) (xs : List ℕ) → list_any p (different xs) ≡ list_any p xs
 list_any-different p xs = any_added p [] xs ∙ or_false (list_any p xs)
 
@@ -72,13 +72,13 @@ rising_added low ys (x ∷ xs) h r =
     rising_added low (with_number ys x) xs (All-tail (λ x. low ≤ x) x xs h)
     (Rising-with_number low ys x (All-head (λ x. low ≤ x) x xs h) r)
 
--- the different numbers of a list rise from a number that none is below
+-- the different numbers of a list are ascending from a number that none is below
 pub Rising-different : (low : ℕ) (xs : List ℕ)
     → All (λ x. low ≤ x) xs
     → Rising low (different xs)
 Rising-different low xs h = rising_added low [] xs h tt
 
--- the lesser of a number and one that may be there
+-- the smaller of a number and one that may be there
 abbrev pub lesser : ℕ → Option ℕ → ℕ
 lesser v first = option_map_or (λ x. min v x) first v
 

@@ -1,9 +1,9 @@
--- Sums and counts over the seats of a hand where one seat alone counts.
+-- Sums and counts over the seats of a hand if only one seat counts.
 use Rattle.std.proofs.Common.{◌≡◌, ◌≢◌, ℕ, zero, suc, ◌+◌, ◌<◌, ◌≤◌, Bool, true, cond, refl, sym, ap, ◌∙◌, arith, count_by, sum_by, ⊎_elim}
 use Rattle.std.proofs.lemmas.Bool.{cases_lt}
 use Rattle.chip_ledger.specs.Seat.{seats_of}
 use Rattle.chip_ledger.proofs.Seats.{sum_of_seats_more}
-use Rattle.list_laws.proofs.Tests.{one_if}
+use Rattle.card_set.proofs.Tests.{one_if}
 
 sum_of_next : (f : ℕ → ℕ) (n : ℕ) → sum_by f (seats_of (suc n)) ≡ sum_by f (seats_of n) + f (suc n)
 sum_of_next f n = let e : suc n ≡ n + 1 = omega arith in ap (λ m. sum_by f (seats_of m)) e ∙ sum_of_seats_more f n ∙ ap (λ m. sum_by f (seats_of n) + f m) (sym e)
@@ -14,7 +14,7 @@ sum_of_none f zero none = refl
 sum_of_none f (suc n) none =
     omega (arith, sum_of_next f n, sum_of_none f n (λ k low high. none k low (omega (arith, high))), none (suc n) (omega arith) (omega arith))
 
--- one seat has all
+-- one seat has everything
 pub sum_of_one : (f : ℕ → ℕ) (n seat : ℕ)
     → 1 ≤ seat
     → seat ≤ n
@@ -43,7 +43,7 @@ counts_one p (suc n) seat low high passes =
     omega (arith, next, ap one_if (sym (ap p here) ∙ passes)))
     (cases_lt seat (suc n))
 
--- where one seat at most passes a test, two seats that pass it are one
+-- if at most one seat passes a test, two seats that pass it are the same
 pub passes_once : (p : ℕ → Bool) (n a b : ℕ)
     → count_by p (seats_of n) ≤ 1
     → 1 ≤ a

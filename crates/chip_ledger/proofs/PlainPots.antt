@@ -1,4 +1,4 @@
--- What holds of the pots of the definition holds of the pots of rows that stand for them.
+-- What holds of the pots of the definition holds of the rows of pots that represent them.
 use Rattle.std.proofs.Common.{◌≡◌, ℕ, ◌≤◌, true, List, get_or, sym, subst, arith, map, [], ◌∷◌, length, slice_get, zero, suc, refl}
 use Rattle.std.specs.List.{All, AllPairs}
 use Rattle.std.proofs.lemmas.List.{get_or-map, length-map}
@@ -32,7 +32,7 @@ AllPairs-plain R pots by_rule e h i j d before inside =
     subst (λ p. R p (plain (get_or pots j d))) low
     (subst (λ p. R (get_or (map plain pots) i (plain d)) p) high (each i j (plain d) before (omega arith)))
 
--- who may win a pot is flagged in its row
+-- a seat that may win a pot is flagged in its row
 pub flag-from_may_win : (pot : Pot) (n : ℕ) → may_win (plain pot) n ≡ true → flag_of pot.eligible n ≡ true
 flag-from_may_win pot n h = flag-from_flagged pot.eligible n h
 
@@ -43,7 +43,7 @@ pub may_win-from_flag : (pot : Pot) (n : ℕ)
     → may_win (plain pot) n ≡ true
 may_win-from_flag pot n low h = flagged-from_flag pot.eligible n low h
 
--- past the last pot there are no chips
+-- after the last pot there are no chips
 pub no_chips_past : (pots : List PlainPot) (index : ℕ) → length pots ≤ index → option_map_or (λ pot. pot.chips) (slice_get pots index) 0 ≡ 0
 no_chips_past [] index late = refl
 no_chips_past (pot ∷ rest) zero late = absurd (omega (arith, late))

@@ -1,4 +1,4 @@
--- The levels of some stakes are exactly the chips above 0 of live seats, and they rise.
+-- The levels of some stakes are just the different amounts above 0 of live seats, ascending.
 use Rattle.std.proofs.Common.{◌≡◌, ℕ, ◌≤◌, Bool, true, false, ◌&&◌, ◌==◌, List, [], ◌∷◌, refl, sym, ap, ◌∙◌, arith, nat_lt, nat_le, length, map, filter, count_by}
 use Rattle.std.specs.List.{list_any}
 use Rattle.std.proofs.lemmas.Bool.{ltb-true, eqb-true, le-leb, eq-eqb, and_parts, and_from, or_left}
@@ -6,8 +6,8 @@ use Rattle.std.proofs.lemmas.Bool.Decides.{nat_tests}
 use Rattle.std.proofs.lemmas.List.{length-map}
 use Rattle.std.proofs.lemmas.List.Sums.{count_by-le-length, length-filter}
 use Rattle.std.proofs.lemmas.List.Elements.{All-map, All-weaker, filter_passes}
-use Rattle.list_laws.proofs.Rising.{Rising}
-use Rattle.list_laws.proofs.Any.{list_any-map, list_any-filter, list_any-same, list_any-weaker, list_any-from_nothing}
+use Rattle.card_set.proofs.Rising.{Rising}
+use Rattle.card_set.proofs.Any.{list_any-map, list_any-filter, list_any-same, list_any-weaker, list_any-from_nothing}
 use Rattle.chip_ledger.specs.Pots.{Stake, levels}
 use Rattle.chip_ledger.proofs.Different.{Rising-different, length-different, list_any-different}
 
@@ -15,7 +15,7 @@ use Rattle.chip_ledger.proofs.Different.{Rising-different, length-different, lis
 abbrev pub makes_level : Stake → Bool
 makes_level s = s.live && nat_lt 0 s.chips
 
--- a test passes at a level exactly where it passes at the chips above 0 of a live seat
+-- a test passes at a level if and only if it passes at an amount above 0 of a live seat
 pub list_any-levels : (p : ℕ → Bool) (stakes : List Stake)
     → list_any p (levels stakes) ≡ list_any (λ s. makes_level s && p s.chips) stakes
 unfolding levels
@@ -38,7 +38,7 @@ above_anyway : (live : Bool) (x n : ℕ) → ((live && nat_lt 0 n) && nat_lt x n
 above_anyway true x n = grind (arith, nat_tests)
 above_anyway false x n = refl
 
--- where no level is above x no live seat is
+-- if no level is above x, no live seat is
 pub no_live_above : (x : ℕ) (stakes : List Stake)
     → filter (nat_lt x) (levels stakes) ≡ []
     → list_any (λ s. s.live && nat_lt x s.chips) stakes ≡ false

@@ -1,12 +1,12 @@
--- Every pot has a seat that may win it, and who may win a pot may win each lower one.
+-- Every pot has a seat that may win it, and a seat that may win a pot may win each lower one.
 use Rattle.std.proofs.Common.{◌≡◌, ◌≢◌, ℕ, ◌+◌, ◌≤◌, Bool, true, ◌&&◌, ◌==◌, List, [], ◌∷◌, refl, sym, ◌∙◌, arith, nat_lt, nat_le, map, filter}
 use Rattle.std.specs.List.{All, AllPairs, list_any}
 use Rattle.std.proofs.lemmas.Bool.{cond_both, leb-true, le-leb, and_parts, and_from, true≢false}
 use Rattle.std.proofs.lemmas.List.Elements.{All-nil, All-cons, All-head, All-tail, All-filter}
 use Rattle.std.proofs.lemmas.List.Kept.{AllPairs-cons, AllPairs-filter}
-use Rattle.list_laws.proofs.Rising.{Rising, above_first, filter-Rising}
-use Rattle.list_laws.proofs.Any.{list_any-map, list_any-filter, list_any-weaker, list_any-from_nothing}
-use Rattle.list_laws.proofs.Lists.{map_nothing}
+use Rattle.card_set.proofs.Rising.{Rising, above_first, filter-Rising}
+use Rattle.card_set.proofs.Any.{list_any-map, list_any-filter, list_any-weaker, list_any-from_nothing}
+use Rattle.card_set.proofs.Lists.{map_nothing}
 use Rattle.chip_ledger.specs.Pots.{Stake, PlainPot, after_return, is_reached_by_all, between, joining, kept, layers, levels, may_win, pots_at, pots_of, reaching, with_dead}
 use Rattle.chip_ledger.proofs.PotLevels.{Rising-levels, level_reached}
 use Rattle.chip_ledger.proofs.PotSums.{stake_chips}
@@ -36,7 +36,7 @@ layers_winnable stakes b (x ∷ rest) e =
     (layers stakes x rest) (reaching-some stakes x (level_reached b x rest stakes e))
     (layers_winnable stakes x rest (above_first b 1 x (levels stakes) rest (Rising-levels stakes) e).1)
 
--- a fact of the eligible seats alone stays when dead chips come into the lowest pot
+-- a fact about the eligible seats only still holds when dead chips are added to the lowest pot
 All-with_dead : (P : PlainPot → Type 0) → ((n : ℕ) (p : PlainPot) → P p → P (record p { chips = n }))
     → (dead : ℕ) (pots : List PlainPot)
     → All P pots
@@ -72,7 +72,7 @@ live_reached stakes h =
     (λ s l. and_from s.live (nat_le 0 s.chips) l (le-leb 0 s.chips (omega arith)))
     (map (kept stakes) stakes) (list_any-map (λ (s : Stake). s.live) (kept stakes) stakes ∙ h)
 
--- where a seat is live every pot has a seat that may win it
+-- if a seat is live, every pot has a seat that may win it
 pub pots_winnable : (stakes : List Stake) (dead : ℕ)
     → list_any (λ (s : Stake). s.live) stakes ≡ true
     → All IsWinnable (pots_of stakes dead)
@@ -82,7 +82,7 @@ pots_winnable stakes dead h =
     All-filter (λ (p : PlainPot). nat_lt 0 p.chips) IsWinnable (pots_at left dead (levels left))
     (pots_at_winnable left dead (levels left) refl (live_reached stakes h))
 
--- who may win the higher pot may win the lower one
+-- a seat that may win the higher pot may win the lower one
 abbrev pub Nests : PlainPot → PlainPot → Type 0
 Nests lower higher = (n : ℕ) → may_win higher n ≡ true → may_win lower n ≡ true
 

@@ -1,9 +1,9 @@
--- Pots and returns together are all counted chips and the dead ones.
+-- Pots and returns add up to all counted chips and the dead ones.
 use Rattle.std.proofs.Common.{◌≡◌, ℕ, ◌+◌, ◌-◌, ◌<◌, Bool, true, false, ◌&&◌, if◌then◌else◌, List, [], ◌∷◌, refl, ◌∙◌, arith, nat_lt, map, filter, sum_by, min}
 use Rattle.std.proofs.lemmas.Bool.{cond_both, ltb-false}
 use Rattle.std.proofs.lemmas.List.Sums.{sum_by-cons}
-use Rattle.list_laws.proofs.Rising.{above_first, filter-Rising}
-use Rattle.list_laws.proofs.Sums.{sum_by-agree, sum_by-filter, sum_by-map, sum_by-plus, sum_by-same}
+use Rattle.card_set.proofs.Rising.{above_first, filter-Rising}
+use Rattle.card_set.proofs.Sums.{sum_by-agree, sum_by-filter, sum_by-map, sum_by-plus, sum_by-same}
 use Rattle.chip_ledger.specs.Pots.{Stake, PlainPot, after_return, is_reached_by_all, between, folded_above, joining, kept, layers, levels, pots_at, pots_of, reaching, returned, with_dead, greatest_other}
 use Rattle.chip_ledger.proofs.PotLevels.{Rising-levels, no_live_above}
 
@@ -15,7 +15,8 @@ pot_chips pots = sum_by (λ (p : PlainPot). p.chips) pots
 abbrev pub stake_chips : List Stake → ℕ
 stake_chips stakes = sum_by (λ (s : Stake). s.chips) stakes
 
--- up to a level, and from it on for a folded seat, are all chips where no live seat is above it
+-- the chips up to a level, and for a folded seat those above it, are all chips if no live seat is
+-- above it
 above_last : (b x n : ℕ) (live : Bool) → b < x → (live && nat_lt x n) ≡ false
     → (min n x - b) + (if live then 0 else n - x) ≡ n - b
 above_last b x n true l h = let m = ltb-false x n h in omega arith
@@ -78,7 +79,7 @@ pots_at_levels stakes dead (x ∷ rest) e =
     (λ _. with_dead_sum dead first (layers stakes x rest) ∙ omega arith)
     (λ _. pot_chips-cons dead (reaching stakes 0) cut ∙ omega arith)
 
--- what is left of a seat's chips and what it gets back are its chips
+-- what is left of a seat's chips plus what it gets back are its chips
 left_and_returned : (live : Bool) (n m : ℕ) → (n - (if live then n - m else 0)) + (if live then n - m else 0) ≡ n
 left_and_returned true n m = omega arith
 left_and_returned false n m = omega arith
@@ -96,7 +97,8 @@ after_return_sum stakes =
     (λ s. left_and_returned s.live s.chips (greatest_other stakes s.seat)) stakes in
     omega arith
 
--- the chips of the pots and what every seat gets back are all chips that the seats put and the dead ones
+-- the chips of the pots and what every seat gets back add up to all chips that the seats put and
+-- the dead ones
 pub pots_sum : (stakes : List Stake) (dead : ℕ)
     → pot_chips (pots_of stakes dead) + sum_by (returned stakes) stakes ≡ stake_chips stakes + dead
 unfolding pots_of

@@ -1,6 +1,6 @@
 -- A row, and the rakes of a hand without rake, as lists of numbers.
 use Rattle.std.proofs.Common.{◌≡◌, ℕ, ◌+◌, ◌-◌, ◌≤◌, map, slice_index, sym, subst, ◌∙◌, ap, arith, take}
-use Rattle.list_laws.proofs.NumbersOfRange.{taken_index_along}
+use Rattle.card_set.proofs.NumbersOfRange.{taken_index_along}
 use Rattle.chip_ledger.specs.declared.rakes.RakeRow.{RakeRow}
 use Rattle.chip_ledger.specs.declared.seat_row.SeatRow.{SeatRow}
 use Rattle.chip_ledger.specs.Fillers.{index-replicate}
@@ -20,6 +20,6 @@ row_listed f row seats same each =
     back : (k : ℕ) → 1 + k - 1 ≡ k
     back k = omega arith
 
--- where no rake is taken, none is taken from any pot
+-- if no rake is taken, none is taken from any pot
 pub no_rake : (rakes : RakeRow) → rakes ≡ no_rakes → (pot : ℕ) → rake_of rakes pot ≡ 0
 no_rake rakes none pot = subst (λ (row : RakeRow). rake_of row pot ≡ 0) (sym none) (index-replicate {X = ℕ} 11 0 (pot - 1))

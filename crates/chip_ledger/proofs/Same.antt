@@ -1,4 +1,4 @@
--- Values with the same parts are one value.
+-- Values with the same parts are the same.
 use Rattle.std.proofs.Common.{◌≡◌, ℕ, ◌≤◌, Bool, false, List, length, slice_index, slice_index_or, sym, ap, ◌∙◌, subst, arith}
 use Rattle.std.specs.Coded.{le_prop}
 use Rattle.std.proofs.Props.{props}
@@ -9,7 +9,7 @@ use Rattle.chip_ledger.specs.declared.live_row.LiveRow.{LiveRow}
 use Rattle.chip_ledger.specs.declared.seat_row.TheConstants.{MOST_AMOUNT}
 use Rattle.chip_ledger.specs.SeatRow.{amount_of}
 use Rattle.chip_ledger.specs.LiveRow.{flag_of}
-use Rattle.list_laws.proofs.Entries.{same_entries}
+use Rattle.card_set.proofs.Entries.{same_entries}
 
 pub seat_same : (a b : Seat) → a.number ≡ b.number → a ≡ b
 seat_same a b e =
@@ -63,7 +63,7 @@ seat_row_same a b s e =
     ap (amounts_row a.seats a.amounts) (KeptAmounts-prop a.seats a.amounts (kept_amounts a) k) in
     subst (λ xs. P b.seats xs) e (subst (λ n. P n a.amounts) s here) (kept_amounts b)
 
--- rows of one number of seats are equal where each seat has the same amount in both
+-- rows of one number of seats are equal if each seat has the same amount in both
 pub seat_row_same_by_seats : (a b : SeatRow)
     → a.seats ≡ b.seats
     → ((n : ℕ) → 1 ≤ n → n ≤ a.seats → amount_of a n ≡ amount_of b n)
@@ -106,7 +106,7 @@ live_row_same a b s e =
     λ k. ap (flags_row a.seats a.flags) (KeptFlags-prop a.seats a.flags (kept_flags a) k) in
     subst (λ bs. P b.seats bs) e (subst (λ n. P n a.flags) s here) (kept_flags b)
 
--- rows of one number of seats are equal where each seat has the same flag in both
+-- rows of one number of seats are equal if each seat has the same flag in both
 pub live_row_same_by_seats : (a b : LiveRow)
     → a.seats ≡ b.seats
     → ((n : ℕ) → 1 ≤ n → n ≤ a.seats → flag_of a n ≡ flag_of b n)

@@ -1,4 +1,4 @@
--- Rows of pots or of shares with the same entries are one row.
+-- Rows of pots or of shares with the same entries are the same.
 use Rattle.std.proofs.Common.{◌≡◌, ℕ, ◌<◌, ◌≤◌, List, Some, length, get_or, take, slice_get, sym, ap, ◌∙◌, subst, ⊎_elim, arith}
 use Rattle.std.proofs.Props.{props}
 use Rattle.std.proofs.lemmas.Bool.{cases_lt}
@@ -11,7 +11,7 @@ use Rattle.chip_ledger.specs.declared.shares.ShareRow.{ShareRow}
 use Rattle.chip_ledger.specs.Fillers.{no_amounts, no_pot}
 use Rattle.chip_ledger.specs.PotRow.{pots_in, shares_in}
 
--- eleven places, of which the first n are taken and the others hold the filler
+-- eleven places: the first n are used, and the others have the filler
 record Places {X : Type 0} (filler : X) (n : ℕ) (xs : List X) : Type 0 where
   most : n ≤ 11
   full : length xs ≡ 11

@@ -6,11 +6,11 @@ use Rattle.std.specs.List.{list_any}
 use Rattle.chip_ledger.proofs.Seats.{seats_of_more}
 use Rattle.chip_ledger.specs.Greatest.{greatest}
 use Rattle.chip_ledger.specs.Seat.{seats_of}
-use Rattle.list_laws.proofs.Counting.{count_by-push, count_agree}
-use Rattle.list_laws.proofs.Finding.{list_any-push, any_agree}
+use Rattle.card_set.proofs.Counting.{count_by-push, count_agree}
+use Rattle.card_set.proofs.Finding.{list_any-push, any_agree}
 use Rattle.chip_ledger.proofs.Stakes.{greatest-push}
 
--- one seat more
+-- one more seat
 pub greatest_more : (f : ℕ → ℕ) (n : ℕ) → greatest (map f (seats_of (n + 1))) ≡ max (greatest (map f (seats_of n))) (f (n + 1))
 greatest_more f n =
     ap (λ xs. greatest (map f xs)) (seats_of_more n)
@@ -33,14 +33,14 @@ last_by : (b : Bool) (x : ℕ) (rest : Option ℕ) → unwrap_or (cond b (Some x
 last_by true x rest = refl
 last_by false x rest = refl
 
--- the last seat that passes, one seat more
+-- the last seat that passes, one more seat
 pub last_more : (p : ℕ → Bool) (n : ℕ) → unwrap_or (find p (reverse (seats_of (n + 1)))) 0 ≡ cond (p (n + 1)) (n + 1) (unwrap_or (find p (reverse (seats_of n))) 0)
 last_more p n =
     ap (λ xs. unwrap_or (find p (reverse xs)) 0) (seats_of_more n)
     ∙ ap (λ xs. unwrap_or (find p xs) 0) (reverse-append (seats_of n) ((n + 1) ∷ []))
     ∙ last_by (p (n + 1)) (n + 1) (find p (reverse (seats_of n)))
 
--- a seat of some seats, none of which
+-- a seat, if none of the seats passes
 pub none_at : (p : ℕ → Bool) (n k : ℕ) → 1 ≤ k → k ≤ n → list_any p (seats_of n) ≡ false → p k ≡ false
 none_at p zero k low high none = absurd (omega (arith, low, high))
 none_at p (suc n) k low high none =

@@ -3,7 +3,7 @@ use Rattle.std.proofs.Common.{◌≡◌, ℕ, ◌+◌, ◌≤◌, Bool, cond, �
 use Rattle.std.proofs.lemmas.List.{map-append}
 use Rattle.std.proofs.lemmas.List.Elements.{filter-append}
 use Rattle.std.proofs.lemmas.List.Sums.{sum-map, sum_by_push}
-use Rattle.list_laws.proofs.Ranges.{range_more}
+use Rattle.card_set.proofs.Ranges.{range_more}
 use Rattle.chip_ledger.specs.Seat.{seats_of}
 
 pub seats_of_more : (n : ℕ) → seats_of (n + 1) ≡ seats_of n ++ (n + 1) ∷ []
@@ -11,7 +11,7 @@ seats_of_more n =
     let e : 1 + n ≡ n + 1 = omega arith in
     ap seats_of (add-one n) ∙ range_more 1 n ∙ ap (λ x. seats_of n ++ x ∷ []) e
 
--- the sum over one seat more
+-- the sum over one more seat
 pub sum_of_seats_more : (f : ℕ → ℕ) (n : ℕ)
     → sum_by f (seats_of (n + 1)) ≡ sum_by f (seats_of n) + f (n + 1)
 sum_of_seats_more f n = ap (sum_by f) (seats_of_more n) ∙ sum_by_push f (seats_of n) (n + 1)

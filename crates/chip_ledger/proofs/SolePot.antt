@@ -1,17 +1,17 @@
--- Where one seat at most is live, all chips that are not returned are one pot, for this seat.
+-- If at most one seat is live, all chips that are not returned are one pot, for this seat.
 use Rattle.std.proofs.Common.{◌≡◌, ℕ, ◌+◌, ◌≤◌, Bool, true, false, not, ◌&&◌, ◌||◌, ◌==◌, cond, List, [], ◌∷◌, refl, sym, ap, ◌∙◌, arith, nat_le, nat_lt, length, map, filter, count_by}
 use Rattle.std.specs.List.{list_any}
 use Rattle.std.proofs.lemmas.Bool.{and_parts, le-leb}
 use Rattle.std.proofs.lemmas.List.{length-map}
 use Rattle.std.proofs.lemmas.List.Sums.{length-filter, sum_by-cons}
 use Rattle.chip_ledger.specs.Pots.{Stake, PlainPot, after_return, is_reached_by_all, between, folded_above, kept, layers, levels, may_win, pots_at, pots_of, reaching, with_chips}
-use Rattle.list_laws.proofs.Any.{list_any-filter, list_any-map, list_any-same}
-use Rattle.list_laws.proofs.Rising.{filter-Rising}
-use Rattle.list_laws.proofs.Sums.{sum_by-map}
+use Rattle.card_set.proofs.Any.{list_any-filter, list_any-map, list_any-same}
+use Rattle.card_set.proofs.Rising.{filter-Rising}
+use Rattle.card_set.proofs.Sums.{sum_by-map}
 use Rattle.chip_ledger.proofs.Different.{length-different}
 use Rattle.chip_ledger.proofs.PotLevels.{Rising-levels, level_reached, makes_level}
 use Rattle.chip_ledger.proofs.PotSums.{pot_chips, pots_at_levels, stake_chips}
-use Rattle.list_laws.proofs.Counting.{count_by-cons}
+use Rattle.card_set.proofs.Counting.{count_by-cons}
 
 -- how many of the seats are live
 abbrev pub live_stakes : List Stake → ℕ
@@ -42,7 +42,7 @@ none_step : (live reaches some all : Bool) (n : ℕ)
 none_step true reaches some all n none rest = absurd (omega (arith, none))
 none_step false reaches some all n none rest = rest (omega (arith, none))
 
--- where no seat is live none reaches a level, and so all live ones do
+-- if no seat is live none reaches a level, and so all live ones do
 none_reach : (x : ℕ) (stakes : List Stake)
     → live_stakes stakes ≡ 0
     → (list_any (λ s. s.live && nat_le x s.chips) stakes ≡ false) × (is_reached_by_all stakes x ≡ true)
@@ -61,7 +61,7 @@ alone_step false reaches some all n few none more found = more (omega (arith, fe
 alone_step true true some all n few none more found = (none (omega (arith, few))).1
 alone_step true false some all n few none more found = absurd (cc (found, (none (omega (arith, few))).0))
 
--- a level that one live seat reaches is reached by all, where no other seat is live
+-- if only one seat is live, a level that it reaches is reached by all
 alone_reaches : (x : ℕ) (stakes : List Stake)
     → live_stakes stakes ≤ 1
     → list_any (λ s. s.live && nat_le x s.chips) stakes ≡ true
@@ -82,7 +82,7 @@ kept_both s xs ys true true true z h e = ap (λ ts. s ∷ ts) e
 kept_both s xs ys true true false z h e = absurd (cc z)
 kept_both s xs ys true false zero z h e = absurd (cc h)
 
--- where all live seats reach a level, those that reach it are all live seats
+-- if all live seats reach a level, those that reach it are all live seats
 reaching_filter : (x : ℕ) (stakes : List Stake)
     → is_reached_by_all stakes x ≡ true
     → filter (λ s. s.live && nat_le x s.chips) stakes ≡ filter (λ s. s.live && nat_le 0 s.chips) stakes
@@ -122,7 +122,7 @@ still_live : (stakes : List Stake) → live_stakes (after_return stakes) ≡ liv
 unfolding after_return
 still_live stakes = sum_by-map (λ (s : Stake). cond s.live 1 0) (kept stakes) stakes
 
--- the pots where one seat at most is live
+-- the pots if at most one seat is live
 pub sole_pot : (stakes : List Stake) (dead : ℕ)
     → live_stakes stakes ≤ 1
     → pots_of stakes dead ≡ with_chips (one_pot (after_return stakes) dead ∷ [])

@@ -3,9 +3,9 @@ use Rattle.std.proofs.Common.{◌≡◌, ◌≢◌, ℕ, ◌-◌, ◌≤◌, Boo
 use Rattle.std.specs.List.{list_any}
 use Rattle.std.proofs.lemmas.Bool.{true_from_ne_false}
 use Rattle.std.proofs.lemmas.Simd.{map-map}
-use Rattle.list_laws.proofs.Sums.{sum_by-map}
-use Rattle.list_laws.proofs.Numbers.{and_zero}
-use Rattle.list_laws.proofs.Any.{nothing_kept, list_any-map}
+use Rattle.card_set.proofs.Sums.{sum_by-map}
+use Rattle.card_set.proofs.Numbers.{and_zero}
+use Rattle.card_set.proofs.Any.{nothing_kept, list_any-map}
 use Rattle.chip_ledger.specs.declared.live_row.LiveRow.{LiveRow}
 use Rattle.chip_ledger.specs.declared.seat_row.SeatRow.{SeatRow}
 use Rattle.chip_ledger.specs.LiveRow.{flag_of, flagged}
@@ -31,7 +31,7 @@ seats_kept puts live q (n ∷ ns) =
     kept_seat puts live n (filter (λ m. q (stake_of puts live m)) ns)
     (filter q (map (stake_of puts live) ns)) (q (stake_of puts live n)) (seats_kept puts live q ns)
 
--- a row of flags that says of each seat whether it is live and reaches a level
+-- a row of flags that says for each seat whether it is live and reaches a level
 pub flagged-reaching : (row : LiveRow) (puts : SeatRow) (live : LiveRow) (level : ℕ)
     → row.seats ≡ puts.seats
     → ((n : ℕ) → 1 ≤ n → n ≤ puts.seats → flag_of row n ≡ (flag_of live n && nat_le level (amount_of puts n)))

@@ -1,4 +1,4 @@
--- The stakes of the first seats of a hand, and what one seat more changes.
+-- The stakes of the first seats of a hand, and what one more seat changes.
 use Rattle.std.proofs.Common.{◌≡◌, ℕ, ◌+◌, ◌-◌, ◌<◌, Bool, true, false, not, ◌&&◌, ◌||◌, ◌==◌, cond, if◌then◌else◌, List, [], ◌∷◌, ◌++◌, Some, refl, sym, ap, ◌∙◌, arith, nat_lt, nat_le, map, filter, max, min, sum_by, get_or}
 use Rattle.std.specs.List.{list_all}
 use Rattle.std.proofs.lemmas.Bool.{ltb-false, le-ltb, lt-leb, not_from_true, or_from}
@@ -7,7 +7,7 @@ use Rattle.std.proofs.lemmas.List.Elements.{filter-append}
 use Rattle.std.proofs.lemmas.List.Sums.{fold_push, sum_by_push}
 use Rattle.std.proofs.lemmas.List.Folds.{list_all-append, list_all_at}
 use Rattle.std.proofs.lemmas.List.FromFn.{get_or-map-range_with_len, length-map-range_with_len}
-use Rattle.list_laws.proofs.Tests.{and_one}
+use Rattle.card_set.proofs.Tests.{and_one}
 use Rattle.chip_ledger.specs.declared.live_row.LiveRow.{LiveRow}
 use Rattle.chip_ledger.specs.declared.seat_row.SeatRow.{SeatRow}
 use Rattle.chip_ledger.specs.LiveRow.{flag_of}
@@ -30,7 +30,7 @@ stakes_upto_more puts live n =
     ap (map (stake_of puts live)) (seats_of_more n)
     ∙ map-append (stake_of puts live) (seats_of n) ((n + 1) ∷ [])
 
--- a sum over one seat more
+-- a sum over one more seat
 pub sum_of_stakes_more : (f : Stake → ℕ) (puts : SeatRow) (live : LiveRow) (n : ℕ)
     → sum_by f (stakes_upto puts live (n + 1))
     ≡ sum_by f (stakes_upto puts live n) + f (stake_of puts live (n + 1))
@@ -86,7 +86,7 @@ above_zero true b n ys false e =
 above_zero false b n ys true e = cc
 above_zero false b n ys false e = refl
 
--- the first level above b, with one seat more
+-- the first level above b, with one more seat
 pub first_level_more : (b : ℕ) (puts : SeatRow) (live : LiveRow) (n : ℕ)
     → first_above b (levels (stakes_upto puts live (n + 1)))
     ≡ (if flag_of live (n + 1) && nat_lt b (amount_of puts (n + 1)) then Some (lesser (amount_of puts (n + 1)) (first_above b (levels (stakes_upto puts live n)))) else first_above b (levels (stakes_upto puts live n)))
@@ -97,7 +97,7 @@ first_level_more b puts live n =
     ∙ ap (first_above b) (levels-push stakes s)
     ∙ above_zero s.live b s.chips (levels stakes) (makes_level s) refl
 
--- whether all reach a level, with one seat more
+-- whether all reach a level, with one more seat
 pub all_reach_more : (puts : SeatRow) (live : LiveRow) (n level : ℕ)
     → is_reached_by_all (stakes_upto puts live (n + 1)) level
     ≡ (is_reached_by_all (stakes_upto puts live n) level && (not (flag_of live (n + 1)) || nat_le level (amount_of puts (n + 1))))
@@ -108,7 +108,7 @@ all_reach_more puts live n level =
     ∙ list_all-append reaches (stakes_upto puts live n) (s ∷ [])
     ∙ and_one (list_all reaches (stakes_upto puts live n)) (reaches s)
 
--- one seat that does not reach a level settles that not all do
+-- one seat that does not reach a level decides that not all do
 pub all_reach_fails : (puts : SeatRow) (live : LiveRow) (n level : ℕ)
     → n < puts.seats
     → flag_of live (n + 1) ≡ true
@@ -126,7 +126,7 @@ all_reach_fails puts live n level inside is_live short =
     (let long = length-map-range_with_len (stake_of puts live) 1 puts.seats in omega arith)
     (ap reaches at ∙ fails)
 
--- the greatest chips of others, with one seat more
+-- the greatest chips of others, with one more seat
 pub greatest_other_more : (puts : SeatRow) (live : LiveRow) (n seat : ℕ)
     → greatest_other (stakes_upto puts live (n + 1)) seat
     ≡ (if not (n + 1 == seat) then max (greatest_other (stakes_upto puts live n) seat) (amount_of puts (n + 1)) else greatest_other (stakes_upto puts live n) seat)
@@ -134,13 +134,13 @@ greatest_other_more puts live n seat =
     ap (λ ts. greatest_other ts seat) (stakes_upto_more puts live n)
     ∙ greatest_other-push (stakes_upto puts live n) (stake_of puts live (n + 1)) seat
 
--- the chips between two levels, with one seat more
+-- the chips between two levels, with one more seat
 pub between_more : (puts : SeatRow) (live : LiveRow) (n below level : ℕ)
     → between (stakes_upto puts live (n + 1)) below level
     ≡ between (stakes_upto puts live n) below level + (min (amount_of puts (n + 1)) level - below)
 between_more puts live n below level = sum_of_stakes_more (λ s. min s.chips level - below) puts live n
 
--- the folded chips above a level, with one seat more
+-- the folded chips above a level, with one more seat
 pub folded_above_more : (puts : SeatRow) (live : LiveRow) (n level : ℕ)
     → folded_above (stakes_upto puts live (n + 1)) level
     ≡ folded_above (stakes_upto puts live n) level +

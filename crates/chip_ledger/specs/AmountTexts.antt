@@ -2,6 +2,6 @@
 use Rattle.std.specs.Prelude.{ℕ, List, ◌∷◌, flat_map}
 use Rattle.std.specs.Fmt.{decimal}
 
--- numbers, with a space in front of each
+-- numbers in decimal, each after a space
 abbrev pub spaced : List ℕ → List ℕ
 spaced numbers = flat_map (λ number. 32 ∷ decimal number) numbers

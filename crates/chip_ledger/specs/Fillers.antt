@@ -1,4 +1,4 @@
--- What stands in a row past its last entry.
+-- What a row holds after its last entry.
 use Rattle.std.specs.Prelude.{◌≡◌, ℕ, ◌≤◌, false, zero, suc, refl, replicate, slice_index_or}
 use Rattle.std.proofs.Common.{sym, subst, lit≤}
 use Rattle.chip_ledger.specs.declared.seat_row.SeatRow.{SeatRow}
@@ -6,7 +6,8 @@ use Rattle.chip_ledger.specs.declared.live_row.LiveRow.{LiveRow}
 use Rattle.chip_ledger.specs.declared.seat_row.TheConstants.{MOST_AMOUNT}
 use Rattle.chip_ledger.specs.declared.pots.Pot.{Pot}
 
--- a list of one value has this value at every index, also past its end where it is the default
+-- a list of copies of one value has this value at every index, even after its end if it is the
+-- default
 pub index-replicate : {X : Type 0} (n : ℕ) (x : X) (k : ℕ) → slice_index_or (replicate n x) k x ≡ x
 index-replicate zero x k = refl
 index-replicate (suc n) x zero = refl

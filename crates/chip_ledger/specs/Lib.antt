@@ -1,4 +1,4 @@
--- What is read from seats and rows, the pots that chips make, and what is left of them after the
+-- What rows say of the seats, the pots that chips make, and what is left of the pots after the
 -- rake.
 pub mod Seat
 pub mod SeatRow

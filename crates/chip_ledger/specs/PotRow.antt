@@ -11,11 +11,11 @@ use Rattle.chip_ledger.specs.Pots.{PlainPot, Stake}
 use Rattle.chip_ledger.specs.Seat.{seats_of}
 use Rattle.chip_ledger.specs.SeatRow.{amount_of, total_of}
 
--- the pots of the row, the lowest first
+-- the pots of the row, lowest first
 abbrev pub pots_in : PotRow → List Pot
 pots_in row = take row.count row.pots
 
--- the shares of the pots, those of the lowest first
+-- the shares of the pots, lowest pot first
 abbrev pub shares_in : ShareRow → List SeatRow
 shares_in row = take row.count row.shares
 
@@ -31,8 +31,7 @@ plain_pots row = map plain (pots_in row)
 abbrev pub plain_shares : ShareRow → List (ℕ → ℕ)
 plain_shares row = map amount_of (shares_in row)
 
--- the shares of pot number n together, the lowest having the number 1; past the last pot there are
--- none
+-- the chips that all seats get of pot number n (from 1, lowest first); 0 after the last pot
 abbrev pub shared_in : ShareRow → ℕ → ℕ
 shared_in row number = option_map_or total_of (slice_get (shares_in row) (number - 1)) 0
 

@@ -20,19 +20,19 @@ pub record PlainPot : Type 0 where
 abbrev pub may_win : PlainPot → ℕ → Bool
 may_win pot seat = list_any (λ n. n == seat) pot.eligible
 
--- what a seat gets of a pot that goes whole to the one seat that may win it
+-- what a seat gets of a pot that only one seat may win
 abbrev pub whole_share : PlainPot → ℕ → ℕ
 whole_share pot seat = if may_win pot seat then pot.chips else 0
 
--- the chips of a seat that count: what it put, but for its ante where antes are dead
+-- the chips of a seat that count: what it put, without its ante if antes are dead
 abbrev pub counted : Bool → ℕ → ℕ → ℕ
 counted dead_antes put ante = if dead_antes then put - ante else put
 
--- the dead chips of a hand: the antes of all seats, where antes are dead
+-- the dead chips of a hand: the antes of all seats if antes are dead
 abbrev pub dead_chips : Bool → List ℕ → ℕ
 dead_chips dead_antes antes = if dead_antes then sum antes else 0
 
--- what every seat but this one put at most, folded seats too
+-- the most that any other seat put, folded seats included
 abbrev pub greatest_other : List Stake → ℕ → ℕ
 greatest_other stakes seat =
     greatest (map (λ s. s.chips) (filter (λ s. not (s.seat == seat)) stakes))
@@ -41,7 +41,7 @@ greatest_other stakes seat =
 abbrev pub returned : List Stake → Stake → ℕ
 returned stakes s = if s.live then s.chips - greatest_other stakes s.seat else 0
 
--- a seat's stake without what is returned, which counts no longer
+-- a seat's stake without what is returned
 abbrev pub kept : List Stake → Stake → Stake
 kept stakes s = record s { chips = s.chips - returned stakes s }
 
@@ -49,17 +49,17 @@ kept stakes s = record s { chips = s.chips - returned stakes s }
 unfoldable pub after_return : List Stake → List Stake
 after_return stakes = map (kept stakes) stakes
 
--- a rising list of numbers with one more, once
+-- an ascending list of numbers with one more, without repeats
 abbrev pub with_number : List ℕ → ℕ → List ℕ
 with_number [] x = x ∷ []
 with_number (y ∷ ys) x =
     if x == y then y ∷ ys else (if nat_lt x y then x ∷ y ∷ ys else y ∷ with_number ys x)
 
--- the different numbers of a list, rising
+-- the different numbers of a list, ascending
 abbrev pub different : List ℕ → List ℕ
 different xs = fold with_number [] xs
 
--- the levels: the different chips above 0 of live seats, rising
+-- the levels: the different amounts above 0 that live seats put, ascending
 unfoldable pub levels : List Stake → List ℕ
 levels stakes = different (map (λ s. s.chips) (filter (λ s. s.live && nat_lt 0 s.chips) stakes))
 
@@ -75,13 +75,13 @@ folded_above stakes level = sum_by (λ s. if s.live then 0 else s.chips - level)
 abbrev pub reaching : List Stake → ℕ → List ℕ
 reaching stakes level = map (λ s. s.seat) (filter (λ s. s.live && nat_le level s.chips) stakes)
 
--- the chips above a level that join the pot of this level: those of folded seats, where no level
--- follows
+-- the chips above a level that join the pot of this level: those of folded seats, if this is the
+-- last level
 abbrev pub joining : List Stake → ℕ → List ℕ → ℕ
 joining stakes level [] = folded_above stakes level
 joining stakes level (_ ∷ _) = 0
 
--- a pot for each of these levels, where below is the level under the first of them
+-- one pot for each of these levels; `below` is the level under the first of them
 unfoldable pub layers : List Stake → ℕ → List ℕ → List PlainPot
 layers stakes below [] = []
 layers stakes below (level ∷ rest) =
@@ -90,7 +90,7 @@ layers stakes below (level ∷ rest) =
       eligible = reaching stakes level;
     } ∷ layers stakes level rest
 
--- dead chips in the lowest of these pots
+-- the pots with the dead chips added to the lowest
 abbrev pub with_dead : ℕ → List PlainPot → List PlainPot
 with_dead dead [] = []
 with_dead dead (pot ∷ pots) = record pot { chips = pot.chips + dead } ∷ pots
@@ -99,9 +99,9 @@ with_dead dead (pot ∷ pots) = record pot { chips = pot.chips + dead } ∷ pots
 abbrev pub is_reached_by_all : List Stake → ℕ → Bool
 is_reached_by_all stakes level = list_all (λ s. not s.live || nat_le level s.chips) stakes
 
--- the pots with the dead chips, empty ones too: the dead chips are in a pot of their own for all
--- live seats, or in the first pot where this is for all of them too; without a level all chips are
--- in one pot
+-- the pots with the dead chips, empty pots included: the dead chips are a pot of their own for all
+-- live seats, or join the first pot if all live seats may win it; without levels all chips are in
+-- one pot
 unfoldable pub pots_at : List Stake → ℕ → List ℕ → List PlainPot
 pots_at stakes dead [] =
     record { chips = sum_by (λ s. s.chips) stakes + dead; eligible = reaching stakes 0 } ∷ []
@@ -114,7 +114,7 @@ pots_at stakes dead (first ∷ rest) =
 abbrev pub with_chips : List PlainPot → List PlainPot
 with_chips pots = filter (λ pot. nat_lt 0 pot.chips) pots
 
--- the pots of a hand from its stakes and dead chips, the lowest first
+-- the pots of a hand from its stakes and dead chips, lowest first
 unfoldable pub pots_of : List Stake → ℕ → List PlainPot
 pots_of stakes dead =
     let left = after_return stakes in with_chips (pots_at left dead (levels left))

@@ -3,7 +3,7 @@ use Rattle.std.specs.Prelude.{ℕ, ◌-◌, replicate, slice_index}
 use Rattle.std.proofs.Common.{refl}
 use Rattle.chip_ledger.specs.declared.rakes.RakeRow.{RakeRow}
 
--- the rake of pot number n, the lowest having the number 1
+-- the rake of pot number n (from 1, lowest first)
 abbrev pub rake_of : RakeRow → ℕ → ℕ
 rake_of row n = slice_index row.rakes (n - 1)
 

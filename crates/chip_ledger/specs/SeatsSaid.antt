@@ -1,4 +1,4 @@
--- Seats as numbers, and the name that a seat has by its number.
+-- Seats as numbers, and the default name of a seat.
 use Rattle.std.specs.Prelude.{ℕ, List, ◌++◌, codes, Option}
 use Rattle.std.specs.Fmt.{decimal}
 use Rattle.std.specs.Option.{option_map}
@@ -8,6 +8,6 @@ use Rattle.chip_ledger.specs.declared.numbers.Seat.{Seat}
 abbrev pub seat_said : Option Seat → Option ℕ
 seat_said seat = option_map (λ (s : Seat). s.number) seat
 
--- the name of a seat where no other is said: p and the seat's number
+-- the default name of a seat: p and the seat's number
 abbrev pub default_name : ℕ → List ℕ
 default_name seat = codes "p" ++ decimal seat

@@ -1,10 +1,10 @@
-//! A row holds a flag for each of its 2 to 10 seats, and `false` past its last seat.
+//! A row of flags, one for each of its 2 to 10 seats, and `false` after its last seat.
 ghost use Rattle.std.specs.Prelude.{◌≡◌, ◌≢◌, ℕ, ◌≤◌, ◌↔◌, [], false, length, IsTrue, slice_index_or};
 
 use crate::numbers::Seat;
 
-/// A flag for each seat of a hand, as whether it is live. The first seat's is at index 0, and
-/// `false` is the filler.
+/// A flag for each seat of a hand, such as whether it is live. Seat 1 is at index 0, and `false` is
+/// the filler.
 #[derive(Clone, Copy, Debug, PartialEq, Eq, Hash)]
 pub struct LiveRow {
     pub seats: u8,
@@ -18,7 +18,7 @@ pub struct LiveRow {
 impl LiveRow {
     ghost use Rattle.chip_ledger.specs.LiveRow.{flag_of, flagged};
 
-    /// A row of so many seats, each with the flag `false`.
+    /// A row of `seats` seats, each with the flag `false`.
     pub fn new(seats: u8) -> Self
         requires least { 2 ≤ seats }
         requires greatest { seats ≤ 10 }
@@ -56,7 +56,7 @@ impl LiveRow {
         false
     }
 
-    /// The seat's flag; past the last seat `false`.
+    /// The seat's flag; `false` after the last seat.
     pub fn get(&self, seat: Seat) -> bool
         ensures { result ≡ flag_of self.now seat.number }
     {

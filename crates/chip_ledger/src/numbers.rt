@@ -1,12 +1,11 @@
-//! A seat's number is 1 to 10, and an amount of chips that a setup or an event states is at most
-//! 10^12.
+//! Seat numbers (1 to 10), and amounts of chips that a setup or an event states (at most 10^12).
 ghost use Rattle.std.specs.Prelude.{◌≡◌, ◌≤◌, ◌↔◌, IsSome, IfSome};
 ghost use Rattle.chip_ledger.specs.declared.numbers.TheConstants.{MOST_CHIPS};
 
 /// The greatest amount of chips that a setup or an event may state.
 pub const MOST_CHIPS: u64 = 1_000_000_000_000;
 
-/// A seat of a hand. The first seat has the number 1.
+/// A seat of a hand, numbered from 1.
 #[derive(Clone, Copy, Debug, PartialEq, Eq, PartialOrd, Ord, Hash)]
 pub struct Seat {
     pub number: u8,
@@ -15,7 +14,7 @@ pub struct Seat {
 }
 
 impl Seat {
-    /// The seat with this number, or `None` where no hand has such a seat.
+    /// The seat with this number, or `None` if it is not 1 to 10.
     pub fn new(number: u8) -> Option<Self>
         ensures seated { IsSome result ↔ ((1 ≤ number) × (number ≤ 10)) }
         ensures value { IfSome result (λ seat. seat.number ≡ number) }
@@ -43,7 +42,7 @@ pub struct Chips {
 }
 
 impl Chips {
-    /// The amount of so many chips, or `None` where that is more than may be stated.
+    /// This amount of chips, or `None` if it is more than may be stated.
     pub fn new(number: u64) -> Option<Self>
         ensures within { IsSome result ↔ (number ≤ MOST_CHIPS) }
         ensures value { IfSome result (λ chips. chips.number ≡ number) }
@@ -55,7 +54,7 @@ impl Chips {
         }
     }
 
-    /// How many chips the amount is.
+    /// The number of chips.
     pub fn number(self) -> u64
         ensures { result ≡ self.number }
     {

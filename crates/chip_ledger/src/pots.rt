@@ -1,4 +1,4 @@
-//! A row of pots holds up to eleven pots, and fillers past the last one.
+//! A row of up to eleven pots, with fillers after the last one.
 ghost use Rattle.std.specs.Prelude.{◌≡◌, ◌+◌, ◌<◌, ◌≤◌, ◌∷◌, [], ◌++◌, ℕ, Some, length, slice_get};
 ghost use Rattle.chip_ledger.specs.Fillers.{no_pot};
 
@@ -21,7 +21,7 @@ fn empty_pot() -> Pot
     }
 }
 
-/// The pots of a hand, the lowest first, and what is returned to each seat before they are made.
+/// The pots of a hand, lowest first, and what is returned to each seat before they are made.
 #[derive(Clone, Copy, Debug, PartialEq, Eq, Hash)]
 pub struct PotRow {
     pub count: u8,
@@ -49,7 +49,7 @@ impl PotRow {
         }
     }
 
-    /// Puts a pot above the others.
+    /// Appends a pot, above the others.
     pub fn push(&mut self, pot: Pot)
         requires { self.old.count < 11 }
         ensures pots { pots_in self.new ≡ pots_in self.old ++ pot ∷ [] }

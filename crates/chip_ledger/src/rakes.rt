@@ -1,8 +1,8 @@
-//! A row of rakes holds what a house takes from each pot of a hand.
+//! A row of rakes: what the house takes from each pot of a hand.
 ghost use Rattle.std.specs.Prelude.{◌≡◌, length};
 
-/// What a house takes from each pot before it is shared, in chips. The lowest pot's rake is at
-/// index 0, and a pot from which nothing is taken has 0.
+/// What the house takes from each pot before it is shared, in chips. The lowest pot is at index 0;
+/// 0 means that nothing is taken.
 #[derive(Clone, Copy, Debug, PartialEq, Eq, Hash)]
 pub struct RakeRow {
     pub rakes: [u64; 11],
@@ -12,7 +12,7 @@ pub struct RakeRow {
 impl RakeRow {
     ghost use Rattle.chip_ledger.specs.RakeRow.{no_rakes};
 
-    /// Nothing is taken.
+    /// No rake.
     pub fn none() -> Self
         ensures { result ≡ no_rakes }
     {

@@ -1,13 +1,13 @@
-//! A row holds an amount of chips for each of its 2 to 10 seats, and 0 past its last seat.
+//! A row of amounts of chips, one for each of its 2 to 10 seats, and 0 after its last seat.
 ghost use Rattle.std.specs.Prelude.{◌≡◌, ◌≢◌, ℕ, ◌≤◌, length, slice_index};
 ghost use Rattle.chip_ledger.specs.declared.seat_row.TheConstants.{MOST_AMOUNT};
 
 use crate::numbers::Seat;
 
-/// The greatest amount of one seat in a row.
+/// The greatest amount of one seat in a row, in chips.
 pub const MOST_AMOUNT: u64 = 10_000_000_000_000;
 
-/// An amount of chips for each seat of a hand. The first seat's is at index 0, and 0 is the filler.
+/// An amount of chips for each seat of a hand. Seat 1 is at index 0, and 0 is the filler.
 #[derive(Clone, Copy, Debug, PartialEq, Eq, Hash)]
 pub struct SeatRow {
     pub seats: u8,
@@ -22,7 +22,7 @@ pub struct SeatRow {
 impl SeatRow {
     ghost use Rattle.chip_ledger.specs.SeatRow.{amount_of};
 
-    /// A row of so many seats, each with the amount 0.
+    /// A row of `seats` seats, each with the amount 0.
     pub fn new(seats: u8) -> Self
         requires least { 2 ≤ seats }
         requires greatest { seats ≤ 10 }
@@ -35,7 +35,7 @@ impl SeatRow {
         }
     }
 
-    /// The seat's amount; past the last seat 0.
+    /// The seat's amount; 0 after the last seat.
     pub fn get(&self, seat: Seat) -> u64
         ensures { result ≡ amount_of self.now seat.number }
     {

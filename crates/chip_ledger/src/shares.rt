@@ -1,5 +1,5 @@
-//! A row of shares holds what each seat gets of each of up to eleven pots, and fillers past the
-//! last one.
+//! A row of shares: what each seat gets of each of up to eleven pots, with fillers after the last
+//! one.
 ghost use Rattle.std.specs.Prelude.{◌≡◌, ◌+◌, ◌<◌, ◌≤◌, ◌∷◌, [], ◌++◌, ℕ, Some, length, slice_get};
 ghost use Rattle.chip_ledger.specs.Fillers.{no_amounts};
 
@@ -11,7 +11,7 @@ fn empty_amounts() -> SeatRow
     SeatRow::new(2)
 }
 
-/// What each seat gets of each pot of a hand, the lowest pot first.
+/// What each seat gets of each pot of a hand, lowest pot first.
 #[derive(Clone, Copy, Debug, PartialEq, Eq, Hash)]
 pub struct ShareRow {
     pub count: u8,
@@ -36,7 +36,7 @@ impl ShareRow {
         }
     }
 
-    /// Puts the shares of a pot above the others.
+    /// Appends the shares of a pot, above the others.
     pub fn push(&mut self, shares: SeatRow)
         requires { self.old.count < 11 }
         ensures shares { shares_in self.new ≡ shares_in self.old ++ shares ∷ [] }

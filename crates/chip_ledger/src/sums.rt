@@ -5,7 +5,7 @@ ghost use Rattle.chip_ledger.specs.declared.seat_row.TheConstants.{MOST_AMOUNT};
 
 use crate::seat_row::SeatRow;
 
-/// The amounts of all seats of the row together.
+/// The amounts of all seats of the row added up.
 pub fn total(row: &SeatRow) -> u64
     ensures sum { result ≡ total_of row.now }
     ensures bounded { result ≤ 10 * MOST_AMOUNT }

@@ -1,4 +1,4 @@
--- The words of a request are a word that begins with no hyphen, and options.
+-- The words of a request are a word that does not begin with a hyphen, followed by options.
 use Rattle.std.proofs.Common.{◌≡◌, Bool, true, false, if◌then◌else◌, List, [], ◌∷◌, codes, Option, Some, None, is_some, refl, subst, sym, ap, ◌∙◌}
 use Rattle.std.specs.Prelude.{option_and_then}
 use Rattle.std.specs.Bool.{Decides}
@@ -16,7 +16,7 @@ use Rattle.std.proofs.lemmas.Option.{same_Some}
 abbrev BeginsPlain : Text → Type 0
 BeginsPlain word = strip_byte 45 word ≡ None
 
--- the word is this one, or what it asks for is asked for by another
+-- the word is this one, or it asks for what another asks for
 either : (word name : Text) (is : Bool) → Decides is (word ≡ name) → (asked others : Option Request) → BeginsPlain name
     → (is_some others ≡ true → BeginsPlain word) → is_some (if is then asked else others) ≡ true → BeginsPlain word
 either word name true decides asked others plain other some = subst BeginsPlain (sym (decides.0 refl)) plain
@@ -47,7 +47,7 @@ by_options word words (Some options) said some = record { options = options; sai
 pub is_asked : (word : Text) (words : List Text) → is_some (request_said (word ∷ words)) ≡ true → IsAsked word words
 is_asked word words some = by_options word words (options_said no_options words) refl some
 
--- what a parser found of words asks for what the words ask for
+-- what a parser found in words asks for what the words ask for
 pub said_again : (said : List Text) (found : Found) (word : Text) → (is : IsSaidBy said found) → Some word ≡ first_value found (codes "command")
     → request_by word is.options ≡ request_said said
 said_again [] found word is first = cc (is.command, first)

@@ -1,4 +1,4 @@
--- Rows by name, one at the end more.
+-- Rows by name, with one more at the end.
 use Rattle.std.proofs.Common.{◌≡◌, ◌||◌, Bool, true, false, if◌then◌else◌, List, [], ◌∷◌, ◌++◌, Option, Some, None, is_some, refl, ap, subst, ◌∙◌}
 use Rattle.std.specs.Prelude.{find}
 use Rattle.std.specs.Bool.{Decides}
@@ -10,7 +10,7 @@ use Rattle.clap.specs.Walk.{Row, Text, at_row, has_row}
 abbrev pub row_named : Text → List Row → Option Row
 row_named name rows = find (λ row. bytes_eq row.id name) rows
 
--- a name has a row where its first row is found, and only there
+-- a name has a row if and only if its first row is found
 pub has_row-named : (name : Text) (rows : List Row) → has_row name rows ≡ is_some (row_named name rows)
 has_row-named name [] = refl
 has_row-named name (row ∷ rows) = go (bytes_eq row.id name) (has_row-named name rows)
@@ -25,7 +25,7 @@ end-step : (b : Bool) (row : Row) (rows rest missing changed : List Row) (found 
 end-step true row rows rest missing changed found e more = cc
 end-step false row rows rest missing changed found e more = ap (λ (others : List Row). row ∷ others) (more e)
 
--- where no row has the name, the new row comes last
+-- if no row has the name, the new row comes last
 pub at_row-end : (name : Text) (change : Row → List Row) (missing rows : List Row) → row_named name rows ≡ None
     → at_row name change missing rows ≡ rows ++ missing
 at_row-end name change missing [] e = refl
@@ -37,7 +37,7 @@ other-step : (b : Bool) (row : Row) (found after : Option Row) → after ≡ fou
 other-step true row found after e = refl
 other-step false row found after e = e
 
--- a row of another name at the end changes nothing of a name
+-- a row of another name at the end changes nothing for a name
 row_named-other : (name : Text) (rows : List Row) (last : Row) → bytes_eq last.id name ≡ false
     → row_named name (rows ++ last ∷ []) ≡ row_named name rows
 row_named-other name [] last e = rw e refl

@@ -1,4 +1,4 @@
--- What the parser of command lines finds in the words of a command, and what seats they name.
+-- What the command line parser finds in the words of a command, and which seats they name.
 mod Steps
 mod Finds
 mod Walking

@@ -1,5 +1,5 @@
--- The parser of command lines takes the words of a command; it finds the first as the command, and each option's value under its
--- name.
+-- The command line parser takes the words of a command; it finds the first as the command, and each
+-- option's value under its name.
 use Rattle.std.proofs.Common.{◌≡◌, ◌&&◌, not, Bool, true, false, if◌then◌else◌, List, [], ◌∷◌, ◌++◌, codes, Option, Some, None, is_some, option_map, refl, ap, sym, subst, ◌∙◌}
 use Rattle.std.specs.Prelude.{fold, option_and_then, slice_get}
 use Rattle.std.specs.Bool.{Decides}
@@ -20,7 +20,7 @@ use Rattle.command_words.specs.Options.{GivenOptions, is_complete, is_flag, is_o
 use Rattle.command_words.specs.Parser.{are_taken, flag_rule, handref, option_rule}
 use Rattle.command_words.proofs.Finds.{Hold, Named, at_row-end, given, has_row-named, hold_given, row_named}
 use Rattle.command_words.proofs.Walking.{IsBetween, IsFlag, IsOption, alone, alone_taken, apart, first, first_taken, joined, joined_taken, option_taken, value_taken}
-use Rattle.list_laws.proofs.Options.{followed, none_from_not}
+use Rattle.card_set.proofs.Options.{followed, none_from_not}
 use Rattle.std.proofs.lemmas.Option.{same_Some}
 
 -- the rows that it finds in words
@@ -75,20 +75,20 @@ named first options =
     (codes "drop-notes", flag_row (codes "drop-notes") options.drops_notes)
     ∷ (codes "no-notes", flag_row (codes "no-notes") options.ignores_notes) ∷ values first options
 
--- A walk that stands between options, with the rows of a command's word and of some options.
+-- A walk that is between options, with the rows of a command's word and of some options.
 record IsAt (walk : Walk) (first : Text) (options : GivenOptions) : Type 0 where
   rows : List Row
   between : IsBetween arguments walk rows
   held : Hold (named first options) rows
 
--- a value that is set where the name had none comes last
+-- a value that is set for a name without one comes last
 set_last : (argument : Rule) (value : Text) (rows : List Row) → action_of argument ≡ Set → row_named argument.id rows ≡ None
     → used argument (value ∷ []) rows ≡ rows ++ given_row argument value ∷ []
 set_last argument value rows action none =
     let without = at_row-end argument.id (λ _. []) [] rows none ∙ append-nil rows in
     rw (action, without) (at_row-end argument.id (more_values CommandLine (value ∷ [])) (given_row argument value ∷ []) rows none)
 
--- An option that stands besides others: its name had no row.
+-- An option besides others: its name had no row yet.
 record IsGiven (options : GivenOptions) (name value : Text) (more : GivenOptions) : Type 0 where
   argument : Rule
   stands : IsOption arguments name argument
@@ -262,7 +262,7 @@ is_given options more name value e =
 abbrev over : Walk → List Text → Walk
 over walk words = fold (walked arguments []) walk words
 
--- the option is held besides
+-- the option is also held
 held_more : (first name value : Text) (options more : GivenOptions) (rows : List Row) → (is : IsGiven options name value more)
     → Hold (named first options) rows → Hold (named first more) (used is.argument (value ∷ []) rows)
 held_more first name value options more rows is held =
@@ -271,7 +271,7 @@ held_more first name value options more rows is held =
     (subst (λ (all : Named). Hold all (rows ++ given_row is.argument value ∷ [])) (is.same first)
     (hold_given (named first options) rows (given_row is.argument value) none held))
 
--- A walk over words that the parser takes ends between options, where it takes what is behind them.
+-- A walk over words that the parser takes ends between options, if it takes what comes after them.
 record Goes (walk : Walk) (words : List Text) (first : Text) (options : GivenOptions) : Type 0 where
   at : IsAt (over walk words) first options
   taken : (others : List Text) → walk_passes shape [] (over walk words) others ≡ true → walk_passes shape [] walk (words ++ others) ≡ true
@@ -317,7 +317,7 @@ one_apart walk first word name value options more at is plain new =
       held = held_more first name value options more at.rows new at.held;
     })
 
--- A flag that stands besides others: it did not stand yet.
+-- A flag besides others: it was not given yet.
 record IsSet (options : GivenOptions) (name : Text) (more : GivenOptions) : Type 0 where
   argument : Rule
   stands : IsFlag arguments name argument
@@ -483,7 +483,7 @@ whole word words options plain said =
     behind_one (walk_from nothing_held) word words word no_options options one
     (reaches words word options (over (walk_from nothing_held) (word ∷ [])) no_options one.at said)
 
--- what the parser asks behind the walk
+-- what the parser requires after the walk
 asks_no_more : (end : Walk) (rows : List Row) → IsBetween arguments end rows
     → (settle_passes arguments false end.held && (list_all default_passes arguments && is_valid shape (finished arguments end.held) false)) ≡ true
 unfolding clap_on_literals
@@ -516,7 +516,7 @@ no_defaults [] rows none = refl
 no_defaults (argument ∷ rules) rows none =
     ap (λ (some : List Row). fold with_default some rules) (no_default argument rows none.0) ∙ no_defaults rules rows none.1
 
--- among others without defaults, two arguments' defaults alone are added
+-- if the others have no defaults, only the defaults of these two arguments are added
 two_defaults : (before : List Rule) (argument other : Rule) (after : List Rule) (rows : List Row) → HaveNoDefaults before → HaveNoDefaults after
     → fold with_default rows (before ++ argument ∷ other ∷ after) ≡ with_default (with_default rows argument) other
 two_defaults [] argument other after rows none_before none_after =
@@ -525,12 +525,12 @@ two_defaults (rule ∷ before) argument other after rows none_before none_after 
     ap (λ (some : List Row). fold with_default some (before ++ argument ∷ other ∷ after)) (no_default rule rows none_before.0)
     ∙ two_defaults before argument other after rows none_before.1 none_after
 
--- a flag's row at the end: its default where it did not stand
+-- a flag's row at the end: its default if it was not given
 abbrev last_flag_row : Text → Bool → Row
 last_flag_row name true = given_row (flag name) (codes "true")
 last_flag_row name false = row_of (flag name) DefaultValue (codes "false")
 
--- what is found where the first flag is settled, and where both are
+-- what is found if the first flag is settled, and if both are
 abbrev first_settled : Text → GivenOptions → Named
 first_settled first options =
     (codes "drop-notes", Some (last_flag_row (codes "drop-notes") options.drops_notes))
@@ -580,7 +580,8 @@ no_notes_settled first options rows held = go options.ignores_notes held
         rw (none, at_row-end (codes "no-notes") (more_values DefaultValue (codes "false" ∷ [])) (row ∷ []) rows held.1.0)
         (hold_given (before ∷ (codes "no-notes", None) ∷ values first options) rows row held.1.0 held)
 
--- what the parser finds in a first word that begins with no hyphen, and in options behind it
+-- what the parser finds in a first word that does not begin with a hyphen, and in the options after
+-- it
 pub record IsFound (first : Text) (options : GivenOptions) (rows : List Row) : Type 0 where
   pub command : first_of (codes "command") rows ≡ Some first
   pub from : first_of (codes "from") rows ≡ options.from
@@ -628,7 +629,7 @@ found_in first options rows held = record {
   ignores_notes = ap (option_and_then row_text) held.1.0 ∙ text_of_flag (codes "no-notes") options.ignores_notes;
 }
 
--- the rows where all defaults are added
+-- the rows if all defaults are added
 abbrev with_defaults : List Row → List Row
 with_defaults rows = with_default (with_default rows (flag (codes "drop-notes"))) (flag (codes "no-notes"))
 

@@ -6,7 +6,7 @@ use Rattle.chip_ledger.specs.declared.numbers.Seat.{Seat}
 use Rattle.chip_ledger.proofs.Same.{seat_same}
 use Rattle.command_words.specs.Numbers.{seat_of, seat_where}
 
--- what is found of a number is the seat with it, where it is that of a seat, and nothing where it is not
+-- what is found for a number is the seat with it if it is that of a seat, and nothing if not
 pub seat_found : (number : ℕ) (found : Option Seat) → (IsSome found ↔ ((1 ≤ number) × (number ≤ 10)))
     → IfSome found (λ seat. seat.number ≡ number) → found ≡ seat_of number
 seat_found number found seated value = go found seated value (leb 1 number) (leb number 10) refl refl

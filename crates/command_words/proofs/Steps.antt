@@ -1,4 +1,4 @@
--- The options of words are those of the first option and of the words behind it.
+-- The options of words are those of the first option and of the words after it.
 use Rattle.std.proofs.Common.{◌≡◌, ℕ, true, false, List, [], ◌∷◌, Some, None, refl}
 use Rattle.clap.specs.Lexer.{long_of}
 use Rattle.command_words.specs.Options.{GivenOptions, is_flag, options_said, with_option, with_flag}
@@ -25,7 +25,7 @@ pub nothing_behind : (options : GivenOptions) (word name : List ℕ) → long_of
 unfolding options_said
 nothing_behind options word name is plain = rw (is, plain) refl
 
--- words with an option that stands twice, or is none, are no options
+-- words with an option that is repeated or unknown are no options
 pub none_joined : (options : GivenOptions) (word name value : List ℕ) (words : List (List ℕ)) → long_of word ≡ Some (name, Some value)
     → with_option options name value ≡ None → options_said options (word ∷ words) ≡ None
 unfolding options_said

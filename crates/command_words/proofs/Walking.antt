@@ -1,5 +1,5 @@
--- The parser's walk over an option, whose value stands in its word or behind it, over a flag, and over a first word: what it
--- settles, and that it takes them.
+-- The parser's walk over an option, whose value is in its word or in the next, over a flag, and
+-- over a first word: what it settles, and that it takes them.
 use Rattle.std.proofs.Common.{◌≡◌, Bool, true, false, List, [], ◌∷◌, Option, Some, None, refl, ap, subst}
 use Rattle.std.specs.Bool.{Decides}
 use Rattle.std.specs.Str.{bytes_eq}
@@ -9,7 +9,7 @@ use Rattle.clap.specs.Simple.{Shape}
 use Rattle.clap.specs.Takes.{settle_passes, turn_passes, use_passes}
 use Rattle.clap.specs.Walk.{Row, Rule, Text, Walk, arg_by_id, arg_by_index, arg_by_long, has_row, idle, is_multiple, most_values, settled_rows, takes_values, used, walked}
 
--- A walk stands between two options, where so many rows are settled.
+-- A walk is between two options, with these rows settled.
 pub record IsBetween (rules : List Rule) (walk : Walk) (settled : List Row) : Type 0 where
   pub idle : walk.waiting ≡ idle
   pub reading : walk.is_trailing ≡ false
@@ -32,7 +32,7 @@ pub record IsFlag (rules : List Rule) (name : Text) (argument : Rule) : Type 0 w
   pub takes : takes_values argument ≡ false
   pub once : (rows : List Row) → has_row argument.id rows ≡ false → use_passes false argument [] rows ≡ true
 
--- a word of an option is not the two hyphens alone
+-- the word of an option is more than two hyphens
 not_alone : (word : Text) (name : Text) (value : Option Text) → long_of word ≡ Some (name, value) → bytes_eq word (45 ∷ 45 ∷ []) ≡ false
 not_alone word name value is = go (bytes_eq word (45 ∷ 45 ∷ [])) (bytes_eq-Decides word (45 ∷ 45 ∷ []))
   where
@@ -43,7 +43,7 @@ not_alone word name value is = go (bytes_eq word (45 ∷ 45 ∷ [])) (bytes_eq-D
     go false d = refl
     go true d = absurd (alone (d.0 refl))
 
--- neither is a word that begins with no hyphen
+-- and so is a word that does not begin with a hyphen
 not_hyphens : (word : Text) → strip_byte 45 word ≡ None → bytes_eq word (45 ∷ 45 ∷ []) ≡ false
 not_hyphens word is = go (bytes_eq word (45 ∷ 45 ∷ [])) (bytes_eq-Decides word (45 ∷ 45 ∷ []))
   where
@@ -54,7 +54,7 @@ not_hyphens word is = go (bytes_eq word (45 ∷ 45 ∷ [])) (bytes_eq-Decides wo
     go false d = refl
     go true d = absurd (alone (d.0 refl))
 
--- the rows where an option whose value stands in its word is settled
+-- the rows after an option whose value is in its word is settled
 pub joined : (rules : List Rule) (walk : Walk) (rows : List Row) (word name value : Text) (argument : Rule) → IsBetween rules walk rows
     → IsOption rules name argument → long_of word ≡ Some (name, Some value) → IsBetween rules (walked rules [] walk word) (used argument (value ∷ []) rows)
 unfolding walked
@@ -62,7 +62,7 @@ joined rules walk rows word name value argument between option is =
     rw (between.here, between.idle, between.reading, not_alone word name (Some value) is, is, option.by_name, option.takes, between.rows)
     (record { idle = refl; reading = refl; here = refl; rows = refl; passes = refl })
 
--- the rows where a flag is settled
+-- the rows after a flag is settled
 pub alone : (rules : List Rule) (walk : Walk) (rows : List Row) (word name : Text) (argument : Rule) → IsBetween rules walk rows
     → IsFlag rules name argument → long_of word ≡ Some (name, None) → IsBetween rules (walked rules [] walk word) (used argument [] rows)
 unfolding walked
@@ -70,14 +70,14 @@ alone rules walk rows word name argument between flag is =
     rw (between.here, between.idle, between.reading, not_alone word name None is, is, flag.by_name, flag.takes, between.rows)
     (record { idle = refl; reading = refl; here = refl; rows = refl; passes = refl })
 
--- it is no option either
+-- it is not an option either
 not_long : (word : Text) → strip_byte 45 word ≡ None → long_of word ≡ None
 not_long word is = rw is refl
 
 not_short : (word : Text) → strip_byte 45 word ≡ None → short_of word ≡ None
 not_short word is = rw is refl
 
--- the rows where an option whose value is the word behind it is settled
+-- the rows after an option whose value is the next word is settled
 pub apart : (rules : List Rule) (walk : Walk) (rows : List Row) (word name value : Text) (argument : Rule) → IsBetween rules walk rows
     → IsOption rules name argument → has_row argument.id rows ≡ false → long_of word ≡ Some (name, None) → strip_byte 45 value ≡ None
     → IsBetween rules (walked rules [] (walked rules [] walk word) value) (used argument (value ∷ []) rows)
@@ -101,7 +101,7 @@ apart rules walk rows word name value argument between option new is plain =
     )
     (record { idle = refl; reading = refl; here = refl; rows = rw option.by_id refl; passes = rw option.by_id (option.once value rows new) })
 
--- the rows where a first word is settled as the value of the argument at the first place
+-- the rows after a first word is settled as the value of the argument at the first place
 pub first : (rules : List Rule) (walk : Walk) (rows : List Row) (word : Text) (argument : Rule) → IsBetween rules walk rows
     → walk.position ≡ 1 → strip_byte 45 word ≡ None → arg_by_index rules 1 ≡ Some argument → arg_by_id rules argument.id ≡ Some argument
     → is_multiple argument ≡ false → argument.trailing_var_arg ≡ false → walk.held.pending ≡ None → use_passes false argument (word ∷ []) rows ≡ true
@@ -132,7 +132,7 @@ first rules walk rows word argument between place plain by_index by_id once here
     settled : walk.held.rows ≡ rows
     settled = subst (λ (pending : Option (Text × List Text)). settled_rows rules pending walk.held.rows ≡ rows) none between.rows
 
--- the parser takes the word of an option whose value stands in it
+-- the parser takes the word of an option whose value is in it
 pub joined_taken : (shape : Shape) (walk : Walk) (rows : List Row) (word name value : Text) (argument : Rule) → shape.args_override_self ≡ false
     → IsBetween shape.rules walk rows → IsOption shape.rules name argument → has_row argument.id rows ≡ false
     → long_of word ≡ Some (name, Some value) → turn_passes shape [] walk word ≡ true
@@ -170,7 +170,7 @@ alone_taken shape walk rows word name argument keeps between flag new is =
       flag.once rows new,
     ) refl
 
--- and that of an option whose value is the word behind it
+-- and that of an option whose value is the next word
 pub option_taken : (shape : Shape) (walk : Walk) (rows : List Row) (word name : Text) (argument : Rule) → shape.args_override_self ≡ false
     → IsBetween shape.rules walk rows → IsOption shape.rules name argument → long_of word ≡ Some (name, None)
     → turn_passes shape [] walk word ≡ true

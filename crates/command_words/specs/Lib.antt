@@ -1,4 +1,4 @@
--- Which words ask for what.
+-- What the words of a command line ask for.
 pub mod Options
 pub mod Numbers
 pub mod Words

@@ -1,35 +1,36 @@
--- Which words are options: each stands once, in any order, with its value in its word or behind it.
+-- The options of a command line: each at most once, in any order, written --name=value or --name
+-- value.
 use Rattle.std.specs.Prelude.{◌&&◌, ◌||◌, not, Bool, true, false, if◌then◌else◌, List, [], ◌∷◌, ℕ, codes, Option, Some, None, is_some, is_none, option_and_then}
 use Rattle.std.specs.Str.{bytes_eq}
 use Rattle.clap.specs.Lexer.{long_of, strip_byte}
 
 -- the values of the options that are given
 pub record GivenOptions : Type 0 where
-  -- the notation of the input
+  -- --from: the notation of the input
   pub from : Option (List ℕ)
-  -- the notation of the output
+  -- --to: the notation of the output
   pub to : Option (List ℕ)
-  -- the name of the game's file
+  -- --game: the name of the game file
   pub game : Option (List ℕ)
-  -- the number that hands are made from
+  -- --seed: the number that made hands start from
   pub seed : Option (List ℕ)
-  -- how many hands are made
+  -- --hands: how many hands are made
   pub hands : Option (List ℕ)
-  -- the number of a seat
+  -- --seat: the number of a seat
   pub seat : Option (List ℕ)
-  -- the number of a hand
+  -- --hand: the number of a hand
   pub hand : Option (List ℕ)
-  -- how many events of that hand come first
+  -- --after: the number of events of that hand that come first
   pub after : Option (List ℕ)
-  -- the number of a street of that hand
+  -- --street: the number of a street of that hand
   pub street : Option (List ℕ)
-  -- the name of the other file, where two are compared
+  -- --with: the name of the other file, when two files are compared
   pub other_file : Option (List ℕ)
-  -- the notation of the other file
+  -- --as: the notation of the other file
   pub other_notation : Option (List ℕ)
-  -- the flag by which notes without a spelling are dropped
+  -- --drop-notes: notes that cannot be written are dropped
   pub drops_notes : Bool
-  -- the flag by which notes are not looked at
+  -- --no-notes: notes are ignored
   pub ignores_notes : Bool
 
 -- no options
@@ -50,42 +51,42 @@ no_options = record {
   ignores_notes = false;
 }
 
--- neither a notation nor a game is given
+-- no notation and no game is given: no --from, --to, --game
 abbrev pub lack_names : GivenOptions → Bool
 lack_names options = is_none options.from && is_none options.to && is_none options.game
 
--- nothing is given of hands that are made
+-- no option about made hands is given: no --seed, --hands
 abbrev pub lack_counts : GivenOptions → Bool
 lack_counts options = is_none options.seed && is_none options.hands
 
--- neither a seat nor a hand is given, nor a place in a hand
+-- no seat, hand or place in a hand is given
 abbrev pub lack_places : GivenOptions → Bool
 lack_places options =
     is_none options.seat && is_none options.hand && is_none options.after && is_none options.street
 
--- nothing is given of another file
+-- no option about the other file is given: no --with, --as
 abbrev pub lack_other : GivenOptions → Bool
 lack_other options = is_none options.other_file && is_none options.other_notation
 
--- no flag stands
+-- no flag is given
 abbrev pub lack_flags : GivenOptions → Bool
 lack_flags options = not options.drops_notes && not options.ignores_notes
 
--- none of them is given
+-- no option is given
 abbrev pub are_none : GivenOptions → Bool
 are_none options =
     lack_names options && lack_counts options && lack_places options && lack_other options
     && lack_flags options
 
--- an option has this name, and does not stand yet
+-- an option has this name, and is not given yet
 abbrev pub is_new : (name own : List ℕ) → Option (List ℕ) → Bool
 is_new name own given = bytes_eq name own && not (is_some given)
 
--- a name is that of an option of the other file
+-- the option is about the other file: with or as
 abbrev pub is_of_other : List ℕ → Bool
 is_of_other name = bytes_eq name (codes "with") || bytes_eq name (codes "as")
 
--- the options with one more of the other file, which stands once
+-- the options with one more about the other file; it may be given once
 abbrev pub with_other : GivenOptions → List ℕ → List ℕ → Option GivenOptions
 with_other options name value =
     if is_new name (codes "with") options.other_file
@@ -94,7 +95,7 @@ with_other options name value =
     then Some (record options { other_notation = Some value })
     else None
 
--- the options with one more of a seat or of a place in a hand, which stands once
+-- the options with one more about a seat or a place in a hand; it may be given once
 abbrev pub with_place : GivenOptions → List ℕ → List ℕ → Option GivenOptions
 with_place options name value =
     if is_new name (codes "seat") options.seat then Some (record options { seat = Some value })
@@ -105,7 +106,7 @@ with_place options name value =
     then Some (record options { street = Some value })
     else None
 
--- the options with one more of this name and value; each stands once
+-- the options with one more of this name and value; each may be given once
 abbrev pub with_new : GivenOptions → List ℕ → List ℕ → Option GivenOptions
 with_new options name value =
     if is_new name (codes "from") options.from then Some (record options { from = Some value })
@@ -116,14 +117,14 @@ with_new options name value =
     then Some (record options { hands = Some value })
     else with_place options name value
 
--- the same, where the value is one: none begins with a hyphen
+-- the same, if the value does not begin with a hyphen
 abbrev pub with_option : GivenOptions → List ℕ → List ℕ → Option GivenOptions
 with_option options name value =
     if is_some (strip_byte 45 value) then None
     else if is_of_other name then with_other options name value
     else with_new options name value
 
--- the options with the flag of this name; each stands once
+-- the options with the flag of this name; each may be given once
 abbrev pub with_flag : GivenOptions → List ℕ → Option GivenOptions
 with_flag options name =
     if bytes_eq name (codes "drop-notes") && not options.drops_notes
@@ -132,16 +133,17 @@ with_flag options name =
     then Some (record options { ignores_notes = true })
     else None
 
--- a name is that of a flag, which has no value
+-- the option is a flag, which has no value
 abbrev pub is_flag : List ℕ → Bool
 is_flag name = bytes_eq name (codes "drop-notes") || bytes_eq name (codes "no-notes")
 
--- what a name gives whose value may stand behind it
+-- the options with the option of this name, whose value may be the next word
 abbrev pub with_value : GivenOptions → List ℕ → Option (List ℕ) → Option GivenOptions
 with_value options name None = None
 with_value options name (Some value) = with_option options name value
 
--- what a word gives as an option, with the value that stands in it, or else with this value
+-- the options with this option; its value is in the same word or else, if it needs one, this next
+-- word
 abbrev pub with_word : GivenOptions → Option (List ℕ × Option (List ℕ)) → Option (List ℕ)
     → Option GivenOptions
 with_word options None behind = None
@@ -149,13 +151,13 @@ with_word options (Some (name, Some value)) behind = with_option options name va
 with_word options (Some (name, None)) behind =
     if is_flag name then with_flag options name else with_value options name behind
 
--- a word is an option without the word behind it
+-- the option needs no value from the next word
 abbrev pub is_complete : Option (List ℕ × Option (List ℕ)) → Bool
 is_complete None = false
 is_complete (Some (name, value)) = is_some value || is_flag name
 
--- The options with those of these words. An option is the word --name=value, or the word --name and
--- its value behind it, or a flag.
+-- The options with those of these words. An option is one word --name=value, two words --name and
+-- value, or a flag.
 unfoldable pub options_said : GivenOptions → List (List ℕ) → Option GivenOptions
 options_said options [] = Some options
 options_said options (word ∷ []) = with_word options (long_of word) None

@@ -1,4 +1,4 @@
--- The parser of the words of a command: the command's word, options with a value, and flags.
+-- The parser of a command line: the word of the command, options with a value, and flags.
 use Rattle.std.specs.Prelude.{◌≡◌, Bool, true, false, List, [], ◌∷◌, Some, codes, fold}
 use Rattle.clap.specs.Words.{App, Rule, Text, new_app, new_rule, rule_of, takes, with_rule}
 use Rattle.clap.specs.declared.builder.arg.Arg.{Arg}
@@ -8,17 +8,17 @@ use Rattle.clap.specs.declared.builder.action.ArgAction.TheVariants.{SetTrue}
 abbrev pub option_rule : Text → Rule
 option_rule name = record (new_rule name) { long = Some name }
 
--- a flag has a name alone
+-- a flag has a name only
 abbrev pub flag_rule : Text → Rule
 flag_rule name = record (option_rule name) { action = Some SetTrue }
 
--- a parser that is given all words, and none of them is the program's name
+-- a parser that is given all words; the name of the program is not among them
 abbrev pub without_own_name : App
 without_own_name =
     let named = new_app (codes "handref") in
     record named { top = record named.top { no_binary_name = true } }
 
--- an argument has a rule, and is not handed on to commands below
+-- an argument has a rule, and is not passed on to subcommands
 pub record IsArgument (arg : Arg) (its : Rule) : Type 0 where
   pub rule : rule_of arg ≡ its
   pub local : arg.global ≡ false
@@ -32,6 +32,6 @@ handref = fold with_rule without_own_name (new_rule (codes "command")
     ∷ option_rule (codes "with") ∷ option_rule (codes "as")
     ∷ flag_rule (codes "drop-notes") ∷ flag_rule (codes "no-notes") ∷ [])
 
--- the parser takes the words: it fails at them only for want of memory
+-- the parser takes the words: it fails only if memory runs out
 unfoldable pub are_taken : List Text → Bool
 are_taken words = takes handref words

@@ -1,4 +1,4 @@
--- What the code's requests and options say.
+-- What the requests and options of the code mean.
 use Rattle.std.specs.Prelude.{◌≡◌, ℕ, Bool, true, false, List, Some, codes, drop, option_map, slice_get}
 use Rattle.clap.specs.Words.{first_value}
 use Rattle.clap.specs.Matches.{one_text}
@@ -47,7 +47,7 @@ abbrev pub flag_text : Bool → List ℕ
 flag_text true = codes "true"
 flag_text false = codes "false"
 
--- A parser of command lines found these options.
+-- A command line parser found these options.
 pub record AreFound (found : Found) (options : words.GivenOptions) : Type 0 where
   pub from : first_value found (codes "from") ≡ options.from
   pub to : first_value found (codes "to") ≡ options.to
@@ -63,7 +63,7 @@ pub record AreFound (found : Found) (options : words.GivenOptions) : Type 0 wher
   pub drops_notes : one_text found (codes "drop-notes") ≡ Some (flag_text options.drops_notes)
   pub ignores_notes : one_text found (codes "no-notes") ≡ Some (flag_text options.ignores_notes)
 
--- What a parser of command lines found is what words say: the word of the command, and the options.
+-- What a command line parser found is what the words say: the word of the command, and the options.
 pub record IsSaidBy (said : List (List ℕ)) (found : Found) : Type 0 where
   pub command : first_value found (codes "command") ≡ slice_get said 0
   pub options : words.GivenOptions

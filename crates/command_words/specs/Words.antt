@@ -1,4 +1,4 @@
--- Which words say what is asked for: the word of a command, and behind it its options and no other.
+-- What a command line asks for: the word of a command, followed by its options and no others.
 use Rattle.std.specs.Prelude.{ℕ, Bool, false, not, if◌then◌else◌, List, [], ◌∷◌, codes, Option, Some, None, option_and_then}
 use Rattle.std.specs.Str.{bytes_eq}
 use Rattle.command_words.specs.Numbers.{events_said, hand_said, hands_said, seat_said, seed_said, street_said}
@@ -18,23 +18,22 @@ use Rattle.chip_ledger.specs.declared.numbers.Seat.{Seat}
 use Rattle.hand_records.specs.declared.writing.Keep.{Keep}
 use Rattle.hand_records.specs.declared.writing.Keep.TheVariants as keeps
 
--- The notations of two files that are compared, of which logs are under the game of the file with
--- this name; where neither is of logs there is none.
+-- The notations of two files that are compared. If one of them is a log, there is also the name of
+-- the game file.
 pub data Sides : Type 0 where
   PlainSides : (from other : PlainNotation) → Sides
   SidesUnder : (game : List ℕ) → (from other : NotationName) → Sides
 
--- What is asked for: the summary of so many hands that are made from a seed, or what is made of the
--- hands that are read, or whether they are the same as those of the file with this name, where
--- notes may be looked at. Hands of which logs are read or written are under the game of the file
--- with this name; others have none.
+-- What a command line asks for: a summary of `hands` hands made from a seed; what to do with the
+-- hands of the input; or whether they are the same as those of another file, with or without their
+-- notes. Logs need the name of a game file; other notations have none.
 pub data Request : Type 0 where
   Load : (seed hands : ℕ) → Request
   Plain : PlainNotation → NamedTask PlainNotation → Request
   Under : (game : List ℕ) → Logs → Request
   Compare : Sides → (file : List ℕ) → (notes : Bool) → Request
 
--- the notation of a name
+-- the notation with this name
 abbrev pub notation_of_name : List ℕ → Option NotationName
 notation_of_name name =
     if bytes_eq name (codes "phh") then Some (names.Plain notations.Phh)
@@ -43,12 +42,12 @@ notation_of_name name =
     else if bytes_eq name (codes "acpc") then Some names.Acpc
     else None
 
--- the notation that is named, if one is
+-- the given notation, if there is one
 abbrev pub notation_named : Option (List ℕ) → Option NotationName
 notation_named name = option_and_then notation_of_name name
 
--- What is made of hands in a notation: plain ones stand without a game, and logs under the game
--- that is given, whose name is not empty.
+-- What to do with the hands of a notation. A log needs a game file, whose name is not empty; other
+-- notations may not have one.
 abbrev pub reading_of : NotationName → (game : Option (List ℕ)) → NamedTask PlainNotation
     → NamedTask NotationName → Option Request
 reading_of (names.Plain from) None plain logs = Some (Plain from plain)
@@ -58,7 +57,7 @@ reading_of names.Acpc (Some []) plain logs = None
 reading_of names.Acpc (Some (first ∷ others)) plain logs =
     Some (Under (first ∷ others) (logs_are.Read logs))
 
--- What a seat saw of the hands of logs, under the game that is given, whose name is not empty.
+-- What a seat saw of the hands of a log; it needs a game file, whose name is not empty.
 abbrev pub views_of : NotationName → (game : Option (List ℕ)) → Seat → Option Request
 views_of (names.Plain from) game seat = None
 views_of names.Acpc None seat = None
@@ -66,8 +65,8 @@ views_of names.Acpc (Some []) seat = None
 views_of names.Acpc (Some (first ∷ others)) seat =
     Some (Under (first ∷ others) (logs_are.Viewed seat))
 
--- The hands of one notation in another: between plain ones without a game, and else, from logs or
--- to logs, under the game that is given, whose name is not empty.
+-- Converts one notation to another. It needs a game file, whose name is not empty, if one of them
+-- is a log, and may not have one otherwise.
 abbrev pub conversion_of : (from to : NotationName) → (game : Option (List ℕ)) → Keep
     → Option Request
 conversion_of (names.Plain from) (names.Plain to) None keep =
@@ -80,8 +79,8 @@ conversion_of (names.Plain from) names.Acpc (Some (first ∷ others)) keep =
 conversion_of names.Acpc to (Some (first ∷ others)) keep =
     Some (Under (first ∷ others) (logs_are.Read (tasks.Convert to keep)))
 
--- The notations of two files that are compared: without a game where neither is of logs, and else
--- under the game that is given, whose name is not empty.
+-- The notations of two files that are compared. They need a game file, whose name is not empty, if
+-- one of them is a log, and may not have one otherwise.
 abbrev pub sides_of : (from other : NotationName) → (game : Option (List ℕ)) → Option Sides
 sides_of (names.Plain from) (names.Plain other) None = Some (PlainSides from other)
 sides_of (names.Plain from) (names.Plain other) (Some game) = None
@@ -95,13 +94,13 @@ file_named None = None
 file_named (Some []) = None
 file_named (Some (first ∷ others)) = Some (first ∷ others)
 
--- what two values give, where both are there
+-- what two values give, if both are given
 abbrev pub with_both : {X Y Z : Type 0} → (X → Y → Option Z) → Option X → Option Y → Option Z
 with_both give None second = None
 with_both give (Some x) None = None
 with_both give (Some x) (Some y) = give x y
 
--- a question about the hands that are read, in the notation that is given
+-- a question about the hands of the input, in the given notation
 abbrev pub asked : GivenOptions → Question → Option Request
 asked options question =
     option_and_then (λ from. reading_of from options.game (tasks.Ask question) (tasks.Ask question))
@@ -120,11 +119,11 @@ judge_asked options =
     (notation_named options.from)
     else None
 
--- which notes are kept: those that have a spelling, where the flag stands
+-- which notes are kept: with the flag, only those that can be written
 abbrev pub keep_said : Bool → Keep
 keep_said drops_notes = if drops_notes then keeps.Spelled else keeps.All
 
--- `convert` takes --from, --to, --game for logs, and the flag
+-- `convert` takes --from, --to, --game for logs, and --drop-notes
 abbrev pub conversion_asked : GivenOptions → Option Request
 conversion_asked options =
     if are_none (record options { from = None; to = None; game = None; drops_notes = false })
@@ -132,7 +131,7 @@ conversion_asked options =
     (notation_named options.from) (notation_named options.to)
     else None
 
--- `game` takes --from, which is not of logs: they have no game without a file
+-- `game` takes --from, which may not be a log: a log has its game file already
 abbrev pub game_asked : GivenOptions → Option Request
 game_asked options =
     if are_none (record options { from = None }) then asked options questions.GameFile else None
@@ -145,7 +144,7 @@ load_asked options =
     (option_and_then seed_said options.seed) (option_and_then hands_said options.hands)
     else None
 
--- `views` takes --from, which is of logs, --game and --seat
+-- `views` takes --from, which must be a log, --game and --seat
 abbrev pub views_asked : GivenOptions → Option Request
 views_asked options =
     if are_none (record options { from = None; game = None; seat = None })
@@ -169,8 +168,7 @@ equity_asked options =
     (option_and_then hand_said options.hand) (option_and_then street_said options.street)
     else None
 
--- `compare` takes --from, --with, --as, --game where one of them is of logs, and the flag by which
--- notes are not looked at
+-- `compare` takes --from, --with, --as, --game if one of the two is a log, and --no-notes
 abbrev pub comparison_asked : GivenOptions → Option Request
 comparison_asked options =
     if are_none (record options
@@ -201,7 +199,7 @@ request_by word options =
     else if bytes_eq word (codes "compare") then comparison_asked options
     else None
 
--- what words ask for, if they ask for something
+-- what the words of a command line ask for; none if they are no command
 abbrev pub request_said : List (List ℕ) → Option Request
 request_said [] = None
 request_said (word ∷ words) = option_and_then (request_by word) (options_said no_options words)

@@ -1,14 +1,14 @@
-//! The commands that print something of all hands, where each of them is legal.
+//! The commands that print something about all hands, if each of them is legal.
 
-/// What is printed of hands.
+/// What is printed about the hands.
 #[derive(Clone, Copy, Debug, PartialEq, Eq)]
 pub enum Command {
-    /// What each seat of each hand ends with.
+    /// The chips that each seat of each hand ends with.
     Check,
     /// Each hand step by step.
     Replay,
     /// Hands and pots by game, and chips by name.
     Report,
-    /// How the stacks of each name went over the hands, and how often it played and won.
+    /// The stacks of each player over the hands, and how often each played and won.
     Session,
 }

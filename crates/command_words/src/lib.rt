@@ -1,4 +1,4 @@
-//! The words of a command line ask for something, or for nothing.
+//! Turns the words of a command line into a request, or says that they are no command.
 #![tactic(auto)]
 
 mod command;

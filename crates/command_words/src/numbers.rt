@@ -1,4 +1,4 @@
-//! A text of few decimal digits says the number of an option, in its own range.
+//! Reads the number of an option: a few decimal digits, in the option's range.
 ghost use Rattle.std.specs.Prelude.{◌≡◌, ◌≤◌, IfSome, option_map};
 ghost use Rattle.command_words.specs.Numbers.{events_said, hand_said, hands_said, no_less as no_less_said, number_said, seat_said, seed_said, street_said};
 ghost use Rattle.first_fault.specs.declared.limits.TheConstants.{MOST_HANDS as most_hands};
@@ -6,7 +6,7 @@ ghost use Rattle.first_fault.specs.declared.limits.TheConstants.{MOST_HANDS as m
 use chip_ledger::Seat;
 use first_fault::{MOST_HANDS, are_digits, read_digits};
 
-/// A number of hands that are made, no more than a file may have.
+/// A number of made hands, at most as many as a file may have.
 #[derive(Clone, Copy, Debug, PartialEq, Eq)]
 pub struct HandCount {
     pub number: u32,
@@ -62,7 +62,7 @@ pub fn read_street(text: &str) -> Option<u8>
     Some(number as u8)
 }
 
-// The number that a text of one to so many digits says, if it is in this range.
+// The number that a text of 1 to `digits` digits says, if it is in this range.
 #[tactic(auto, unfolding(first_fault::specs::Digits::number_of))]
 fn read_number(text: &str, digits: usize, least: u64, most: u64) -> Option<u64>
     requires small { most ≤ 1000000000000000000 }
@@ -76,7 +76,7 @@ fn read_number(text: &str, digits: usize, least: u64, most: u64) -> Option<u64>
     no_less(least, read_digits(text, most)?)
 }
 
-// The number, if it is no less than this.
+// The number, if it is at least `least`.
 fn no_less(least: u64, number: u64) -> Option<u64>
     ensures { result ≡ no_less_said least number }
 {

@@ -1,41 +1,41 @@
-//! Words are read as options, each of which stands once.
+//! Reads words as options, each given at most once.
 ghost use Rattle.std.specs.Prelude.{◌≡◌, option_map, map, string_bytes};
 ghost use Rattle.clap.specs.Lexer.{long_of, name_and_value, strip_byte};
 ghost use Rattle.command_words.specs.Requests.{options_in};
 ghost use Rattle.command_words.specs.Options.{is_flag as is_flag_said, is_of_other as is_of_other_said, no_options, options_said, with_flag as with_flag_said, with_new as with_new_said, with_option as with_option_said, with_other as with_other_said, with_place as with_place_said};
 
-/// The values of the options that are given.
+/// The values of the given options.
 #[derive(Clone, Copy, Debug, PartialEq, Eq)]
 pub struct GivenOptions<'a> {
     /// The notation of the input.
     pub from: Option<&'a str>,
     /// The notation of the output.
     pub to: Option<&'a str>,
-    /// The name of the game's file.
+    /// The name of the game file.
     pub game: Option<&'a str>,
-    /// The number that hands are made from.
+    /// The number that made hands start from.
     pub seed: Option<&'a str>,
-    /// How many hands are made.
+    /// The number of hands to make.
     pub hands: Option<&'a str>,
     /// The number of a seat.
     pub seat: Option<&'a str>,
     /// The number of a hand.
     pub hand: Option<&'a str>,
-    /// How many events of that hand come first.
+    /// The number of events of that hand that come first.
     pub after: Option<&'a str>,
     /// The number of a street of that hand.
     pub street: Option<&'a str>,
-    /// The name of the other file, where two are compared.
+    /// The name of the other file, when two files are compared.
     pub other_file: Option<&'a str>,
     /// The notation of the other file.
     pub other_notation: Option<&'a str>,
-    /// Whether notes without a spelling are dropped.
+    /// Whether notes that cannot be written are dropped.
     pub drops_notes: bool,
-    /// Whether notes are not looked at.
+    /// Whether notes are ignored.
     pub ignores_notes: bool,
 }
 
-/// The options that the words say, or `None` where one of them is none, or stands twice.
+/// The options that the words say, or `None` if one is unknown or repeated.
 #[tactic(auto, unfolding(crate::specs::Options::options_said))]
 pub fn read_options(words: &[String]) -> Option<GivenOptions<'_>>
     ensures { option_map options_in result ≡ options_said no_options (map string_bytes words.now) }
@@ -87,14 +87,14 @@ fn long_word(word: &str) -> Option<(&str, Option<&str>)>
     Some(split_value(rest))
 }
 
-// What follows a first hyphen.
+// What comes after a first hyphen.
 fn strip_hyphen(word: &str) -> Option<&str>
     ensures { option_map (λ s. s.now) result ≡ strip_byte 45 word.now }
 {
     word.strip_prefix('-')
 }
 
-// What stands before the first `=`, and what stands after it if there is one.
+// The text before the first `=`, and the text after it if there is one.
 fn split_value(text: &str) -> (&str, Option<&str>)
     ensures { (result.0.now, option_map (λ s. s.now) result.1) ≡ name_and_value text.now }
 {
@@ -104,7 +104,7 @@ fn split_value(text: &str) -> (&str, Option<&str>)
     }
 }
 
-// The options with one more, whose value begins with no hyphen.
+// The options with one more, if its value does not begin with a hyphen.
 fn with_option<'a>(
     options: GivenOptions<'a>,
     name: &str,
@@ -122,14 +122,14 @@ fn with_option<'a>(
     with_new(options, name, value)
 }
 
-// Whether a name is that of an option of the other file.
+// Whether the option is about the other file.
 fn is_of_other(name: &str) -> bool
     ensures { result ≡ is_of_other_said name.now }
 {
     name == "with" || name == "as"
 }
 
-// The options with one more that does not stand yet.
+// The options with one more, if it is not given yet.
 fn with_new<'a>(options: GivenOptions<'a>, name: &str, value: &'a str) -> Option<GivenOptions<'a>>
     ensures { option_map options_in result
         ≡ with_new_said (options_in options.entry) name.now value.now }
@@ -160,7 +160,7 @@ fn with_new<'a>(options: GivenOptions<'a>, name: &str, value: &'a str) -> Option
     }
 }
 
-// The options with one more of a seat or of a place in a hand that does not stand yet.
+// The options with one more about a seat or a place in a hand, if it is not given yet.
 fn with_place<'a>(options: GivenOptions<'a>, name: &str, value: &'a str) -> Option<GivenOptions<'a>>
     ensures { option_map options_in result
         ≡ with_place_said (options_in options.entry) name.now value.now }
@@ -187,7 +187,7 @@ fn with_place<'a>(options: GivenOptions<'a>, name: &str, value: &'a str) -> Opti
     }
 }
 
-// The options with one more of the other file that does not stand yet.
+// The options with one more about the other file, if it is not given yet.
 fn with_other<'a>(options: GivenOptions<'a>, name: &str, value: &'a str) -> Option<GivenOptions<'a>>
     ensures { option_map options_in result
         ≡ with_other_said (options_in options.entry) name.now value.now }
@@ -206,14 +206,14 @@ fn with_other<'a>(options: GivenOptions<'a>, name: &str, value: &'a str) -> Opti
     }
 }
 
-// Whether a name is that of a flag, which has no value.
+// Whether the option is a flag, which has no value.
 fn is_flag(name: &str) -> bool
     ensures { result ≡ is_flag_said name.now }
 {
     name == "drop-notes" || name == "no-notes"
 }
 
-// The options with the flag of this name, which does not stand yet.
+// The options with the flag of this name, if it is not given yet.
 fn with_flag<'a>(options: GivenOptions<'a>, name: &str) -> Option<GivenOptions<'a>>
     ensures { option_map options_in result ≡ with_flag_said (options_in options.entry) name.now }
 {

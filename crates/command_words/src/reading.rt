@@ -1,4 +1,4 @@
-//! The words of a command are read by a parser of command lines.
+//! Reads the words of a command line with a parser.
 ghost use Rattle.std.specs.Prelude.{◌≡◌, map, option_map, string_bytes, IfErr, IfOk, Ok, None, Some, is_some, true};
 ghost use Rattle.clap.specs.Simple.{new_rule};
 ghost use Rattle.clap.specs.Words.{app_of, found_of, kind_of};
@@ -15,8 +15,8 @@ use card_set::Memory;
 use clap::{Arg, ArgAction, ArgMatches};
 use std::alloc::{AllocError, Global};
 
-/// What the words ask for, or `None` where they ask for nothing. Want of memory is told only of
-/// words that the parser takes, at which it fails for nothing else.
+/// What the words ask for, or `None` if they are no command. Out of memory is reported only for
+/// words that the parser takes: for these it fails for no other reason.
 #[tactic(auto, using(crate::proofs::Taken::all_taken))]
 pub fn read_words<'a>(alloc: Global, words: &'a [String]) -> Result<Option<Request<'a>>, Memory>
     ensures read { IfOk result (λ request. option_map request_in request
@@ -37,7 +37,7 @@ pub fn read_words<'a>(alloc: Global, words: &'a [String]) -> Result<Option<Reque
     Ok(request_of(word, options_found(&matches)))
 }
 
-// What the words ask for, told without memory.
+// What the words ask for, found without allocating memory.
 #[tactic(auto, unfolding(crate::specs::Options::options_said))]
 fn request_in_words(words: &[String]) -> Option<Request<'_>>
     ensures { option_map request_in result ≡ request_said (map string_bytes words.now) }
@@ -47,7 +47,7 @@ fn request_in_words(words: &[String]) -> Option<Request<'_>>
     request_of(word.as_str(), options)
 }
 
-// An error of the parser, where it is want of memory. It is a door.
+// Turns an error of the parser that says out of memory into `Memory`.
 #[tactic(auto, using(card_set::specs::Refusal::an_allocator_said_so))]
 fn want_of_memory(_error: &clap::Error) -> Memory
     requires { kind_of _error.now ≡ OutOfMemory }
@@ -55,8 +55,8 @@ fn want_of_memory(_error: &clap::Error) -> Memory
     Memory {}
 }
 
-// The words of a command, by the names of what they are. The parser takes them all, so that it
-// fails only for want of memory.
+// The parsed words of a command, by name. The parser takes them all, so it fails only if memory
+// runs out.
 fn parsed<'a>(alloc: Global, words: &'a [String]) -> Result<ArgMatches<'a>, clap::Error>
     requires { is_some (request_said (map string_bytes words.now)) ≡ true }
     ensures said { IfOk result (λ matches.

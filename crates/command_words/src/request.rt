@@ -1,4 +1,4 @@
-//! A command's word and its options ask for something, or for nothing.
+//! The request that the word of a command and its options make.
 ghost use Rattle.std.specs.Prelude.{◌≡◌, option_map};
 ghost use Rattle.command_words.specs.Options.{are_none as are_none_said, lack_counts as lack_counts_said, lack_flags as lack_flags_said, lack_names as lack_names_said, lack_other as lack_other_said, lack_places as lack_places_said};
 ghost use Rattle.command_words.specs.Requests.{options_in, request_in, sides_in};
@@ -17,23 +17,22 @@ use hand_records::Keep;
 /// What the program is asked for.
 #[derive(Clone, Copy, Debug, PartialEq, Eq)]
 pub enum Request<'a> {
-    /// The summary of so many hands that are made from a seed.
+    /// The summary of `hands` hands made from a seed.
     Load {
         seed: u64,
         hands: HandCount,
     },
-    /// What is made of hands without a game: neither notation is that of logs.
+    /// What to do with hands that need no game file: neither notation is a log.
     Plain {
         from: PlainNotation,
         task: NamedTask<PlainNotation>,
     },
-    /// What is made of hands where logs are under the game of the file with this name.
+    /// What to do with hands where one notation is a log, with the name of the game file.
     Under {
         game: &'a str,
         logs: Logs,
     },
-    /// Whether hands are the same as those of the file with this name, and whether their notes are
-    /// looked at.
+    /// Whether hands are the same as those of the file with this name, with or without their notes.
     Compare {
         sides: Sides<'a>,
         file: &'a str,
@@ -44,12 +43,12 @@ pub enum Request<'a> {
 /// The notations of two files that are compared: of the input, and of the other file.
 #[derive(Clone, Copy, Debug, PartialEq, Eq)]
 pub enum Sides<'a> {
-    /// Neither is that of logs.
+    /// Neither is a log.
     Plain {
         from: PlainNotation,
         other: PlainNotation,
     },
-    /// Logs are under the game of the file with this name.
+    /// At least one is a log; the name of the game file.
     Under {
         game: &'a str,
         from: NotationName,
@@ -57,18 +56,18 @@ pub enum Sides<'a> {
     },
 }
 
-/// Which logs are under a game.
+/// Which of the notations are logs.
 #[derive(Clone, Copy, Debug, PartialEq, Eq)]
 pub enum Logs {
-    /// Logs are read, and this is made of their hands.
+    /// Logs are read, and this is done with their hands.
     Read(NamedTask<NotationName>),
-    /// Logs are read, and the messages that a seat received are told.
+    /// Logs are read, and the messages that a seat received are printed.
     Viewed { seat: Seat },
-    /// Hands in another notation are written as logs, with so many of their notes.
+    /// Hands in another notation are written as logs; `keep` says which notes are kept.
     Written { from: PlainNotation, keep: Keep },
 }
 
-/// What a command's word asks for with these options, or `None` where that is no command.
+/// What the word of a command asks for with these options, or `None` if that is no command.
 pub fn request_of<'a>(word: &str, options: GivenOptions<'a>) -> Option<Request<'a>>
     ensures { option_map request_in result ≡ request_by word.now (options_in options.entry) }
 {
@@ -89,7 +88,7 @@ pub fn request_of<'a>(word: &str, options: GivenOptions<'a>) -> Option<Request<'
     }
 }
 
-// A question to which the notation and the game are the only options.
+// A question that takes only the notation and the game.
 fn question_alone<'a>(question: Question, options: GivenOptions<'a>) -> Option<Request<'a>>
     ensures { option_map request_in result ≡ question_asked question (options_in options.entry) }
 {
@@ -104,7 +103,7 @@ fn question_alone<'a>(question: Question, options: GivenOptions<'a>) -> Option<R
     asked(options, question)
 }
 
-// The verdict on each hand, to which the notation and the game are the only options.
+// The verdict on each hand; takes only the notation and the game.
 fn judgement<'a>(options: GivenOptions<'a>) -> Option<Request<'a>>
     ensures { option_map request_in result ≡ judge_asked (options_in options.entry) }
 {
@@ -120,7 +119,7 @@ fn judgement<'a>(options: GivenOptions<'a>) -> Option<Request<'a>>
     reading_of(from, options.game, NamedTask::Judge, NamedTask::Judge)
 }
 
-// A game file is made of hands that have none.
+// Makes a game file from hands that have none.
 fn game_file<'a>(options: GivenOptions<'a>) -> Option<Request<'a>>
     ensures { option_map request_in result ≡ game_asked (options_in options.entry) }
 {
@@ -134,7 +133,7 @@ fn game_file<'a>(options: GivenOptions<'a>) -> Option<Request<'a>>
     asked(options, Question::GameFile)
 }
 
-// What a seat saw, of logs alone.
+// What a seat saw; for logs only.
 fn views<'a>(options: GivenOptions<'a>) -> Option<Request<'a>>
     ensures { option_map request_in result ≡ views_asked (options_in options.entry) }
 {
@@ -152,7 +151,7 @@ fn views<'a>(options: GivenOptions<'a>) -> Option<Request<'a>>
     views_of(from, options.game, seat)
 }
 
-// What a seat saw of the hands of logs, under the game that is given.
+// What a seat saw of the hands of logs, with the game file.
 fn views_of<'a>(from: NotationName, game: Option<&'a str>, seat: Seat) -> Option<Request<'a>>
     ensures { option_map request_in result
         ≡ views_of_said from (option_map (λ s. s.now) game.entry) seat }
@@ -185,7 +184,7 @@ fn legal_moves<'a>(options: GivenOptions<'a>) -> Option<Request<'a>>
     asked(options, Question::Options { hand, events })
 }
 
-// How often each live hand would win from a street on.
+// How often each live hand would win, from a street on.
 fn equity<'a>(options: GivenOptions<'a>) -> Option<Request<'a>>
     ensures { option_map request_in result ≡ equity_asked (options_in options.entry) }
 {
@@ -204,7 +203,7 @@ fn equity<'a>(options: GivenOptions<'a>) -> Option<Request<'a>>
     asked(options, Question::Equity { hand, street })
 }
 
-// A question about the hands that are read, in the notation that is given.
+// A question about the hands of the input, in the given notation.
 fn asked<'a>(options: GivenOptions<'a>, question: Question) -> Option<Request<'a>>
     ensures { option_map request_in result ≡ asked_said (options_in options.entry) question }
 {
@@ -217,7 +216,7 @@ fn asked<'a>(options: GivenOptions<'a>, question: Question) -> Option<Request<'a
     )
 }
 
-// What is made of hands in a notation, of which logs are under the game that is given.
+// What to do with the hands of a notation, with the game file for logs.
 fn reading_of<'a>(
     from: NotationName,
     game: Option<&'a str>,
@@ -237,7 +236,7 @@ fn reading_of<'a>(
     }
 }
 
-// Hands of one notation are written in another.
+// Converts hands from one notation to another.
 fn conversion<'a>(options: GivenOptions<'a>) -> Option<Request<'a>>
     ensures { option_map request_in result ≡ conversion_asked (options_in options.entry) }
 {
@@ -256,7 +255,7 @@ fn conversion<'a>(options: GivenOptions<'a>) -> Option<Request<'a>>
     conversion_of(from, to, options.game, keep_of(options.drops_notes))
 }
 
-// The hands of one notation in another, of which logs are under the game that is given.
+// Converts one notation to another, with the game file for logs.
 fn conversion_of<'a>(
     from: NotationName,
     to: NotationName,
@@ -285,7 +284,7 @@ fn conversion_of<'a>(
     }
 }
 
-// Which notes are kept, as the flag stands.
+// Which notes are kept, by the flag.
 fn keep_of(drops_notes: bool) -> Keep
     ensures { result ≡ keep_said drops_notes }
 {
@@ -319,7 +318,7 @@ fn comparison<'a>(options: GivenOptions<'a>) -> Option<Request<'a>>
     Some(Request::Compare { sides, file, notes })
 }
 
-// The notations of two files, of which logs are under the game that is given.
+// The notations of two files, with the game file for logs.
 fn sides_of<'a>(from: NotationName, other: NotationName, game: Option<&'a str>) -> Option<Sides<'a>>
     ensures { option_map sides_in result
         ≡ sides_of_said from other (option_map (λ s. s.now) game.entry) }
@@ -345,7 +344,7 @@ fn file_named(name: Option<&str>) -> Option<&str>
     }
 }
 
-// Hands are made from a seed.
+// Makes hands from a seed.
 fn load<'a>(options: GivenOptions<'a>) -> Option<Request<'a>>
     ensures { option_map request_in result ≡ load_asked (options_in options.entry) }
 {
@@ -373,35 +372,35 @@ fn are_none(options: GivenOptions<'_>) -> bool
         && lack_flags(options)
 }
 
-// Whether neither a notation nor a game is given.
+// Whether no notation and no game is given.
 fn lack_names(options: GivenOptions<'_>) -> bool
     ensures { result ≡ lack_names_said (options_in options.entry) }
 {
     options.from.is_none() && options.to.is_none() && options.game.is_none()
 }
 
-// Whether nothing is given of hands that are made.
+// Whether no option about made hands is given.
 fn lack_counts(options: GivenOptions<'_>) -> bool
     ensures { result ≡ lack_counts_said (options_in options.entry) }
 {
     options.seed.is_none() && options.hands.is_none()
 }
 
-// Whether nothing is given of another file.
+// Whether no option about the other file is given.
 fn lack_other(options: GivenOptions<'_>) -> bool
     ensures { result ≡ lack_other_said (options_in options.entry) }
 {
     options.other_file.is_none() && options.other_notation.is_none()
 }
 
-// Whether no flag stands.
+// Whether no flag is given.
 fn lack_flags(options: GivenOptions<'_>) -> bool
     ensures { result ≡ lack_flags_said (options_in options.entry) }
 {
     !options.drops_notes && !options.ignores_notes
 }
 
-// Whether neither a seat nor a hand is given, nor a place in a hand.
+// Whether no seat, hand or place in a hand is given.
 fn lack_places(options: GivenOptions<'_>) -> bool
     ensures { result ≡ lack_places_said (options_in options.entry) }
 {

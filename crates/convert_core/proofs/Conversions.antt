@@ -1,5 +1,6 @@
--- Bytes come to one conversion, equal outputs are those of equal hands, an output is converted to itself, and a conversion may go by
--- another notation: from the laws that notations keep.
+-- Laws of conversions, from the laws of notations: bytes have one conversion, equal outputs come
+-- from equal hands, an output is converted to itself, and a conversion may go by way of another
+-- notation.
 use Rattle.std.proofs.Common.{◌≡◌, ℕ, ◌<◌, ◌≤◌, List, Option, Some, None, Result, Ok, Err, length, sym, ap, ◌∙◌, ◌↔◌, arith}
 use Rattle.std.specs.List.{AllByRecursion}
 use Rattle.first_fault.specs.declared.limits.TheConstants.{MOST_HANDS}
@@ -35,7 +36,7 @@ same_turned kept place play other same = record { trace = sym same.trace; notes 
 same_both : (kept : SaidNotes → SaidNotes) (place : ℕ) (a b c : Play) → AreSameHand kept place a b → AreSameHand kept place b c → AreSameHand kept place a c
 same_both kept place a b c same more = record { trace = same.trace ∙ more.trace; notes = same.notes ∙ more.notes }
 
--- what is the same is the same where less is kept
+-- hands that are the same are the same if less is kept
 same_less : (kept : SaidNotes → SaidNotes) (place : ℕ) (play other : Play) → AreSameHand (λ notes. notes) place play other → AreSameHand kept place play other
 same_less kept place play other same = record { trace = same.trace; notes = ap kept same.notes }
 
@@ -51,7 +52,7 @@ all_less kept plays others all = paired_more (AreSameHand (λ notes. notes)) (Ar
 -- ---- notes that are kept
 
 module _ (n : WrittenNotation) where
-  -- a sound play of which each fact and note is spelled
+  -- a sound play with all facts and notes expressed
   abbrev IsWhole : Play → Type 0
   IsWhole play = IsSound play × (n.unspelled keeps.All play ≡ None)
 
@@ -59,7 +60,8 @@ module _ (n : WrittenNotation) where
   each_whole plays sound none =
       each_both IsSound (λ play. n.unspelled keeps.All play ≡ None) IsWhole (λ play is spelled. (is, spelled)) plays sound (each_spelled (n.unspelled keeps.All) 1 plays none)
 
-  -- plays of which all notes are spelled are the same where those are that the notation spells
+  -- plays with all their notes expressed are the same if the notes that the notation can express
+  -- are
   hand_more : (place : ℕ) (play other : Play) → place < MOST_HANDS → IsWhole play → IsWhole other → AreSameHand n.kept place play other → AreSameHand (λ notes. notes) place play other
   hand_more place play other early is it same =
       record {
@@ -72,7 +74,7 @@ module _ (n : WrittenNotation) where
   all_more plays others few each too all =
       paired_below MOST_HANDS (AreSameHand n.kept) (AreSameHand (λ notes. notes)) IsWhole IsWhole hand_more 0 plays others (omega (arith, few)) each too all
 
-  -- so what is kept may be told by the choice of notes
+  -- so the choice of notes decides what is kept
   to_kept : (keep : Keep) (plays others : List Play) → AllPaired (AreSameHand (kept_notes keep n.kept)) 0 plays others → AllPaired (AreSameHand n.kept) 0 plays others
   to_kept keeps.All plays others all = all_less n.kept plays others all
   to_kept keeps.Spelled plays others all = all
@@ -88,12 +90,12 @@ module _ (n : WrittenNotation) where
 
 -- ---- one answer to bytes
 
--- a fact without a spelling is told by the trace and by what is said in the notes
+-- a fact that cannot be expressed depends only on the trace and on what the notes say
 abbrev pub IsToldByHand : (Play → Option Unspelled) → Type 0
 IsToldByHand unspelled = (place : ℕ) (play other : Play) → place < MOST_HANDS → IsSound play → IsSound other → AreSameHand (λ notes. notes) place play other
     → unspelled play ≡ unspelled other
 
--- plays that are the same have one first refusal
+-- plays that are the same have the same first refusal
 pub same_refusal : (unspelled : Play → Option Unspelled) → IsToldByHand unspelled → (plays others : List Play) → AreReadSame plays others
     → first_refusal unspelled plays ≡ first_refusal unspelled others
 same_refusal unspelled told plays others same =
@@ -103,7 +105,7 @@ same_refusal unspelled told plays others same =
     (omega (arith, same.few)) same.sound same.others_sound same.hands)
 
 module _ (n : ReadNotation) (bytes : List ℕ) (unspelled : Play → Option Unspelled) (told : IsToldByHand unspelled) where
-  -- the plays of bytes have one first refusal
+  -- the plays of bytes have the same first refusal
   first_of_bytes : (plays others : List Play) → ReadAsPlays (n.Say bytes) plays → ReadAsPlays (n.Say bytes) others → first_refusal unspelled plays ≡ first_refusal unspelled others
   first_of_bytes plays others is it = same_refusal unspelled told plays others (all_read_same n bytes plays others is it)
 
@@ -117,7 +119,8 @@ module _ (n : ReadNotation) (bytes : List ℕ) (unspelled : Play → Option Unsp
       let same : Some (refusals.Unspelled number fact) ≡ None = sym is.first ∙ first_of_bytes is.plays plays is.read played ∙ spelled in
       cc
 
-  -- bytes whose hands all have their plays, and each fact to be kept a spelling, are converted, unless memory is wanting
+  -- bytes whose hands all have their plays, with each fact to be kept expressed, are converted,
+  -- unless memory runs out
   pub converted_alone : (Spell Back : List Play → List ℕ → Type 0) (plays : List Play) (answer : Result (List ℕ) ConvertFault) → ReadAsPlays (n.Say bytes) plays → first_refusal unspelled plays ≡ None
       → IsConversion (n.Say bytes) (n.HaveFault bytes) unspelled Spell Back (λ output. output) answer → RefusesNothing answer
   converted_alone Spell Back plays (Ok output) read spelled is = tt
@@ -151,7 +154,7 @@ equal_outputs a b n keep bytes too output written plays others read other_read d
 
 -- ---- an output once more
 
--- a play that is read again of one without an unspelled fact has none, whatever is kept
+-- a play read back from one with all facts expressed has all facts expressed, whatever is kept
 fact_again : (n : WrittenNotation) (keep once : Keep) (place : ℕ) (play again : Play) → place < MOST_HANDS → IsSound play → IsSound again → n.unspelled once play ≡ None → IsReadAgain n.kept place play again
     → n.unspelled keep again ≡ None
 fact_again n keep once place play again early sound too none is = by_keep keep
@@ -209,7 +212,7 @@ output_again a n once keep bytes output answer done again =
 
 -- ---- by way of another notation
 
--- a play that is read again with all notes is the same
+-- a play that is read back with all notes is the same
 whole_again : (place : ℕ) (play again : Play) → IsReadAgain (λ notes. notes) place play again → AreSameHand (λ notes. notes) place play again
 whole_again place play again pair = record { trace = sym pair.trace; notes = sym pair.notes }
 
@@ -221,7 +224,7 @@ module _ (a : ReadNotation) (b c : WrittenNotation) (keep : Keep) (bytes output 
       (paired_more (IsReadAgain (λ notes. notes)) (AreSameHand (λ notes. notes)) whole_again 0 done.plays again
       (read_again b.source (λ notes. notes) done.plays again output done.back read_too))
 
-  -- so both have one first fact without a spelling
+  -- so both have the same first fact that cannot be expressed
   one_first : (plays again : List Play) → ReadAsPlays (a.Say bytes) plays → ReadAsPlays (b.source.Say output) again → first_refusal (c.unspelled keep) plays ≡ first_refusal (c.unspelled keep) again
   one_first plays again read read_too =
       one_refusal (c.unspelled keep) 1 0 plays again

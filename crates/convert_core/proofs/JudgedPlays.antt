@@ -22,7 +22,7 @@ one_more plays play hand left records same all =
     ∙ ap (λ (h : Record). hands_of plays ++ h ∷ left) same
     ∙ all
 
--- and the plays and the records that are left are as many as before
+-- and the plays plus the records that are left are as many as before
 pub counted_more : (plays : List Play) (play : Play) (hand : Record) (left : List Record) (count : ℕ)
     → length plays + length (hand ∷ left) ≡ count
     → length (plays ++ play ∷ []) + length left ≡ count
@@ -47,7 +47,7 @@ plays_sound (play ∷ plays) sound judged =
     (judged_sound play (All-head IsSoundRecord play.hand (hands_of plays) sound) (All-head IsJudged play plays judged))
     (plays_sound plays (All-tail IsSoundRecord play.hand (hands_of plays) sound) (All-tail IsJudged play plays judged))
 
--- what all of a list are, those at its front are
+-- what holds for all of a list holds for those at its front
 all_front : (P : Record → Type 0) (xs ys : List Record) → All P (xs ++ ys) → All P xs
 all_front P [] ys all = All-nil P
 all_front P (x ∷ xs) ys all = All-cons P x xs (All-head P x (xs ++ ys) all) (all_front P xs ys (All-tail P x (xs ++ ys) all))
@@ -58,7 +58,7 @@ pub front_sound : (plays : List Play) (left records : List Record)
 front_sound plays left records same sound judged =
     plays_sound plays (all_front IsSoundRecord (hands_of plays) left (All-same IsSoundRecord (hands_of plays ++ left) records same sound)) judged
 
--- a hand without a play, behind judged ones, is the first refused one
+-- a hand without a play, after judged ones, is the first refused one
 pub first_refused : (plays : List Play) (hand : Record) (left records : List Record) (number : ℕ) (fault : PlaysFault)
     → All IsJudged plays → hands_of plays ++ hand ∷ left ≡ records → number ≡ length plays + 1
     → IsFaultAt hand number fault → IsPlaysFaultOf records fault

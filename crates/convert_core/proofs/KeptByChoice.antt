@@ -1,4 +1,4 @@
--- Where nothing is without a spelling, what is kept by the choice of notes is what the notation spells.
+-- If everything is expressed, what the choice of notes keeps is what the notation can express.
 use Rattle.std.proofs.Common.{◌≡◌, ◌+◌, ℕ, ◌<◌, ◌≤◌, ◌↔◌, length, List, [], ◌∷◌, Option, None, refl, sym, ◌∙◌, arith}
 use Rattle.std.specs.List.{AllByRecursion}
 use Rattle.first_fault.specs.declared.limits.TheConstants.{MOST_HANDS}
@@ -17,7 +17,7 @@ use Rattle.convert_core.specs.declared.format_fault.FormatFault.{FormatFault}
 use Rattle.convert_core.proofs.LawfulNotations.{IsReadAgain}
 use Rattle.convert_core.proofs.Paired.{each_spelled}
 
--- all notes of a play are spelled exactly where those that are kept are all that are said
+-- all notes of a play are expressed if and only if the kept notes are all that are said
 abbrev pub AreAllSpelled : (Keep → Play → Option Unspelled) → (SaidNotes → SaidNotes) → Type 0
 AreAllSpelled unspelled kept =
     (place : ℕ) (play : Play) → place < MOST_HANDS → IsSound play
@@ -43,7 +43,8 @@ module _ (unspelled : Keep → Play → Option Unspelled) (kept : SaidNotes → 
     hands_kept keep (place + 1) plays hands (omega (arith, few)) sound.1 none.1 again.1,
   )
 
-  -- what reads back with the notes that the notation spells reads back with those that are to be kept
+  -- what reads back with the notes that the notation can express reads back with those that are to
+  -- be kept
   pub kept_back : (Say : List Record → Type 0) (ReadAsHands : ℕ → Type 0) (HaveFault : FormatFault → Type 0) (keep : Keep) (plays : List Play) → length plays ≤ MOST_HANDS → AllByRecursion IsSound plays
       → first_refusal (unspelled keep) plays ≡ None
       → ReadBack Say ReadAsHands HaveFault (KeepsNotes kept) plays → ReadBack Say ReadAsHands HaveFault (KeepsNotes (kept_notes keep kept)) plays
@@ -65,7 +66,8 @@ module _ (unspelled : Keep → Play → Option Unspelled) (kept : SaidNotes → 
     pairs_spelled keep (place + 1) plays others (omega (arith, few)) sound.1 none.1 all.1,
   )
 
-  -- and what is read again with those that are to be kept is read again with those that it spells
+  -- and what is read back with those that are to be kept is read back with those that it can
+  -- express
   pub again_spelled : (keep : Keep) (plays others : List Play) → length plays ≤ MOST_HANDS → AllByRecursion IsSound plays → first_refusal (unspelled keep) plays ≡ None
       → AllPaired (IsReadAgain (kept_notes keep kept)) 0 plays others → AllPaired (IsReadAgain kept) 0 plays others
   again_spelled keep plays others few sound none all = pairs_spelled keep 0 plays others (omega (arith, few)) sound (each_spelled (unspelled keep) 1 plays none) all

@@ -1,4 +1,4 @@
--- A notation with the laws that it keeps, as one value, and what is read of its bytes.
+-- A notation together with its laws, as one value, and what is read of its bytes.
 use Rattle.std.proofs.Common.{◌≡◌, ◌⊎◌, ◌+◌, ◌-◌, ℕ, ◌<◌, ◌≤◌, length, List, [], ◌∷◌, Option, None, All, take, option_map, option_and_then, refl, sym, ap, subst, ◌∙◌, ◌↔◌, inl, inr}
 use Rattle.std.specs.List.{AllByRecursion}
 use Rattle.std.proofs.lemmas.List.Elements.{All-cons, All-nil, recursion_from_All}
@@ -6,7 +6,7 @@ use Rattle.first_fault.specs.declared.limits.TheConstants.{MOST_HANDS}
 use Rattle.hand_canon.specs.Judged.{IsJudged}
 use Rattle.hand_canon.specs.ReadAgain.{AreAgain}
 use Rattle.hand_canon.specs.Sound.{IsSound}
-use Rattle.hand_records.specs.AllowedNotes.{unless_usual}
+use Rattle.hand_records.specs.AllowedNotes.{non_default_seats}
 use Rattle.hand_records.specs.Plays.{hands_of}
 use Rattle.hand_records.specs.WriteRefusals.{first_refusal}
 use Rattle.hand_records.specs.declared.notes.Notes.{Notes}
@@ -16,7 +16,7 @@ use Rattle.hand_records.specs.declared.trace.Trace.{Trace}
 use Rattle.hand_records.specs.declared.writing.Keep.{Keep}
 use Rattle.hand_records.specs.declared.writing.Keep.TheVariants as keeps
 use Rattle.hand_records.specs.declared.writing.Unspelled.{Unspelled}
-use Rattle.list_laws.proofs.NumbersOfRange.{map_agree}
+use Rattle.card_set.proofs.NumbersOfRange.{map_agree}
 use Rattle.play_event.specs.declared.setup.Rules.{Rules}
 use Rattle.convert_core.specs.Conversion.{ReadAsPlays, ReadAsRefused}
 use Rattle.convert_core.specs.Judged.{ArePlaysOf}
@@ -78,7 +78,7 @@ each_sound : (rules : Rules) (plays : List Play) → AllByRecursion (IsUnder rul
 each_sound rules [] each judged = tt
 each_sound rules (play ∷ plays) each judged = (judged_sound play each.0.sound judged.0, each_sound rules plays each.1 judged.1)
 
--- plays that bytes read as are sound, and no more than a file may have
+-- plays that bytes read as are sound, and at most as many as a file may have
 pub read_sound : (n : ReadNotation) (bytes : List ℕ) (plays : List Play) → ReadAsPlays (n.Say bytes) plays → AllByRecursion IsSound plays
 read_sound n bytes plays read =
     let file = n.reads_file bytes read.records read.say in
@@ -92,7 +92,7 @@ read_few n bytes plays read =
 -- ---- plays of one reading
 
 numbers_alike : (count : ℕ) (x y : Option (List ℕ)) → option_map (take count) x ≡ option_map (take count) y → numbers_said count x ≡ numbers_said count y
-numbers_alike count x y same = said_taken count x ∙ ap (option_and_then (unless_usual count)) same ∙ sym (said_taken count y)
+numbers_alike count x y same = said_taken count x ∙ ap (option_and_then (non_default_seats count)) same ∙ sym (said_taken count y)
 
 -- notes that are the same say the same
 note_said : (place count : ℕ) (a b : Notes) → NoteTheSame count a b → said_notes place count a ≡ said_notes place count b
@@ -128,12 +128,13 @@ all_same place [] (other ∷ others) alike = alike
 all_same place (play ∷ plays) [] alike = alike
 all_same place (play ∷ plays) (other ∷ others) alike = (hand_same place play other alike.0, all_same (place + 1) plays others alike.1)
 
--- plays that one file reads as are the same
+-- two lists of plays that the same file reads as are the same
 pub read_same : (n : ReadNotation) (bytes : List ℕ) (plays others : List Play) → ReadAsPlays (n.Say bytes) plays → ReadAsPlays (n.Say bytes) others → AllPaired (AreSameHand (λ notes. notes)) 0 plays others
 read_same n bytes plays others read too =
     all_same 0 plays others (plays_alike read.records too.records plays others (n.one_reading bytes read.records too.records read.say too.say) read.are too.are)
 
--- plays that one file reads as: each is sound, they are no more than a file may have, and they are the same
+-- plays that the same file reads as: each is sound, they are at most as many as a file may have,
+-- and they are the same
 pub record AreReadSame (plays others : List Play) : Type 0 where
   pub sound : AllByRecursion IsSound plays
   pub others_sound : AllByRecursion IsSound others
@@ -149,14 +150,14 @@ all_read_same n bytes plays others read too =
       hands = read_same n bytes plays others read too;
     }
 
--- ---- plays that are read again
+-- ---- plays that are read back
 
--- a play is read again of another one: it has its trace, and its kept notes
+-- a play is read back from another one: it has its trace, and its kept notes
 pub record IsReadAgain (kept : SaidNotes → SaidNotes) (place : ℕ) (play again : Play) : Type 0 where
   pub trace : again.trace ≡ play.trace
   pub notes : notes_of place again ≡ kept (notes_of place play)
 
--- the hands that are read again, with the traces of the plays
+-- the hands that are read back, with the traces of the plays
 abbrev again_plays : List Play → List Record → List Play
 again_plays [] hands = []
 again_plays (play ∷ plays) [] = []
@@ -188,11 +189,11 @@ again_paired kept place (play ∷ plays) [] again = absurd again
 again_paired kept place (play ∷ plays) (hand ∷ hands) again =
     (record { trace = refl; notes = again.0.notes }, again_paired kept (place + 1) plays hands again.1)
 
--- bytes read back as plays, with these of their notes
+-- bytes read back as plays, with these notes of them
 abbrev pub AreReadBack : ReadNotation → (SaidNotes → SaidNotes) → List Play → List ℕ → Type 0
 AreReadBack n kept plays bytes = ReadBack (n.Say bytes) (n.ReadAsHands bytes) (n.HaveFault bytes) (KeepsNotes kept) plays
 
--- what bytes read as that read back as plays
+-- what bytes that read back as plays are read as
 pub read_again : (n : ReadNotation) (kept : SaidNotes → SaidNotes) (plays others : List Play) (bytes : List ℕ) → AreReadBack n kept plays bytes → ReadAsPlays (n.Say bytes) others
     → AllPaired (IsReadAgain kept) 0 plays others
 read_again n kept plays others bytes back read =

@@ -1,5 +1,5 @@
--- Plays of records, as the loop over the records keeps them, what records and bytes come to, and what conversions have to do with
--- one another.
+-- Plays of records as the loop over the records keeps them, what records and bytes result in, and
+-- how conversions are related.
 pub mod JudgedPlays
 pub mod OneOutcome
 pub mod OneVerdict
@@ -10,3 +10,10 @@ pub mod Paired
 pub mod LawfulNotations
 pub mod KeptByChoice
 pub mod Conversions
+-- Passed on to the crates above.
+pub use Rattle.acpc_format.proofs.NoteFacts as AcpcNoteFacts
+pub use Rattle.acpc_format.proofs.OneForm as AcpcOneForm
+pub use Rattle.acpc_format.proofs.SetupsSame as AcpcSetupsSame
+pub use Rattle.ohh_format.proofs.NoteFacts as OhhNoteFacts
+pub use Rattle.ohh_format.proofs.OneForm as OhhOneForm
+pub use Rattle.phh_format.proofs.OneForm as PhhOneForm

@@ -1,4 +1,4 @@
--- Records that bytes do not tell apart come to plays that a notation does not tell apart.
+-- Records that bytes cannot tell apart have plays that a notation cannot tell apart.
 use Rattle.std.proofs.Common.{◌≡◌, ℕ, All, List, [], ◌∷◌, sym, subst}
 use Rattle.std.proofs.lemmas.List.Elements.{All-head, All-tail}
 use Rattle.hand_canon.specs.Judged.{IsJudged}
@@ -48,7 +48,7 @@ plays_alike records others plays too alike are is =
     played_alike plays too are.judged (same_traces records others plays too (all_same records others alike) are is)
     (subst (λ (rs : List Record). AllAlike rs (hands_of too)) (sym are.same) (subst (AllAlike records) (sym is.same) alike))
 
--- what bytes say is read in one way
+-- what bytes say is read in only one way
 abbrev pub IsReadAlike : (List Record → Type 0) → Type 0
 IsReadAlike Say = (records others : List Record) → Say records → Say others → AllAlike records others
 

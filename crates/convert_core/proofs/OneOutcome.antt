@@ -1,4 +1,4 @@
--- Records that say the same of their play come to the same plays, or to the same refusal.
+-- Records that say the same of their play have the same plays, or the same refusal.
 use Rattle.std.proofs.Common.{◌≡◌, ◌≢◌, ℕ, suc, ◌+◌, List, [], ◌∷◌, ◌++◌, All, length, refl, sym, subst, ap, ap₂, ◌∙◌}
 use Rattle.std.proofs.lemmas.List.Elements.{All-head, All-tail}
 use Rattle.std.proofs.lemmas.Option.{same_Some}
@@ -21,7 +21,7 @@ use Rattle.trace_laws.proofs.OneTrace.{one_past}
 use Rattle.replay_core.specs.declared.fault.ReplayFault.{ReplayFault}
 use Rattle.replay_core.specs.declared.fault.ReplayFault.TheVariants as faults
 use Rattle.replay_core.specs.Events.{said_by}
-use Rattle.replay_core.specs.Faults.{IsFaultOf, IsWant}
+use Rattle.replay_core.specs.Faults.{IsFaultOf, IsOutOfMemory}
 use Rattle.replay_core.proofs.OneFault.{no_fault, one_fault}
 use Rattle.convert_core.specs.declared.refusal.Refusal.{Refusal}
 use Rattle.convert_core.specs.declared.refusal.Refusal.TheVariants as refusals
@@ -36,7 +36,7 @@ itself a = record { setup = refl; rules = refl; script = refl; stated = refl }
 pub turned : (a b : Record) → SayTheSame a b → SayTheSame b a
 turned a b same = record { setup = sym same.setup; rules = sym same.rules; script = sym same.script; stated = sym same.stated }
 
--- what holds of the play of a record holds of that of another one
+-- what holds for the play of a record holds for that of another one that says the same
 moved : (P : Setup → Rules → List Event → Stated → Type 0) (a b : Record) → SayTheSame a b
     → P a.setup a.rules a.script a.stated → P b.setup b.rules b.script b.stated
 moved P a b same is =
@@ -90,8 +90,8 @@ one_difference a b told other same is it =
     (same_Some (difference_said told) (difference_said other)
     (sym is.differs ∙ ap₂ first_difference (one_trace a b is.trace it.trace same is.traced it.traced) same.stated ∙ it.differs))
 
--- a fault that is no want of memory
-is_fault : (a : Record) (fault : ReplayFault) → IsReplayFaultOf a fault → (¬ IsWant fault) × IsFaultOf a.setup a.rules a.script fault
+-- a fault that is not that memory ran out
+is_fault : (a : Record) (fault : ReplayFault) → IsReplayFaultOf a fault → (¬ IsOutOfMemory fault) × IsFaultOf a.setup a.rules a.script fault
 is_fault a (faults.Illegal event at reason) is = ((λ want. want), is)
 is_fault a (faults.EndsEarly events) is = ((λ want. want), is)
 is_fault a (faults.RakeTooBig pot) is = ((λ want. want), is)
@@ -104,7 +104,7 @@ not_legal a b fault trace same is it =
     let told = is_fault a fault is in
     no_fault b.setup b.rules b.script fault told.0 it.legal (fault_moved a b fault same told.1)
 
--- a hand is refused for one thing
+-- a hand is refused for only one reason
 pub one_refusal : (a b : Record) (why other : Refusal) → SayTheSame a b → IsRefusedFor a why → IsRefusedFor b other → why ≡ other
 one_refusal a b (refusals.Replay fault) (refusals.Replay other) same is it =
     let told = is_fault a fault is in
@@ -114,7 +114,7 @@ one_refusal a b (refusals.Replay fault) (refusals.Fact differs) same is it = abs
 one_refusal a b (refusals.Fact differs) (refusals.Replay fault) same is it = absurd (not_legal b a fault is.trace (turned a b same) it is.traced)
 one_refusal a b (refusals.Fact differs) (refusals.Fact other) same is it = ap refusals.Fact (one_difference a b differs other same is it)
 
--- and it has then no play
+-- and then it has no play
 pub not_judged : (a : Record) (play : Play) (why : Refusal) → SayTheSame a play.hand → IsRefusedFor a why → IsJudged play → ⊥
 not_judged a play (refusals.Replay fault) same is judged = not_legal a play.hand fault play.trace same is judged.traced
 not_judged a play (refusals.Fact differs) same is judged =
@@ -139,7 +139,7 @@ unfolding AllTheSame
 all_itself [] = tt
 all_itself (a ∷ rest) = (itself a, all_itself rest)
 
--- the first refused hand is one, and is refused for one thing
+-- there is only one first refused hand, and it is refused for one reason
 one_refused : (xs ys : List Play) (a b : Record) (left right : List Record) (why other : Refusal)
     → All IsJudged xs → All IsJudged ys → IsRefusedFor a why → IsRefusedFor b other
     → AllTheSame (hands_of xs ++ a ∷ left) (hands_of ys ++ b ∷ right) → (length xs ≡ length ys) × (why ≡ other)
@@ -160,7 +160,7 @@ same_refused records others number count why other same is it =
     let found = one_refused is.before it.before is.hand it.hand is.behind it.behind why other is.judged it.judged is.refused it.refused here in
     (is.counted ∙ ap (λ n. n + 1) found.0 ∙ sym it.counted, found.1)
 
--- hands of which one is refused have no plays
+-- if one of the hands is refused, they have no plays
 none_judged : (plays xs : List Play) (a : Record) (left : List Record) (why : Refusal)
     → All IsJudged plays → IsRefusedFor a why → AllTheSame (hands_of xs ++ a ∷ left) (hands_of plays) → ⊥
 unfolding AllTheSame
@@ -197,7 +197,7 @@ same_traces records others plays too same are is =
     each_traced plays too are.judged is.judged
     (subst (λ (rs : List Record). AllTheSame rs (hands_of too)) (sym are.same) (subst (AllTheSame records) (sym is.same) same))
 
--- plays of one list of records are one list
+-- the plays of one list of records are equal
 one_list : (plays others : List Play) → AllTraced plays others → hands_of plays ≡ hands_of others → plays ≡ others
 unfolding AllTraced
 one_list [] [] traced same = refl

@@ -1,4 +1,5 @@
--- Hands have one list of verdicts: their plays, where all are legal, and else the first refused one stands behind plays.
+-- Hands have only one list of verdicts: their plays if all are legal, and otherwise the plays
+-- before the first refused hand, and its refusal.
 use Rattle.std.proofs.Common.{◌≡◌, ℕ, All, List, [], ◌∷◌, ◌++◌, map, refl, sym, subst, ap, ap₂, ◌∙◌}
 use Rattle.std.proofs.lemmas.List.Elements.{All-cons, All-head, All-nil, All-tail}
 use Rattle.hand_canon.specs.Judged.{IsJudged}
@@ -11,7 +12,7 @@ use Rattle.convert_core.specs.Judged.{ArePlaysOf, IsFirstRefused, IsRefusedFor}
 use Rattle.convert_core.specs.Verdicts.{AreVerdictsOn, IsFirstNotLegal, IsRight, Legal, Refused, Verdict, hand_in}
 use Rattle.convert_core.specs.declared.refusal.Refusal.{Refusal}
 
--- the plays of one hand are one
+-- the plays of one hand are equal
 one_play : (play other : Play) → play.hand ≡ other.hand → IsJudged play → IsJudged other → play ≡ other
 one_play play other same is it =
     let plays : play ∷ [] ≡ other ∷ [] =
@@ -25,7 +26,7 @@ play_or_refused : (play : Play) (hand : Record) (why : Refusal) → play.hand �
 play_or_refused play hand why same is refused =
     not_judged play.hand play why (itself play.hand) (subst (λ (h : Record). IsRefusedFor h why) (sym same) refused) is
 
--- hands with plays have these for verdicts
+-- hands that have plays have these as verdicts
 pub all_legal : (plays : List Play) (verdicts : List Verdict) → All IsJudged plays → All IsRight verdicts
     → hands_of plays ≡ map hand_in verdicts → verdicts ≡ map Legal plays
 all_legal [] [] judged right same = refl
@@ -41,7 +42,7 @@ all_legal (play ∷ plays) (Refused hand why ∷ verdicts) judged right same =
     let here : play.hand ≡ hand = cc (same) in
     absurd (play_or_refused play hand why here (All-head IsJudged play plays judged) (All-head IsRight (Refused hand why) verdicts right))
 
--- and the other way round
+-- and conversely
 judged_from : (plays : List Play) → All IsRight (map Legal plays) → All IsJudged plays
 judged_from [] right = All-nil IsJudged
 judged_from (play ∷ plays) right =
@@ -56,7 +57,7 @@ legal_plays_are records verdicts plays are legal =
       judged = judged_from plays (subst (λ (vs : List Verdict). All IsRight vs) legal are.right);
     }
 
--- hands behind plays, the first of which is refused, have these for verdicts
+-- hands after plays, the first of them refused, have these as verdicts
 record StandsBehind (before : List Play) (hand : Record) (why : Refusal) (verdicts : List Verdict) : Type 0 where
   behind : List Verdict
   stands : map Legal before ++ Refused hand why ∷ behind ≡ verdicts
@@ -94,7 +95,7 @@ first_not_legal records verdicts number why are first =
     let more = split first.before first.hand first.behind why verdicts first.judged first.refused are.right (first.where_it_stands ∙ sym are.same) in
     record { before = first.before; hand = first.hand; behind = more.behind; stands = more.stands; counted = first.counted }
 
--- and the other way round
+-- and conversely
 front_hands : (before : List Play) (hand : Record) (why : Refusal) (behind : List Verdict)
     → map hand_in (map Legal before ++ Refused hand why ∷ behind) ≡ hands_of before ++ hand ∷ map hand_in behind
 front_hands [] hand why behind = refl

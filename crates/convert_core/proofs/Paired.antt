@@ -1,4 +1,4 @@
--- Lists of plays, two by two.
+-- Lists of plays, pair by pair.
 use Rattle.std.proofs.Common.{◌≡◌, ℕ, ◌+◌, ◌≤◌, ◌<◌, List, [], ◌∷◌, Option, None, length, refl, ap₂, arith}
 use Rattle.std.specs.List.{AllByRecursion}
 use Rattle.hand_records.specs.declared.trace.Play.{Play}
@@ -7,7 +7,7 @@ use Rattle.hand_records.specs.WriteRefusals.{refused_at, refusal_from}
 use Rattle.hand_records.proofs.Refusals.{none_refused}
 use Rattle.hand_records.specs.SameHands.{AllPaired}
 
--- what follows from pairs, one by one
+-- what follows for pairs, one by one
 pub paired_more : (P Q : ℕ → Play → Play → Type 0) → ((place : ℕ) (play other : Play) → P place play other → Q place play other)
     → (place : ℕ) (plays others : List Play) → AllPaired P place plays others → AllPaired Q place plays others
 unfolding AllPaired
@@ -34,7 +34,7 @@ paired_both P Q R both place (a ∷ xs) [] more all rest = absurd all
 paired_both P Q R both place (a ∷ xs) (b ∷ bs) [] all rest = rest
 paired_both P Q R both place (a ∷ xs) (b ∷ bs) (c ∷ cs) all rest = (both place a b c all.0 rest.0, paired_both P Q R both (place + 1) xs bs cs all.1 rest.1)
 
--- plays of which none is refused: each has all its facts spelled
+-- if none of the plays is refused, each has all its facts expressed
 pub each_spelled : (unspelled : Play → Option Unspelled) (number : ℕ) (plays : List Play) → refusal_from unspelled number plays ≡ None → AllByRecursion (λ play. unspelled play ≡ None) plays
 each_spelled unspelled number [] none = tt
 each_spelled unspelled number (play ∷ plays) none =
@@ -46,12 +46,12 @@ none_unspelled unspelled number [] each = refl
 none_unspelled unspelled number (play ∷ plays) each =
     ap₂ (refused_at number) each.0 (none_unspelled unspelled (number + 1) plays each.1)
 
--- what both of two properties give, one by one
+-- what follows from two properties, one by one
 pub each_both : (R S U : Play → Type 0) → ((play : Play) → R play → S play → U play) → (plays : List Play) → AllByRecursion R plays → AllByRecursion S plays → AllByRecursion U plays
 each_both R S U both [] rs ss = tt
 each_both R S U both (play ∷ plays) rs ss = (both play rs.0 ss.0, each_both R S U both plays rs.1 ss.1)
 
--- of pairs, the property of the first gives one of the second
+-- for pairs, a property of the first gives one of the second
 pub each_second : (P : ℕ → Play → Play → Type 0) (R S : Play → Type 0) → ((place : ℕ) (play other : Play) → R play → P place play other → S other)
     → (place : ℕ) (plays others : List Play) → AllByRecursion R plays → AllPaired P place plays others → AllByRecursion S others
 unfolding AllPaired
@@ -60,7 +60,7 @@ each_second P R S more place [] (other ∷ others) each all = absurd all
 each_second P R S more place (play ∷ plays) [] each all = tt
 each_second P R S more place (play ∷ plays) (other ∷ others) each all = (more place play other each.0 all.0, each_second P R S more (place + 1) plays others each.1 all.1)
 
--- plays have one first refusal where the same fact of each pair is not spelled
+-- plays have the same first refusal if in each pair the same fact cannot be expressed
 pub one_refusal : (unspelled : Play → Option Unspelled) (number place : ℕ) (plays others : List Play)
     → AllPaired (λ _ play other. unspelled play ≡ unspelled other) place plays others → refusal_from unspelled number plays ≡ refusal_from unspelled number others
 unfolding AllPaired

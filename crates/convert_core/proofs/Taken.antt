@@ -1,4 +1,4 @@
--- One verdict more is taken.
+-- One more verdict is visited.
 use Rattle.std.proofs.Common.{◌≡◌, Bool, true, false, ℕ, ◌+◌, ◌≤◌, ◌<◌, List, [], ◌∷◌, ◌++◌, All, length, map, append_assoc, append-nil, length-append, slice_index_or, refl, sym, ap, subst, ◌∙◌, arith}
 use Rattle.std.proofs.lemmas.List.{length-map, map-append}
 use Rattle.std.proofs.lemmas.List.Elements.{All-cons, All-head, All-nil, All-push, All-same, All-tail}
@@ -9,14 +9,14 @@ use Rattle.hand_records.specs.Plays.{hands_of}
 use Rattle.hand_records.specs.declared.record.Record.{Record}
 use Rattle.hand_records.specs.declared.trace.Play.{Play}
 use Rattle.convert_core.proofs.JudgedPlays.{first_refused, plays_sound}
-use Rattle.convert_core.specs.Judged.{ArePlaysOf, IsFaultAt, IsPlaysFaultOf, IsPlaysWant, IsRefusedFor}
+use Rattle.convert_core.specs.Judged.{ArePlaysOf, IsFaultAt, IsPlaysFaultOf, IsPlaysOutOfMemory, IsRefusedFor}
 use Rattle.convert_core.specs.declared.refusal.PlaysFault.{PlaysFault}
 use Rattle.convert_core.specs.declared.refusal.PlaysFault.TheVariants as plays_faults
 use Rattle.convert_core.specs.declared.refusal.Refusal.{Refusal}
 use Rattle.convert_core.specs.Taking.{AreTaken}
 use Rattle.convert_core.specs.Verdicts.{AreVerdictsOn, IsRight, Legal, Refused, Verdict, hand_in, legal_plays}
 
--- the play of one more legal hand is behind the others
+-- the play of one more legal hand comes after the others
 pub legal_more : (verdicts : List Verdict) (play : Play) → legal_plays (verdicts ++ Legal play ∷ []) ≡ legal_plays verdicts ++ play ∷ []
 unfolding legal_plays
 legal_more [] play = refl
@@ -46,7 +46,7 @@ legal_hands (play ∷ plays) = ap (λ (hs : List Record). play.hand ∷ hs) (leg
 all_hands : (verdicts : List Verdict) → verdicts ≡ map Legal (legal_plays verdicts) → hands_of (legal_plays verdicts) ≡ map hand_in verdicts
 all_hands verdicts legal = sym (legal_hands (legal_plays verdicts)) ∙ ap (λ (vs : List Verdict). map hand_in vs) (sym legal)
 
--- they are as many
+-- there are as many of them
 pub all_counted : (verdicts : List Verdict) → verdicts ≡ map Legal (legal_plays verdicts) → length verdicts ≡ length (legal_plays verdicts)
 all_counted verdicts legal = ap (λ (vs : List Verdict). length vs) legal ∙ length-map (legal_plays verdicts) Legal
 
@@ -79,12 +79,12 @@ last_is before after play found at behind here is =
     ∙ ap (λ (n : ℕ). slice_index_or (before ++ play ∷ []) n found) here
     ∙ last_at before play found
 
--- a legal hand was taken
-pub now_taken : (goes_on keeps : Bool) (Took Takes : List Verdict → Type 0) (hands : List Record) (place : ℕ) (old new : List Play) (play : Play) (hand : Record)
-    → (before : AreTaken goes_on keeps Took hands place old) → play.hand ≡ hand → IsJudged play
+-- a legal hand was visited
+pub now_taken : (continues keeps : Bool) (Took Takes : List Verdict → Type 0) (hands : List Record) (place : ℕ) (old new : List Play) (play : Play) (hand : Record)
+    → (before : AreTaken continues keeps Took hands place old) → play.hand ≡ hand → IsJudged play
     → (keeps ≡ true → new ≡ old ++ play ∷ []) → (keeps ≡ false → length new ≤ 1) → Takes (before.verdicts ++ Legal play ∷ [])
-    → AreTaken goes_on keeps Takes (hands ++ hand ∷ []) (place + 1) new
-now_taken goes_on keeps Took Takes hands place old new play hand before same judged kept few takes =
+    → AreTaken continues keeps Takes (hands ++ hand ∷ []) (place + 1) new
+now_taken continues keeps Took Takes hands place old new play hand before same judged kept few takes =
     let verdicts = before.verdicts in
     record {
       verdicts = verdicts ++ Legal play ∷ [];
@@ -96,12 +96,12 @@ now_taken goes_on keeps Took Takes hands place old new play hand before same jud
       dropped = few;
     }
 
--- what is wrong with a refused hand was taken
-pub now_passed : (goes_on keeps : Bool) (Took Takes : List Verdict → Type 0) (hands : List Record) (place : ℕ) (kept : List Play) (hand : Record) (why : Refusal)
-    → (before : AreTaken goes_on keeps Took hands place kept) → goes_on ≡ true → IsRefusedFor hand why
+-- a refused hand was visited with its first fault
+pub now_passed : (continues keeps : Bool) (Took Takes : List Verdict → Type 0) (hands : List Record) (place : ℕ) (kept : List Play) (hand : Record) (why : Refusal)
+    → (before : AreTaken continues keeps Took hands place kept) → continues ≡ true → IsRefusedFor hand why
     → Takes (before.verdicts ++ Refused hand why ∷ [])
-    → AreTaken goes_on keeps Takes (hands ++ hand ∷ []) (place + 1) kept
-now_passed goes_on keeps Took Takes hands place kept hand why before on refused takes =
+    → AreTaken continues keeps Takes (hands ++ hand ∷ []) (place + 1) kept
+now_passed continues keeps Took Takes hands place kept hand why before on refused takes =
     let verdicts = before.verdicts in
     record {
       verdicts = verdicts ++ Refused hand why ∷ [];
@@ -113,17 +113,17 @@ now_passed goes_on keeps Took Takes hands place kept hand why before on refused 
       dropped = before.dropped;
     }
 
--- What was taken of the records so far, and those that are left behind them.
-pub record AreOnTheWay (goes_on keeps : Bool) (Took : List Verdict → Type 0) (records left : List Record) (place : ℕ) (kept : List Play) : Type 0 where
+-- what was visited of the records so far, and the records that are left
+pub record AreOnTheWay (continues keeps : Bool) (Took : List Verdict → Type 0) (records left : List Record) (place : ℕ) (kept : List Play) : Type 0 where
   pub hands : List Record
-  pub taken : AreTaken goes_on keeps Took hands place kept
+  pub taken : AreTaken continues keeps Took hands place kept
   pub stands : hands ++ left ≡ records
 
 -- before the first hand
-pub none_taken : (goes_on keeps : Bool) (Took : List Verdict → Type 0) (records : List Record) (kept : List Play) → Took [] → kept ≡ []
-    → AreOnTheWay goes_on keeps Took records records 0 kept
+pub none_taken : (continues keeps : Bool) (Took : List Verdict → Type 0) (records : List Record) (kept : List Play) → Took [] → kept ≡ []
+    → AreOnTheWay continues keeps Took records records 0 kept
 unfolding legal_plays
-none_taken goes_on keeps Took records kept took empty =
+none_taken continues keeps Took records kept took empty =
     record {
       hands = [];
       taken = record {
@@ -138,31 +138,31 @@ none_taken goes_on keeps Took records kept took empty =
       stands = refl;
     }
 
--- the next of these records was taken
-pub one_on : (goes_on keeps : Bool) (Took Takes : List Verdict → Type 0) (records left : List Record) (hand : Record) (place : ℕ) (old new : List Play)
-    → (way : AreOnTheWay goes_on keeps Took records (hand ∷ left) place old)
-    → ((hands : List Record) → AreTaken goes_on keeps Took hands place old → AreTaken goes_on keeps Takes (hands ++ hand ∷ []) (place + 1) new)
-    → AreOnTheWay goes_on keeps Takes records left (place + 1) new
-one_on goes_on keeps Took Takes records left hand place old new way more =
+-- the next of these records was visited
+pub one_on : (continues keeps : Bool) (Took Takes : List Verdict → Type 0) (records left : List Record) (hand : Record) (place : ℕ) (old new : List Play)
+    → (way : AreOnTheWay continues keeps Took records (hand ∷ left) place old)
+    → ((hands : List Record) → AreTaken continues keeps Took hands place old → AreTaken continues keeps Takes (hands ++ hand ∷ []) (place + 1) new)
+    → AreOnTheWay continues keeps Takes records left (place + 1) new
+one_on continues keeps Took Takes records left hand place old new way more =
     record {
       hands = way.hands ++ hand ∷ [];
       taken = more way.hands way.taken;
       stands = append_assoc way.hands (hand ∷ []) left ∙ way.stands;
     }
 
--- and it is no more than a file may have
-pub has_room : (goes_on keeps : Bool) (Took : List Verdict → Type 0) (records left : List Record) (hand : Record) (place most : ℕ) (kept : List Play)
-    → AreOnTheWay goes_on keeps Took records (hand ∷ left) place kept → length records ≤ most → place < most
-has_room goes_on keeps Took records left hand place most kept way few =
+-- and there are at most as many as a file may have
+pub has_room : (continues keeps : Bool) (Took : List Verdict → Type 0) (records left : List Record) (hand : Record) (place most : ℕ) (kept : List Play)
+    → AreOnTheWay continues keeps Took records (hand ∷ left) place kept → length records ≤ most → place < most
+has_room continues keeps Took records left hand place most kept way few =
     let taken = way.taken in
     omega (arith, few, ap length way.stands, length-append way.hands (hand ∷ left), taken.counted, ap length taken.are.same, length-map taken.verdicts hand_in)
 
 -- a hand that ends the loop is the first refused one
-pub refused_on : (goes_on keeps : Bool) (Took : List Verdict → Type 0) (records left : List Record) (hand : Record) (place : ℕ) (kept : List Play) (fault : PlaysFault)
-    → AreOnTheWay goes_on keeps Took records (hand ∷ left) place kept → (goes_on ≡ true → IsPlaysWant fault)
+pub refused_on : (continues keeps : Bool) (Took : List Verdict → Type 0) (records left : List Record) (hand : Record) (place : ℕ) (kept : List Play) (fault : PlaysFault)
+    → AreOnTheWay continues keeps Took records (hand ∷ left) place kept → (continues ≡ true → IsPlaysOutOfMemory fault)
     → IsFaultAt hand (place + 1) fault → IsPlaysFaultOf records fault
 refused_on true keeps Took records left hand place kept (plays_faults.Refused number why) way memory refused = absurd (memory refl)
-refused_on goes_on keeps Took records left hand place kept (plays_faults.Memory memory) way memory refused = tt
+refused_on continues keeps Took records left hand place kept (plays_faults.Memory memory) way memory refused = tt
 refused_on false keeps Took records left hand place kept (plays_faults.Refused number why) way memory refused =
     let taken = way.taken in
     let verdicts = taken.verdicts in
@@ -171,10 +171,10 @@ refused_on false keeps Took records left hand place kept (plays_faults.Refused n
     (ap (λ (hs : List Record). hs ++ hand ∷ left) (all_hands verdicts legal ∙ taken.are.same) ∙ way.stands)
     (ap (λ (n : ℕ). n + 1) (taken.counted ∙ all_counted verdicts legal)) refused
 
--- at the end all records were taken
-pub at_end : (goes_on keeps : Bool) (Took : List Verdict → Type 0) (records left : List Record) (place : ℕ) (kept : List Play)
-    → AreOnTheWay goes_on keeps Took records left place kept → left ≡ [] → AreTaken goes_on keeps Took records (length records) kept
-at_end goes_on keeps Took records left place kept way none =
+-- at the end all records were visited
+pub at_end : (continues keeps : Bool) (Took : List Verdict → Type 0) (records left : List Record) (place : ℕ) (kept : List Play)
+    → AreOnTheWay continues keeps Took records left place kept → left ≡ [] → AreTaken continues keeps Took records (length records) kept
+at_end continues keeps Took records left place kept way none =
     let taken = way.taken in
     let all : way.hands ≡ records = sym (append-nil way.hands) ∙ ap (λ (l : List Record). way.hands ++ l) (sym none) ∙ way.stands in
     record {
@@ -187,7 +187,7 @@ at_end goes_on keeps Took records left place kept way none =
       dropped = taken.dropped;
     }
 
--- where all hands are legal, they have plays
+-- if all hands are legal, they have plays
 pub plays_are : (keeps : Bool) (Took : List Verdict → Type 0) (records : List Record) (count : ℕ) (kept : List Play)
     → (taken : AreTaken false keeps Took records count kept) → ArePlaysOf records (legal_plays taken.verdicts)
 plays_are keeps Took records count kept taken =

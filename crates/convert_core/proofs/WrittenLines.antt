@@ -1,4 +1,4 @@
--- What is written of one hand more.
+-- What is written after one more hand.
 use Rattle.std.proofs.Common.{◌≡◌, Bool, true, false, ℕ, ◌+◌, ◌≤◌, All, List, [], ◌∷◌, ◌++◌, Option, Some, None, Result, Ok, Err, length, sum_by, refl, sym, ap, subst, ◌∙◌, arith}
 use Rattle.std.specs.Option.{is_some}
 use Rattle.hand_records.specs.WriteRefusals.{first_refusal, refusal_from, refused_at}
@@ -8,7 +8,7 @@ use Rattle.hand_canon.specs.Sound.{IsSound}
 use Rattle.hand_records.specs.Moves.{moves_of}
 use Rattle.hand_records.specs.declared.record.Record.{Record}
 use Rattle.hand_records.specs.declared.trace.Play.{Play}
-use Rattle.list_laws.proofs.Sums.{sum_by-map}
+use Rattle.card_set.proofs.Sums.{sum_by-map}
 use Rattle.convert_core.specs.Conversion.{IsConversion}
 use Rattle.convert_core.specs.Judged.{ArePlaysOf}
 use Rattle.convert_core.specs.Records.{AreFew}
@@ -23,7 +23,7 @@ use Rattle.convert_core.proofs.Taken.{all_counted, legal_more}
 use Rattle.convert_core.specs.Verdicts.{AreLegalUnless, Legal, Verdict, legal_plays}
 use Rattle.convert_core.specs.Lines.{IsWritten}
 
--- where one is refused already, it stays the first
+-- if one is refused already, it stays the first
 refused_first : (number : ℕ) (fact : Option Unspelled) (behind more : Option WriteRefusal) (refusal : WriteRefusal)
     → refused_at number fact behind ≡ Some refusal → (behind ≡ Some refusal → more ≡ Some refusal) → refused_at number fact more ≡ Some refusal
 refused_first number (Some fact) behind more refusal first later = first
@@ -50,7 +50,7 @@ some_is : (told : Option WriteRefusal) → is_some told ≡ true → told ≡ No
 some_is None some none = cc (some)
 some_is (Some refusal) some none = cc (none)
 
--- where none is refused, it is the one behind them, if that is
+-- if none is refused, the first refusal is that of the hands after them, if any
 last_first : (unspelled : Play → Option Unspelled) (number : ℕ) (plays : List Play) (play : Play)
     → refusal_from unspelled number plays ≡ None
     → refusal_from unspelled number (plays ++ play ∷ []) ≡ refused_at (number + length plays) (unspelled play) None
@@ -64,7 +64,7 @@ last_first unspelled number (p ∷ plays) play none =
     ∙ last_first unspelled (number + 1) plays play parts.1
     ∙ ap (λ (n : ℕ). refused_at n (unspelled play) None) here
 
--- a hand behind one that is refused
+-- a hand after one that is refused
 pub behind_refused : (is_lined : Bool) (unspelled : Play → Option Unspelled) (Spell : List Play → List ℕ → Type 0) (refusal : Option WriteRefusal) (out : List ℕ) (before : List Verdict) (play : Play)
     → is_some refusal ≡ true → IsWritten is_lined unspelled Spell refusal out before → IsWritten is_lined unspelled Spell refusal out (before ++ Legal play ∷ [])
 behind_refused is_lined unspelled Spell refusal out before play some written =
@@ -90,7 +90,7 @@ now_refused is_lined unspelled Spell refusal out before play place fact counted 
       spell = λ is. absurd (cc (is));
     }
 
--- one that is spelled, behind others that are
+-- a hand that can be expressed, after others that can
 pub now_spelled : (is_lined : Bool) (unspelled : Play → Option Unspelled) (Spell : List Play → List ℕ → Type 0) (refusal : Option WriteRefusal) (out new : List ℕ) (before : List Verdict) (play : Play)
     → refusal ≡ None → unspelled play ≡ None → IsWritten is_lined unspelled Spell refusal out before → Spell (legal_plays before ++ play ∷ []) new
     → IsWritten is_lined unspelled Spell refusal new (before ++ Legal play ∷ [])
@@ -112,7 +112,7 @@ unfolding legal_plays
 none_written is_lined unspelled Spell out lined spell empty =
     record { lined = lined; first = refl; spell = λ _. subst (λ (o : List ℕ). Spell [] o) (sym empty) spell }
 
--- they are no more than a file may have, nor are their moves
+-- there are at most as many as a file may have, and so are their moves
 pub few_plays : (records : List Record) (plays : List Play) → ArePlaysOf records plays
     → length records ≤ MOST_HANDS → sum_by moves_of records ≤ MOST_FILE_MOVES → AreFew plays
 few_plays records plays are few few_moves =
@@ -121,7 +121,8 @@ few_plays records plays are few few_moves =
       few_moves = omega (arith, few_moves, ap (sum_by moves_of) are.same, sum_by-map moves_of (λ (p : Play). p.hand) plays);
     }
 
--- What records of a file come to is what its bytes come to, where what is written of their plays reads back.
+-- The result for the records of a file is that for its bytes, if what is written of their plays
+-- reads back.
 pub of_file : {X : Type 0} (Say : List Record → Type 0) (HaveFault : FormatFault → Type 0) (unspelled : Play → Option Unspelled) (Spell ReadBack : List Play → List ℕ → Type 0) (view : X → List ℕ) (records : List Record) (answer : Result X ConvertFault)
     → Say records
     → ((plays : List Play) (output : List ℕ) → ArePlaysOf records plays → All IsSound plays → first_refusal unspelled plays ≡ None → Spell plays output → ReadBack plays output)

@@ -1,4 +1,5 @@
--- What bytes say as a log of the competition under a game, and what bytes are written of plays.
+-- What bytes say as a log of the Annual Computer Poker Competition under a game, and which bytes
+-- are written for plays.
 use Rattle.std.specs.Prelude.{◌≡◌, ℕ, ◌≤◌, List, length, map, Ok, Err, sum_by}
 use Rattle.std.specs.List.{AllByRecursion}
 use Rattle.acpc_game.specs.declared.game.Game.{Game}
@@ -6,31 +7,31 @@ use Rattle.acpc_writing.specs.Line.{log_text}
 use Rattle.acpc_writing.specs.Texts.{HasTexts}
 use Rattle.acpc_reading.specs.Logs.{reading}
 use Rattle.acpc_reading.specs.RecordView.{IsOfGame, record_said}
-use Rattle.acpc_text.specs.declared.fault.AcpcFault.{AcpcFault}
+use Rattle.acpc_game.specs.declared.fault.AcpcFault.{AcpcFault}
 use Rattle.first_fault.specs.declared.limits.TheConstants.{MOST_FILE_MOVES, MOST_HANDS}
 use Rattle.hand_records.specs.declared.record.Record.{Record}
 use Rattle.hand_records.specs.declared.trace.Play.{Play}
-use Rattle.convert_core.specs.Faults.{is_want_in_acpc}
+use Rattle.convert_core.specs.Faults.{is_out_of_memory_in_acpc}
 use Rattle.convert_core.specs.Readings.{GivesHands}
 use Rattle.convert_core.specs.declared.format_fault.FormatFault.{FormatFault}
 use Rattle.convert_core.specs.declared.format_fault.FormatFault.TheVariants as formats
 use Rattle.hand_records.specs.Moves.{moves_of}
 
--- bytes say these records under a game: they are what the bytes read as, each one of the game, and
--- no more than a file may have
+-- bytes say these records under a game: they are read as these, each is a hand of the game, and
+-- there are at most as many as a file may have
 pub record Say (game : Game) (bytes : List ℕ) (records : List Record) : Type 0 where
   pub reads : reading game bytes ≡ Ok (map record_said records)
   pub each : AllByRecursion (IsOfGame game) records
   pub few : length records ≤ MOST_HANDS
   pub few_moves : sum_by moves_of records ≤ MOST_FILE_MOVES
 
--- bytes read as so many hands under a game
+-- bytes read as this number of hands under a game
 abbrev pub ReadAsHands : Game → List ℕ → ℕ → Type 0
 ReadAsHands game bytes count = GivesHands (reading game bytes) count
 
--- bytes have this first fault, which is not want of memory
+-- bytes have this first fault, which is not that memory ran out
 pub record Have (game : Game) (bytes : List ℕ) (fault : AcpcFault) : Type 0 where
-  pub told : is_want_in_acpc fault ≡ false
+  pub told : is_out_of_memory_in_acpc fault ≡ false
   pub reads : reading game bytes ≡ Err fault
 
 -- a fault of this notation
@@ -39,7 +40,7 @@ HaveFault game bytes (formats.Phh fault) = ⊥
 HaveFault game bytes (formats.Ohh fault) = ⊥
 HaveFault game bytes (formats.Acpc fault) = Have game bytes fault
 
--- bytes are the spelling of plays: the one line of each, where the names of players are texts
+-- bytes are these plays as written: one line per play, with texts for the names of players
 pub record Spell (game : Game) (plays : List Play) (bytes : List ℕ) : Type 0 where
   pub lines : bytes ≡ log_text game.no_limit plays
   pub texts : AllByRecursion HasTexts plays

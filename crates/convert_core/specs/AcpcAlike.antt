@@ -1,4 +1,5 @@
--- Bytes of a log under a game say one list of records, as far as records can be told apart.
+-- Under a game the bytes of a log say only one list of records, up to differences that cannot be
+-- observed.
 -- This is a proof: no reader needs it.
 use Rattle.std.proofs.Common.{◌≡◌, ℕ, ◌≤◌, true, ℤ, pos, List, [], ◌∷◌, map, length, take, get_or, slice_index_or, Option, Some, None, is_some, option_map, Ok, refl, sym, subst, ap, ◌∙◌, inl, inr, arith}
 use Rattle.std.specs.List.{AllByRecursion}
@@ -20,13 +21,13 @@ use Rattle.convert_core.specs.SameParts.{names_same, one_script}
 use Rattle.convert_core.specs.SameRecords.{AllAlike, AreAlike}
 use Rattle.hand_records.specs.StatedFacts.{stated_from}
 
--- what these numbers keep as the nets of so many seats
+-- what these numbers keep as the nets of this number of seats
 record KeptNets (seats : ℕ) (nets : List ℤ) : Type 0 where
   greatest : seats ≤ 10
   full : length nets ≡ 10
   filler : (k : ℕ) → seats ≤ k → slice_index_or nets k (pos 0) ≡ pos 0
 
--- they keep it in one way
+-- they keep it in only one way
 KeptNets-prop : (seats : ℕ) (nets : List ℤ) → IsProp (KeptNets seats nets)
 KeptNets-prop seats nets = hlevel props
 
@@ -45,7 +46,7 @@ net_row seats nets kept =
 kept_nets : (a : NetRow) → KeptNets a.seats a.nets
 kept_nets a = record { greatest = a.greatest; full = a.full; filler = a.filler }
 
--- rows of as many seats and with the same numbers are one row
+-- rows with the same number of seats and the same numbers are equal
 net_row_same : (a b : NetRow) → a.seats ≡ b.seats → a.nets ≡ b.nets → a ≡ b
 unfolding net_row kept_nets
 net_row_same a b seats same =
@@ -54,7 +55,7 @@ net_row_same a b seats same =
     λ kept. ap (net_row a.seats a.nets) (KeptNets-prop a.seats a.nets (kept_nets a) kept) in
     subst (λ nets. P b.seats nets) same (subst (λ n. P n a.nets) seats here) (kept_nets b)
 
--- rows that say the same nets are one row
+-- rows that say the same nets are equal
 nets_same : (a b : NetRow) → nets_in a ≡ nets_in b → a ≡ b
 nets_same a b same =
     let seats : a.seats ≡ b.seats =
@@ -71,19 +72,19 @@ nets_same a b same =
       | inr past ↦ a.filler k past ∙ sym (b.filler k (omega (arith, past, seats)))
     ]))
 
--- rows that are both stated are one where they say the same nets
+-- rows that are both stated are equal if they say the same nets
 values_same : (x y : Option NetRow) → is_some x ≡ true → is_some y ≡ true
     → option_map_or nets_in x [] ≡ option_map_or nets_in y [] → x ≡ y
 values_same None y some other same = absurd (cc)
 values_same (Some a) None some other same = absurd (cc)
 values_same (Some a) (Some b) some other same = ap Some (nets_same a b same)
 
--- stated facts are made of their four parts
+-- stated facts consist of their four parts
 stated_parts : (s : Stated) → s ≡ stated_from s.finish s.wins s.pot_total s.values
 unfolding stated_from
 stated_parts s = refl
 
--- facts of logs, where only the nets are stated, are one where the nets are
+-- stated facts of logs, which are the nets alone, are equal if the nets are
 one_stated : (a b : Stated) → StatesValues a → StatesValues b
     → option_map_or nets_in a.values [] ≡ option_map_or nets_in b.values [] → a ≡ b
 one_stated a b is it same =
@@ -98,11 +99,11 @@ one_stated a b is it same =
 
 module _ (game : Game) (a b : Record) (is : IsOfGame game a) (it : IsOfGame game b)
     (same : record_said a ≡ record_said b) where
-  -- their setups are one
+  -- their setups are equal
   setups : a.setup ≡ b.setup
   setups = setups_same game a.setup b.setup is.setup it.setup
 
-  -- they have as many seats
+  -- they have the same number of seats
   count : a.setup.stacks.seats ≡ b.setup.stacks.seats
   count = ap (λ (s : Setup). s.stacks.seats) setups
 
@@ -111,12 +112,12 @@ module _ (game : Game) (a b : Record) (is : IsOfGame game a) (it : IsOfGame game
   names =
       ap (λ (hand : HandSaid). hand.names) same ∙ ap (λ (n : ℕ). take n b.notes.names) (sym count)
 
-  -- the other record names no more seats
+  -- the other record names no more seats than that
   no_names : (index : ℕ) → a.setup.stacks.seats ≤ index
       → slice_index_or b.notes.names index None ≡ None
   no_names index late = it.sound.notes.no_more_names index (omega (arith, late, count))
 
-  -- two hands of one game that are said alike
+  -- two hands of one game that say the same are alike
   pub log_alike : AreAlike a b
   log_alike =
       record {
@@ -147,7 +148,7 @@ module _ (game : Game) (a b : Record) (is : IsOfGame game a) (it : IsOfGame game
         };
       }
 
--- records that are said alike are alike, one by one
+-- records that say the same are alike, one by one
 pub all_alike : (game : Game) (records others : List Record)
     → AllByRecursion (IsOfGame game) records → AllByRecursion (IsOfGame game) others
     → map record_said records ≡ map record_said others → AllAlike records others

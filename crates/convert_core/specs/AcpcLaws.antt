@@ -1,4 +1,4 @@
--- The laws that a notation keeps, of the logs of the competition under a game.
+-- The laws that a notation keeps, for the logs of the competition under a game.
 -- This is a proof: no reader needs it.
 use Rattle.std.proofs.Common.{◌≡◌, ℕ, ◌+◌, ◌≤◌, Bool, true, List, [], ◌∷◌, ◌++◌, append_assoc, append-nil, length, map, reverse, sum_by, Some, None, Ok, refl, sym, ap, subst, ◌∙◌, arith}
 use Rattle.std.specs.List.{AllByRecursion}
@@ -18,10 +18,10 @@ use Rattle.acpc_writing.specs.Spelled as facts
 use Rattle.acpc_writing.specs.Texts.{HasTexts}
 use Rattle.acpc_reading.specs.Logs.{reading}
 use Rattle.acpc_reading.specs.RecordView.{IsOfGame, record_said, rules_of}
-use Rattle.canon_script.specs.TraceCore.{TraceCore}
+use Rattle.play_event.specs.TraceCore.{TraceCore}
 use Rattle.canon_laws.proofs.MoveCounts.{move_count}
-use Rattle.list_laws.proofs.Reversed.{count_reversed}
-use Rattle.canon_script.specs.PlayedScript.{is_move}
+use Rattle.card_set.proofs.Reversed.{count_reversed}
+use Rattle.play_event.specs.PlayedScript.{is_move}
 use Rattle.play_event.specs.Past.{moves_of}
 use Rattle.play_event.specs.Scripts.{past_at_end}
 use Rattle.first_fault.specs.declared.limits.TheConstants.{MOST_FILE_MOVES}
@@ -49,7 +49,7 @@ each_under game [] each = tt
 each_under game (hand ∷ hands) each =
     (record { sound = each.0.sound; rules_are = each.0.rules }, each_under game hands each.1)
 
--- what bytes say is what a reader gives of a file
+-- what bytes say is what a reader may return for a file
 pub reads_file : (game : Game) (bytes : List ℕ) (hands : List Record) → Say game bytes hands
     → AreOfFile (rules_of game) hands
 reads_file game bytes hands say =
@@ -61,7 +61,7 @@ pub no_fault : (game : Game) (bytes : List ℕ) (hands : List Record) (fault : F
 no_fault game bytes hands fault say have =
     none_of_read game bytes (map record_said hands) fault say.reads have
 
--- of a play as many moves are written as were played
+-- for a play, as many moves are written as were played
 same_count : (play : Play) → IsSound play → moves_written play ≡ moves_played play
 same_count play sound =
     let setup = play.hand.setup in
@@ -71,7 +71,7 @@ same_count play sound =
     ∙ move_count setup (reverse script)
     ∙ count_reversed is_move script
 
--- of all plays as many moves are written as were played
+-- for all plays together, as many moves are written as were played
 all_counted : (plays : List Play) → AllByRecursion IsSound plays
     → sum_by moves_written plays ≡ sum_by moves_played plays
 all_counted [] each = refl
@@ -109,11 +109,11 @@ lines_back game keep plays few sound texts spelled =
           read_back game keep plays few.few sound texts none moves hands say.each say.reads;
     }
 
--- no plays are no bytes
+-- no plays are written as no bytes
 pub no_lines : (game : Game) → Spell game [] []
 no_lines game = record { lines = refl; texts = tt }
 
--- lines of plays, of which the first is at a place, and the line of one play more
+-- the lines of plays, the first of them at a place, followed by the line of one more play
 lines_more : (no_limit : Bool) (place : ℕ) (before : List Play) (play : Play)
     → lines_from no_limit place (before ++ play ∷ [])
     ≡ lines_from no_limit place before ++ line_text no_limit (place + length before) play
@@ -130,7 +130,7 @@ lines_more no_limit place (first ∷ rest) play =
     (append_assoc line (lines_from no_limit (place + 1) rest)
     (line_text no_limit (place + length (first ∷ rest)) play))
 
--- behind the spelling of plays the line of one play more
+-- the written plays, followed by the line of one more play
 pub one_line_more : (game : Game) (before : List Play) (play : Play) (place : ℕ) (old new : List ℕ)
     → length before ≡ place → Spell game before old
     → new ≡ old ++ line_text game.no_limit place play → HasTexts play
@@ -160,7 +160,7 @@ reads_back game keep plays bytes few sound spelled spell =
     (sym spell.lines)
     (lines_back game keep plays few sound spell.texts spelled)
 
--- what is not spelled no bytes say, unless it is an odd chip or a note
+-- what it cannot express no bytes say, unless it is an odd chip or a note
 pub sharp : (game : Game) (keep : Keep) (play : Play) (fact : Unspelled)
     → facts.unspelled game keep play ≡ Some fact → is_sharp fact ≡ true
     → (bytes : List ℕ) (hands : List Record) → Say game bytes hands

@@ -7,18 +7,18 @@ use Rattle.acpc_format.specs.Again.{hands_again}
 use Rattle.acpc_game.specs.declared.game.Game.{Game}
 use Rattle.acpc_reading.specs.Logs.{HandSaid, reading}
 use Rattle.acpc_reading.specs.RecordView.{record_said}
-use Rattle.acpc_text.specs.declared.fault.AcpcFault.{AcpcFault}
+use Rattle.acpc_game.specs.declared.fault.AcpcFault.{AcpcFault}
 use Rattle.hand_records.specs.declared.record.Record.{Record}
 use Rattle.hand_records.specs.declared.trace.Play.{Play}
 use Rattle.convert_core.specs.Acpc.{HaveFault, ReadAsHands, Say}
-use Rattle.convert_core.specs.Faults.{is_want_in_acpc}
+use Rattle.convert_core.specs.Faults.{is_out_of_memory_in_acpc}
 use Rattle.convert_core.specs.OneReading.{HasFaultsOf}
 use Rattle.convert_core.specs.OneReading as readings
 use Rattle.convert_core.specs.ReadOrFail.{ReadOrFail}
 use Rattle.convert_core.specs.declared.format_fault.FormatFault.{FormatFault}
 use Rattle.convert_core.specs.declared.format_fault.FormatFault.TheVariants as formats
 
--- records that bytes say are as many as the hands that they read as
+-- bytes say as many records as hands that they read as
 pub say_as_many : (game : Game) (bytes : List ℕ) (records : List Record) → Say game bytes records
     → ReadAsHands game bytes (length records)
 say_as_many game bytes records say =
@@ -28,7 +28,7 @@ say_as_many game bytes records say =
       counted = length-map records record_said;
     }
 
--- as many are read again as there are plays
+-- as many hands are read again as there are plays
 again_counted : (no_limit : Bool) (place : ℕ) (plays : List Play)
     → length (hands_again no_limit place plays) ≡ length plays
 again_counted no_limit place [] = refl
@@ -44,9 +44,10 @@ read_again game bytes plays read =
       counted = again_counted game.no_limit 0 plays;
     }
 
--- what is another fault is no want of memory
-no_want : (fault : AcpcFault) → is_want_in_acpc fault ≡ false → is_want_in_acpc fault ≡ false
-no_want fault told = told
+-- a fault that is another one is not that memory ran out
+not_out_of_memory : (fault : AcpcFault) → is_out_of_memory_in_acpc fault ≡ false
+    → is_out_of_memory_in_acpc fault ≡ false
+not_out_of_memory fault told = told
 
 module _ (game : Game) (bytes : List ℕ) where
   -- a fault of bytes is the one that is read
@@ -59,7 +60,7 @@ module _ (game : Game) (bytes : List ℕ) where
   faults_of : HasFaultsOf (reading game bytes) formats.Acpc (HaveFault game bytes)
   faults_of =
       record {
-        told = λ fault read. no_want fault (reading_told game bytes fault read);
+        told = λ fault read. not_out_of_memory fault (reading_told game bytes fault read);
         have = λ fault read. record { told = reading_told game bytes fault read; reads = read };
         one = one_fault;
       }

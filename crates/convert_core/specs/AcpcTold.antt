@@ -1,25 +1,26 @@
--- The first fault of a log is never want of memory: it names a line.
+-- The first fault of a log is never that memory ran out: it names a line.
 -- This is a proof: no reader needs it.
 use Rattle.std.proofs.Common.{◌≡◌, ◌+◌, ℕ, Bool, true, false, cond, nat_le, List, [], ◌∷◌, length, Result, Ok, Err, IfErr, refl, subst}
 use Rattle.acpc_game.specs.declared.game.Game.{Game}
 use Rattle.acpc_reading.specs.Logs.{HandSaid, Hands, hands_after, hands_after_line, is_passed_over, line_said, reading, with_hand}
-use Rattle.acpc_text.specs.Faults.{fault_of, in_line, wrong}
-use Rattle.acpc_text.specs.Parts.{lines_of}
-use Rattle.acpc_text.specs.declared.fault.AcpcFault.{AcpcFault}
-use Rattle.acpc_text.specs.declared.fault.LineFault.{LineFault}
-use Rattle.acpc_text.specs.declared.fault.LineFaultKind.{LineFaultKind}
-use Rattle.acpc_text.specs.declared.fault.LineFaultKind.TheVariants as whats
-use Rattle.convert_core.specs.Faults.{is_want_in_acpc}
+use Rattle.acpc_game.specs.Faults.{fault_of, in_line, wrong}
+use Rattle.acpc_game.specs.Parts.{lines_of}
+use Rattle.acpc_game.specs.declared.fault.AcpcFault.{AcpcFault}
+use Rattle.acpc_game.specs.declared.fault.LineFault.{LineFault}
+use Rattle.acpc_game.specs.declared.fault.LineFaultKind.{LineFaultKind}
+use Rattle.acpc_game.specs.declared.fault.LineFaultKind.TheVariants as whats
+use Rattle.convert_core.specs.Faults.{is_out_of_memory_in_acpc}
 use Rattle.first_fault.specs.Numbers.{kept_number}
 use Rattle.first_fault.specs.Reading.{◌>>=◌}
 use Rattle.first_fault.specs.declared.limits.Quantity.TheVariants as quantities
 use Rattle.first_fault.specs.declared.limits.TheConstants.{MOST_HANDS}
 
--- a fault, if there is one, is no want of memory
+-- the fault, if there is one, is not that memory ran out
 abbrev IsTold : {A : Type 0} → Result A AcpcFault → Type 0
-IsTold result = IfErr result (λ fault. is_want_in_acpc fault ≡ false)
+IsTold result = IfErr result (λ fault. is_out_of_memory_in_acpc fault ≡ false)
 
-at_line : (what : LineFaultKind) (line byte : ℕ) → is_want_in_acpc (fault_of what line byte) ≡ false
+at_line : (what : LineFaultKind) (line byte : ℕ)
+    → is_out_of_memory_in_acpc (fault_of what line byte) ≡ false
 at_line whats.LineShape line byte = refl
 at_line whats.BadBetting line byte = refl
 at_line whats.BadCards line byte = refl
@@ -67,9 +68,9 @@ all_lines game hands line (text ∷ texts) =
     (λ more. hands_after game more (line + 1) texts)
     (one_line game hands line text) (λ more. all_lines game more (line + 1) texts)
 
--- a log that has a fault has another one than want of memory
+-- a log that has a fault has one other than that memory ran out
 pub reading_told : (game : Game) (bytes : List ℕ) (fault : AcpcFault)
-    → reading game bytes ≡ Err fault → is_want_in_acpc fault ≡ false
+    → reading game bytes ≡ Err fault → is_out_of_memory_in_acpc fault ≡ false
 unfolding reading
 reading_told game bytes fault read =
     let lines = hands_after game ([], 0) 1 (lines_of bytes) in

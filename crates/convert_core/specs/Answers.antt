@@ -1,4 +1,4 @@
--- The answer of a conversion, as its call tells it.
+-- The answer of a conversion, as its call returns it.
 use Rattle.std.specs.Prelude.{ℕ, List, Option, Result}
 use Rattle.hand_records.specs.SaidNotes.{KeepsNotes, SaidNotes}
 use Rattle.hand_records.specs.SameHands.{kept_notes}
@@ -11,9 +11,9 @@ use Rattle.convert_core.specs.ReadBack.{ReadBack}
 use Rattle.convert_core.specs.declared.convert_fault.ConvertFault.{ConvertFault}
 use Rattle.convert_core.specs.declared.format_fault.FormatFault.{FormatFault}
 
--- The conversion of bytes has this answer. Of the notation of the bytes it is told what they say,
--- and which fault they have; of the other one, what of a play it does not spell, how it spells
--- plays, which notes it keeps, and what is read of what is written.
+-- The conversion of bytes has this answer. The parameters are, for the notation of the bytes: what
+-- they say, and which fault they have; and for the target: which fact of a play it cannot express,
+-- how it writes plays, which notes it keeps, and what is read from its output.
 abbrev pub Answers : (Say : List ℕ → List Record → Type 0)
     (HaveFault : List ℕ → FormatFault → Type 0)
     (unspelled : Keep → Play → Option Unspelled)

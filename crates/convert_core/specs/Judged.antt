@@ -1,4 +1,4 @@
--- What records come to: each its play, or the first that is refused, and why.
+-- What records are replayed to: each to its play, or the first refused hand and the reason.
 use Rattle.std.specs.Prelude.{◌≡◌, ℕ, ◌+◌, List, [], ◌∷◌, ◌++◌, length, map, All, Some}
 use Rattle.hand_canon.specs.declared.agreement.FactDiffers.{FactDiffers}
 use Rattle.hand_records.specs.declared.record.Record.{Record}
@@ -14,19 +14,20 @@ use Rattle.convert_core.specs.declared.refusal.PlaysFault.TheVariants as plays_f
 use Rattle.convert_core.specs.declared.refusal.Refusal.{Refusal}
 use Rattle.convert_core.specs.declared.refusal.Refusal.TheVariants as refusals
 
--- plays are those of records: as many, in their order, and each is judged
+-- these are the plays of the records: the same number, in their order, and each is replayed and
+-- agrees
 pub record ArePlaysOf (records : List Record) (plays : List Play) : Type 0 where
   pub same : map (λ (play : Play). play.hand) plays ≡ records
   pub judged : All IsJudged plays
 
--- behind these plays comes one more, the play of this record
+-- these plays are followed by one more, the play of this record
 pub record IsOneMorePlay (before : List Play) (hand : Record) (after : List Play) : Type 0 where
   pub play : Play
   pub same : play.hand ≡ hand
   pub judged : IsJudged play
   pub behind : after ≡ before ++ play ∷ []
 
--- what is wrong with a script, where that is not want of memory
+-- the fault of a script, if it is not that memory ran out
 abbrev pub IsReplayFaultOf : Record → ReplayFault → Type 0
 IsReplayFaultOf hand (faults.Memory memory) = ⊥
 IsReplayFaultOf hand fault = IsFaultOf hand.setup hand.rules hand.script fault
@@ -37,7 +38,8 @@ pub record HasDifference (hand : Record) (told : FactDiffers) : Type 0 where
   pub traced : IsTraceOfLegal hand trace
   pub differs : first_difference trace hand.stated ≡ Some (difference_said told)
 
--- a hand is refused for this: its script has no trace, or else a stated fact differs from it
+-- a hand is refused for this reason: its script cannot be replayed, or else a stated fact differs
+-- from its trace
 abbrev pub IsRefusedFor : Record → Refusal → Type 0
 IsRefusedFor hand (refusals.Replay fault) = IsReplayFaultOf hand fault
 IsRefusedFor hand (refusals.Fact differs) = HasDifference hand differs
@@ -52,17 +54,17 @@ pub record IsFirstRefused (records : List Record) (number : ℕ) (why : Refusal)
   pub counted : number ≡ length before + 1
   pub refused : IsRefusedFor hand why
 
--- why records have no plays; want of memory says nothing of them
+-- why records have no plays; out of memory says nothing about them
 abbrev pub IsPlaysFaultOf : List Record → PlaysFault → Type 0
 IsPlaysFaultOf records (plays_faults.Refused number why) = IsFirstRefused records number why
 IsPlaysFaultOf records (plays_faults.Memory memory) = Unit {0}
 
--- why the hand with this number has no play; want of memory says nothing of it
+-- why the hand with this number has no play; out of memory says nothing about it
 abbrev pub IsFaultAt : Record → ℕ → PlaysFault → Type 0
 IsFaultAt hand number (plays_faults.Refused told why) = (told ≡ number) × IsRefusedFor hand why
 IsFaultAt hand number (plays_faults.Memory memory) = Unit {0}
 
--- there are no plays for want of memory
-abbrev pub IsPlaysWant : PlaysFault → Type 0
-IsPlaysWant (plays_faults.Refused number why) = ⊥
-IsPlaysWant (plays_faults.Memory memory) = Unit {0}
+-- there are no plays because memory ran out
+abbrev pub IsPlaysOutOfMemory : PlaysFault → Type 0
+IsPlaysOutOfMemory (plays_faults.Refused number why) = ⊥
+IsPlaysOutOfMemory (plays_faults.Memory memory) = Unit {0}

@@ -1,5 +1,5 @@
--- What each notation keeps of notes is a part of them, and whatever part of them it spells whole is
--- within that.
+-- What each notation keeps of some notes is a part of them, and includes every part that it can
+-- express whole.
 -- This is a proof: no reader needs it.
 use Rattle.std.proofs.Common.{◌≡◌, ℕ, Bool, true, false, cond, bytes_eq, codes, List, [], ◌∷◌, map, Option, Some, None, option_and_then, option_map, refl, ap, subst, ◌∙◌}
 use Rattle.std.proofs.lemmas.Slice.Eq.{bytes_eq-Decides}
@@ -8,7 +8,7 @@ use Rattle.acpc_format.specs.KeptNotes.{kept_in_acpc, number_spelled}
 use Rattle.acpc_writing.specs.Names.{is_spelled_hand, is_spelled_name}
 use Rattle.hand_records.specs.SaidNotes.{SaidNotes}
 use Rattle.hand_records.specs.declared.notes.Clock.{Clock}
-use Rattle.list_laws.proofs.Options.{from_none_some}
+use Rattle.card_set.proofs.Options.{from_none_some}
 use Rattle.ohh_format.specs.KeptNotes.{kept_in_ohh, moment_in_notes, numbers_round}
 use Rattle.ohh_writing.specs.Moment.{moment_said}
 use Rattle.ohh_writing.specs.Seating.{is_circular}
@@ -16,7 +16,7 @@ use Rattle.hand_records.specs.declared.notes.Moment.{Moment}
 use Rattle.phh_format.specs.KeptNotes.{kept_in_phh}
 use Rattle.convert_core.specs.NoteParts.{ArePartOf, AreSaidThere, IsSaidThere}
 
--- a note is said where it is said
+-- a note that is said is said
 said_here : {A : Type 0} (note : Option A) → IsSaidThere note note
 said_here None = tt
 said_here (Some value) = refl
@@ -25,13 +25,13 @@ names_here : (names : List (Option (List ℕ))) → AreSaidThere names names
 names_here [] = tt
 names_here (name ∷ names) = (said_here name, names_here names)
 
--- a note that stands behind a test is said
+-- a note that is kept only if a test holds is said
 said_if : {A : Type 0} (test : Bool) (value : A)
     → IsSaidThere (cond test (Some value) None) (Some value)
 said_if true value = refl
 said_if false value = tt
 
--- a note that is kept is kept of more, too
+-- a note that is kept is also kept from a larger part
 said_kept : {A : Type 0} (kept : Option A → Option A) (note whole : Option A) → kept note ≡ note
     → IsSaidThere note whole → IsSaidThere note (kept whole)
 said_kept kept None whole same said = tt
@@ -119,7 +119,7 @@ part_in_ohh notes =
       zone = moment.zone;
     }
 
--- a moment that is said here is said there
+-- a moment that is said here is said there as well
 moment_there : (y m d : Option ℕ) (t : Option Clock) (z : Option (List ℕ))
     (year month day : Option ℕ) (time : Option Clock) (place : Option (List ℕ))
     → IsSaidThere y year → IsSaidThere m month → IsSaidThere d day → IsSaidThere t time
@@ -130,7 +130,7 @@ moment_there (Some y) (Some m) (Some d) (Some t) (Some z) year month day time pl
 moment_there y m d t z year month day time place in_year in_month in_day in_time in_zone found is =
     from_none_some is
 
--- a part of a moment that is kept is kept of more, too
+-- a part of a moment that is kept is also kept from a larger part
 part_there : {A : Type 0} (f : Moment → A) (said : Option A) (mine other : Option Moment)
     → ((m : Moment) → mine ≡ Some m → other ≡ Some m) → option_map f mine ≡ said
     → IsSaidThere said (option_map f other)
@@ -173,7 +173,7 @@ most_in_ohh part notes of_it same =
           (ap (λ (n : SaidNotes). n.zone) same);
     }
 
--- ---- names and the number of a hand that a line spells
+-- ---- names and the number of a hand as a line writes them
 
 name_part : (name : Option (List ℕ)) → IsSaidThere (kept_name name) name
 name_part None = tt
@@ -204,7 +204,7 @@ part_in_acpc notes =
       zone = tt;
     }
 
--- names that are kept are kept of more, too
+-- names that are kept are also kept from a larger part
 names_kept : (here there : List (Option (List ℕ))) → map kept_name here ≡ here
     → AreSaidThere here there → AreSaidThere here (map kept_name there)
 names_kept [] [] same said = tt

@@ -1,5 +1,5 @@
--- What records come to, what a notation is, what a conversion comes to, and when two conversions
--- answer the same.
+-- What records are replayed to, what a notation is, what a conversion results in, and when two
+-- conversions have the same answer.
 pub mod Judged
 pub mod Faults
 pub mod Records
@@ -32,3 +32,8 @@ pub mod AcpcLaws
 pub mod AcpcTold
 pub mod AcpcReads
 pub mod KeptParts
+-- Passed on to the crates above.
+pub use Rattle.acpc_format.specs.KeptNotes as AcpcKeptNotes
+pub use Rattle.ohh_format.specs.KeptNotes as OhhKeptNotes
+pub use Rattle.phh_format.specs.KeptNotes as PhhKeptNotes
+pub use Rattle.phh_format.specs.SameTables as PhhSameTables

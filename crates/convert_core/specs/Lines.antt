@@ -1,4 +1,4 @@
--- What is written of hands in a notation that has a line for each.
+-- What is written for hands in a notation with one line per hand.
 use Rattle.std.specs.Prelude.{◌≡◌, ℕ, Bool, true, List, Option, None}
 use Rattle.hand_records.specs.WriteRefusals.{first_refusal}
 use Rattle.hand_records.specs.declared.trace.Play.{Play}
@@ -6,8 +6,8 @@ use Rattle.hand_records.specs.declared.writing.Unspelled.{Unspelled}
 use Rattle.hand_records.specs.declared.writing.WriteRefusal.{WriteRefusal}
 use Rattle.convert_core.specs.Verdicts.{Verdict, legal_plays}
 
--- The first fact among the plays without a spelling is kept; and where there is none, what is
--- written is their spelling.
+-- The first fact among the plays that cannot be expressed is remembered; and if there is none, what
+-- is written is these plays.
 pub record IsWritten (is_lined : Bool) (unspelled : Play → Option Unspelled)
     (Spell : List Play → List ℕ → Type 0) (refusal : Option WriteRefusal) (out : List ℕ)
     (verdicts : List Verdict) : Type 0 where

@@ -1,19 +1,19 @@
--- Notes that are a part of others: each of them is not said, or the others say it as well.
+-- Notes that are a part of others: each of them is either left out, or the others say it as well.
 use Rattle.std.specs.Prelude.{◌≡◌, ℕ, List, [], ◌∷◌, Option, Some, IfSome}
 use Rattle.hand_records.specs.SaidNotes.{SaidNotes}
 
--- where a note is said here, it is said there as well
+-- if a note is said here, it is said there as well
 abbrev pub IsSaidThere : {A : Type 0} → (here there : Option A) → Type 0
 IsSaidThere here there = IfSome here (λ note. there ≡ Some note)
 
--- names of as many seats, where each that is said here is said there as well
+-- names of the same number of seats, where each that is said here is said there as well
 abbrev pub AreSaidThere : (here there : List (Option (List ℕ))) → Type 0
 AreSaidThere [] [] = Unit {0}
 AreSaidThere [] (other ∷ there) = ⊥
 AreSaidThere (name ∷ here) [] = ⊥
 AreSaidThere (name ∷ here) (other ∷ there) = IsSaidThere name other × AreSaidThere here there
 
--- notes are a part of a whole: what they say of a seat or of the hand, the whole says as well
+-- notes are a part of other notes: what they say of a seat or of the hand, the others say as well
 pub record ArePartOf (part whole : SaidNotes) : Type 0 where
   pub names : AreSaidThere part.names whole.names
   pub seats : IsSaidThere part.seats whole.seats

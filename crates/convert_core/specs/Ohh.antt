@@ -1,4 +1,4 @@
--- What bytes say in Open Hand History in a dialect, and what bytes are written of plays.
+-- What bytes say in Open Hand History in a dialect, and which bytes are written for plays.
 use Rattle.std.specs.Prelude.{◌≡◌, ℕ, ◌≤◌, List, length, map, Some, Ok, Err, sum_by}
 use Rattle.std.specs.List.{AllByRecursion}
 use Rattle.first_fault.specs.declared.limits.TheConstants.{MOST_FILE_MOVES, MOST_HANDS}
@@ -15,15 +15,15 @@ use Rattle.hand_records.specs.Histories.{IsHistory}
 use Rattle.hand_records.specs.Moves.{moves_of}
 use Rattle.hand_records.specs.PlainHands.{plain}
 
--- bytes say these records in a dialect: they are what the bytes read as, each as a reader gives it,
--- and no more than a file may have
+-- bytes say these records in a dialect: they are read as these, each as a reader returns it, and
+-- there are at most as many as a file may have
 pub record Say (dialect : Dialect) (bytes : List ℕ) (records : List Record) : Type 0 where
   pub reads : reading dialect bytes ≡ Ok (map plain records)
   pub each : AllByRecursion IsHistory records
   pub few : length records ≤ MOST_HANDS
   pub few_moves : sum_by moves_of records ≤ MOST_FILE_MOVES
 
--- bytes read as so many hands in a dialect
+-- bytes read as this number of hands in a dialect
 abbrev pub ReadAsHands : Dialect → List ℕ → ℕ → Type 0
 ReadAsHands dialect bytes count = GivesHands (reading dialect bytes) count
 
@@ -39,6 +39,6 @@ HaveFault dialect bytes (formats.Phh fault) = ⊥
 HaveFault dialect bytes (formats.Ohh fault) = Have dialect bytes fault
 HaveFault dialect bytes (formats.Acpc fault) = ⊥
 
--- bytes are the spelling of plays: the one line of each, which JSON reads as the tree of its hand
+-- bytes are these plays as written: one line per play, which JSON reads as the tree of its hand
 abbrev pub Spell : Dialect → List Play → List ℕ → Type 0
 Spell dialect plays bytes = Spells dialect plays bytes

@@ -1,5 +1,5 @@
--- Bytes of Open Hand History say one list of records in a dialect, as far as records can be told
--- apart.
+-- In a dialect, bytes of Open Hand History say only one list of records, up to differences that
+-- cannot be observed.
 -- This is a proof: no reader needs it.
 use Rattle.std.proofs.Common.{◌≡◌, ℕ, List, map, Ok, sym, ◌∙◌}
 use Rattle.hand_records.specs.declared.record.Record.{Record}

@@ -1,4 +1,4 @@
--- The laws that a notation keeps, of Open Hand History in a dialect.
+-- The laws that a notation keeps, for Open Hand History in a dialect.
 -- This is a proof: no reader needs it.
 use Rattle.std.proofs.Common.{◌≡◌, ℕ, true, List, [], map, Some, None, Ok, refl}
 use Rattle.std.specs.List.{AllByRecursion}
@@ -31,7 +31,7 @@ use Rattle.hand_records.specs.WriteRefusals.{first_refusal}
 use Rattle.convert_core.specs.UnderRules.{each_under}
 use Rattle.hand_records.specs.PlainHands.{plain}
 
--- what bytes say is what a reader gives of a file
+-- what bytes say is what a reader may return for a file
 pub reads_file : (dialect : Dialect) (bytes : List ℕ) (hands : List Record)
     → Say dialect bytes hands → AreOfFile history_rules hands
 reads_file dialect bytes hands say =
@@ -43,7 +43,7 @@ pub no_fault : (dialect : Dialect) (bytes : List ℕ) (hands : List Record) (fau
 no_fault dialect bytes hands fault say have =
     none_of_read dialect bytes (map plain hands) fault say.reads have
 
--- no plays are no bytes
+-- no plays are written as no bytes
 pub no_lines : (dialect : Dialect) → Spell dialect [] []
 no_lines dialect = record { lines = refl; trees = tt }
 
@@ -74,7 +74,7 @@ sharp_too unspellables.OddChip is = refl
 sharp_too (unspellables.Note name) is = is
 sharp_too _ is = refl
 
--- what is not spelled no bytes say
+-- what it cannot express no bytes say
 pub sharp : (dialect : Dialect) (keep : Keep) (play : Play) (fact : Unspelled)
     → facts.unspelled keep play ≡ Some fact → is_sharp fact ≡ true
     → (bytes : List ℕ) (hands : List Record) → Say dialect bytes hands

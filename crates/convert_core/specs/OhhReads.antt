@@ -12,7 +12,7 @@ use Rattle.ohh_members.specs.declared.fault.MemberFaultKind.TheVariants as whats
 use Rattle.ohh_reading.specs.Reading.{InHand, NoText, Wrong, reading, wrong_of}
 use Rattle.ohh_reading.specs.declared.fault.OhhFault.{OhhFault}
 use Rattle.ohh_reading.specs.declared.fault.OhhFault.TheVariants as faults
-use Rattle.convert_core.specs.Faults.{is_want_in_ohh}
+use Rattle.convert_core.specs.Faults.{is_out_of_memory_in_ohh}
 use Rattle.convert_core.specs.Ohh.{HaveFault, ReadAsHands, Say}
 use Rattle.convert_core.specs.OneReading.{HasFaultsOf}
 use Rattle.convert_core.specs.OneReading as readings
@@ -21,7 +21,7 @@ use Rattle.convert_core.specs.declared.format_fault.FormatFault.{FormatFault}
 use Rattle.convert_core.specs.declared.format_fault.FormatFault.TheVariants as formats
 use Rattle.hand_records.specs.PlainHands.{PlainHand, plain}
 
--- records that bytes say are as many as the hands that they read as
+-- bytes say as many records as hands that they read as
 pub say_as_many : (dialect : Dialect) (bytes : List ℕ) (records : List Record)
     → Say dialect bytes records → ReadAsHands dialect bytes (length records)
 say_as_many dialect bytes records say =
@@ -31,7 +31,7 @@ say_as_many dialect bytes records say =
       counted = length-map records plain;
     }
 
--- as many are read again as there are plays
+-- as many hands are read again as there are plays
 again_counted : (dialect : Dialect) (place : ℕ) (plays : List Play)
     → length (hands_again dialect place plays) ≡ length plays
 again_counted dialect place [] = refl
@@ -61,7 +61,7 @@ at_member hand path whats.BadPost = faults.BadPost hand path
 at_member hand path whats.RakePlace = faults.RakePlace hand path
 at_member hand path (whats.TooMany quantity) = faults.TooMany hand path quantity
 
--- the fault that says what is wrong
+-- the fault for this mistake
 abbrev fault_of : Wrong → OhhFault
 fault_of (NoText hand) = faults.Text hand
 fault_of (InHand hand path what) = at_member hand path what
@@ -75,20 +75,20 @@ fault_told : (wrong : Wrong) → wrong_of (fault_of wrong) ≡ Some wrong
 fault_told (NoText hand) = refl
 fault_told (InHand hand path what) = member_told hand path what
 
--- a fault with this wrong is that one
+-- a fault with this mistake is the one for this mistake
 told_fault : (fault : OhhFault) (wrong : Wrong) → wrong_of fault ≡ Some wrong
     → fault ≡ fault_of wrong
 told_fault (faults.Memory memory) wrong told = absurd (cc (told))
 told_fault fault wrong told = ap fault_of (same_Some _ wrong told)
 
--- what says what is wrong is no want of memory
-no_want : (wrong : Wrong) → is_want_in_ohh (fault_of wrong) ≡ false
-no_want (NoText hand) = refl
-no_want (InHand hand path (whats.TooMany quantity)) = refl
-no_want (InHand hand path what) = refl
+-- the fault for a mistake is not that memory ran out
+not_out_of_memory : (wrong : Wrong) → is_out_of_memory_in_ohh (fault_of wrong) ≡ false
+not_out_of_memory (NoText hand) = refl
+not_out_of_memory (InHand hand path (whats.TooMany quantity)) = refl
+not_out_of_memory (InHand hand path what) = refl
 
 module _ (dialect : Dialect) (bytes : List ℕ) where
-  -- a fault of bytes is that of what is wrong
+  -- a fault of bytes is the one for their mistake
   one_fault : (fault : FormatFault) → HaveFault dialect bytes fault
       → (wrong : Wrong)
       × ((reading dialect bytes ≡ Err wrong) × (fault ≡ formats.Ohh (fault_of wrong)))
@@ -101,7 +101,7 @@ module _ (dialect : Dialect) (bytes : List ℕ) where
       (HaveFault dialect bytes)
   faults_of =
       record {
-        told = λ wrong read. no_want wrong;
+        told = λ wrong read. not_out_of_memory wrong;
         have = λ wrong read. record { wrong = wrong; told = fault_told wrong; reads = read };
         one = one_fault;
       }

@@ -1,15 +1,16 @@
 -- A reading gives hands, or it has one fault, and not both.
 -- This is a proof: no reader needs it.
 use Rattle.std.proofs.Common.{◌≡◌, false, List, length, Result, Ok, Err, inl, inr, refl, sym, ap, ◌∙◌}
-use Rattle.convert_core.specs.Faults.{is_want_of_memory}
+use Rattle.convert_core.specs.Faults.{is_out_of_memory}
 use Rattle.convert_core.specs.ReadOrFail.{ReadOrFail}
 use Rattle.convert_core.specs.Readings.{GivesHands}
 use Rattle.convert_core.specs.declared.format_fault.FormatFault.{FormatFault}
 
--- The faults of a reading are those of what it says is wrong, and none of them is want of memory.
+-- The faults of a reading are the ones for the mistake that it finds, and none of them is that
+-- memory ran out.
 pub record HasFaultsOf {Hand Wrong : Type 0} (found : Result (List Hand) Wrong)
     (fault_of : Wrong → FormatFault) (HaveFault : FormatFault → Type 0) : Type 0 where
-  pub told : (wrong : Wrong) → found ≡ Err wrong → is_want_of_memory (fault_of wrong) ≡ false
+  pub told : (wrong : Wrong) → found ≡ Err wrong → is_out_of_memory (fault_of wrong) ≡ false
   pub have : (wrong : Wrong) → found ≡ Err wrong → HaveFault (fault_of wrong)
   pub one : (fault : FormatFault) → HaveFault fault
       → (wrong : Wrong) × ((found ≡ Err wrong) × (fault ≡ fault_of wrong))
@@ -21,7 +22,7 @@ module _ {Hand Wrong : Type 0} (found : Result (List Hand) Wrong) (fault_of : Wr
       → HaveFault fault → ⊥
   none_of_read hands fault read have = let failed = (faults.one fault have).1.0 in cc (read, failed)
 
-  -- and what is not read has one
+  -- and what cannot be read has one
   one_fault : (wrong : Wrong) (fault : FormatFault) → found ≡ Err wrong → HaveFault fault
       → fault ≡ fault_of wrong
   one_fault wrong fault read have =

@@ -1,4 +1,4 @@
--- What bytes say in the Poker Hand History format, and what bytes are written of plays.
+-- What bytes say in the Poker Hand History format, and which bytes are written for plays.
 use Rattle.std.specs.Prelude.{◌≡◌, ℕ, ◌≤◌, List, [], length, map, Some, Ok, Err, sum_by}
 use Rattle.std.specs.List.{AllByRecursion}
 use Rattle.first_fault.specs.declared.limits.TheConstants.{MOST_FILE_MOVES, MOST_HANDS}
@@ -14,15 +14,15 @@ use Rattle.hand_records.specs.Histories.{IsHistory}
 use Rattle.hand_records.specs.Moves.{moves_of}
 use Rattle.hand_records.specs.PlainHands.{plain}
 
--- bytes say these records: they are what the bytes read as, each as a reader gives it, and no more
--- than a file may have
+-- bytes say these records: they are read as these, each as a reader returns it, and there are at
+-- most as many as a file may have
 pub record Say (bytes : List ℕ) (records : List Record) : Type 0 where
   pub reads : reading bytes ≡ Ok (map plain records)
   pub each : AllByRecursion IsHistory records
   pub few : length records ≤ MOST_HANDS
   pub few_moves : sum_by moves_of records ≤ MOST_FILE_MOVES
 
--- bytes read as so many hands
+-- bytes read as this number of hands
 abbrev pub ReadAsHands : List ℕ → ℕ → Type 0
 ReadAsHands bytes count = GivesHands (reading bytes) count
 
@@ -38,8 +38,8 @@ HaveFault bytes (formats.Phh fault) = Have bytes fault
 HaveFault bytes (formats.Ohh fault) = ⊥
 HaveFault bytes (formats.Acpc fault) = ⊥
 
--- bytes are the spelling of plays: TOML reads them as the one document of the plays, and no plays
--- are no bytes
+-- bytes are these plays as written: TOML reads them as one document of the plays, and no plays are
+-- written as no bytes
 pub record Spell (plays : List Play) (bytes : List ℕ) : Type 0 where
   pub document : written.Spells plays bytes
   pub nothing : plays ≡ [] → bytes ≡ []

@@ -1,4 +1,4 @@
--- Bytes of a hand history say one list of records, as far as records can be told apart.
+-- Bytes of a hand history say only one list of records, up to differences that cannot be observed.
 -- This is a proof: no reader needs it.
 use Rattle.std.proofs.Common.{◌≡◌, ℕ, List, map, Ok, sym, ◌∙◌}
 use Rattle.hand_records.specs.declared.record.Record.{Record}

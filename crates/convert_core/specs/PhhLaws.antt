@@ -1,4 +1,4 @@
--- The laws that a notation keeps, of the Poker Hand History format.
+-- The laws that a notation keeps, for the Poker Hand History format.
 -- This is a proof: no reader needs it.
 use Rattle.std.proofs.Common.{◌≡◌, ℕ, true, List, map, Some, None, Ok}
 use Rattle.std.specs.List.{AllByRecursion}
@@ -28,7 +28,7 @@ use Rattle.hand_records.specs.WriteRefusals.{first_refusal}
 use Rattle.convert_core.specs.UnderRules.{each_under}
 use Rattle.hand_records.specs.PlainHands.{plain}
 
--- what bytes say is what a reader gives of a file
+-- what bytes say is what a reader may return for a file
 pub reads_file : (bytes : List ℕ) (hands : List Record) → Say bytes hands
     → AreOfFile history_rules hands
 reads_file bytes hands say =
@@ -55,7 +55,7 @@ reads_back plays bytes few sound spelled spell =
           say.reads;
     }
 
--- what is not spelled no bytes say
+-- what it cannot express no bytes say
 pub sharp : (play : Play) (fact : Unspelled) → facts.unspelled play ≡ Some fact
     → is_sharp fact ≡ true
     → (bytes : List ℕ) (hands : List Record) → Say bytes hands → AllByRecursion (IsOther play) hands

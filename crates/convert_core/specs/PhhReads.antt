@@ -5,13 +5,13 @@ use Rattle.std.proofs.lemmas.List.{length-map}
 use Rattle.std.proofs.lemmas.Option.{same_Some}
 use Rattle.hand_records.specs.declared.record.Record.{Record}
 use Rattle.hand_records.specs.declared.trace.Play.{Play}
-use Rattle.phh_fields.specs.declared.fault.FieldFaultKind.{FieldFaultKind}
-use Rattle.phh_fields.specs.declared.fault.FieldFaultKind.TheVariants as whats
+use Rattle.phh_reading.specs.declared.field_fault.FieldFaultKind.{FieldFaultKind}
+use Rattle.phh_reading.specs.declared.field_fault.FieldFaultKind.TheVariants as whats
 use Rattle.phh_format.specs.Again.{hands_again}
 use Rattle.phh_reading.specs.Reading.{InHand, NoDocument, Wrong, reading, wrong_of}
 use Rattle.phh_reading.specs.declared.fault.PhhFault.{PhhFault}
 use Rattle.phh_reading.specs.declared.fault.PhhFault.TheVariants as faults
-use Rattle.convert_core.specs.Faults.{is_want_in_phh}
+use Rattle.convert_core.specs.Faults.{is_out_of_memory_in_phh}
 use Rattle.convert_core.specs.Phh.{HaveFault, ReadAsHands, Say}
 use Rattle.convert_core.specs.OneReading.{HasFaultsOf}
 use Rattle.convert_core.specs.OneReading as readings
@@ -20,7 +20,7 @@ use Rattle.convert_core.specs.declared.format_fault.FormatFault.{FormatFault}
 use Rattle.convert_core.specs.declared.format_fault.FormatFault.TheVariants as formats
 use Rattle.hand_records.specs.PlainHands.{PlainHand, plain}
 
--- records that bytes say are as many as the hands that they read as
+-- bytes say as many records as hands that they read as
 pub say_as_many : (bytes : List ℕ) (records : List Record) → Say bytes records
     → ReadAsHands bytes (length records)
 say_as_many bytes records say =
@@ -30,7 +30,7 @@ say_as_many bytes records say =
       counted = length-map records plain;
     }
 
--- as many are read again as there are plays
+-- as many hands are read again as there are plays
 again_counted : (place : ℕ) (plays : List Play)
     → length (hands_again place plays) ≡ length plays
 again_counted place [] = refl
@@ -53,7 +53,7 @@ at_field hand key whats.ListLength = faults.ListLength hand key
 at_field hand key whats.BadAction = faults.BadAction hand key
 at_field hand key (whats.TooMany quantity) = faults.TooMany hand key quantity
 
--- the fault that says what is wrong
+-- the fault for this mistake
 abbrev fault_of : Wrong → PhhFault
 fault_of NoDocument = faults.Text
 fault_of (InHand hand key what) = at_field hand key what
@@ -67,19 +67,19 @@ fault_told : (wrong : Wrong) → wrong_of (fault_of wrong) ≡ Some wrong
 fault_told NoDocument = refl
 fault_told (InHand hand key what) = field_told hand key what
 
--- a fault with this wrong is that one
+-- a fault with this mistake is the one for this mistake
 told_fault : (fault : PhhFault) (wrong : Wrong) → wrong_of fault ≡ Some wrong
     → fault ≡ fault_of wrong
 told_fault (faults.Memory memory) wrong told = absurd (cc (told))
 told_fault fault wrong told = ap fault_of (same_Some _ wrong told)
 
--- what says what is wrong is no want of memory
-no_want : (wrong : Wrong) → is_want_in_phh (fault_of wrong) ≡ false
-no_want NoDocument = refl
-no_want (InHand hand key (whats.TooMany quantity)) = refl
-no_want (InHand hand key what) = refl
+-- the fault for a mistake is not that memory ran out
+not_out_of_memory : (wrong : Wrong) → is_out_of_memory_in_phh (fault_of wrong) ≡ false
+not_out_of_memory NoDocument = refl
+not_out_of_memory (InHand hand key (whats.TooMany quantity)) = refl
+not_out_of_memory (InHand hand key what) = refl
 
--- a fault of bytes is that of what is wrong
+-- a fault of bytes is the one for their mistake
 one_fault : (bytes : List ℕ) (fault : FormatFault) → HaveFault bytes fault
     → (wrong : Wrong) × ((reading bytes ≡ Err wrong) × (fault ≡ formats.Phh (fault_of wrong)))
 one_fault bytes (formats.Phh fault) have =
@@ -91,7 +91,7 @@ faults_of : (bytes : List ℕ)
     → HasFaultsOf (reading bytes) (λ wrong. formats.Phh (fault_of wrong)) (HaveFault bytes)
 faults_of bytes =
     record {
-      told = λ wrong read. no_want wrong;
+      told = λ wrong read. not_out_of_memory wrong;
       have = λ wrong read. record { wrong = wrong; told = fault_told wrong; reads = read };
       one = one_fault bytes;
     }

@@ -12,11 +12,11 @@ use Rattle.convert_core.specs.SameParts.{names_same}
 use Rattle.convert_core.specs.SameRecords.{AllAlike, AreAlike}
 
 module _ (a b : Record) (is : IsHistory a) (it : IsHistory b) (same : plain a ≡ plain b) where
-  -- their setups are one
+  -- their setups are equal
   setups : a.setup ≡ b.setup
   setups = same_setup a b same
 
-  -- they have as many seats
+  -- they have the same number of seats
   count : a.setup.stacks.seats ≡ b.setup.stacks.seats
   count = ap (λ (setup : Setup). setup.stacks.seats) setups
 
@@ -34,11 +34,11 @@ module _ (a b : Record) (is : IsHistory a) (it : IsHistory b) (same : plain a �
       ap (λ (hand : PlainHand). hand.notes.seats) same
       ∙ ap (λ (n : ℕ). option_map (take n) b.notes.seats) (sym count)
 
-  -- the notes of the other record are those of as many seats
+  -- the notes of the other record are allowed for the same number of seats
   allowed : AreAllowed a.setup.stacks.seats b.notes
   allowed = subst (λ (n : ℕ). AreAllowed n b.notes) (sym count) it.sound.notes
 
-  -- two hands that are said alike
+  -- two hands that say the same are alike
   pub hand_alike : AreAlike a b
   hand_alike =
       record {
@@ -68,7 +68,7 @@ module _ (a b : Record) (is : IsHistory a) (it : IsHistory b) (same : plain a �
             };
       }
 
--- records that are said alike are alike, one by one
+-- records that say the same are alike, one by one
 pub all_alike : (records others : List Record) → AllByRecursion IsHistory records
     → AllByRecursion IsHistory others → map plain records ≡ map plain others
     → AllAlike records others

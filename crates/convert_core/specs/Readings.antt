@@ -1,7 +1,7 @@
--- How many hands a reading gives, in whatever notation.
+-- How many hands are read, in any notation.
 use Rattle.std.specs.Prelude.{◌≡◌, ℕ, List, length, Result, Ok}
 
--- a reading gives so many hands
+-- this number of hands is read
 pub record GivesHands {Hand Wrong : Type 0} (found : Result (List Hand) Wrong) (count : ℕ)
     : Type 0 where
   pub hands : List Hand

@@ -1,4 +1,5 @@
--- Records as a notation gives them: sound, under its rules, and no more than a file may have.
+-- Records as a notation returns them: sound, under its rules, and at most as many as a file may
+-- have.
 use Rattle.std.specs.Prelude.{◌≡◌, ◌≤◌, List, length, sum_by}
 use Rattle.std.specs.List.{AllByRecursion}
 use Rattle.first_fault.specs.declared.limits.TheConstants.{MOST_FILE_MOVES, MOST_HANDS}
@@ -13,14 +14,14 @@ pub record IsUnder (rules : Rules) (hand : Record) : Type 0 where
   pub sound : IsSoundRecord hand
   pub rules_are : hand.rules ≡ rules
 
--- records of a file are sound, under these rules, and no more than a file may have; nor are their
--- moves
+-- the records of a file are sound and under these rules, and they and their moves are at most as
+-- many as a file may have
 pub record AreOfFile (rules : Rules) (hands : List Record) : Type 0 where
   pub each : AllByRecursion (IsUnder rules) hands
   pub few : length hands ≤ MOST_HANDS
   pub few_moves : sum_by moves_of hands ≤ MOST_FILE_MOVES
 
--- plays are no more than a file may have, nor are their moves
+-- plays and their moves are at most as many as a file may have
 pub record AreFew (plays : List Play) : Type 0 where
   pub few : length plays ≤ MOST_HANDS
   pub few_moves : sum_by moves_played plays ≤ MOST_FILE_MOVES

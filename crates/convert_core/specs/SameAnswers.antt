@@ -1,11 +1,11 @@
--- Two conversions that answer the same.
+-- Two conversions with the same answer.
 use Rattle.std.specs.Prelude.{◌≡◌, ℕ, List, Result, Ok, Err}
 use Rattle.convert_core.specs.declared.convert_fault.ConvertFault.{ConvertFault}
 use Rattle.convert_core.specs.declared.convert_fault.ConvertFault.TheVariants as faults
 
--- Two answers are the same: both are done, and their outputs are the same, or both name one hand,
--- and its one fact without a spelling. Either may want memory, which says nothing. Neither is
--- another refusal.
+-- Two answers are the same: both are outputs, and these are the same, or both name the same hand
+-- and the same fact that cannot be expressed. Either may be out of memory, which says nothing.
+-- Neither is another refusal.
 abbrev pub AreSameAnswers : (AreSame : List ℕ → List ℕ → Type 0)
     → (answer again : Result (List ℕ) ConvertFault) → Type 0
 AreSameAnswers AreSame (Ok output) (Ok again) = AreSame output again

@@ -1,4 +1,4 @@
--- Hands of hand histories are under the rules of hand histories.
+-- Hands of hand histories are played under the rules of hand histories.
 -- This is a proof: no reader needs it.
 use Rattle.std.specs.Prelude.{List, [], ◌∷◌}
 use Rattle.std.specs.List.{AllByRecursion}
@@ -7,7 +7,7 @@ use Rattle.hand_records.specs.Histories.{IsHistory}
 use Rattle.hand_records.specs.declared.record.Record.{Record}
 use Rattle.play_event.specs.HistoryRules.{history_rules}
 
--- each hand that bytes say is under the rules of its notation
+-- each hand that bytes say is played under the rules of its notation
 pub each_under : (records : List Record) → AllByRecursion IsHistory records
     → AllByRecursion (IsUnder history_rules) records
 each_under [] each = tt

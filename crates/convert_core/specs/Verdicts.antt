@@ -1,4 +1,4 @@
--- The verdict on a hand: it is legal and agrees with what it states, or it is refused, and why.
+-- The verdict on a hand: legal, and in agreement with what it states, or refused, and why.
 use Rattle.std.specs.Prelude.{◌≡◌, ℕ, ◌+◌, Bool, false, List, [], ◌∷◌, ◌++◌, length, map, All}
 use Rattle.hand_canon.specs.Judged.{IsJudged}
 use Rattle.hand_records.specs.declared.record.Record.{Record}
@@ -6,17 +6,17 @@ use Rattle.hand_records.specs.declared.trace.Play.{Play}
 use Rattle.convert_core.specs.Judged.{IsRefusedFor}
 use Rattle.convert_core.specs.declared.refusal.Refusal.{Refusal}
 
--- A verdict: the play of a legal hand, or a refused hand and what is wrong with it first.
+-- A verdict: the play of a legal hand, or a refused hand and its first fault.
 pub data Verdict : Type 0 where
   Legal : Play → Verdict
   Refused : Record → Refusal → Verdict
 
--- the hand that it is on
+-- the hand that the verdict is on
 abbrev pub hand_in : Verdict → Record
 hand_in (Legal play) = play.hand
 hand_in (Refused hand why) = hand
 
--- it is the right one
+-- the verdict is right
 abbrev pub IsRight : Verdict → Type 0
 IsRight (Legal play) = IsJudged play
 IsRight (Refused hand why) = IsRefusedFor hand why
@@ -27,16 +27,16 @@ legal_plays [] = []
 legal_plays (Legal play ∷ rest) = play ∷ legal_plays rest
 legal_plays (Refused hand why ∷ rest) = legal_plays rest
 
--- verdicts are all on legal hands, unless one goes on behind refused ones
+-- all verdicts are on legal hands, unless the visitor continues after refused ones
 abbrev pub AreLegalUnless : Bool → List Verdict → Type 0
-AreLegalUnless goes_on verdicts = goes_on ≡ false → verdicts ≡ map Legal (legal_plays verdicts)
+AreLegalUnless continues verdicts = continues ≡ false → verdicts ≡ map Legal (legal_plays verdicts)
 
--- verdicts are those on records: as many, in their order, and each is right
+-- these are the verdicts on the records: the same number, in their order, and each is right
 pub record AreVerdictsOn (records : List Record) (verdicts : List Verdict) : Type 0 where
   pub same : map hand_in verdicts ≡ records
   pub right : All IsRight verdicts
 
--- the verdict with this number, from 1, is the first that is not legal, and this is why
+-- the verdict with this number, from 1, is the first on a refused hand, and this is the reason
 pub record IsFirstNotLegal (verdicts : List Verdict) (number : ℕ) (why : Refusal) : Type 0 where
   pub before : List Play
   pub hand : Record

@@ -1,4 +1,4 @@
-//! Logs of the competition, under a game.
+//! Logs of the Annual Computer Poker Competition, read and written under a game.
 ghost use Rattle.std.specs.Prelude.{◌≡◌, ◌⊎◌, ◌≤◌, ◌++◌, [], ◌∷◌, true, List, length, None, Some, IfErr, IfOk, OnErr, OnOk};
 ghost use Rattle.std.specs.List.{AllByRecursion};
 ghost use Rattle.acpc_format.proofs.NoteFacts as note_facts;
@@ -9,18 +9,18 @@ ghost use Rattle.acpc_reading.specs.RecordView.{rules_of as rules_of_game};
 ghost use Rattle.first_fault.specs.declared.limits.TheConstants.{MOST_HANDS};
 ghost use Rattle.hand_canon.specs.Sound.{IsSound};
 ghost use Rattle.hand_records.specs.declared.trace.Play.{Play as AnyPlay};
-ghost use Rattle.convert_core.specs.Faults.{is_want_of_memory};
+ghost use Rattle.convert_core.specs.Faults.{is_out_of_memory};
 ghost use Rattle.convert_core.specs.KeptParts as parts;
 ghost use Rattle.convert_core.specs.AcpcAlike as alike;
 ghost use Rattle.convert_core.specs.AcpcLaws as laws;
 ghost use Rattle.convert_core.specs.AcpcReads as reads;
 ghost use Rattle.convert_core.specs.Acpc as in_acpc;
-ghost use Rattle.hand_records.specs.WriteRefusals.{IsWant, first_refusal};
+ghost use Rattle.hand_records.specs.WriteRefusals.{IsOutOfMemory, first_refusal};
 
-use card_set::Memory;
 use crate::format_fault::FormatFault;
 use crate::notation::Notation;
 use acpc_format::Game;
+use card_set::Memory;
 use hand_records::{Keep, Play, Records, Unspelled, WriteRefusal};
 use play_event::{Reopen, Rules};
 use std::alloc::Global;
@@ -31,11 +31,11 @@ pub struct Acpc {
     pub game: Game,
 }
 
-// The records that bytes say under a game.
+// Reads the records of a log under a game.
 fn read_acpc(alloc: Global, game: &Game, bytes: &[u8]) -> Result<Records, FormatFault>
     ensures say { IfOk result (in_acpc.Say game.now bytes.now) }
     ensures fault { IfErr result (λ fault.
-        (is_want_of_memory fault ≡ true) ⊎ in_acpc.HaveFault game.now bytes.now fault) }
+        (is_out_of_memory fault ≡ true) ⊎ in_acpc.HaveFault game.now bytes.now fault) }
 {
     match acpc_format::read(alloc, game, bytes) {
         Ok(records) => Ok(records),
@@ -43,7 +43,7 @@ fn read_acpc(alloc: Global, game: &Game, bytes: &[u8]) -> Result<Records, Format
     }
 }
 
-// The spelling of plays.
+// Writes plays as a log.
 fn write_acpc(
     alloc: Global,
     game: &Game,
@@ -54,13 +54,13 @@ fn write_acpc(
     requires sound { AllByRecursion IsSound plays.now }
     ensures spell { IfOk result (λ bytes. in_acpc.Spell game.now plays.now bytes.items) }
     ensures spelled { OnOk result (first_refusal (facts.unspelled game.now keep) plays.now ≡ None) }
-    ensures refused { IfErr result (λ refusal. IsWant refusal
+    ensures refused { IfErr result (λ refusal. IsOutOfMemory refusal
         ⊎ (first_refusal (facts.unspelled game.now keep) plays.now ≡ Some refusal)) }
 {
     acpc_format::write(alloc, game, plays, keep)
 }
 
-// The line of a play behind those of the plays before it.
+// Appends the line of a play to the lines of the plays before it.
 #[tactic(auto, using(crate::specs::AcpcLaws::one_line_more))]
 fn push_acpc_line(
     alloc: Global,

@@ -1,20 +1,20 @@
 //! Why nothing is converted.
 
-use card_set::Memory;
 use crate::format_fault::FormatFault;
 use crate::refusal::Refusal;
+use card_set::Memory;
 use hand_records::Unspelled;
 
 /// Why bytes are not converted. Hands are counted from 1, in the order of reading.
 #[derive(Debug, Drop)]
 pub enum ConvertFault {
-    /// The bytes do not read: their first fault, which is never want of memory.
+    /// The bytes cannot be read: their first fault, which is never that memory ran out.
     Format(FormatFault),
-    /// The first refused hand: its script has no trace, or else a stated fact differs from the
+    /// The first refused hand: its script cannot be replayed, or a stated fact differs from its
     /// trace.
     Refused { hand: u32, why: Refusal },
-    /// All hands are legal; this is the first with a kept fact that the target does not spell, and
-    /// the first such fact.
+    /// All hands are legal; this is the first with a fact to be kept that the target cannot
+    /// express, and its first such fact.
     Unspelled { hand: u32, fact: Unspelled },
     Memory(Memory),
 }

@@ -1,5 +1,5 @@
-//! Bytes of one notation come to their plays, and to bytes of another notation, by what the
-//! notations promise alone.
+//! Replays bytes of one notation and writes the hands in another, using only the laws of
+//! `Notation`.
 ghost use Rattle.std.specs.Prelude.{IfErr, IfOk};
 ghost use Rattle.std.specs.List.{AllByRecursion};
 ghost use Rattle.hand_canon.specs.Sound.{IsSound};
@@ -17,19 +17,19 @@ use crate::refusal::PlaysFault;
 use hand_records::{Keep, Play, Records, WriteRefusal};
 use std::alloc::Global;
 
-/// The bytes of the plays in another notation, if each fact to be kept has a spelling there. They
-/// read back as as many hands, with the same traces and the kept notes: all notes, or those that
-/// the notation spells.
+/// Writes the hands of `bytes` in another notation, if it can express each fact to be kept. The
+/// output reads back as the same number of hands, with the same traces and the kept notes: all
+/// notes, or those that the target can express.
 ///
-/// Equal outputs are those of equal hands (`law_of_equal_outputs`), an output is converted to
-/// itself (`law_of_converting_again`), and a conversion with all notes may go by another notation
+/// Equal outputs come from equal hands (`law_of_equal_outputs`), an output is converted to itself
+/// (`law_of_converting_again`), and a conversion with all notes may go by way of another notation
 /// (`law_of_converting_by_way`).
 ///
 /// # Errors
 ///
-/// The first fault of the bytes; or else the first refused hand, with what is wrong with it first;
-/// or else the first hand with a fact to be kept that the target does not spell, and the first such
-/// fact; or want of memory.
+/// The first fault of the bytes; or else the first refused hand, with its first fault; or else the
+/// first hand with a fact to be kept that the target cannot express, and its first such fact; or
+/// out of memory.
 pub fn convert<N: Notation, M: Notation>(
     alloc: Global,
     from: &N,
@@ -44,7 +44,7 @@ pub fn convert<N: Notation, M: Notation>(
         (λ output. output.items) result }
 {
     if to.has_lines() {
-        // Its plays need not be kept, which are some thousand bytes each.
+        // A target with lines needs one play at a time: each is a few thousand bytes.
         return match read_records(alloc, from, bytes) {
             Ok(records) => write_records(alloc, to, keep, records),
             Err(fault) => Err(fault),
@@ -58,12 +58,12 @@ pub fn convert<N: Notation, M: Notation>(
     }
 }
 
-/// The plays that bytes read as: each record with the trace that its script comes to.
+/// The plays of the hands in `bytes`: each record with the trace that its script replays to.
 ///
 /// # Errors
 ///
-/// The first fault of the bytes; or else the first refused hand, with what is wrong with it first;
-/// or want of memory.
+/// The first fault of the bytes; or else the first refused hand, with its first fault; or out of
+/// memory.
 pub fn plays<N: Notation>(alloc: Global, from: &N, bytes: &[u8]) -> Result<Vec<Play>, ConvertFault>
     ensures plays { IfOk result (λ plays. ReadAsPlays (N.Say from.now bytes.now) plays.items) }
     ensures sound { IfOk result (λ plays. AllByRecursion IsSound plays.items) }
@@ -82,11 +82,11 @@ pub fn plays<N: Notation>(alloc: Global, from: &N, bytes: &[u8]) -> Result<Vec<P
     }
 }
 
-/// The records that bytes read as, sound and no more than a file may have.
+/// The records in `bytes`: sound, and at most as many as a file may have.
 ///
 /// # Errors
 ///
-/// The first fault of the bytes; or want of memory.
+/// The first fault of the bytes; or out of memory.
 pub fn read_records<N: Notation>(
     alloc: Global,
     from: &N,

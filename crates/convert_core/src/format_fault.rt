@@ -1,6 +1,6 @@
-//! Why bytes do not read, in the words of their notation.
+//! Why bytes cannot be read, one case for each notation.
 ghost use Rattle.std.specs.Prelude.{◌≡◌, is_some};
-ghost use Rattle.convert_core.specs.Faults.{is_want_of_memory};
+ghost use Rattle.convert_core.specs.Faults.{is_out_of_memory};
 
 use acpc_format::AcpcFault;
 use card_set::Memory;
@@ -16,9 +16,9 @@ pub enum FormatFault {
 }
 
 impl FormatFault {
-    /// The want of memory, where it is one, so that nothing is known of the bytes.
+    /// The fault as `Memory`, if memory ran out and nothing is known of the bytes.
     pub fn memory(&self) -> Option<Memory>
-        ensures { is_some result ≡ is_want_of_memory self.now }
+        ensures { is_some result ≡ is_out_of_memory self.now }
     {
         match self {
             FormatFault::Phh(PhhFault::Memory(memory)) => Some(*memory),

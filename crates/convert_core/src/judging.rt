@@ -1,4 +1,4 @@
-//! Each record is replayed, and what it states is compared with its trace.
+//! Replays each record and compares what it states with its trace.
 ghost use Rattle.std.specs.Prelude.{◌≡◌, ◌<◌, ◌+◌, IfErr, OnErr, OnOk};
 ghost use Rattle.hand_records.specs.SoundRecord.{IsSoundRecord};
 ghost use Rattle.first_fault.specs.declared.limits.TheConstants.{MOST_HANDS};
@@ -11,13 +11,14 @@ use hand_records::{Play, Record};
 use replay_core::{ReplayFault, replay};
 use std::alloc::Global;
 
-/// Puts the play of the record behind so many others of its file after those in a list. It is made
-/// where it is kept: a play is some thousand bytes, and would else be copied again and again.
+/// Replays the record and appends its play to a list; `place` counts the records before it in its
+/// file. The play is made where it is kept: it is a few thousand bytes, which would be copied again
+/// and again.
 ///
 /// # Errors
 ///
-/// What is wrong with the hand first; or want of memory.
-pub fn push_play(
+/// The hand's first fault; or out of memory.
+pub fn replay_and_check(
     alloc: Global,
     plays: &mut Vec<Play>,
     before: usize,
@@ -43,7 +44,7 @@ pub fn push_play(
     }
 }
 
-// The hand with this number is refused.
+// The hand with this number, from 1, is refused.
 fn refused(number: u32, why: Refusal) -> PlaysFault
     ensures { result ≡ plays_faults.Refused number why }
 {

@@ -1,29 +1,29 @@
-//! The plays of records, and nothing else of them.
+//! Collects the plays of all records.
 ghost use Rattle.std.specs.Prelude.{◌≤◌, true, false, All, length, IfErr, IfOk, ⊤};
 ghost use Rattle.convert_core.specs.Judged.{ArePlaysOf, IsPlaysFaultOf};
 ghost use Rattle.first_fault.specs.declared.limits.TheConstants.{MOST_HANDS};
 ghost use Rattle.hand_canon.specs.Sound.{IsSound};
 ghost use Rattle.hand_records.specs.SoundRecord.{IsSoundRecord};
 
-use card_set::Memory;
 use crate::refusal::{PlaysFault, Refusal};
-use crate::taker::Taker;
-use crate::taking::take_each;
+use crate::taking::judge_all;
+use crate::visitor::VerdictVisitor;
+use card_set::Memory;
 use hand_records::{Play, Records};
 use std::alloc::Global;
 
-// Nothing is made of the hands: their plays are kept.
+// Visits hands and does nothing with them but retain their plays.
 #[derive(Drop)]
 struct Keeper;
 
-impl Taker for Keeper {
-    ghost GOES_ON = { false };
+impl VerdictVisitor for Keeper {
+    ghost CONTINUES = { false };
 
     ghost KEEPS = { true };
 
     ghost Took = { λ _ _ _. ⊤ };
 
-    fn goes_on(&self) -> bool {
+    fn continues(&self) -> bool {
         false
     }
 
@@ -40,13 +40,13 @@ impl Taker for Keeper {
     }
 }
 
-/// The plays of records, in their order: each record with the trace that its script comes to. A
-/// hand is refused where its script has no trace, or else where a stated fact differs from the
+/// The plays of records, in their order: each record with the trace that its script replays to. A
+/// hand is refused if its script cannot be replayed, or else if a stated fact differs from its
 /// trace.
 ///
 /// # Errors
 ///
-/// The first refused hand, with what is wrong with it first; or want of memory.
+/// The first refused hand, with its first fault; or out of memory.
 pub fn plays_of(alloc: Global, records: Records) -> Result<Vec<Play>, PlaysFault>
     requires sound { All IsSoundRecord records }
     requires few { length records ≤ MOST_HANDS }
@@ -54,7 +54,7 @@ pub fn plays_of(alloc: Global, records: Records) -> Result<Vec<Play>, PlaysFault
     ensures sound { IfOk result (λ plays. All IsSound plays.items) }
     ensures refused { IfErr result (IsPlaysFaultOf records) }
 {
-    match take_each(alloc, &mut Keeper, records) {
+    match judge_all(alloc, &mut Keeper, records) {
         Ok(plays) => Ok(plays),
         Err(fault) => Err(fault),
     }

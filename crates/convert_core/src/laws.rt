@@ -1,6 +1,5 @@
-//! Records come to one list of plays, or to one refusal; bytes come to one conversion; no note is
-//! forgotten; what is not spelled is not said; and equal hands come to equal outputs, by whatever
-//! way.
+//! Laws of conversion: outcomes are unique, no note is forgotten, what a notation cannot express no
+//! file of it says, and equal hands give equal outputs.
 ghost use Rattle.std.specs.Prelude.{◌≡◌, ◌<◌, ◌↔◌, ℕ, true, List, None, Ok, Some, Result, map};
 ghost use Rattle.std.specs.List.{AllByRecursion};
 ghost use Rattle.hand_records.specs.SaidNotes.{KeepsNotes, notes_of};
@@ -28,8 +27,8 @@ ghost use Rattle.hand_records.specs.WriteRefusals.{first_refusal};
 use crate::notation::Notation;
 use hand_records::Keep;
 
-/// Records have one list of plays at most, and one first refused hand, which is refused for one
-/// thing; and not both. The function does nothing: its contract is a law.
+/// Records have at most one list of plays and at most one first refused hand, refused for one
+/// reason; and never both. The function does nothing: its contract is a law.
 pub fn law_of_one_outcome()
     ensures plays { (records : List Record) (plays others : List Play)
         → ArePlaysOf records plays → ArePlaysOf records others → plays ≡ others }
@@ -40,10 +39,10 @@ pub fn law_of_one_outcome()
         → ArePlaysOf records plays → IsFirstRefused records number why → ⊥ }
 {}
 
-/// The verdicts on hands are their plays exactly where all of them are legal; and the first that is
-/// not legal is on the first refused hand, with the same cause. So `check` is done exactly where
-/// `judge` tells all hands as legal, and else names the first that `judge` tells as refused. The
-/// function does nothing: its contract is a law.
+/// The verdicts on hands are their plays if and only if all hands are legal; and the first verdict
+/// that is a refusal is on the first refused hand, with the same cause. So `check` succeeds if and
+/// only if `judge` reports every hand as legal, and otherwise names the first hand that `judge`
+/// reports as refused. The function does nothing: its contract is a law.
 pub fn law_of_verdicts()
     ensures legal { (records : List Record) (verdicts : List Verdict) (plays : List Play)
         → AreVerdictsOn records verdicts
@@ -53,11 +52,11 @@ pub fn law_of_verdicts()
         → IsFirstRefused records number why ↔ IsFirstNotLegal verdicts number why }
 {}
 
-/// What bytes come to is one thing. They read as one number of hands, or they have one fault, and
-/// not both. Where they read as hands, one of these is the first that is refused, for one thing, or
-/// all of them have their plays; and where they have their plays, one of these is the first with a
-/// fact to be kept that the target does not spell, and that fact is one, or all are spelled. The
-/// function does nothing: its contract is a law.
+/// Bytes have one outcome. They read as one number of hands or have one fault, and not both. If
+/// they read as hands, then either one hand is the first refused, for one reason, or all have their
+/// plays. If all have their plays, then either one hand is the first with a fact to be kept that
+/// the target cannot express, and that fact is unique, or the target can express all. The function
+/// does nothing: its contract is a law.
 pub fn law_of_one_conversion<N: Notation, M: Notation>(from: &N, to: &M, keep: Keep)
     ensures read_or_fail { (bytes : List ℕ)
         → ReadOrFail (N.ReadAsHands from.now bytes) (N.HaveFault from.now bytes) }
@@ -80,8 +79,8 @@ pub fn law_of_one_conversion<N: Notation, M: Notation>(from: &N, to: &M, keep: K
         → first_refusal (M.unspelled to.now keep) plays ≡ None → ⊥ }
 {}
 
-/// Bytes that read as hands which are all legal and agree with what is stated of them, and of which
-/// the target spells each fact to be kept, are converted, unless memory is wanting. The function
+/// If the bytes read as hands, all are legal and agree with what is stated of them, and the target
+/// can express each fact to be kept, then they are converted, unless memory runs out. The function
 /// does nothing: its contract is a law.
 pub fn law_of_legal_conversions<N: Notation, M: Notation>(from: &N, to: &M, keep: Keep)
     ensures { (bytes : List ℕ) (plays : List Play) (answer : Result (List ℕ) ConvertFault)
@@ -95,9 +94,9 @@ pub fn law_of_legal_conversions<N: Notation, M: Notation>(from: &N, to: &M, keep
         → RefusesNothing answer }
 {}
 
-/// No note is forgotten, and none is made up. Of a play of which nothing is without a spelling all
-/// notes are kept; and of any play a part of its notes is kept, within which is whatever part of
-/// them the notation spells whole. The function does nothing: its contract is a law.
+/// No note is forgotten, and none is made up. If the notation can express everything in a play, all
+/// its notes are kept. Of any play a part of the notes is kept, and it includes every part that the
+/// notation can express whole. The function does nothing: its contract is a law.
 pub fn law_of_kept_notes<N: Notation>(notation: &N)
     ensures all { (place : ℕ) (play : Play) → place < MOST_HANDS → IsSound play
         → N.unspelled notation.now keeps.All play ≡ None
@@ -110,8 +109,8 @@ pub fn law_of_kept_notes<N: Notation>(notation: &N)
         → ArePartOf (notes_of place part) (N.kept notation.now (notes_of place play)) }
 {}
 
-/// What a notation does not spell no bytes say. Where a play has a fact without a spelling that is
-/// neither an odd chip nor a note, none of the hands that any bytes say is legal with the trace of
+/// What a notation is said not to express, no file of it says. If a play has such a fact, other
+/// than an odd chip or a note, then no hand in any file of the notation is legal with the trace of
 /// the play. The function does nothing: its contract is a law.
 pub fn law_of_sharpness<N: Notation>(notation: &N, keep: Keep)
     ensures { (play : Play) (fact : Unspelled)
@@ -120,8 +119,8 @@ pub fn law_of_sharpness<N: Notation>(notation: &N, keep: Keep)
         → AllByRecursion (IsOther play) hands }
 {}
 
-/// Equal outputs are those of equal hands. Two inputs, of any notations, are converted to one
-/// notation, with one choice of notes: their outputs are the same exactly where their hands have
+/// Equal outputs come from equal hands. If two inputs, in any notations, are converted to one
+/// notation with the same choice of notes, their outputs are equal if and only if their hands have
 /// the same traces and the same kept notes, hand by hand. The function does nothing: its contract
 /// is a law.
 pub fn law_of_equal_outputs<A: Notation, B: Notation, N: Notation>(
@@ -142,8 +141,8 @@ pub fn law_of_equal_outputs<A: Notation, B: Notation, N: Notation>(
         ↔ N.AreSame to.now output written }
 {}
 
-/// An output is converted to its own notation once more as the same output, whichever notes are
-/// kept then, unless memory is wanting. The function does nothing: its contract is a law.
+/// Converting an output to its own notation gives the same output, whichever notes are kept then,
+/// unless memory runs out. The function does nothing: its contract is a law.
 pub fn law_of_converting_again<A: Notation, N: Notation>(from: &A, to: &N, keep: Keep, again: Keep)
     ensures { (bytes output : List ℕ) (answer : Result (List ℕ) ConvertFault)
         → Answers (A.Say from.now) (A.HaveFault from.now) (N.unspelled to.now) (N.Spell to.now)
@@ -155,10 +154,10 @@ pub fn law_of_converting_again<A: Notation, N: Notation>(from: &A, to: &N, keep:
         → AreSameAnswers (N.AreSame to.now) (Ok output) answer }
 {}
 
-/// A conversion may go by another notation. Where bytes are converted with all notes, what becomes
-/// of the output in a third notation is what becomes of the bytes there, with each choice of notes:
-/// the same output, or the same hand and its same fact without a spelling; unless memory is
-/// wanting. The function does nothing: its contract is a law.
+/// A conversion may go by way of another notation. If bytes are converted with all notes, then
+/// converting the output to a third notation has the same result as converting the bytes to it,
+/// with either choice of notes: the same output, or the same hand and its same fact that cannot be
+/// expressed; unless memory runs out. The function does nothing: its contract is a law.
 pub fn law_of_converting_by_way<A: Notation, B: Notation, C: Notation>(
     from: &A,
     by: &B,

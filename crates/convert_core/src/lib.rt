@@ -1,6 +1,6 @@
-//! Hands are judged and converted: bytes of any notation come to their plays, or the first hand
-//! that is refused is named, and why; and plays come to bytes of any other notation, or the first
-//! fact that has no spelling is named.
+//! Judges and converts hands: reads bytes of any notation as plays, or names the first refused hand
+//! and the reason; and writes plays in any other notation, or names the first fact that it cannot
+//! express.
 #![tactic(auto)]
 
 mod acpc;
@@ -15,8 +15,8 @@ mod notation;
 mod ohh;
 mod phh;
 mod refusal;
-mod taker;
 mod taking;
+mod visitor;
 
 pub use acpc::Acpc;
 pub use convert_fault::ConvertFault;
@@ -32,5 +32,5 @@ pub use notation::Notation;
 pub use ohh::Ohh;
 pub use phh::Phh;
 pub use refusal::{PlaysFault, Refusal};
-pub use taker::Taker;
-pub use taking::take_each;
+pub use taking::judge_all;
+pub use visitor::VerdictVisitor;

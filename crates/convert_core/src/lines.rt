@@ -1,4 +1,4 @@
-//! Records are written line by line in a notation that has a line for each hand.
+//! Writes records line by line, in a notation with one line per hand.
 ghost use Rattle.std.specs.Prelude.{◌≡◌, ◌≤◌, true, false, All, length};
 ghost use Rattle.convert_core.specs.Conversion.{IsConversion};
 ghost use Rattle.first_fault.specs.declared.limits.TheConstants.{MOST_HANDS};
@@ -6,12 +6,12 @@ ghost use Rattle.hand_canon.specs.Sound.{IsSound};
 ghost use Rattle.hand_records.specs.SoundRecord.{IsSoundRecord};
 ghost use Rattle.convert_core.specs.Lines.{IsWritten};
 
-use card_set::Memory;
 use crate::convert_fault::ConvertFault;
 use crate::notation::Notation;
 use crate::refusal::{PlaysFault, Refusal};
-use crate::taker::Taker;
-use crate::taking::take_each;
+use crate::taking::judge_all;
+use crate::visitor::VerdictVisitor;
+use card_set::Memory;
 use hand_records::{Keep, Play, Records, WriteRefusal};
 use std::alloc::Global;
 
@@ -21,13 +21,13 @@ struct Writer<'a, N> {
     to: &'a N,
     keep: Keep,
     out: Vec<u8>,
-    // The first hand with a fact that has no spelling, and the first such fact. Behind it nothing
-    // is written.
+    // The first hand with a fact that cannot be expressed, and its first such fact. After it
+    // nothing is written.
     refusal: Option<WriteRefusal>,
 }
 
-impl<'a, N: Notation> Taker for Writer<'a, N> {
-    ghost GOES_ON = { false };
+impl<'a, N: Notation> VerdictVisitor for Writer<'a, N> {
+    ghost CONTINUES = { false };
 
     ghost KEEPS = { false };
 
@@ -35,7 +35,7 @@ impl<'a, N: Notation> Taker for Writer<'a, N> {
         × IsWritten (N.is_lined it.to.now) (N.unspelled it.to.now it.keep) (N.Spell it.to.now)
         it.refusal it.out.items verdicts };
 
-    fn goes_on(&self) -> bool {
+    fn continues(&self) -> bool {
         false
     }
 
@@ -62,13 +62,13 @@ impl<'a, N: Notation> Taker for Writer<'a, N> {
     }
 }
 
-/// What the records of a file come to in a notation that has lines: they are replayed in their
-/// order, and each play is written and dropped before the next is made.
+/// Writes records in a notation that has lines: replays them in their order, and writes and drops
+/// each play before the next is made.
 ///
 /// # Errors
 ///
-/// The first refused hand, with what is wrong with it first; or else the first hand with a fact to
-/// be kept that the target does not spell, and the first such fact; or want of memory.
+/// The first refused hand, with its first fault; or else the first hand with a fact to be kept that
+/// the target cannot express, and its first such fact; or out of memory.
 pub fn write_records<N: Notation>(
     alloc: Global,
     to: &N,
@@ -87,7 +87,7 @@ pub fn write_records<N: Notation>(
         out: Vec::new(alloc),
         refusal: None,
     };
-    match take_each(alloc, &mut writer, records) {
+    match judge_all(alloc, &mut writer, records) {
         Ok(_) => {}
         Err(PlaysFault::Refused { hand, why }) => {
             return Err(ConvertFault::Refused { hand, why });

@@ -9,17 +9,17 @@ ghost use Rattle.ohh_format.proofs.OneForm as forms;
 ghost use Rattle.ohh_format.specs.KeptNotes.{kept_in_ohh};
 ghost use Rattle.ohh_writing.specs.Spelled as facts;
 ghost use Rattle.play_event.specs.HistoryRules.{history_rules as rules_of_histories};
-ghost use Rattle.convert_core.specs.Faults.{is_want_of_memory};
+ghost use Rattle.convert_core.specs.Faults.{is_out_of_memory};
 ghost use Rattle.convert_core.specs.KeptParts as parts;
 ghost use Rattle.convert_core.specs.OhhAlike as alike;
 ghost use Rattle.convert_core.specs.OhhLaws as laws;
 ghost use Rattle.convert_core.specs.OhhReads as reads;
 ghost use Rattle.convert_core.specs.Ohh as in_ohh;
-ghost use Rattle.hand_records.specs.WriteRefusals.{IsWant, first_refusal};
+ghost use Rattle.hand_records.specs.WriteRefusals.{IsOutOfMemory, first_refusal};
 
-use card_set::Memory;
 use crate::format_fault::FormatFault;
 use crate::notation::Notation;
+use card_set::Memory;
 use hand_records::{Keep, Play, Records, Unspelled, WriteRefusal};
 use ohh_format::Dialect;
 use play_event::{Reopen, Rules};
@@ -31,11 +31,11 @@ pub struct Ohh {
     pub dialect: Dialect,
 }
 
-// The records that bytes say in a dialect.
+// Reads the records of a file in a dialect.
 fn read_ohh(alloc: Global, dialect: Dialect, bytes: &[u8]) -> Result<Records, FormatFault>
     ensures say { IfOk result (in_ohh.Say dialect bytes.now) }
     ensures fault { IfErr result (λ fault.
-        (is_want_of_memory fault ≡ true) ⊎ in_ohh.HaveFault dialect bytes.now fault) }
+        (is_out_of_memory fault ≡ true) ⊎ in_ohh.HaveFault dialect bytes.now fault) }
 {
     match ohh_format::read(alloc, dialect, bytes) {
         Ok(records) => Ok(records),
@@ -43,7 +43,7 @@ fn read_ohh(alloc: Global, dialect: Dialect, bytes: &[u8]) -> Result<Records, Fo
     }
 }
 
-// The spelling of plays in a dialect.
+// Writes plays in a dialect.
 fn write_ohh(
     alloc: Global,
     dialect: Dialect,
@@ -54,13 +54,13 @@ fn write_ohh(
     requires sound { AllByRecursion IsSound plays.now }
     ensures spell { IfOk result (λ bytes. in_ohh.Spell dialect plays.now bytes.items) }
     ensures spelled { OnOk result (first_refusal (facts.unspelled keep) plays.now ≡ None) }
-    ensures refused { IfErr result (λ refusal. IsWant refusal
+    ensures refused { IfErr result (λ refusal. IsOutOfMemory refusal
         ⊎ (first_refusal (facts.unspelled keep) plays.now ≡ Some refusal)) }
 {
     ohh_format::write(alloc, dialect, plays, keep)
 }
 
-// The line of a play behind those of the plays before it.
+// Appends the line of a play to the lines of the plays before it.
 fn push_ohh_line(
     alloc: Global,
     dialect: Dialect,

@@ -8,17 +8,17 @@ ghost use Rattle.phh_format.specs.KeptNotes.{kept_in_phh};
 ghost use Rattle.phh_format.specs.SameTables.{AreSameTable};
 ghost use Rattle.phh_writing.specs.Spelled as facts;
 ghost use Rattle.play_event.specs.HistoryRules.{history_rules as rules_of_histories};
-ghost use Rattle.convert_core.specs.Faults.{is_want_of_memory};
+ghost use Rattle.convert_core.specs.Faults.{is_out_of_memory};
 ghost use Rattle.convert_core.specs.KeptParts as parts;
 ghost use Rattle.convert_core.specs.Phh as in_phh;
 ghost use Rattle.convert_core.specs.PhhAlike as alike;
 ghost use Rattle.convert_core.specs.PhhLaws as laws;
 ghost use Rattle.convert_core.specs.PhhReads as reads;
-ghost use Rattle.hand_records.specs.WriteRefusals.{IsWant, first_refusal};
+ghost use Rattle.hand_records.specs.WriteRefusals.{IsOutOfMemory, first_refusal};
 
-use card_set::Memory;
 use crate::format_fault::FormatFault;
 use crate::notation::Notation;
+use card_set::Memory;
 use hand_records::{Keep, Play, Records, Unspelled, WriteRefusal};
 use play_event::{Reopen, Rules};
 use std::alloc::Global;
@@ -27,11 +27,11 @@ use std::alloc::Global;
 #[derive(Clone, Copy, Debug, PartialEq, Eq)]
 pub struct Phh;
 
-// The records that bytes say.
+// Reads the records of a file.
 fn read_phh(alloc: Global, bytes: &[u8]) -> Result<Records, FormatFault>
     ensures say { IfOk result (in_phh.Say bytes.now) }
     ensures fault { IfErr result (λ fault.
-        (is_want_of_memory fault ≡ true) ⊎ in_phh.HaveFault bytes.now fault) }
+        (is_out_of_memory fault ≡ true) ⊎ in_phh.HaveFault bytes.now fault) }
 {
     match phh_format::read(alloc, bytes) {
         Ok(records) => Ok(records),
@@ -39,13 +39,13 @@ fn read_phh(alloc: Global, bytes: &[u8]) -> Result<Records, FormatFault>
     }
 }
 
-// The spelling of plays.
+// Writes plays.
 fn write_phh(alloc: Global, plays: &[Play], keep: Keep) -> Result<Vec<u8>, WriteRefusal>
     requires few { length plays.now ≤ MOST_HANDS }
     requires sound { AllByRecursion IsSound plays.now }
     ensures spell { IfOk result (λ bytes. in_phh.Spell plays.now bytes.items) }
     ensures spelled { OnOk result (first_refusal facts.unspelled plays.now ≡ None) }
-    ensures refused { IfErr result (λ refusal. IsWant refusal
+    ensures refused { IfErr result (λ refusal. IsOutOfMemory refusal
         ⊎ (first_refusal facts.unspelled plays.now ≡ Some refusal)) }
 {
     phh_format::write(alloc, plays, keep)
@@ -132,8 +132,8 @@ impl Notation for Phh {
     }
 
     fn push_line(&self, _: Global, _: &mut Vec<u8>, _: usize, _: &Play) -> Result<(), Memory> {
-        // A file of several hands numbers them, and that of one does not: no line stands for a
-        // hand.
+        // A file of several hands numbers them, and a file of one hand does not: PHH has no line
+        // per hand.
         Ok(())
     }
 }

@@ -11,9 +11,10 @@ use std::alloc::{AllocError, AllocFailed};
 /// Why a hand is refused.
 #[derive(Clone, Copy, Debug, PartialEq, Eq)]
 pub enum Refusal {
-    /// Its script has no trace. Want of memory is no refusal, and is never told so.
+    /// Its script cannot be replayed. Running out of memory is no refusal, and is never reported as
+    /// one.
     Replay(ReplayFault),
-    /// Its script has a trace, and this is the first stated fact that differs from it.
+    /// Its script can be replayed, and this is the first stated fact that differs from its trace.
     Fact(FactDiffers),
 }
 

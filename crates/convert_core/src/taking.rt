@@ -1,6 +1,7 @@
-//! One loop over the records of a file.
+//! The one loop over the records of a file.
 ghost use Rattle.std.specs.Prelude.{◌≡◌, ◌<◌, ◌≤◌, ◌+◌, ◌++◌, ◌⊎◌, [], ◌∷◌, true, false, All, List, length, IfErr, IfOk, OnOk};
-ghost use Rattle.convert_core.specs.Judged.{IsFaultAt, IsPlaysFaultOf, IsPlaysWant, IsRefusedFor};
+ghost use Rattle.card_set.specs.declared.room.TheConstants.{MOST_ROOM};
+ghost use Rattle.convert_core.specs.Judged.{IsFaultAt, IsPlaysFaultOf, IsPlaysOutOfMemory, IsRefusedFor};
 ghost use Rattle.convert_core.specs.declared.refusal.PlaysFault.TheVariants as plays_faults;
 ghost use Rattle.first_fault.specs.declared.limits.TheConstants.{MOST_HANDS};
 ghost use Rattle.hand_records.specs.SoundRecord.{IsSoundRecord};
@@ -8,38 +9,40 @@ ghost use Rattle.hand_records.specs.declared.record.Record.{Record as AnyRecord}
 ghost use Rattle.hand_records.specs.declared.trace.Play.{Play as AnyPlay};
 ghost use Rattle.convert_core.specs.Taking.{AreTaken, HasTaken};
 
-use crate::judging::push_play;
+use crate::judging::replay_and_check;
 use crate::refusal::{PlaysFault, Refusal};
-use crate::taker::Taker;
+use crate::visitor::VerdictVisitor;
+use card_set::list_with_room;
 use hand_records::{Play, Record, Records};
 use std::alloc::Global;
 
-/// Hands the verdict on each record to a taker, in their order. The plays that are to be kept are
-/// returned. A play is made where it is kept, and in a list that serves all of them where it is
-/// not.
+/// Passes the verdict on each record to a visitor, in their order, and returns the plays that are
+/// to be retained. A play that is retained is made in the list that is returned; otherwise one
+/// place serves all plays.
 ///
 /// # Errors
 ///
-/// The first refused hand, with what is wrong with it first, where the taker does not go on behind
-/// such; or want of memory.
+/// The first refused hand, with its first fault, if the visitor does not continue after one; or out
+/// of memory.
 #[tactic(auto, using(crate::proofs::Taken::none_taken))]
-pub fn take_each<T: Taker>(
+pub fn judge_all<T: VerdictVisitor>(
     alloc: Global,
-    taker: &mut T,
+    visitor: &mut T,
     records: Records,
 ) -> Result<Vec<Play>, PlaysFault>
     requires sound { All IsSoundRecord records }
     requires few { length records ≤ MOST_HANDS }
-    requires begun { T.Took taker.old taker.old [] }
-    ensures taken { IfOk result (λ kept. AreTaken T.GOES_ON T.KEEPS (T.Took taker.old taker.new)
+    requires begun { T.Took visitor.old visitor.old [] }
+    ensures taken { IfOk result (λ kept. AreTaken T.CONTINUES T.KEEPS
+        (T.Took visitor.old visitor.new)
         records (length records) kept.items) }
     ensures refused { IfErr result (IsPlaysFaultOf records) }
-    ensures goes_on { T.GOES_ON ≡ true → IfErr result IsPlaysWant }
+    ensures continues { T.CONTINUES ≡ true → IfErr result IsPlaysOutOfMemory }
 {
-    let mut kept = Vec::with_capacity(alloc, room(taker, records.len()))?;
+    let mut kept = list_with_room(alloc, room(visitor, records.len()))?;
     let mut place = 0;
     for hand in records.into_vec() {
-        match take_hand(alloc, taker, &mut kept, place, hand) {
+        match take_hand(alloc, visitor, &mut kept, place, hand) {
             Ok(()) => {}
             Err(fault) => return Err(fault),
         }
@@ -48,75 +51,75 @@ pub fn take_each<T: Taker>(
     Ok(kept)
 }
 
-// For how many plays there is to be room.
-fn room<T: Taker>(taker: &T, hands: usize) -> usize {
-    if taker.keeps() { hands } else { 1 }
+// The number of plays to reserve room for.
+fn room<T: VerdictVisitor>(visitor: &T, hands: usize) -> usize {
+    if visitor.keeps() { hands } else { 1 }
 }
 
-// Drops the play before, if it is not to be kept.
-fn drop_taken<T: Taker>(taker: &T, kept: &mut Vec<Play>)
+// Frees the previous play unless plays are retained: each is a few thousand bytes.
+fn drop_taken<T: VerdictVisitor>(visitor: &T, kept: &mut Vec<Play>)
     ensures stay { T.KEEPS ≡ true → kept.new.items ≡ kept.old.items }
     ensures gone { T.KEEPS ≡ false → kept.new.items ≡ [] }
 {
-    if !taker.keeps() {
+    if !visitor.keeps() {
         kept.clear();
     }
 }
 
-// One more hand.
-fn take_hand<T: Taker>(
+// Replays and visits one more hand.
+fn take_hand<T: VerdictVisitor>(
     alloc: Global,
-    taker: &mut T,
+    visitor: &mut T,
     kept: &mut Vec<Play>,
     place: usize,
     hand: Record,
 ) -> Result<(), PlaysFault>
     requires sound { IsSoundRecord hand }
-    requires begun { (start : T) × HasTaken (T.Took start taker.old) place }
+    requires begun { (start : T) × HasTaken (T.Took start visitor.old) place }
     requires few { place < MOST_HANDS }
     ensures taken { (start : T) (hands : List AnyRecord)
-        → AreTaken T.GOES_ON T.KEEPS (T.Took start taker.old) hands place kept.old.items
-        → OnOk result (AreTaken T.GOES_ON T.KEEPS (T.Took start taker.new) (hands ++ hand ∷ [])
+        → AreTaken T.CONTINUES T.KEEPS (T.Took start visitor.old) hands place kept.old.items
+        → OnOk result (AreTaken T.CONTINUES T.KEEPS (T.Took start visitor.new) (hands ++ hand ∷ [])
         (place + 1) kept.new.items) }
     ensures refused { IfErr result (IsFaultAt hand (place + 1)) }
-    ensures goes_on { T.GOES_ON ≡ true → IfErr result IsPlaysWant }
+    ensures continues { T.CONTINUES ≡ true → IfErr result IsPlaysOutOfMemory }
 {
-    drop_taken(taker, kept);
+    drop_taken(visitor, kept);
     let behind = kept.len();
-    match push_play(alloc, kept, place, hand) {
+    match replay_and_check(alloc, kept, place, hand) {
         Ok(()) => {
-            taker.take(alloc, place, &kept[behind])?;
+            visitor.take(alloc, place, &kept[behind])?;
             Ok(())
         }
         Err(PlaysFault::Refused { hand: number, why }) => {
-            pass_hand(alloc, taker, place, number, why)
+            pass_hand(alloc, visitor, place, number, why)
         }
         Err(PlaysFault::Memory(memory)) => Err(PlaysFault::Memory(memory)),
     }
 }
 
-// One more hand that is refused.
-fn pass_hand<T: Taker>(
+// Visits one more hand, which is refused.
+fn pass_hand<T: VerdictVisitor>(
     alloc: Global,
-    taker: &mut T,
+    visitor: &mut T,
     place: usize,
     number: u32,
     why: Refusal,
 ) -> Result<(), PlaysFault>
-    requires begun { (start : T) × HasTaken (T.Took start taker.old) place }
+    requires begun { (start : T) × HasTaken (T.Took start visitor.old) place }
     requires few { place < MOST_HANDS }
     ensures passed { (start : T) (kept : List AnyPlay) (hands : List AnyRecord) (hand : AnyRecord)
         → IsRefusedFor hand why
-        → AreTaken T.GOES_ON T.KEEPS (T.Took start taker.old) hands place kept
-        → OnOk result (AreTaken T.GOES_ON T.KEEPS (T.Took start taker.new) (hands ++ hand ∷ [])
+        → AreTaken T.CONTINUES T.KEEPS (T.Took start visitor.old) hands place kept
+        → OnOk result (AreTaken T.CONTINUES T.KEEPS (T.Took start visitor.new) (hands ++ hand ∷ [])
         (place + 1) kept) }
-    ensures refused { IfErr result (λ fault. IsPlaysWant fault
+    ensures refused { IfErr result (λ fault. IsPlaysOutOfMemory fault
         ⊎ (fault ≡ plays_faults.Refused number why)) }
-    ensures goes_on { T.GOES_ON ≡ true → IfErr result IsPlaysWant }
+    ensures continues { T.CONTINUES ≡ true → IfErr result IsPlaysOutOfMemory }
 {
-    if !taker.goes_on() {
+    if !visitor.continues() {
         return Err(PlaysFault::Refused { hand: number, why });
     }
-    taker.pass(alloc, place, &why)?;
+    visitor.pass(alloc, place, &why)?;
     Ok(())
 }

@@ -7,7 +7,7 @@ use Rattle.card_set.specs.Known.{known_cards, known_slots}
 use Rattle.card_set.specs.declared.card.Card.{Card}
 use Rattle.card_set.specs.declared.card.Slot.{Slot}
 use Rattle.card_set.specs.declared.card.Slot.TheVariants as slots
-use Rattle.list_laws.proofs.Tests.{false_true}
+use Rattle.card_set.proofs.Tests.{false_true}
 use Rattle.play_event.specs.declared.code.Code.{Code}
 use Rattle.play_event.specs.Naming.{found_by, after_names, discarded_now, is_named, other_names, blanks_in, is_covered, is_show_of_all}
 use Rattle.play_event.specs.Past.{Past, Dealt, Boarded, Moved, Discarded, Shown, Mucked, is_fold}
@@ -16,7 +16,7 @@ use Rattle.play_event.specs.Table.{places_of}
 use Rattle.play_event.specs.Held.{is_held, held_slots}
 use Rattle.deal_core.specs.Board.{board_cards}
 
--- a card of a seat is none of the board
+-- a card of a seat is not on the board
 skip : (place : Place) (rest : List Place) → is_same_owner place.owner None ≡ false → held_slots None (place ∷ rest) ≡ held_slots None rest
 skip place rest is = ap (λ (b : Bool). map (λ (p : Place). p.slot) (if (b && is_none place.gone_after) then (place ∷ filter (is_held None) rest) else filter (is_held None) rest)) is
 

@@ -3,7 +3,7 @@ use Rattle.std.proofs.Common.{◌≡◌, ℕ, sym, ap, subst, ◌∙◌}
 use Rattle.play_event.specs.declared.code.Code.{Code}
 use Rattle.play_event.specs.declared.reason.Due.{Due}
 use Rattle.play_event.specs.Games.{street_count}
-use Rattle.street_laws.specs.Dues.{IsDueWithin}
+use Rattle.play_laws.specs.Dues.{IsDueWithin}
 
 pub due_in : (code game : Code) (streets : ℕ) (due : Due) → code ≡ game → streets ≡ street_count game → IsDueWithin streets due → IsDueWithin (street_count code) due
 due_in code game streets due code_is streets_is within =

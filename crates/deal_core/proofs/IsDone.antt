@@ -20,9 +20,9 @@ use Rattle.card_places.specs.Drawn.{named_at}
 use Rattle.card_places.specs.Placed.{placed}
 use Rattle.deal_core.specs.Standing.{IsNow}
 use Rattle.card_places.specs.Refusals.{board_owed_in, next_to_draw_in, is_owed_deal_in, is_owed_draw_in, has_to_show_in, is_done_in}
-use Rattle.street_laws.specs.Dues.{is_cards_due}
-use Rattle.street_laws.specs.Done.{is_done}
-use Rattle.street_laws.proofs.Groups.{group_count}
+use Rattle.play_laws.specs.Dues.{is_cards_due}
+use Rattle.play_laws.specs.Done.{is_done}
+use Rattle.play_laws.proofs.Groups.{group_count}
 use Rattle.chip_ledger.proofs.SeatLists.{any_seats}
 use Rattle.deal_core.proofs.WhyDeal.{dealt_is, board_owed_is}
 use Rattle.deal_core.proofs.WhyDiscard.{next_is}

@@ -1,4 +1,4 @@
--- What the state says that a street deals next, the past says too.
+-- What a street deals next by the state is what it deals next by the past.
 use Rattle.std.proofs.Common.{◌≡◌, ℕ, nat_lt, find, Option, Some, None, sym, ap, ◌∙◌, arith}
 use Rattle.chip_ledger.specs.declared.live_row.LiveRow.{LiveRow}
 use Rattle.chip_ledger.specs.Seat.{seats_of}
@@ -13,8 +13,8 @@ use Rattle.card_places.specs.Refusals.{first_owed_in, owed_in, owed_to_in}
 use Rattle.deal_core.specs.NextDeal.{IsNextDeal, first_owed, owed_to}
 use Rattle.deal_core.specs.Standing.{IsNow}
 use Rattle.deal_core.proofs.WhyDeal.{board_owed_is, owed_is}
-use Rattle.list_laws.proofs.Finding.{find_agree}
-use Rattle.list_laws.proofs.NumbersOfRange.{found_in_range}
+use Rattle.card_set.proofs.Finding.{find_agree}
+use Rattle.card_set.proofs.NumbersOfRange.{found_in_range}
 
 module _ (t : CardState) (due : Due) (live : LiveRow) (setup : Setup) (past : Past) (now : IsNow t due live setup past) where
   first_is : (on : ℕ) → first_owed_in t live on ≡ first_owed setup past on

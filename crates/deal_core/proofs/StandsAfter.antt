@@ -36,7 +36,7 @@ stands_board t next past on cards stands dealt = record {
   mucked = λ n in_hand. ap (λ (r : LiveRow). flag_of r n) dealt.mucked ∙ stands.mucked n (back t next n dealt.seats in_hand);
 }
 
--- with the event said
+-- with the event
 pub hole_stands : (t next : CardState) (setup : Setup) (past : Past) (on seat : ℕ) (cards : List Slot) → StandsFor t past → on ≡ (turn setup past).0 → IsDealt t next (Some seat) on cards → StandsFor next (with_event setup (said.Hole seat cards) past)
 unfolding with_event
 hole_stands t next setup past on seat cards stands on_is dealt =

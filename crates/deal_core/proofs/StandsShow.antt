@@ -18,7 +18,7 @@ use Rattle.card_places.specs.Placed.{placed}
 use Rattle.card_places.specs.Shown.{IsShown, IsMucked}
 use Rattle.deal_core.proofs.Same.{back, same_places}
 use Rattle.deal_core.specs.Standing.{StandsFor}
-use Rattle.list_laws.proofs.Numbers.{unequal_other}
+use Rattle.card_set.proofs.Numbers.{unequal_other}
 
 -- a flag that is set for one seat
 flag_is : (old new : LiveRow) (seat n : ℕ) (before b : Bool) → (seat == n) ≡ b → flag_of new seat ≡ true → (n ≢ seat → flag_of new n ≡ flag_of old n) → flag_of old n ≡ before → flag_of new n ≡ (b || before)

@@ -1,4 +1,4 @@
--- What a state of the cards says of a past.
+-- Which past a state of the cards stands for.
 use Rattle.std.specs.Prelude.{◌≡◌, ℕ}
 use Rattle.chip_ledger.specs.Seat.{IsSeatOf}
 use Rattle.chip_ledger.specs.declared.live_row.LiveRow.{LiveRow}
@@ -15,23 +15,24 @@ use Rattle.card_places.specs.declared.card_state.CardState.{CardState}
 use Rattle.card_places.specs.Drawn.{has_drawn_at, named_at}
 use Rattle.card_places.specs.Placed.{placed}
 
--- A state stands for a past where it has its places, its draws, its shows and its mucks. Nothing
--- else is asked of the past.
+-- A state stands for a past if it has its places, draws, shows and mucks. Nothing else is asked of
+-- the past.
 pub record StandsFor (t : CardState) (past : Past) : Type 0 where
   -- its cards, in the order of dealing, are the places of the past
   pub places : placed t.places ≡ places_of t.table.code past
-  -- it knows who drew on which street
+  -- it has who drew on which street
   pub drew : (street seat : ℕ) → IsSeatOf t.seats seat
       → has_drawn_at t.draws street seat ≡ has_drawn past street seat
   -- and how many cards each seat discarded there, and so how many it is still owed
   pub named : (street seat : ℕ) → IsSeatOf t.seats seat
       → named_at t.draws street seat ≡ cards_discarded past street seat
-  -- it knows who showed
+  -- it has who showed
   pub shown : (seat : ℕ) → IsSeatOf t.seats seat → flag_of t.shown seat ≡ has_shown past seat
   -- and who mucked
   pub mucked : (seat : ℕ) → IsSeatOf t.seats seat → flag_of t.mucked seat ≡ has_mucked past seat
 
--- what the calls ask of a past: it is one of the state, and what they are told of it is so
+-- what calls require of a past: it is one that the state stands for, and what is due and who is
+-- live are as the call says
 pub record IsNow (t : CardState) (due : Due) (live : LiveRow) (setup : Setup) (past : Past) : Type 0
   where
     -- the hand is of the state's game

@@ -1,5 +1,5 @@
-//! Each call on the cards of a hand answers as the rules do, for every past for which the state
-//! stands.
+//! Each call on the cards of a hand answers as the rules do, for every past that the state stands
+//! for.
 ghost use Rattle.std.specs.Prelude.{◌≡◌, ◌≤◌, ◌<◌, ◌∷◌, [], ℕ, length, map, slice_get, true, IfSome, IsSomeAnd, None, Some};
 ghost use Rattle.card_set.specs.Row.{cards_of};
 ghost use Rattle.chip_ledger.specs.LiveRow.{flag_of};
@@ -13,9 +13,9 @@ ghost use Rattle.play_event.specs.Showing.{has_mucked};
 ghost use Rattle.play_event.specs.Table.{places_of, up_cards};
 ghost use Rattle.play_event.specs.Trace.{has_unknown_card, traced_places};
 ghost use Rattle.play_event.specs.declared.setup.Setup.{Setup};
-ghost use Rattle.street_laws.specs.CardEvents.{is_showing};
-ghost use Rattle.street_laws.specs.Done.{is_done};
-ghost use Rattle.street_laws.specs.Dues.{IsDueWithin, is_cards_due};
+ghost use Rattle.play_laws.specs.CardEvents.{is_showing};
+ghost use Rattle.play_laws.specs.Done.{is_done};
+ghost use Rattle.play_laws.specs.Dues.{IsDueWithin, is_cards_due};
 ghost use Rattle.card_places.specs.CardEvents.{is_deal, is_discard};
 ghost use Rattle.card_places.specs.Dealt.{IsDealt};
 ghost use Rattle.card_places.specs.DueStreet.{due_street};
@@ -29,9 +29,9 @@ ghost use Rattle.deal_core.specs.NextDeal.{IsNextDeal};
 ghost use Rattle.deal_core.specs.Standing.{StandsFor};
 
 use card_places::{
-    CardState, DealtCard, NextDeal, board, board_why, discard_on, done, empty, fold, hands,
-    hole_why, lay, muck_why, next_deal, next_to_draw, place, set_muck, show_on, shut, slots,
-    street_due, unknown, up,
+    CardState, DealtCard, NextDeal, board, deal_cards, discard_cards, done, fold, hands,
+    illegal_board_deal, illegal_hole_deal, illegal_muck, muck_cards, new_card_state, next_deal,
+    next_to_draw, place, show_cards, show_not_due, slots, street_due, unknown, up,
 };
 use card_set::{CardRow, Slot};
 use chip_ledger::{LiveRow, Seat};
@@ -39,8 +39,8 @@ use play_event::{Due, Event, HandRow, Illegal, Kind, Place, UpRow};
 use std::marker::{Model, PhantomData};
 use variant_table::Variant;
 
-/// The cards of a hand of the game `V`, which contracts see as their state. What the calls say of
-/// the past holds for every past for which the state stands.
+/// The cards of a hand of the game `V`; contracts see them as their state. What the calls say of
+/// the past holds for every past that the state stands for.
 #[derive(Drop)]
 pub struct Cards<V: Variant> {
     state: CardState,
@@ -59,7 +59,7 @@ impl<V: Variant> Model for Cards<V> {
 }
 
 impl<V: Variant> Cards<V> {
-    /// No cards yet, for so many seats.
+    /// No cards yet, for `seats` seats.
     pub fn start(seats: u8) -> Self
         requires least { 2 ≤ seats }
         requires most { seats ≤ V.SEATS }
@@ -68,13 +68,12 @@ impl<V: Variant> Cards<V> {
         ensures seats { result.seats ≡ seats }
     {
         Cards {
-            state: empty(V::CODE, seats),
+            state: new_card_state(V::CODE, seats),
             game: PhantomData,
         }
     }
 
-    /// Deals hole cards or board cards. Illegal exactly by the rules of play; the state is then as
-    /// it was.
+    /// Deals hole cards or board cards if the rules of play allow it; otherwise changes nothing.
     pub fn deal(&mut self, due: Due, live: &LiveRow, event: &Event) -> Result<(), Illegal>
         requires kind { is_deal (said_of event.now) ≡ true }
         requires due { IsDueWithin V.STREETS due }
@@ -83,7 +82,7 @@ impl<V: Variant> Cards<V> {
         match event.kind {
             Kind::Hole { seat, cards } => {
                 let known = cards.as_slice();
-                match hole_why(&self.state, live, due, seat, known) {
+                match illegal_hole_deal(&self.state, live, due, seat, known) {
                     Some(reason) => Err(reason),
                     None => {
                         self.put(due, Some(seat), known);
@@ -93,7 +92,7 @@ impl<V: Variant> Cards<V> {
             }
             Kind::Board { cards } => {
                 let known = slots(&cards);
-                match board_why(&self.state, due, known.as_slice()) {
+                match illegal_board_deal(&self.state, due, known.as_slice()) {
                     Some(reason) => Err(reason),
                     None => {
                         self.put(due, None, known.as_slice());
@@ -101,7 +100,7 @@ impl<V: Variant> Cards<V> {
                     }
                 }
             }
-            // The condition leaves no other kind.
+            // The precondition excludes other kinds.
             _ => Err(Illegal::WrongKind),
         }
     }
@@ -116,12 +115,12 @@ impl<V: Variant> Cards<V> {
         ensures hand { AreOfOneHand self.old self.new }
     {
         if let Some(on) = street_due(due) {
-            lay(&mut self.state, owner, on, cards);
+            deal_cards(&mut self.state, owner, on, cards);
         }
     }
 
-    /// Discards cards of a seat that draws. Illegal exactly by the rules of play; the state is then
-    /// as it was.
+    /// Discards cards of a seat that draws if the rules of play allow it; otherwise changes
+    /// nothing.
     pub fn discard(&mut self, due: Due, live: &LiveRow, event: &Event) -> Result<(), Illegal>
         requires kind { is_discard (said_of event.now) ≡ true }
         requires due { IsDueWithin V.STREETS due }
@@ -130,16 +129,15 @@ impl<V: Variant> Cards<V> {
         match event.kind {
             Kind::Discard { seat, cards } => match due {
                 Due::Over => Err(Illegal::HandOver),
-                Due::Draw(on) => discard_on(&mut self.state, live, on, seat, &cards),
+                Due::Draw(on) => discard_cards(&mut self.state, live, on, seat, &cards),
                 Due::Deal(_) | Due::BringIn | Due::Move | Due::Show => Err(Illegal::WrongKind),
             },
-            // The condition leaves no other kind.
+            // The precondition excludes other kinds.
             _ => Err(Illegal::WrongKind),
         }
     }
 
-    /// Shows or mucks the cards of a seat. Illegal exactly by the rules of play; the state is then
-    /// as it was.
+    /// Shows or mucks the cards of a seat if the rules of play allow it; otherwise changes nothing.
     pub fn show(
         &mut self,
         due: Due,
@@ -152,18 +150,24 @@ impl<V: Variant> Cards<V> {
             (said_of event.now) result }
     {
         match event.kind {
-            Kind::Show { seat, cards } => match shut(&self.state, live, due, settled, seat) {
+            Kind::Show { seat, cards } => match show_not_due(
+                &self.state,
+                live,
+                due,
+                settled,
+                seat,
+            ) {
                 Some(reason) => Err(reason),
-                None => show_on(&mut self.state, live, seat, &cards),
+                None => show_cards(&mut self.state, live, seat, &cards),
             },
-            Kind::Muck { seat } => match muck_why(&self.state, live, due, seat) {
+            Kind::Muck { seat } => match illegal_muck(&self.state, live, due, seat) {
                 Some(reason) => Err(reason),
                 None => {
-                    set_muck(&mut self.state, seat);
+                    muck_cards(&mut self.state, seat);
                     Ok(())
                 }
             },
-            // The condition leaves no other kind.
+            // The precondition excludes other kinds.
             _ => Err(Illegal::WrongKind),
         }
     }
@@ -178,8 +182,8 @@ impl<V: Variant> Cards<V> {
         fold(&mut self.state, seat);
     }
 
-    /// Whether the deal, the draw or the show that `due` names is complete. The state need not be
-    /// told what is due now: the next street's deal may be complete before it is looked at.
+    /// Whether the deal, the draw or the show named by `due` is complete. It need not be what is
+    /// due now: the next street's deal may be complete before it is looked at.
     pub fn done(&self, due: Due, live: &LiveRow) -> bool
         ensures done { WhereLive self.now live.now
             (λ setup past. result ≡ is_done setup past due) }
@@ -188,8 +192,8 @@ impl<V: Variant> Cards<V> {
         done(&self.state, live, due)
     }
 
-    /// What the street deals next: to the first seat that is owed cards all that it is owed, and
-    /// where no seat is owed any, to the board.
+    /// What the street deals next: to the first seat that is owed cards, all that it is owed; if no
+    /// seat is owed any, to the board.
     pub fn next_deal(&self, live: &LiveRow, on: u8) -> NextDeal
         ensures next { WhereLive self.now live.now
             (λ setup past. IsNextDeal setup past on result) }
@@ -241,7 +245,7 @@ impl<V: Variant> Cards<V> {
         self.state.mucked
     }
 
-    /// Which seats have a card that is not known.
+    /// Which seats have an unknown card.
     pub fn unknown(&self) -> LiveRow
         ensures { TellsSeats result.seats self.now
             (λ past seat. (setup : Setup) → setup.code ≡ V.CODE
@@ -250,7 +254,7 @@ impl<V: Variant> Cards<V> {
         unknown(&self.state)
     }
 
-    /// How many seats there are.
+    /// The number of seats.
     pub fn seats(&self) -> u8
         ensures seats { result ≡ self.now.seats }
         ensures code { self.now.table.code ≡ V.CODE }
@@ -258,7 +262,7 @@ impl<V: Variant> Cards<V> {
         self.state.seats
     }
 
-    /// The cards that were dealt so far, those that are gone too, in the order of dealing.
+    /// All cards dealt so far, in the order of dealing, including those that are gone.
     pub fn dealt(&self) -> &[DealtCard]
         ensures dealt { map place_of result.now ≡ placed self.now.places }
         ensures places { (past : Past) → StandsFor self.now past
@@ -267,7 +271,7 @@ impl<V: Variant> Cards<V> {
         self.state.places.as_slice()
     }
 
-    /// How many cards were dealt so far, those that are gone too.
+    /// The number of cards dealt so far, including those that are gone.
     pub fn place_count(&self) -> u8
         ensures count { result ≡ self.now.places.count }
         ensures places { (past : Past) → StandsFor self.now past
@@ -276,8 +280,8 @@ impl<V: Variant> Cards<V> {
         self.state.places.count
     }
 
-    /// The place at this index, from 0, in the order of the trace: by street, then by owner, p1
-    /// first and the board last, then in the order of dealing. Ask for an index below
+    /// The place at this index (from 0) in the order of the trace: by street, then by owner, seat 1
+    /// first and the board last, then in the order of dealing. The index must be below
     /// `place_count`.
     pub fn place(&self, index: u8) -> Place
         requires { index < self.now.places.count }

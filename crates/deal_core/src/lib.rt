@@ -1,5 +1,5 @@
-//! The cards of a hand are dealt, discarded, shown and mucked exactly as the rules of its game
-//! allow.
+//! Deals, discards, shows and mucks the cards of a hand if and only if the rules of its game allow
+//! it.
 #![tactic(auto)]
 
 mod cards;

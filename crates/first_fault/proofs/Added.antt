@@ -1,8 +1,8 @@
--- Items that are added one after the other to what was read before, as a loop does.
+-- Items added one after another to what was read before, as a loop does.
 use Rattle.std.proofs.Common.{◌≡◌, ℕ, ◌+◌, ◌<◌, ◌≤◌, List, length, map, drop, get_or, Result, Ok, Err, refl, sym, ◌∙◌}
 use Rattle.std.proofs.lemmas.List.{drop_more, drop_all}
-use Rattle.first_fault.specs.declared.stop.Stop.{Stop}
-use Rattle.first_fault.specs.declared.stop.Stop.TheVariants as stops
+use Rattle.first_fault.specs.declared.stop.ReadError.{ReadError}
+use Rattle.first_fault.specs.declared.stop.ReadError.TheVariants as read_errors
 use Rattle.first_fault.specs.Reading.{Fails, added_from}
 
 -- the items from an index on are added
@@ -22,13 +22,13 @@ module _ {F V D S : Type 0} (seen : V → D) (form : S → ℕ → D → Result 
       sym one ∙ so_far
 
   -- an item was refused
-  pub not_added : (stop : Stop F) (before : S) (values : List V) (index : ℕ) (value : V) (whole : Result S F)
+  pub not_added : (stop : ReadError F) (before : S) (values : List V) (index : ℕ) (value : V) (whole : Result S F)
       → index < length values → get_or values index value ≡ value → Fails stop (form before index (seen value))
       → add_left seen form before index values ≡ whole
       → Fails stop whole
   unfolding added_from
-  not_added (stops.Memory memory) before values index value whole within at is so_far = tt
-  not_added (stops.At fault) before values index value whole within at is so_far =
+  not_added (read_errors.Memory memory) before values index value whole within at is so_far = tt
+  not_added (read_errors.Fault fault) before values index value whole within at is so_far =
       let one : add_left seen form before index values ≡ Err fault =
       rw (drop_more values index value within, at, is) refl in
       sym so_far ∙ one

@@ -1,8 +1,8 @@
--- What a number is written as in decimal digits is digits.
+-- A number is written as digits.
 use Rattle.std.proofs.Common.{◌≡◌, ℕ, ◌<◌, ◌^◌, true, length, decimal, refl}
 use Rattle.std.proofs.lemmas.Bool.{lt-ltb}
 use Rattle.std.proofs.lemmas.Fmt.{decimal_is_IsNumeral}
-use Rattle.list_laws.proofs.Digits.{of_digits}
+use Rattle.card_set.proofs.Digits.{of_digits}
 use Rattle.first_fault.specs.Digits.{are_digits}
 
 -- a number in decimal digits

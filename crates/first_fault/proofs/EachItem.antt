@@ -1,8 +1,8 @@
--- Items that are read one after the other, as a loop does.
+-- Items read one after another, as a loop does.
 use Rattle.std.proofs.Common.{◌≡◌, ℕ, ◌+◌, ◌<◌, ◌≤◌, List, [], ◌∷◌, ◌++◌, length, map, drop, get_or, Result, Ok, Err, refl, sym, ap, ◌∙◌, append_assoc}
 use Rattle.std.proofs.lemmas.List.{append-nil, drop_more, drop_all}
-use Rattle.first_fault.specs.declared.stop.Stop.{Stop}
-use Rattle.first_fault.specs.declared.stop.Stop.TheVariants as stops
+use Rattle.first_fault.specs.declared.stop.ReadError.{ReadError}
+use Rattle.first_fault.specs.declared.stop.ReadError.TheVariants as read_errors
 use Rattle.first_fault.specs.Reading.{◌>>=◌, Fails, each_from}
 
 -- what was read before, and what is still read
@@ -26,13 +26,13 @@ module _ {F V D A : Type 0} (seen : V → D) (form : ℕ → D → Result A F) w
       sym one ∙ so_far
 
   -- an item was refused
-  pub ends : (stop : Stop F) (front : List A) (values : List V) (index : ℕ) (value : V) (whole : Result (List A) F)
+  pub ends : (stop : ReadError F) (front : List A) (values : List V) (index : ℕ) (value : V) (whole : Result (List A) F)
       → index < length values → get_or values index value ≡ value → Fails stop (form (index + 1) (seen value))
       → with_front front (each_from form (index + 1) (map seen (drop index values))) ≡ whole
       → Fails stop whole
   unfolding each_from
-  ends (stops.Memory memory) front values index value whole within at is so_far = tt
-  ends (stops.At fault) front values index value whole within at is so_far =
+  ends (read_errors.Memory memory) front values index value whole within at is so_far = tt
+  ends (read_errors.Fault fault) front values index value whole within at is so_far =
       let one : with_front front (each_from form (index + 1) (map seen (drop index values))) ≡ Err fault =
       rw (drop_more values index value within, at, is) refl in
       sym so_far ∙ one

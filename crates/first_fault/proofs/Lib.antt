@@ -1,4 +1,4 @@
--- Laws of reading one item after the other, as a loop does, and of digits.
+-- Laws of reading one item after another, as a loop does, and of digits.
 pub mod EachItem
 pub mod Thread
 pub mod Added

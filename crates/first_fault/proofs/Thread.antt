@@ -1,8 +1,8 @@
--- Items that are read one after the other, with what is counted handed on, as a loop does.
+-- Items read one after another, with a count passed on, as a loop does.
 use Rattle.std.proofs.Common.{◌≡◌, ℕ, ◌+◌, ◌<◌, ◌≤◌, List, ◌++◌, length, map, drop, get_or, Result, Ok, Err, refl, sym, ap, ◌∙◌, append_assoc, IfOk}
 use Rattle.std.proofs.lemmas.List.{append-nil, drop_more, drop_all}
-use Rattle.first_fault.specs.declared.stop.Stop.{Stop}
-use Rattle.first_fault.specs.declared.stop.Stop.TheVariants as stops
+use Rattle.first_fault.specs.declared.stop.ReadError.{ReadError}
+use Rattle.first_fault.specs.declared.stop.ReadError.TheVariants as read_errors
 use Rattle.first_fault.specs.Reading.{◌>>=◌, Fails, thread_from}
 
 -- what was found before, and what is still read
@@ -26,13 +26,13 @@ module _ {F V D A S : Type 0} (seen : V → D) (form : S → ℕ → D → Resul
       sym one ∙ before
 
   -- an item was refused
-  pub thread_ends : (stop : Stop F) (front : List A) (so_far : S) (values : List V) (index : ℕ) (value : V) (whole : Result (List A × S) F)
+  pub thread_ends : (stop : ReadError F) (front : List A) (so_far : S) (values : List V) (index : ℕ) (value : V) (whole : Result (List A × S) F)
       → index < length values → get_or values index value ≡ value → Fails stop (form so_far (index + 1) (seen value))
       → behind front (thread_from form so_far (index + 1) (map seen (drop index values))) ≡ whole
       → Fails stop whole
   unfolding thread_from
-  thread_ends (stops.Memory memory) front so_far values index value whole within at is before = tt
-  thread_ends (stops.At fault) front so_far values index value whole within at is before =
+  thread_ends (read_errors.Memory memory) front so_far values index value whole within at is before = tt
+  thread_ends (read_errors.Fault fault) front so_far values index value whole within at is before =
       let one : behind front (thread_from form so_far (index + 1) (map seen (drop index values))) ≡ Err fault =
       rw (drop_more values index value within, at, is) refl in
       sym before ∙ one
@@ -46,7 +46,7 @@ module _ {F V D A S : Type 0} (seen : V → D) (form : S → ℕ → D → Resul
       rw (drop_all index values le) (ap (λ all. Ok (all, so_far)) (append-nil front)) in
       sym before ∙ one
 
--- what holds of what follows holds of the whole
+-- what holds of the rest holds of the whole
 pub bound : {A B F : Type 0} (P : B → Type 0) (first : Result A F) (next : A → Result B F) → ((a : A) → IfOk (next a) P) → IfOk (first >>= next) P
 bound P (Ok a) next each = each a
 bound P (Err fault) next each = tt

@@ -1,22 +1,21 @@
--- The forms of a value of a tree, over what is seen of the value: it is given, or else the fault of
--- what it is not.
+-- The forms of a value in a document: the value, or the fault of a value of another form.
 use Rattle.std.specs.Prelude.{ℕ, nat_le, ◌&&◌, if◌then◌else◌, List, length, Option, Some, None, ℤ, pos, negsuc, Result, Ok, Err}
 
--- what is there, or else this fault
+-- the value, or this fault if there is none
 abbrev pub or_fault : {A F : Type 0} → F → Option A → Result A F
 or_fault fault (Some x) = Ok x
 or_fault fault None = Err fault
 
--- a list of at most so many items, or else this fault
+-- a list of at most `most` items, or else this fault
 abbrev pub few : {A F : Type 0} → ℕ → F → List A → Result (List A) F
 few most fault items = if nat_le (length items) most then Ok items else Err fault
 
--- a number from least to most, or else this fault
+-- a number from `least` to `most`, or else this fault
 abbrev pub within : {F : Type 0} → ℕ → ℕ → F → ℕ → Result ℕ F
 within least most fault number =
     if nat_le least number && nat_le number most then Ok number else Err fault
 
--- the number that a value is, if it is one: a natural one, one below zero, or one with a fraction
+-- the number that a value is, if it is one: natural, below zero, or with a fraction
 pub data Numeral : Type 0 where
   Natural : ℕ → Numeral
   BelowZero : ℤ → Numeral
@@ -28,13 +27,13 @@ abbrev pub whole_numeral : ℤ → Numeral
 whole_numeral (pos n) = Natural n
 whole_numeral (negsuc n) = BelowZero (negsuc n)
 
--- the faults of a value that is to be a number
+-- the faults of a value that should be a number
 pub record NumberFaults (F : Type 0) : Type 0 where
   pub out_of_range : F
   pub not_whole : F
   pub no_number : F
 
--- a whole number from least to most, or else the fault of what the value is
+-- a whole number from `least` to `most`, or else the fault of what the value is
 abbrev pub whole_within : {F : Type 0} → NumberFaults F → ℕ → ℕ → Numeral → Result ℕ F
 whole_within faults least most (Natural n) = within least most faults.out_of_range n
 whole_within faults least most (BelowZero z) = Err faults.out_of_range

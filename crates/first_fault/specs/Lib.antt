@@ -1,4 +1,4 @@
--- What reading in a fixed order gives, the forms of values, and what digits say.
+-- Reading in a fixed order, the forms of values, and the numbers that digits say.
 pub mod Reading
 pub mod Forms
 pub mod Digits

@@ -1,6 +1,6 @@
--- Numbers of actions, lines and bytes as they are kept and told: as far as 32 bits count.
+-- Numbers of actions, lines and bytes as they are kept and reported: in 32 bits.
 use Rattle.std.specs.Prelude.{min, ℕ}
 
--- a number, or the greatest that 32 bits count
+-- a number, or the greatest number of 32 bits if it is above that
 abbrev pub kept_number : ℕ → ℕ
 kept_number number = min number 4294967295

@@ -1,8 +1,8 @@
--- The words of a text, which spaces divide.
+-- The words of a text, separated by spaces.
 use Rattle.std.specs.List.{slice_split}
 use Rattle.std.specs.Prelude.{Bool, List, filter, length, nat_lt, ℕ, ◌==◌}
 
--- the sign that divides words: a space
+-- the sign that separates words: a space
 abbrev pub is_space : ℕ → Bool
 is_space sign = sign == 32
 

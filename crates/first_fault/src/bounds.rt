@@ -1,19 +1,19 @@
-//! A number, and how many values a list has, are held against a least and a greatest number.
+//! Checks a number, and the number of values of a list, against a least and a greatest number.
 ghost use Rattle.std.specs.Prelude.{◌≡◌, ◌≤◌, ◌&&◌, length, nat_le, IfOk};
 ghost use Rattle.first_fault.specs.Forms.{within};
 ghost use Rattle.first_fault.specs.Reading.{Gives};
 
-use crate::stop::Stop;
+use crate::stop::ReadError;
 
-/// The number, where it is from `least` to `most`, or else the fault.
-pub fn keep_within<F: Copy>(number: u64, least: u64, most: u64, fault: F) -> Result<u64, Stop<F>>
+/// The number if it is from `least` to `most`, or else the fault.
+pub fn in_range<F: Copy>(number: u64, least: u64, most: u64, fault: F) -> Result<u64, ReadError<F>>
     ensures within { IfOk result (λ number. (least ≤ number) × (number ≤ most)) }
     ensures said { Gives (λ number. number) result (within least most fault number) }
 {
     if least <= number && number <= most {
         Ok(number)
     } else {
-        Err(Stop::At(fault))
+        Err(ReadError::Fault(fault))
     }
 }
 

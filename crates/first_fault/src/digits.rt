@@ -1,4 +1,4 @@
-//! A number is read of decimal digits, leading zeros among them.
+//! Reads a number from decimal digits; leading zeros are allowed.
 ghost use Rattle.std.specs.Prelude.{◌≡◌, ◌≤◌, IsTrue};
 ghost use Rattle.first_fault.specs.Digits.{are_digits as are_digits_said, number_of};
 
@@ -18,7 +18,7 @@ pub fn are_digits(text: &[u8]) -> bool
     true
 }
 
-/// The number that the digits say, or `None` where it is above `most`. Ask first that they are
+/// The number that the digits say, or `None` if it is above `most`. Check first that they are
 /// digits.
 #[tactic(auto, unfolding(crate::specs::Digits::number_of, crate::specs::Digits::are_digits))]
 pub fn read_digits(digits: &[u8], most: u64) -> Option<u64>

@@ -1,5 +1,5 @@
-//! Reading in a fixed order gives a value or the first fault, whatever the notation and its faults
-//! are; and texts are cut into words.
+//! Reading in a fixed order, which gives a value or the first fault in every notation; and cutting
+//! texts into words.
 #![tactic(auto)]
 
 mod bounds;
@@ -9,9 +9,9 @@ mod stop;
 mod text;
 mod words;
 
-pub use bounds::{has_count, keep_within};
+pub use bounds::{has_count, in_range};
 pub use digits::{are_digits, read_digits};
 pub use limits::{MOST_FILE_MOVES, MOST_HANDS, MOST_TEXT_BYTES, Quantity};
-pub use stop::Stop;
+pub use stop::ReadError;
 pub use text::Text;
 pub use words::{next_word, place_of};

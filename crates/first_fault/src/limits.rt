@@ -1,4 +1,4 @@
-//! The limits of what is read but for those of a hand, each of them a decision of this project.
+//! The limits of what is read, except those of a hand. Each is a decision of this project.
 
 /// The most hands of a file.
 pub const MOST_HANDS: usize = 65_536;

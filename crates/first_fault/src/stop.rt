@@ -1,40 +1,40 @@
-//! Reading stops at the first fault, or where memory was refused.
+//! Why a reader stops: at the first fault, or because memory was refused.
 ghost use Rattle.std.specs.Prelude.{◌≡◌};
 ghost use Rattle.card_set.specs.declared.memory.Memory.{Memory as Refused};
-ghost use Rattle.first_fault.specs.declared.stop.Stop.TheVariants.{Memory as OutOfMemory};
+ghost use Rattle.first_fault.specs.declared.stop.ReadError.TheVariants.{Memory as OutOfMemory};
 
 use card_set::Memory;
 use std::alloc::{AllocError, AllocFailed};
 
 /// Why a reader stopped.
 #[derive(Clone, Copy, Debug, PartialEq, Eq)]
-pub enum Stop<F> {
+pub enum ReadError<F> {
     /// A request for memory was refused.
     Memory(Memory),
     /// The first fault of what was read.
-    At(F),
+    Fault(F),
 }
 
-impl<F> From<Memory> for Stop<F> {
+impl<F> From<Memory> for ReadError<F> {
     ghost from_gives = { λ memory stop. stop ≡ OutOfMemory memory };
 
     fn from(memory: Memory) -> Self {
-        Stop::Memory(memory)
+        ReadError::Memory(memory)
     }
 }
 
-impl<F> From<AllocError> for Stop<F> {
+impl<F> From<AllocError> for ReadError<F> {
     ghost from_gives = { λ _ stop. (memory : Refused) × (stop ≡ OutOfMemory memory) };
 
     fn from(refused: AllocError) -> Self {
-        Stop::Memory(Memory::from(refused))
+        ReadError::Memory(Memory::from(refused))
     }
 }
 
-impl<F, T: Drop> From<AllocFailed<T>> for Stop<F> {
+impl<F, T: Drop> From<AllocFailed<T>> for ReadError<F> {
     ghost from_gives = { λ _ stop. (memory : Refused) × (stop ≡ OutOfMemory memory) };
 
     fn from(refused: AllocFailed<T>) -> Self {
-        Stop::Memory(Memory::from(refused))
+        ReadError::Memory(Memory::from(refused))
     }
 }

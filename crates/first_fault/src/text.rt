@@ -1,12 +1,12 @@
-//! A text is a copy of the one that it was made from.
+//! A copy of a text.
 use card_set::Memory;
 use std::alloc::Global;
 use std::marker::Model;
 
-/// A text of a note, or of the place of a fault.
+/// The text of a note, or of the place of a fault.
 ///
-/// It takes one word where it stands, and its bytes stand elsewhere: most records have room for
-/// many notes and few of them.
+/// It takes one machine word in the value that holds it, and its bytes are elsewhere: most records
+/// have room for many notes but few notes.
 #[derive(Debug, Drop)]
 pub struct Text {
     text: Box<String>,

@@ -1,10 +1,10 @@
-//! A text is cut at a sign, and into words at its spaces.
+//! Cuts a text at a sign, and into words at its spaces.
 ghost use Rattle.std.specs.Prelude.{◌≡◌, ◌<◌, ◌≤◌, ◌==◌, ◌⊎◌, [], ◌∷◌, false, length, slice_index, IfSome};
 ghost use Rattle.std.specs.List.{position_or_len};
 ghost use Rattle.std.specs.Option.{option_map_or};
 ghost use Rattle.first_fault.specs.Words.{is_space, words_of};
 
-/// The first word of a text, and what stands behind it; `None` where the text has no word.
+/// The first word of a text and the rest after it; `None` if the text has no word.
 pub fn next_word(text: &[u8]) -> Option<(&[u8], &[u8])>
     ensures words { words_of text.now
         ≡ option_map_or (λ cut. cut.0.now ∷ words_of cut.1.now) result [] }
@@ -31,7 +31,7 @@ fn skip_spaces(text: &[u8]) -> &[u8]
     rest
 }
 
-/// How many bytes stand before the first such sign.
+/// The number of bytes before the first such sign.
 pub fn place_of(text: &[u8], sign: u8) -> usize
     ensures { result ≡ position_or_len (λ other. other == sign) text.now }
 {

@@ -7,7 +7,7 @@ use Rattle.chip_ledger.specs.declared.live_row.LiveRow.{LiveRow}
 use Rattle.chip_ledger.specs.LiveRow.{flag_of, flagged}
 use Rattle.chip_ledger.specs.Seat.{seats_of}
 use Rattle.chip_ledger.proofs.Flags.{flag-from_flagged, flagged-from_flag}
-use Rattle.list_laws.proofs.Tests.{if_both, if_not, not_both, same_test}
+use Rattle.card_set.proofs.Tests.{if_both, if_not, not_both, same_test}
 use Rattle.play_event.specs.declared.hands.HandRow.{HandRow}
 use Rattle.play_event.specs.declared.setup.Setup.{Setup}
 use Rattle.play_event.specs.Past.{Move, moves_before}
@@ -16,21 +16,21 @@ use Rattle.play_event.specs.SeatSlots.{slots_of_hand}
 use Rattle.play_event.specs.Seats.{all_seats, is_live, live_count}
 use Rattle.play_event.specs.Streets.{has_draw}
 use Rattle.play_event.specs.Trace.{TracedPlace}
-use Rattle.canon_script.specs.CanonScript.{board_said, deal_said, deals_said, dealt_slots, discarded_slots, discards_said, held_slots, showdown_said, showing_said}
+use Rattle.play_event.specs.CanonScript.{board_said, deal_said, deals_said, dealt_slots, discarded_slots, discards_said, held_slots, showdown_said, showing_said}
 use Rattle.hand_canon.specs.RowTests.{discards_from, showings_from, unfolded_count}
 use Rattle.hand_canon.proofs.OneByOne.{flat_agree}
 use Rattle.hand_canon.proofs.MoveRows.{AreFolded, live_are}
-use Rattle.list_laws.proofs.FlatMaps.{kept_flat}
-use Rattle.list_laws.proofs.Numbers.{few_by_test, many_by_test}
+use Rattle.card_set.proofs.FlatMaps.{kept_flat}
+use Rattle.card_set.proofs.Numbers.{few_by_test, many_by_test}
 
--- nor where fewer than two seats are live
+-- nor if fewer than two seats are live
 pub not_reached : (setup : Setup) (placed : List TracedPlace) (moves : List Move) (street : ℕ) (folded : LiveRow) → AreFolded (moves_before street moves) folded
     → unfolded_count folded setup.stacks.seats < 2 → discards_said setup placed moves street ≡ []
 not_reached setup placed moves street folded marked few =
     not_both (has_draw setup.code street) (nat_le 2 (live_count setup (moves_before street moves))) _ _
     (few_by_test (live_count setup (moves_before street moves)) (omega (arith, few, live_are setup (moves_before street moves) folded marked)))
 
--- else those of each seat that has not folded
+-- otherwise those of each seat that has not folded
 pub discards_are : (setup : Setup) (placed : List TracedPlace) (moves : List Move) (street : ℕ) (folded : LiveRow) (discards : HandRow)
     → has_draw setup.code street ≡ true
     → AreFolded (moves_before street moves) folded
@@ -58,18 +58,18 @@ deals_are setup placed street hands board slots same =
     (flat_agree (λ seat. deal_said seat (dealt_slots placed (Some seat) street)) (λ seat. deal_said seat (slots_of_hand hands seat)) 1 setup.stacks.seats (λ k from. ap (deal_said k) (sym (slots k from))))
     ∙ ap (λ l. flat_map (λ seat. deal_said seat (slots_of_hand hands seat)) (seats_of setup.stacks.seats) ++ board_said l) (sym same)
 
--- no showdown where fewer than two seats are live
+-- no showdown if fewer than two seats are live
 pub no_showdown : (setup : Setup) (placed : List TracedPlace) (moves : List Move) (shown : List ℕ) (folded : LiveRow) → AreFolded moves folded
     → unfolded_count folded setup.stacks.seats < 2 → showdown_said setup placed moves shown ≡ []
 no_showdown setup placed moves shown folded marked few =
     ap (λ b. if b then map (showing_said placed shown) (filter (is_live moves) (all_seats setup)) else [])
     (few_by_test (live_count setup moves) (omega (arith, few, live_are setup moves folded marked)))
 
--- a seat is among the shown ones where it has their flag
+-- a seat is among the shown ones if its flag is set
 is_flagged : (row : LiveRow) (n : ℕ) → 1 ≤ n → list_any (λ m. m == n) (flagged row) ≡ flag_of row n
 is_flagged row n from = same_test (list_any (λ m. m == n) (flagged row)) (flag_of row n) (flag-from_flagged row n) (flagged-from_flag row n from)
 
--- else a show or muck of each seat that has not folded
+-- otherwise a show or muck of each seat that has not folded
 pub showdown_are : (setup : Setup) (placed : List TracedPlace) (moves : List Move) (shown : LiveRow) (folded : LiveRow) (held : HandRow)
     → AreFolded moves folded
     → 2 ≤ unfolded_count folded setup.stacks.seats

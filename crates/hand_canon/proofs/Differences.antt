@@ -28,7 +28,8 @@ pub found_here : (f : ℕ → Comparison) (first count : ℕ) (d : Comparison) �
 found_here f first zero d some is = absurd (omega (arith, some))
 found_here f first (suc count) d some is = here (f first) (find is_different (map f (range_with_len (first + 1) count))) d (is_different (f first)) is
 
--- the seats are compared one after another: where this one does not differ, the first difference is one of the seats to come
+-- the seats are compared one after another: if this one does not differ, the first difference is at
+-- a later seat
 pub next_seat : {D : Type 0} (said : D → Comparison) (f : ℕ → Comparison) (i n : ℕ) (found : Option D) (first : Option Comparison) → i < n
     → option_map said found ≡ difference_of (f (i + 1)) → is_some found ≡ false
     → find is_different (map f (range_with_len (i + 1) (n - i))) ≡ first → find is_different (map f (range_with_len (i + 1 + 1) (n - (i + 1)))) ≡ first
@@ -39,20 +40,20 @@ next_seat said f i n None first within is missing before =
     ∙ passed_over f (i + 1) (n - i) (omega (arith, within)) (sym is)
     ∙ before
 
--- and where it differs it is the first difference
+-- and if it differs it is the first difference
 pub this_seat : {D : Type 0} (said : D → Comparison) (f : ℕ → Comparison) (i n : ℕ) (found : Option D) (first : Option Comparison) → i < n
     → option_map said found ≡ difference_of (f (i + 1)) → is_some found ≡ true
     → find is_different (map f (range_with_len (i + 1) (n - i))) ≡ first → option_map said found ≡ first
 this_seat said f i n (Some d) first within is there before = sym (found_here f (i + 1) (n - i) (said d) (omega (arith, within)) (sym is)) ∙ before
 this_seat said f i n None first within is there before = absurd (true≢false (sym there))
 
--- what follows where nothing differs
+-- what follows if nothing differs
 pub or_later : {D : Type 0} (said : D → Comparison) (xs ys : List Comparison) (found : Option D) → option_map said found ≡ find is_different xs → is_some found ≡ false
     → find is_different (xs ++ ys) ≡ find is_different ys
 or_later said xs ys (Some d) is missing = absurd (true≢false missing)
 or_later said xs ys None is missing = find-append is_different xs ys ∙ ap (λ o. option_or o (find is_different ys)) (sym is)
 
--- what differs stands before what follows
+-- what differs comes before what follows
 pub or_first : {D : Type 0} (said : D → Comparison) (xs ys : List Comparison) (found : Option D) → option_map said found ≡ find is_different xs → is_some found ≡ true
     → option_map said found ≡ find is_different (xs ++ ys)
 or_first said xs ys (Some d) is there = sym (find-append is_different xs ys ∙ ap (λ o. option_or o (find is_different ys)) (sym is))

@@ -4,20 +4,20 @@ use Rattle.std.specs.List.{flat_map, list_any}
 use Rattle.std.proofs.lemmas.List.{reverse-reverse}
 use Rattle.chip_ledger.specs.declared.live_row.LiveRow.{LiveRow}
 use Rattle.chip_ledger.specs.LiveRow.{flag_of}
-use Rattle.list_laws.proofs.Any.{list_any-filter, list_any-map}
-use Rattle.list_laws.proofs.Counting.{count_agree}
+use Rattle.card_set.proofs.Any.{list_any-filter, list_any-map}
+use Rattle.card_set.proofs.Counting.{count_agree}
 use Rattle.play_event.specs.declared.played.Move as rows
 use Rattle.play_event.specs.declared.setup.Setup.{Setup}
 use Rattle.play_event.specs.Past.{Move, moves_before}
 use Rattle.play_event.specs.Played.{move_said}
 use Rattle.play_event.specs.Seats as moved
 use Rattle.play_event.specs.Seats.{is_live, live_count}
-use Rattle.canon_script.specs.CanonScript.{plain_move, plain_moves, moves_named, move_named}
+use Rattle.play_event.specs.CanonScript.{plain_move, plain_moves, moves_named, move_named}
 use Rattle.hand_canon.specs.RowTests.{is_fold_before, is_fold_of, said_on, unfolded_count}
-use Rattle.list_laws.proofs.FlatMaps.{flat_map-map, kept_flat}
-use Rattle.list_laws.proofs.Reversed.{filter-reverse, list_any-reverse}
+use Rattle.card_set.proofs.FlatMaps.{flat_map-map, kept_flat}
+use Rattle.card_set.proofs.Reversed.{filter-reverse, list_any-reverse}
 
--- the seats with the flag are those that are not live
+-- the seats whose flag is set are those that are not live
 pub record AreFolded (moves : List Move) (folded : LiveRow) : Type 0 where
   pub each : (seat : ℕ) → 1 ≤ seat → is_live moves seat ≡ not (flag_of folded seat)
 
@@ -41,7 +41,7 @@ folded_before street played folded flags = record {
       ∙ sym (flags seat from));
 }
 
--- as many seats are live
+-- the same number of seats is live
 pub live_are : (setup : Setup) (moves : List Move) (folded : LiveRow) → AreFolded moves folded → live_count setup moves ≡ unfolded_count folded setup.stacks.seats
 live_are setup moves folded marked = count_agree (is_live moves) (λ seat. not (flag_of folded seat)) 1 setup.stacks.seats (λ k from _. marked.each k from)
 

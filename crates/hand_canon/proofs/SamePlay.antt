@@ -5,7 +5,7 @@ use Rattle.card_set.proofs.RowLaws.{cards_same, slots_same}
 use Rattle.chip_ledger.specs.declared.numbers.Seat.{Seat}
 use Rattle.chip_ledger.proofs.Same.{seat_same}
 use Rattle.hand_canon.proofs.SameSetups.{amounts_same, rakes_same, setups_same}
-use Rattle.list_laws.proofs.Options.{options_same}
+use Rattle.card_set.proofs.Options.{options_same}
 use Rattle.hand_records.specs.declared.record.Record.{Record}
 use Rattle.play_event.specs.declared.event.Event.{Event}
 use Rattle.play_event.specs.declared.event.Kind.{Kind}
@@ -13,7 +13,7 @@ use Rattle.play_event.specs.declared.event.Kind.TheVariants as kinds
 use Rattle.play_event.specs.declared.setup.Setup.{Setup}
 use Rattle.play_event.specs.Said.{Numbered, kind_said, numbered, seat_named}
 use Rattle.hand_records.specs.PlainHands.{PlainHand, PlainSetup, plain, plain_setup}
-use Rattle.list_laws.proofs.Lists.{lists_same}
+use Rattle.card_set.proofs.Lists.{lists_same}
 use Rattle.chip_ledger.specs.SeatRow.{amounts_in}
 use Rattle.hand_records.specs.StatedFacts.{stated_from}
 
@@ -37,7 +37,7 @@ event_same a b same =
     ap₂ (λ at kind. record { at = at; kind = kind }) (ap (λ (n : Numbered). n.0) same)
     (kind_same a.kind b.kind (ap (λ (n : Numbered). n.1) same))
 
--- setups that say the same are one
+-- setups that say the same are equal
 pub setup_same : (s t : Setup) → plain_setup s ≡ plain_setup t → s.rakes.rakes ≡ t.rakes.rakes → s ≡ t
 setup_same s t same rakes =
     setups_same s t (record {

@@ -1,4 +1,4 @@
--- Rows of amounts, rows of rakes and setups whose parts are the same are the same.
+-- Rows of amounts, rows of rakes and setups with the same parts are equal.
 use Rattle.std.proofs.Common.{◌≡◌, ℕ, ◌-◌, Bool, List, length, take, get_or, refl, sym, subst, ap, ◌∙◌, arith}
 use Rattle.std.proofs.Props.{props}
 use Rattle.std.proofs.lemmas.List.{get_or-take, length-take-le}
@@ -8,7 +8,7 @@ use Rattle.chip_ledger.specs.declared.seat_row.SeatRow.{SeatRow}
 use Rattle.play_event.specs.declared.code.Code.{Code}
 use Rattle.play_event.specs.declared.setup.Setup.{Setup}
 
--- rows with the same amounts are one row
+-- rows with the same amounts are equal
 pub amounts_same : (a b : SeatRow) → take a.seats a.amounts ≡ take b.seats b.amounts → a ≡ b
 amounts_same a b same =
     let seats : a.seats ≡ b.seats =
@@ -31,7 +31,7 @@ KeptRakes-prop rakes = hlevel props
 rake_row : (rakes : List ℕ) → KeptRakes rakes → RakeRow
 rake_row rakes kept = record { rakes = rakes; full = kept.full }
 
--- rows with the same rakes are one row
+-- rows with the same rakes are equal
 pub rakes_same : (a b : RakeRow) → a.rakes ≡ b.rakes → a ≡ b
 unfolding rake_row
 rakes_same a b same =
@@ -39,7 +39,7 @@ rakes_same a b same =
     let here : P a.rakes = λ kept. ap (rake_row a.rakes) (KeptRakes-prop a.rakes (record { full = a.full }) kept) in
     subst P same here (record { full = b.full })
 
--- a setup of its parts
+-- a setup made from its parts
 setup_from : Code → SeatRow → SeatRow → Bool → SeatRow → ℕ → ℕ → ℕ → ℕ → RakeRow → Setup
 setup_from code stacks antes dead_antes blinds bring_in small_bet big_bet min_bet rakes =
     record {
@@ -72,7 +72,7 @@ pub record HaveSameParts (s t : Setup) : Type 0 where
   pub min_bet : s.min_bet ≡ t.min_bet
   pub rakes : s.rakes ≡ t.rakes
 
--- setups with the same parts are one setup
+-- setups with the same parts are equal
 pub setups_same : (s t : Setup) → HaveSameParts s t → s ≡ t
 setups_same s t same =
     cc (

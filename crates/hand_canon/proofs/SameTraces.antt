@@ -1,14 +1,14 @@
--- A whole trace is that of each past of which traces keep the same.
+-- Pasts of which a trace keeps the same have the same whole traces.
 use Rattle.std.proofs.Common.{◌≡◌, subst, sym, ◌∙◌}
 use Rattle.chip_ledger.specs.SeatRow.{amount_of}
 use Rattle.play_event.specs.Past.{Past}
 use Rattle.play_event.specs.declared.setup.Setup.{Setup}
-use Rattle.canon_script.specs.TraceCore.{TraceCore, core_of}
+use Rattle.play_event.specs.TraceCore.{TraceCore, core_of}
 use Rattle.hand_records.specs.declared.trace.Trace.{Trace}
 use Rattle.chip_ledger.specs.PotRow.{plain_shares}
 use Rattle.hand_canon.specs.WholeTrace.{HasShares, IsTraceOf}
 
--- a whole trace of a past is one of each past of which the trace keeps the same
+-- a whole trace of one past is one of every past of which the trace keeps the same
 pub whole_same : (setup : Setup) (past later : Past) (trace : Trace) → core_of setup later ≡ core_of setup past → IsTraceOf setup past trace → IsTraceOf setup later trace
 whole_same setup past later trace same is =
     record {

@@ -1,4 +1,4 @@
--- A canonical script of few moves is short, so that its events have their numbers.
+-- A canonical script of few moves is short, so its events have their numbers.
 use Rattle.std.proofs.Common.{◌≡◌, ℕ, zero, suc, ◌+◌, ◌*◌, ◌≤◌, Bool, ◌&&◌, ◌==◌, nat_le, List, ◌∷◌, ◌++◌, length, map, filter, reverse, Some, None, refl, ap, ◌∙◌, arith, length-append}
 use Rattle.std.specs.List.{flat_map, range_with_len}
 use Rattle.std.proofs.lemmas.List.{length-map, length-reverse}
@@ -10,14 +10,14 @@ use Rattle.play_event.specs.Seats.{all_seats, is_live, live_count}
 use Rattle.play_event.specs.Streets.{has_draw}
 use Rattle.play_event.specs.Games.{street_count}
 use Rattle.play_event.specs.Trace.{TracedPlace, streets_of}
-use Rattle.canon_script.specs.TraceCore.{TraceCore}
-use Rattle.canon_script.specs.CanonScript.{board_said, canonical_script, deal_said, deals_said, dealt_slots, discarded_slots, discards_said, drawing_seats, is_reached, move_named, moves_named, plain_move, plain_moves, showdown_said, showing_said, street_said}
-use Rattle.list_laws.proofs.Lists.{kept_few, maybe_few}
-use Rattle.list_laws.proofs.FlatMaps.{flat_few}
+use Rattle.play_event.specs.TraceCore.{TraceCore}
+use Rattle.play_event.specs.CanonScript.{board_said, canonical_script, deal_said, deals_said, dealt_slots, discarded_slots, discards_said, drawing_seats, is_reached, move_named, moves_named, plain_move, plain_moves, showdown_said, showing_said, street_said}
+use Rattle.card_set.proofs.Lists.{kept_few, maybe_few}
+use Rattle.card_set.proofs.FlatMaps.{flat_few}
 use Rattle.first_fault.specs.Numbers.{kept_number}
-use Rattle.canon_script.proofs.Deals.{one_board, one_deal}
+use Rattle.play_event.proofs.Deals.{one_board, one_deal}
 
--- what the seats that pass a test say, an event each
+-- what the seats that pass a test say, one event each
 each_few : {X : Type 0} (setup : Setup) (p : ℕ → Bool) (f : ℕ → X) → length (map f (filter p (all_seats setup))) ≤ 10
 each_few setup p f = omega (arith, length-map (filter p (all_seats setup)) f, kept_few p (all_seats setup), length-range_with_len 1 setup.stacks.seats, setup.stacks.greatest)
 
@@ -64,7 +64,7 @@ canon_short setup trace streets few =
       length-append (flat_map (street_said setup trace.places moves) (streets_of setup)) (showdown_said setup trace.places moves trace.shown),
     )
 
--- numbers that do not end are the numbers themselves
+-- numbers below the limit are kept as they are
 pub numbers_are : (first count : ℕ) → first + count ≤ 4294967296 → map kept_number (range_with_len first count) ≡ range_with_len first count
 numbers_are first zero few = refl
 numbers_are first (suc count) few =

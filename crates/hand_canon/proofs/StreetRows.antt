@@ -1,4 +1,4 @@
--- A row of a game's table draws where the street does.
+-- A row of a game's table draws if the street does.
 use Rattle.std.proofs.Common.{◌≡◌, ℕ, zero, suc, ◌<◌, false, List, [], ◌∷◌, map, get_or, Option, Some, None, refl, sym, ap, ◌∙◌, arith, ◌≤◌, length}
 use Rattle.std.specs.Prelude.{slice_get, unwrap_or}
 use Rattle.std.specs.Option.{option_map_or}
@@ -9,7 +9,7 @@ use Rattle.variant_table.specs.Tables.{no_street, street_at}
 use Rattle.play_event.specs.declared.code.Code.{Code}
 use Rattle.play_event.specs.declared.code.Code.TheVariants as games
 
--- the row at an index, and past the rows one that does not draw
+-- the row at an index, and after the rows one that does not draw
 draws_row : (rows : List Street) (past : Street) → past.draws ≡ false → (i : ℕ) → option_map_or (λ s. s.draws) (slice_get (rows) i) false ≡ (get_or rows i past).draws
 draws_row [] past none zero = sym none
 draws_row [] past none (suc i) = sym none

@@ -1,4 +1,4 @@
--- The numbers of the seats of a sound play are not the usual ones.
+-- The seat numbers of a sound play are not the default ones.
 use Rattle.std.proofs.Common.{ℕ, List, Option, Some, None, IfSome, subst, sym}
 use Rattle.hand_canon.specs.Sound.{IsSound}
 use Rattle.hand_records.specs.AllowedNotes.{AreSeatNumbers}

@@ -7,7 +7,7 @@ use Rattle.play_event.specs.declared.event.Event.{Event}
 use Rattle.hand_canon.specs.Numbers.{AreNumbered}
 use Rattle.first_fault.specs.Numbers.{kept_number}
 
--- an event more has the next number
+-- one more event has the next number
 more_numbered : (events : List Event) (event : Event) → AreNumbered events → event.at ≡ kept_number (length events + 1) → AreNumbered (events ++ event ∷ [])
 more_numbered events event numbered at =
     let longer : length (events ++ event ∷ []) ≡ length events + 1 = length-append events (event ∷ []) in

@@ -1,4 +1,4 @@
--- What a record states of the end of a hand, beside what its trace comes to, and the first number
+-- Compares what a record states of the end of a hand with its trace, and finds the first number
 -- that differs.
 use Rattle.std.specs.Prelude.{ℕ, ℤ, pos, ◌-ℤ◌, ◌≤◌, Bool, not, if◌then◌else◌, List, [], ◌∷◌, ◌++◌, map, find, sum_by, Option, Some, None, All}
 use Rattle.std.specs.Option.{option_map_or}
@@ -17,15 +17,15 @@ use Rattle.hand_records.specs.declared.record.Stated.{Stated}
 use Rattle.hand_records.specs.declared.trace.Trace.{Trace}
 use Rattle.hand_records.specs.NetRow.{net_of}
 
--- a fact that may be stated: a seat's finishing stack, what it wins of the pots, all pots together,
--- what it won or lost
+-- a fact that may be stated: a seat's finishing stack, what it wins from the pots, the total of the
+-- pots, or its net result
 pub data Fact : Type 0 where
   Finish : ℕ → Fact
   Win : ℕ → Fact
   Pots : Fact
   Value : ℕ → Fact
 
--- a stated number beside the one that the trace comes to
+-- a stated number beside the number in the trace
 pub record Comparison : Type 0 where
   pub fact : Fact
   pub stated : ℤ
@@ -35,15 +35,15 @@ pub record Comparison : Type 0 where
 abbrev pub comparison : Fact → ℤ → ℤ → Comparison
 comparison fact stated replayed = record { fact = fact; stated = stated; replayed = replayed }
 
--- what a seat wins of the pots: its shares together
+-- what a seat wins from the pots: the sum of its shares
 abbrev pub win_of : Trace → ℕ → ℕ
 win_of trace seat = sum_by (λ share. amount_of share seat) (shares_in trace.shares)
 
--- all pots together, rakes counted and returns not
+-- the total of the pots, counting rakes but not returned chips
 abbrev pub pot_total_of : Trace → ℕ
 pot_total_of trace = sum_by (λ pot. pot.chips) (pots_in trace.pots)
 
--- what a seat won or lost: its finishing stack less its starting stack
+-- what a seat won or lost: its finishing stack minus its starting stack
 abbrev pub value_of : Trace → ℕ → ℤ
 value_of trace seat = pos (amount_of trace.finish seat) -ℤ pos (amount_of trace.setup.stacks seat)
 
@@ -61,17 +61,17 @@ win_compared trace row seat =
 abbrev pub pots_compared : Trace → ℕ → Comparison
 pots_compared trace total = comparison Pots (pos total) (pos (pot_total_of trace))
 
--- a stated value
+-- a stated net result
 abbrev pub value_compared : Trace → NetRow → ℕ → Comparison
 value_compared trace row seat = comparison (Value seat) (net_of row seat) (value_of trace seat)
 
--- what is compared of a row, seat by seat, if there is a row
+-- the comparisons of a row, seat by seat, if there is a row
 abbrev pub row_compared : {Row : Type 0} → Trace → (Trace → Row → ℕ → Comparison) → Option Row
     → List Comparison
 row_compared trace compared row =
     option_map_or (λ stated. map (compared trace stated) (all_seats trace.setup)) row []
 
--- what is compared of the total of the pots, if it is stated
+-- the comparison of the total of the pots, if it is stated
 abbrev pub total_compared : Trace → Option ℕ → List Comparison
 total_compared trace total = option_map_or (λ stated. pots_compared trace stated ∷ []) total []
 
@@ -95,14 +95,14 @@ difference_of comparison = if is_different comparison then Some comparison else 
 abbrev pub first_difference : Trace → Stated → Option Comparison
 first_difference trace stated = find is_different (all_compared trace stated)
 
--- which fact is named
+-- the fact that is named
 abbrev pub which_said : Which → Fact
 which_said (whiches.Finish seat) = Finish seat.number
 which_said (whiches.Win seat) = Win seat.number
 which_said whiches.Pots = Pots
 which_said (whiches.Value seat) = Value seat.number
 
--- what is said of a fact that differs
+-- what is reported of a fact that differs
 abbrev pub difference_said : FactDiffers → Comparison
 difference_said differs = comparison (which_said differs.which) differs.stated differs.replayed
 

@@ -1,4 +1,4 @@
--- Judged plays: the trace is that of a legal hand, and every stated fact agrees with it.
+-- Plays whose hand is legal, with its trace, and whose stated facts all agree.
 use Rattle.std.specs.Prelude.{◌≡◌, None}
 use Rattle.play_event.specs.Scripts.{past_at_end}
 use Rattle.hand_records.specs.SoundRecord.{script_said}
@@ -14,7 +14,7 @@ pub record IsTraceOfLegal (hand : Record) (trace : Trace) : Type 0 where
   pub legal : IsLegalHand hand.setup hand.rules (script_said hand)
   pub whole : IsTraceOf hand.setup (past_at_end hand.setup (script_said hand)) trace
 
--- a play is judged: its hand is legal and has this trace, and every stated fact agrees with it
+-- the hand of a play is legal and has this trace, and every stated fact agrees with it
 pub record IsJudged (play : Play) : Type 0 where
   pub traced : IsTraceOfLegal play.hand play.trace
   pub agrees : first_difference play.trace play.hand.stated ≡ None

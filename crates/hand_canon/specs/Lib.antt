@@ -1,10 +1,10 @@
 -- Legal hands, the shares of a whole trace, sound plays, what stated facts are compared with, and
--- hands that are read again of plays. What a trace keeps but for its shares, and its canonical
--- script, are passed on.
-pub use Rattle.canon_script.specs.TraceCore
-pub use Rattle.canon_script.specs.CanonScript
-pub use Rattle.canon_script.specs.PlayedScript
-pub use Rattle.canon_script.specs.Tidy
+-- hands that are read back from what was written. Also passes on what a trace keeps without its
+-- shares, and its canonical script.
+pub use Rattle.play_event.specs.TraceCore
+pub use Rattle.play_event.specs.CanonScript
+pub use Rattle.play_event.specs.PlayedScript
+pub use Rattle.play_event.specs.Tidy
 pub mod LegalHand
 pub mod WholeTrace
 pub mod Sound

@@ -1,4 +1,4 @@
--- The numbers of the events of a script that is written.
+-- The numbers of the events of a script that is being written.
 use Rattle.std.specs.Prelude.{◌≡◌, List, map, length}
 use Rattle.std.specs.List.{range_with_len}
 use Rattle.play_event.specs.declared.event.Event.{Event}

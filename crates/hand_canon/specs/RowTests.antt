@@ -1,4 +1,4 @@
--- What is asked of the rows of a trace, one after the other.
+-- Tests and selections on the moves, cards and seats of a trace, one at a time.
 use Rattle.std.specs.Prelude.{ℕ, Bool, ◌&&◌, ◌==◌, nat_lt, not, List, [], ◌∷◌, count_by, Option, if◌then◌else◌}
 use Rattle.chip_ledger.specs.declared.live_row.LiveRow.{LiveRow}
 use Rattle.chip_ledger.specs.LiveRow.{flag_of}
@@ -13,28 +13,28 @@ use Rattle.play_event.specs.Said.{Said, Discard, Show, Muck}
 use Rattle.play_event.specs.SeatSlots.{slots_of_hand}
 use Rattle.play_event.specs.Past.{is_fold}
 use Rattle.play_event.specs.Played.{act_said, move_said}
-use Rattle.canon_script.specs.CanonScript.{move_named, plain_move}
+use Rattle.play_event.specs.CanonScript.{move_named, plain_move}
 use Rattle.hand_records.specs.TraceRows.{place_said}
 
--- a move is a fold of a seat
+-- a move is a fold by a seat
 abbrev pub is_fold_of : ℕ → Move → Bool
 is_fold_of seat move = is_fold (act_said move.act) && (move.seat.number == seat)
 
--- it is one before a street
+-- a move is a fold by a seat before a street
 abbrev pub is_fold_before : ℕ → ℕ → Move → Bool
 is_fold_before street seat move = nat_lt move.street street && is_fold_of seat move
 
--- what is said of a move, where it is one of a street
+-- what a move says, if it belongs to the street
 abbrev pub said_on : ℕ → Move → List Said
 said_on street move =
     if move.street == street then move_named (plain_move (move_said move)) ∷ [] else []
 
--- the card of a place, where it counts and belongs to this owner
+-- the card of a dealt card, if it counts and belongs to this owner
 abbrev pub slot_for : Option ℕ → Bool → Place → List Slot
 slot_for owner counts place =
     if is_same_owner (place_said place).owner owner && counts then place.slot ∷ [] else []
 
--- how many of so many seats have not folded
+-- how many of this number of seats have not folded
 abbrev pub unfolded_count : LiveRow → ℕ → ℕ
 unfolded_count folded seats = count_by (λ seat. not (flag_of folded seat)) (seats_of seats)
 

@@ -4,7 +4,7 @@ use Rattle.play_event.specs.ValidSetup.{IsValid}
 use Rattle.hand_records.specs.declared.trace.Play.{Play}
 use Rattle.hand_records.specs.AllowedNotes.{AreAllowed}
 use Rattle.hand_records.specs.SoundRecord.{script_said}
-use Rattle.canon_script.specs.PlayedScript.{IsWithinLimits}
+use Rattle.play_event.specs.PlayedScript.{IsWithinLimits}
 use Rattle.hand_canon.specs.LegalHand.{IsLegalHand}
 use Rattle.hand_canon.specs.WholeTrace.{IsTraceOf}
 

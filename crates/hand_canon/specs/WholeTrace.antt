@@ -10,12 +10,12 @@ use Rattle.play_event.specs.Past.{Past}
 use Rattle.play_event.specs.Stakes.{finishing_stack}
 use Rattle.variant_table.specs.Shares.{AllShared}
 use Rattle.hand_records.specs.declared.trace.Trace.{Trace}
-use Rattle.canon_script.specs.TraceCore.{TraceCore, core_of}
-use Rattle.canon_script.specs.CanonScript.{plain_moves}
+use Rattle.play_event.specs.TraceCore.{TraceCore, core_of}
+use Rattle.play_event.specs.CanonScript.{plain_moves}
 use Rattle.hand_records.specs.TraceRows.{core_said}
 use Rattle.hand_canon.specs.LegalHand.{showdown_in}
 
--- each row of a trace is of so many seats
+-- each row of a trace is of this number of seats
 pub record HasSeats (seats : ℕ) (trace : Trace) : Type 0 where
   pub shown : trace.shown.seats ≡ seats
   pub mucked : trace.mucked.seats ≡ seats
@@ -24,7 +24,7 @@ pub record HasSeats (seats : ℕ) (trace : Trace) : Type 0 where
   pub shares : All (λ (share : SeatRow). share.seats ≡ seats) (shares_in trace.shares)
   pub finish : trace.finish.seats ≡ seats
 
--- what each seat gets of the net of each pot, and what it ends with
+-- what each seat gets of each pot after its rake, and what it ends with
 pub record HasShares (setup : Setup) (trace : TraceCore) (shares : List (ℕ → ℕ)) (finish : ℕ → ℕ) :
     Type 0 where
   pub shared :
@@ -32,7 +32,7 @@ pub record HasShares (setup : Setup) (trace : TraceCore) (shares : List (ℕ →
   pub finishes : (seat : ℕ) → 1 ≤ seat → seat ≤ setup.stacks.seats
       → finish seat ≡ finishing_stack setup (plain_moves trace.moves) shares seat
 
--- A trace is that of a past: it keeps what the past says, each pot less its rake is shared as the
+-- A trace is that of a past: it keeps what the past says, each pot minus its rake is shared as the
 -- rules share it, and each seat ends with the chips that it has left, those returned to it, and its
 -- shares.
 pub record IsTraceOf (setup : Setup) (past : Past) (trace : Trace) : Type 0 where

@@ -1,4 +1,4 @@
-//! The first stated fact that differs from the trace is found, with both numbers.
+//! Finds the first stated fact that differs from the trace, with both numbers.
 ghost use Rattle.std.specs.Prelude.{◌≡◌, ◌≤◌, ◌*◌, find, option_map, pos};
 ghost use Rattle.std.specs.Option.{ForSome};
 ghost use Rattle.std.specs.Result.{result_err};
@@ -15,15 +15,15 @@ use hand_records::{NetRow, Stated, Trace};
 pub enum Which {
     /// A seat's finishing stack.
     Finish(Seat),
-    /// What a seat is paid of the pots, returns not counted.
+    /// What a seat is paid from the pots, not counting returned chips.
     Win(Seat),
-    /// All pots together, returns not counted.
+    /// All pots together, not counting returned chips.
     Pots,
-    /// A seat's finishing stack less its starting stack.
+    /// A seat's finishing stack minus its starting stack.
     Value(Seat),
 }
 
-/// A stated fact that differs from what the hand comes to, in chips.
+/// A stated fact that differs from how the hand ends, in chips.
 #[derive(Clone, Copy, Debug, PartialEq, Eq)]
 pub struct FactDiffers {
     pub which: Which,
@@ -31,12 +31,12 @@ pub struct FactDiffers {
     pub replayed: i64,
 }
 
-/// Whether what a record states of the end of a hand is what its trace comes to: the finishing
-/// stacks first, then the wins, the pots together, and the values, each from p1 upward.
+/// Checks what a record states of the end of a hand against its trace: the finishing stacks first,
+/// then the wins, the total of the pots, and the net results, each from p1 upward.
 ///
 /// # Errors
 ///
-/// The first stated number that differs, with both.
+/// The first stated number that differs, with both numbers.
 pub fn check_stated(trace: &Trace, stated: &Stated) -> Result<(), FactDiffers>
     requires stated { IsStatedFor trace.now.setup.stacks.seats stated.now }
     requires pots { HasBoundedPots trace.now }
@@ -110,7 +110,7 @@ fn first_win(trace: &Trace, row: Option<SeatRow>) -> Option<FactDiffers>
     None
 }
 
-// What a seat wins of the pots: its shares together.
+// What a seat wins from the pots: the sum of its shares.
 fn win(trace: &Trace, seat: Seat) -> u64
     ensures won { result ≡ win_of trace.now seat.number }
     ensures bounded { result ≤ 11 * MOST_AMOUNT }
@@ -139,7 +139,7 @@ fn differing_total(trace: &Trace, total: Option<u64>) -> Option<FactDiffers>
     compare(Which::Pots, signed(total), signed(all))
 }
 
-// Chips as a number with a sign.
+// Chips as a signed number.
 fn signed(chips: u64) -> i64
     requires { chips ≤ 11 * MOST_AMOUNT }
     ensures { result ≡ pos chips }
@@ -147,7 +147,7 @@ fn signed(chips: u64) -> i64
     chips as i64
 }
 
-// The first stated value that differs.
+// The first stated net result that differs.
 fn first_value(trace: &Trace, row: Option<NetRow>) -> Option<FactDiffers>
     ensures { option_map difference_said result
         ≡ find is_different (row_compared trace.now value_compared row) }
@@ -165,7 +165,7 @@ fn first_value(trace: &Trace, row: Option<NetRow>) -> Option<FactDiffers>
     None
 }
 
-// A fact whose two numbers differ, if they do.
+// The fact with both its numbers, if they differ.
 fn compare(which: Which, stated: i64, replayed: i64) -> Option<FactDiffers>
     ensures { option_map difference_said result
         ≡ difference_of (comparison (which_said which) stated replayed) }
@@ -180,7 +180,7 @@ fn compare(which: Which, stated: i64, replayed: i64) -> Option<FactDiffers>
     })
 }
 
-// The finishing stack of a seat less its starting stack.
+// The finishing stack of a seat minus its starting stack.
 fn value(trace: &Trace, seat: Seat) -> i64
     ensures { result ≡ value_of trace.now seat.number }
 {

@@ -1,13 +1,13 @@
-//! The canonical script of a trace is written street by street: discards, deals, moves, and at the
-//! end the showdown.
+//! Writes the canonical script of a trace street by street: discards, deals, moves, and at the end
+//! the showdown.
 ghost use Rattle.std.specs.Prelude.{◌≡◌, ◌≤◌, ◌++◌, length, map, IfOk, OnOk};
 ghost use Rattle.std.specs.List.{flat_map, range_with_len};
 ghost use Rattle.play_event.specs.Played.{move_said};
 ghost use Rattle.play_event.specs.Said.{kind_said, said_of};
 ghost use Rattle.card_set.specs.Row.{slots_of};
-ghost use Rattle.canon_script.specs.CanonScript.{board_said, canonical_script, deal_said, deals_said, discards_said, move_named, plain_move, plain_moves, showdown_said};
+ghost use Rattle.play_event.specs.CanonScript.{board_said, canonical_script, deal_said, deals_said, discards_said, move_named, plain_move, plain_moves, showdown_said};
 ghost use Rattle.hand_canon.specs.RowTests.{discards_from, said_on, showings_from};
-ghost use Rattle.canon_script.specs.Tidy.{HasTidyCards, IsTidy};
+ghost use Rattle.play_event.specs.Tidy.{HasTidyCards, IsTidy};
 ghost use Rattle.hand_records.specs.TraceRows.{core_said};
 ghost use Rattle.hand_canon.specs.SaidSoFar.{words_of};
 
@@ -21,8 +21,9 @@ use hand_records::Trace;
 use play_event::{Act, HandRow, Kind, Move, Script, Spelled};
 use std::alloc::Global;
 
-/// The canonical script of a trace: the one script that every notation writes for it. Cards stand
-/// in it as they are known at the end, each move names its seat, and `at` is the event's number.
+/// The canonical script of a trace: the one script that every notation writes for it. Cards appear
+/// in it as they are known at the end of the hand, each move names its seat, and `at` is the number
+/// of the event.
 pub fn canon(alloc: Global, trace: &Trace) -> Result<Script, Memory>
     requires { IsTidy (core_said trace.now) }
     ensures said { IfOk result (λ script.
@@ -41,8 +42,8 @@ pub fn canon(alloc: Global, trace: &Trace) -> Result<Script, Memory>
     Ok(written.script)
 }
 
-// Writes the discards of a street: those of each seat that is live when it begins, if the street
-// draws and two are.
+// Writes the discards of a street: one for each seat that is live when the street begins, if the
+// street draws and at least two seats are live.
 fn write_discards(written: &mut Numbered, trace: &Trace, street: u8) -> Result<(), Memory>
     requires street { 1 ≤ street }
     requires tidy { HasTidyCards (core_said trace.now) }
@@ -82,7 +83,7 @@ fn write_discard(
     written.push(Kind::Discard { seat, cards })
 }
 
-// Writes the deals of a street: to each seat in one event, and to the board in one.
+// Writes the deals of a street: one event for each seat, and one for the board.
 fn write_deals(written: &mut Numbered, trace: &Trace, street: u8) -> Result<(), Memory>
     requires { HasTidyCards (core_said trace.now) }
     ensures { OnOk result (words_of written.new ≡ words_of written.old
@@ -97,7 +98,7 @@ fn write_deals(written: &mut Numbered, trace: &Trace, street: u8) -> Result<(), 
     write_board(written, &board)
 }
 
-// Writes the deal of these cards to a seat, if there are any.
+// Writes the deal of these cards to a seat, unless there are none.
 fn write_deal(written: &mut Numbered, seat: Seat, cards: SlotRow) -> Result<(), Memory>
     ensures { OnOk result (words_of written.new
         ≡ words_of written.old ++ deal_said seat.number (slots_of cards)) }
@@ -108,7 +109,7 @@ fn write_deal(written: &mut Numbered, seat: Seat, cards: SlotRow) -> Result<(), 
     written.push(Kind::Hole { seat, cards })
 }
 
-// Writes the deal of these cards to the board, if there are any.
+// Writes the deal of these cards to the board, unless there are none.
 fn write_board(written: &mut Numbered, cards: &SlotRow) -> Result<(), Memory>
     ensures { OnOk result (words_of written.new
         ≡ words_of written.old ++ board_said (slots_of cards.now)) }
@@ -133,7 +134,7 @@ fn write_moves(written: &mut Numbered, moves: &[Move], street: u8) -> Result<(),
     Ok(())
 }
 
-// Writes a move, if it is one of the street.
+// Writes a move, if it belongs to the street.
 fn write_move(written: &mut Numbered, played: Move, street: u8) -> Result<(), Memory>
     ensures { OnOk result (words_of written.new ≡ words_of written.old ++ said_on street played) }
 {
@@ -143,7 +144,7 @@ fn write_move(written: &mut Numbered, played: Move, street: u8) -> Result<(), Me
     written.push(named_move(played))
 }
 
-/// A move as an event that names its seat and its target, as canonical scripts have it.
+/// A move as canonical scripts write it: with its seat and its target.
 pub fn named_move(played: Move) -> Kind
     ensures { kind_said result ≡ move_named (plain_move (move_said played)) }
 {
@@ -162,7 +163,7 @@ pub fn named_move(played: Move) -> Kind
     }
 }
 
-// Writes the showdown, if two seats are live at the end.
+// Writes the showdown, if at least two seats are live at the end.
 fn write_showdown(written: &mut Numbered, trace: &Trace) -> Result<(), Memory>
     requires { HasTidyCards (core_said trace.now) }
     ensures { OnOk result (words_of written.new ≡ words_of written.old
@@ -182,7 +183,7 @@ fn write_showdown(written: &mut Numbered, trace: &Trace) -> Result<(), Memory>
     Ok(())
 }
 
-// Writes that a seat shows all it holds, or mucks, unless it has folded.
+// Writes that a seat shows all its cards, or mucks, unless it has folded.
 fn write_showing(
     written: &mut Numbered,
     folded: &LiveRow,

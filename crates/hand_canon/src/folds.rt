@@ -1,4 +1,4 @@
-//! Which seats have folded, by the moves of a trace.
+//! Which seats have folded, read from the moves of a trace.
 ghost use Rattle.std.specs.Prelude.{◌≡◌, ◌≤◌, ℕ, ◌&&◌, ◌||◌};
 ghost use Rattle.std.specs.List.{list_any};
 ghost use Rattle.chip_ledger.specs.LiveRow.{flag_of};
@@ -9,7 +9,7 @@ ghost use Rattle.hand_canon.specs.RowTests.{is_fold_before, is_fold_of, unfolded
 use chip_ledger::{LiveRow, Seat};
 use play_event::{Act, Move};
 
-/// The seats, of ten, that fold before a street.
+/// Which seats, of ten, fold before a street.
 pub fn folds_before(moves: &[Move], street: u8) -> LiveRow
     ensures seats { result.seats ≡ 10 }
     ensures flags { (n : ℕ)
@@ -22,7 +22,7 @@ pub fn folds_before(moves: &[Move], street: u8) -> LiveRow
     folded
 }
 
-/// The seats, of ten, that fold.
+/// Which seats, of ten, fold.
 pub(crate) fn folds(moves: &[Move]) -> LiveRow
     ensures { (n : ℕ) → 1 ≤ n → flag_of result n ≡ list_any (is_fold_of n) moves.now }
 {
@@ -33,7 +33,7 @@ pub(crate) fn folds(moves: &[Move]) -> LiveRow
     folded
 }
 
-// Marks the seat of a move that counts and is a fold.
+// Marks the seat of a move as folded, if the move counts and is a fold.
 fn mark_fold(folded: &mut LiveRow, played: Move, counts: bool)
     requires { folded.old.seats ≡ 10 }
     ensures seats { folded.new.seats ≡ 10 }
@@ -55,7 +55,7 @@ fn is_fold(act: Act) -> bool
     }
 }
 
-/// How many of so many seats have not folded.
+/// How many of the first `seats` seats have not folded.
 pub(crate) fn count_unfolded(folded: &LiveRow, seats: u8) -> u8
     requires { seats ≤ 10 }
     ensures { result ≡ unfolded_count folded.now seats }

@@ -1,9 +1,9 @@
 //! The cards of a trace that were dealt on one street, discarded in one draw, or held at the end,
-//! owner by owner.
+//! sorted by owner.
 ghost use Rattle.std.specs.Prelude.{◌≡◌, ◌≤◌, ℕ, ◌+◌, ◌++◌, Some, None, length, map};
 ghost use Rattle.card_set.specs.Row.{slots_of};
 ghost use Rattle.play_event.specs.SeatSlots.{slots_of_hand};
-ghost use Rattle.canon_script.specs.CanonScript.{dealt_slots, discarded_slots, held_slots};
+ghost use Rattle.play_event.specs.CanonScript.{dealt_slots, discarded_slots, held_slots};
 ghost use Rattle.hand_canon.specs.RowTests.{slot_for};
 ghost use Rattle.hand_records.specs.TraceRows.{place_said};
 
@@ -25,8 +25,8 @@ pub(crate) fn dealt_to_seats(places: &[Place], street: u8) -> HandRow
     dealt
 }
 
-/// The cards that each seat, of ten, has at the end and did not discard; of a seat that folded
-/// those that it had then.
+/// The cards that each seat, of ten, holds at the end and did not discard; for a seat that folded,
+/// the cards that it held then.
 pub fn held_by_seats(places: &[Place]) -> HandRow
     requires { (n : ℕ) → length (held_slots (map place_said places.now) n) ≤ 7 }
     ensures seats { result.seats ≡ 10 }
@@ -36,8 +36,8 @@ pub fn held_by_seats(places: &[Place]) -> HandRow
     discarded_by_seats(places, 0)
 }
 
-/// The cards that each seat, of ten, discarded in the draw of a street; on street 0 those that it
-/// holds at the end.
+/// The cards that each seat, of ten, discarded in the draw of a street; for street 0, the cards
+/// that it holds at the end.
 pub(crate) fn discarded_by_seats(places: &[Place], street: u8) -> HandRow
     requires { (n : ℕ) → length (discarded_slots (map place_said places.now) n street) ≤ 7 }
     ensures seats { result.seats ≡ 10 }
@@ -53,7 +53,7 @@ pub(crate) fn discarded_by_seats(places: &[Place], street: u8) -> HandRow
     discarded
 }
 
-// Gives the owner of a place its card, where the place counts and a seat is the owner.
+// Gives a dealt card to its owner, if it counts and its owner is a seat.
 fn add(hands: &mut HandRow, place: Place, counts: bool)
     requires seats { hands.old.seats ≡ 10 }
     requires room { (n : ℕ) → 1 ≤ n
@@ -80,7 +80,7 @@ pub(crate) fn dealt_to_board(places: &[Place], street: u8) -> SlotRow
     board_with_street(SlotRow::new(), places, street)
 }
 
-/// The cards of a board so far, and behind them those that were dealt to it on a street.
+/// The cards of a board, followed by those that were dealt to it on a street.
 pub fn board_with_street(board: SlotRow, places: &[Place], street: u8) -> SlotRow
     requires { length (slots_of board)
         + length (dealt_slots (map place_said places.now) None street) ≤ 7 }
@@ -96,7 +96,7 @@ pub fn board_with_street(board: SlotRow, places: &[Place], street: u8) -> SlotRo
     longer
 }
 
-// Puts the card of a place on the board, where the place counts and is the board's.
+// Puts a dealt card on the board, if it counts and is a board card.
 fn add_to_board(board: &mut SlotRow, place: Place, counts: bool)
     requires { length (slots_of board.old) + length (slot_for None counts place) ≤ 7 }
     ensures { slots_of board.new ≡ slots_of board.old ++ slot_for None counts place }

@@ -1,5 +1,5 @@
-//! The canonical script of a trace, and the first stated fact that a trace differs from; with them
-//! the records, traces and notes that these calls and the notations take and give.
+//! The canonical script of a trace, and the first stated fact that differs from a trace; and the
+//! records, traces and notes that these calls and the notations use.
 #![tactic(auto)]
 
 mod agreement;

@@ -1,4 +1,4 @@
-//! The events of a script that is being written have the numbers 1, 2 and so on.
+//! Numbers the events of a script 1, 2 and so on while it is written.
 ghost use Rattle.std.specs.Prelude.{◌≡◌, [], ◌∷◌, ◌++◌, ◌+◌, OnOk};
 ghost use Rattle.play_event.specs.Said.{kind_said};
 ghost use Rattle.hand_canon.specs.Numbers.{AreNumbered};
@@ -18,7 +18,7 @@ pub(crate) struct Numbered {
 impl Numbered {
     ghost use Rattle.hand_canon.specs.SaidSoFar.{words_of};
 
-    /// No events.
+    /// A script without events.
     pub(crate) fn new(alloc: Global) -> Self
         ensures { words_of result ≡ [] }
     {
@@ -27,7 +27,7 @@ impl Numbered {
         }
     }
 
-    /// Puts an event after the others.
+    /// Appends an event.
     pub(crate) fn push(&mut self, kind: Kind) -> Result<(), Memory>
         ensures { OnOk result (words_of self.new ≡ words_of self.old ++ kind_said kind ∷ []) }
     {
@@ -36,7 +36,8 @@ impl Numbered {
     }
 }
 
-// The number of the event after so many others. Numbers end at the greatest that an event can have.
+// The number of the event after `count` others, limited to the greatest number that an event can
+// have.
 fn number_after(count: usize) -> u32
     ensures { result ≡ kept_number (count + 1) }
 {

@@ -1,11 +1,11 @@
--- A card from a place on is another than those that were dealt before the place.
+-- A card from a place on differs from the cards that were dealt before the place.
 use Rattle.std.proofs.Common.{◌≡◌, ◌≢◌, ℕ, ◌<◌, ◌≤◌, List, [], ◌∷◌, ◌++◌, ap, subst, sym, arith}
 use Rattle.card_set.specs.declared.card.Card.{Card}
 use Rattle.card_set.specs.Deck.{deck_place}
 use Rattle.card_set.specs.Different.{AllDifferent, Every}
 use Rattle.hand_counts.specs.Dealt.{AreDealt}
 
--- a later place lies after the cards too
+-- a later place comes after the cards too
 every_before : (from later : ℕ) (cards : List Card) → from ≤ later → Every (λ card. deck_place card < from) cards → Every (λ card. deck_place card < later) cards
 every_before from later [] le every = tt
 every_before from later (card ∷ rest) le every = (omega (arith, every.0), every_before from later rest le every.1)
@@ -19,7 +19,7 @@ different_push from [] card le different before = (tt, tt)
 different_push from (other ∷ rest) card le different before =
     (every_push (λ another. other ≢ another) rest card different.0 (λ same. let places = ap deck_place same in absurd (omega (arith, before.0))), different_push from rest card le different.1 before.1)
 
--- one card more is dealt
+-- one more card is dealt
 pub dealt_push : (from later : ℕ) (cards next : List Card) (card : Card) → AreDealt from cards → from ≤ deck_place card → deck_place card < later → next ≡ cards ++ card ∷ [] → AreDealt later next
 dealt_push from later cards next card dealt le within is =
     subst (AreDealt later) (sym is) (record {

@@ -1,2 +1,2 @@
--- Cards that were dealt in the order of the deck.
+-- Cards that are dealt in the order of the deck.
 pub mod Dealt

@@ -1,4 +1,4 @@
-//! Hands are dealt in the order of the deck, so the cards of a hand are all different.
+//! Deals hands in the order of the deck, so that the cards of a hand are all different.
 ghost use Rattle.std.specs.Prelude.{◌<◌, ◌≤◌, IfSome};
 ghost use Rattle.card_set.specs.Row.{cards_of};
 ghost use Rattle.hand_counts.specs.Dealt.{AreDealt};
@@ -11,8 +11,8 @@ use std::alloc::AllocError;
 /// How many cards the deck has.
 const DECK: u8 = 52;
 
-/// Counts all hands of the order whose first cards are these, and whose others stand from a place
-/// of the deck on.
+/// Counts all hands of the order that begin with these cards and go on with cards from a place of
+/// the deck.
 pub fn count_hands<O: HandOrder>(
     from: u8,
     hand: CardRow,
@@ -33,7 +33,7 @@ pub fn count_hands<O: HandOrder>(
     Ok(())
 }
 
-/// The hand that the text spells, its cards in the order of the deck.
+/// The hand that the text spells, with its cards in the order of the deck.
 pub fn hand_of(text: &str) -> Option<CardRow>
     ensures { IfSome result (λ hand. AreDealt 52 (cards_of hand)) }
 {

@@ -1,8 +1,8 @@
 //! Scores every hand that can be dealt in each order, and prints how many hands there are of each
 //! class.
 //!
-//! With the words ORDER CARDS ROUNDS it scores hands of so many cards instead, for `bench/scores`
-//! to time.
+//! With the words ORDER CARDS ROUNDS it scores hands of CARDS cards instead, for `bench/scores` to
+//! time.
 #![tactic(auto)]
 
 mod dealing;

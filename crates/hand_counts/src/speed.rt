@@ -1,4 +1,4 @@
-//! For timing: hands that are spread over the deck are scored, and their points added up.
+//! For timing: scores hands that are spread over the deck, and adds up their points.
 ghost use Rattle.std.specs.Prelude.{◌≤◌, length};
 ghost use Rattle.card_set.specs.Different.{AllDifferent};
 ghost use Rattle.card_set.specs.Row.{cards_of};
@@ -18,8 +18,8 @@ pub struct Scored {
     pub points: u64,
 }
 
-/// Scores hands of so many cards in an order, over and over.
-/// None where the order has no such name, or no hands of so many cards.
+/// Scores hands of `cards` cards in an order, `rounds` times over. `None` if the order has no such
+/// name, or no hands of that many cards.
 pub fn score_order(name: &str, cards: u8, rounds: u32) -> Option<Scored> {
     if name == "badugi" && cards == 4 {
         return Some(score_rounds::<Badugi>(0, cards, rounds));
@@ -37,7 +37,7 @@ pub fn score_order(name: &str, cards: u8, rounds: u32) -> Option<Scored> {
     }
 }
 
-// Scores the hands from a place of the deck on, so many times.
+// Scores the hands from a place of the deck on, `rounds` times.
 fn score_rounds<O: HandOrder>(first: u8, cards: u8, rounds: u32) -> Scored
     requires can { CanChoose O.HELD cards }
     requires few { cards ≤ 7 }
@@ -52,8 +52,8 @@ fn score_rounds<O: HandOrder>(first: u8, cards: u8, rounds: u32) -> Scored
     scored
 }
 
-// Scores the hands whose first cards are these, and whose others are each third card of the deck
-// from a place on.
+// Scores the hands that begin with these cards and go on with every third card of the deck from a
+// place on.
 fn score_hands<O: HandOrder>(from: u8, hand: CardRow, cards: u8, scored: &mut Scored)
     requires can { CanChoose O.HELD cards }
     requires few { cards ≤ 7 }

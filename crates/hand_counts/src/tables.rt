@@ -1,4 +1,4 @@
-//! For each order: the least hand of each class, and the counts of all hands.
+//! For each order: the lowest hand of each class, and the counts of all hands.
 ghost use Rattle.std.specs.Prelude.{◌≤◌};
 
 use crate::dealing::{count_hands, hand_of};
@@ -10,10 +10,10 @@ use high_rank::{High, ShortDeckHigh};
 use low_rank::{DeuceSeven, EightLow, RazzLow};
 use std::alloc::{AllocError, Global};
 
-/// The place in the deck of the first six: the short deck begins there.
+/// The place in the deck of the first six, where the short deck begins.
 const SHORT_DECK: u8 = 16;
 
-// The classes of each order, with the least hand of each.
+// The classes of each order, with the lowest hand of each.
 const HIGH: [(&str, &str); 9] = [
     ("straight flush", "2h3h4h5hAh"),
     ("four of a kind", "2c2d2h2s3c"),
@@ -97,8 +97,8 @@ pub fn all_counts(alloc: Global) -> Result<Vec<String>, AllocError> {
     Ok(lines)
 }
 
-// Adds the lines of one order: the hands of each class, those without a score, and the different
-// scores.
+// Adds the lines of one order: the hands of each class, those without a score, and the number of
+// different scores.
 fn add_counts<O: HandOrder>(
     alloc: Global,
     lines: &mut Vec<String>,
@@ -126,7 +126,7 @@ fn add_counts<O: HandOrder>(
     Ok(())
 }
 
-// Adds a class by its least hand.
+// Adds a class, given by its lowest hand.
 fn add_class<O: HandOrder>(
     tally: &mut Tally,
     name: &'static str,

@@ -1,9 +1,9 @@
-//! A tally counts hands by the least hand of each class, and the different scores among them.
+//! Counts hands by the lowest hand of each class, and the different scores among them.
 use hand_order::Score;
 use std::alloc::{AllocError, Global};
 use std::collections::HashSet;
 
-/// A class of hands: its name, its least score, and how many hands of it were counted.
+/// A class of hands: its name, its lowest score, and how many of its hands were counted.
 #[derive(Drop)]
 pub struct Class {
     pub name: &'static str,
@@ -39,7 +39,7 @@ impl Tally {
         Ok(())
     }
 
-    /// Counts a hand in the first class whose least score it reaches.
+    /// Counts a hand in the first class whose lowest score it reaches.
     pub fn count(&mut self, score: Option<Score>) -> Result<(), AllocError> {
         let Some(score) = score else {
             self.unscored = self.unscored.saturating_add(1);
@@ -65,7 +65,7 @@ impl Tally {
         self.unscored
     }
 
-    /// How many scores differ among all hands.
+    /// How many different scores there are among all hands.
     pub fn different_scores(&self) -> usize {
         self.scores.len()
     }

@@ -1,9 +1,9 @@
--- Of sound plays no list of moves or places is the beginning of the other's.
+-- For two sound plays, neither list of moves or dealt cards is the beginning of the other.
 use Rattle.std.proofs.Common.{◌≡◌, ℕ, ◌≤◌, List, [], ◌∷◌, ◌++◌, drop, length, map, reverse, Some, refl, sym, ap, subst, ◌∙◌, inl, inr}
 use Rattle.std.proofs.lemmas.Bool.{cases_lt}
 use Rattle.std.proofs.lemmas.List.{map-append}
-use Rattle.canon_script.specs.PlayedScript.{IsPlayed}
-use Rattle.canon_script.specs.TraceCore.{TraceCore}
+use Rattle.play_event.specs.PlayedScript.{IsPlayed}
+use Rattle.play_event.specs.TraceCore.{TraceCore}
 use Rattle.hand_canon.specs.Sound.{IsSound}
 use Rattle.hand_canon.specs.WholeTrace.{IsTraceOf}
 use Rattle.hand_records.specs.SoundRecord.{script_said}
@@ -43,7 +43,7 @@ other_end : (play other : Play) → IsSound play → IsSound other → play.trac
 other_end play other sound too same =
     subst (λ (setup : Setup). IsEnded setup other.hand.rules (script_said other.hand) other.trace) (sym (setups_played play other sound too same)) (sound_end other too)
 
--- rows that say nothing are none
+-- rows that say nothing are empty
 no_rows : {A B : Type 0} (f : A → B) (rows : List A) → map f rows ≡ [] → rows ≡ []
 no_rows f [] none = refl
 no_rows f (row ∷ rest) none = absurd (cc)
@@ -61,7 +61,7 @@ no_further_moves play other sound too same rest is =
     ∙ map-append move_said play.trace.moves rest
     ∙ ap (λ l. l ++ map move_said rest) (ap (λ (core : TraceCore). core.moves) one.traced.core)))
 
--- places
+-- dealt cards
 pub no_further_places : (play other : Play) → IsSound play → IsSound other → play.trace.setup ≡ other.trace.setup → play.trace.moves ≡ other.trace.moves → (rest : List Place) → other.trace.places ≡ play.trace.places ++ rest → rest ≡ []
 no_further_places play other sound too same moves rest is =
     let one = sound_end play sound in
@@ -75,7 +75,7 @@ no_further_places play other sound too same moves rest is =
     ∙ map-append place_said play.trace.places rest
     ∙ ap (λ l. l ++ map place_said rest) (ap (λ (core : TraceCore). core.places) one.traced.core)))
 
--- so both have the move that is told to differ
+-- so both have the move that is reported to differ
 pub both_moved : (play other : Play) (number : ℕ) → IsSound play → IsSound other → play.trace.setup ≡ other.trace.setup → first_other_number is_same_move play.trace.moves other.trace.moves ≡ Some number
     → (number ≤ length play.trace.moves) × (number ≤ length other.trace.moves)
 both_moved play other number sound too same is =
@@ -91,7 +91,7 @@ both_moved play other number sound too same is =
       ],
     )
 
--- and the place
+-- and the dealt card
 pub both_dealt : (play other : Play) (number : ℕ) → IsSound play → IsSound other → play.trace.setup ≡ other.trace.setup → play.trace.moves ≡ other.trace.moves → first_other_number is_same_place play.trace.places other.trace.places ≡ Some number
     → (number ≤ length play.trace.places) × (number ≤ length other.trace.places)
 both_dealt play other number sound too same moves is =

@@ -1,11 +1,11 @@
--- Each test of parts tells exactly whether they are the same.
+-- Each test of parts holds if and only if they are the same.
 use Rattle.std.proofs.Common.{◌≡◌, ℕ, Bool, true, false, ◌&&◌, ◌==◌, bytes_eq, List, [], ◌∷◌, find, Option, Some, None, refl, sym, ap, ◌∙◌}
 use Rattle.std.proofs.lemmas.Bool.{and_parts, and_from, eq-eqb, eqb-true}
 use Rattle.std.proofs.lemmas.Option.{same_Some}
 use Rattle.std.proofs.lemmas.Slice.Eq.{bytes_eq-Decides}
-use Rattle.list_laws.proofs.Bytes.{same_bytes}
-use Rattle.list_laws.proofs.Options.{options_same}
-use Rattle.list_laws.proofs.Tests.{false_true}
+use Rattle.card_set.proofs.Bytes.{same_bytes}
+use Rattle.card_set.proofs.Options.{options_same}
+use Rattle.card_set.proofs.Tests.{false_true}
 use Rattle.card_set.proofs.DeckLaws.{is_same_card-self, is_same_card-true}
 use Rattle.card_set.specs.declared.card.Slot.{Slot}
 use Rattle.card_set.specs.declared.card.Slot.TheVariants as slots
@@ -24,7 +24,7 @@ use Rattle.play_event.specs.declared.played.Move.{Move}
 use Rattle.play_event.specs.declared.played.Place.{Place}
 use Rattle.hand_differences.specs.SameParts.{is_same_test, is_same_option, are_same_entries, is_same_clock, is_same_act, is_same_move, is_same_slot, is_same_place, owner_of}
 
--- a test passes exactly where both values are one
+-- a test passes if and only if the two values are equal
 pub record IsExact {A : Type 0} (same : A → A → Bool) : Type 0 where
   pub one : (a b : A) → same a b ≡ true → a ≡ b
   pub own : (a : A) → same a a ≡ true
@@ -179,7 +179,7 @@ own_slot : (a : Slot) → is_same_slot a a ≡ true
 own_slot (slots.Known a) = is_same_card-self a
 own_slot slots.Unknown = refl
 
--- places
+-- dealt cards
 place_from : Option Seat → ℕ → Slot → ℕ → Place
 place_from owner street slot gone = record { owner = owner; street = street; slot = slot; gone = gone }
 
@@ -222,6 +222,6 @@ own_game games.N2L1D = refl
 own_game games.F2L3D = refl
 own_game games.FB = refl
 
--- games whose codes are one text are one game
+-- games with the same text as code are the same game
 pub one_game : (a b : Code) → code_text a ≡ code_text b → a ≡ b
 one_game a b same = same_Some a b (sym (own_game a) ∙ ap game_of_text same ∙ own_game b)

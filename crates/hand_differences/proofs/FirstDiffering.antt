@@ -1,17 +1,17 @@
--- The first number at which lists are not the same is the one before which they are the same, and at which they are not.
+-- The first number at which lists differ: before it they are the same, and at it they differ.
 use Rattle.std.proofs.Common.{◌≡◌, ◌≢◌, ℕ, zero, suc, ◌+◌, ◌-◌, ◌≤◌, ◌<◌, max, Bool, true, false, not, cond, List, [], ◌∷◌, ◌++◌, drop, length, find, slice_get, take, Some, None, refl, sym, ap, ◌∙◌, inl, inr, arith}
 use Rattle.std.specs.List.{range_with_len}
 use Rattle.std.proofs.lemmas.Bool.{cases_lt, false_from_ne_true, true≢false}
 use Rattle.std.proofs.lemmas.List.{append-nil, take-append-drop, take_all}
 use Rattle.std.proofs.lemmas.Option.{same_Some}
-use Rattle.list_laws.proofs.NumbersOfRange.{found_in_range}
-use Rattle.list_laws.proofs.Options.{some_is_none}
-use Rattle.list_laws.proofs.Tests.{not_not}
+use Rattle.card_set.proofs.NumbersOfRange.{found_in_range}
+use Rattle.card_set.proofs.Options.{some_is_none}
+use Rattle.card_set.proofs.Tests.{not_not}
 use Rattle.hand_differences.proofs.ExactTests.{IsExact, exact_options}
 use Rattle.hand_differences.specs.FirstNumbers.{DifferFirstAt, first_other_number, is_same_at}
 use Rattle.hand_differences.specs.SameParts.{is_same_option}
 
--- lists are the same as far as their entries are
+-- lists are the same up to where their entries are
 same_before : {A : Type 0} (count : ℕ) (xs ys : List A) → ((index : ℕ) → index < count → slice_get xs index ≡ slice_get ys index) → take count xs ≡ take count ys
 same_before zero xs ys same = refl
 same_before (suc count) [] [] same = refl
@@ -21,7 +21,7 @@ same_before (suc count) (x ∷ xs) (y ∷ ys) same =
     let head : x ≡ y = same_Some x y (same 0 (omega arith)) in
     ap (λ z. z ∷ take count xs) head ∙ ap (λ zs. y ∷ zs) (same_before count xs ys (λ index within. same (suc index) (omega (arith, within))))
 
--- and their entries as far as they are
+-- and their entries up to where they are
 entry_before : {A : Type 0} (count : ℕ) (xs ys : List A) → take count xs ≡ take count ys → (index : ℕ) → index < count → slice_get xs index ≡ slice_get ys index
 entry_before count xs ys same index within = sym (taken count xs index within) ∙ ap (λ l. slice_get l index) same ∙ taken count ys index within
   where
@@ -86,13 +86,13 @@ module _ {A : Type 0} (same : A → A → Bool) (exact : IsExact same) (xs ys : 
         | inr beyond ↦ absurd (it.differ (past xs (number - 1) (omega (arith, beyond)) ∙ sym (past ys (number - 1) (omega (arith, beyond)))))
       ]
 
-  -- where one list ends before the number, it is the beginning of the other
+  -- if one list ends before the number, it is the beginning of the other
   pub begins : (number : ℕ) → DifferFirstAt xs ys number → length xs < number → ys ≡ xs ++ drop (length xs) ys
   begins number it ended =
       sym (take-append-drop (length xs) ys)
       ∙ ap (λ l. l ++ drop (length xs) ys) (same_before (length xs) ys xs (λ index within. sym (entry_before (number - 1) xs ys it.before index (omega (arith, within, ended)))) ∙ take_all (length xs) xs (omega arith))
 
-  -- and there is more of the other
+  -- and the other one goes on
   pub more_behind : (number : ℕ) → DifferFirstAt xs ys number → length xs < number → drop (length xs) ys ≢ []
   more_behind number it ended none = it.differ (ap (λ l. slice_get l (number - 1)) (sym (begins number it ended ∙ ap (λ l. xs ++ l) none ∙ append-nil xs)))
 

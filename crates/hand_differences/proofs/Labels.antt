@@ -1,13 +1,14 @@
--- A text is the digits of a number where its last byte is the last digit and what stands before is the digits of the tenth part.
+-- A text is the digits of a number if its last byte is the last digit and the bytes before it are
+-- the digits of a tenth of it.
 use Rattle.std.proofs.Common.{◌≡◌, ◌≢◌, ℕ, ◌+◌, ◌-◌, ◌/◌, ◌%◌, ◌^◌, ◌<◌, ◌≤◌, ◌==◌, false, bytes_eq, decimal, List, [], ◌∷◌, ◌++◌, length, take, get_or, inl, inr, refl, sym, ap, ◌∙◌, arith}
 use Rattle.std.proofs.lemmas.Bool.{cases_lt, ne_eqb}
 use Rattle.std.proofs.lemmas.Fmt.{decimal_digit, decimal_step}
 use Rattle.std.proofs.lemmas.List.{get_or_push, length-append, take_all, take_at, take_more}
 use Rattle.std.proofs.lemmas.Slice.Eq.{bytes_eq-Decides}
-use Rattle.list_laws.proofs.Bytes.{different_bytes, same_bytes}
-use Rattle.list_laws.proofs.Tests.{same_test}
+use Rattle.card_set.proofs.Bytes.{different_bytes, same_bytes}
+use Rattle.card_set.proofs.Tests.{same_test}
 
--- bytes with one more each are the same where they were
+-- if lists with one more byte each are the same, so were the lists
 more_same : (front other : List ℕ) (last : ℕ) → front ++ last ∷ [] ≡ other ++ last ∷ [] → front ≡ other
 more_same front other last same =
     let long : length other ≡ length front = omega (arith, ap (λ (l : List ℕ). length l) same, length-append front (last ∷ []), length-append other (last ∷ [])) in
@@ -19,7 +20,7 @@ more_bytes front other last =
     (λ is. (bytes_eq-Decides (front ++ last ∷ []) (other ++ last ∷ [])).1 (ap (λ (l : List ℕ). l ++ last ∷ []) ((bytes_eq-Decides front other).0 is)))
     (λ is. (bytes_eq-Decides front other).1 (more_same front other last ((bytes_eq-Decides (front ++ last ∷ []) (other ++ last ∷ [])).0 is)))
 
--- a text that is not empty is what stands before its last byte, and that byte
+-- a text that is not empty is the bytes before its last one, and that byte
 split : (text : List ℕ) → 1 ≤ length text → text ≡ take (length text - 1) text ++ get_or text (length text - 1) 0 ∷ []
 split text some =
     let all : length text - 1 + 1 ≡ length text = omega (arith, some) in

@@ -1,5 +1,5 @@
--- Tests of parts are exact, what is compared of a hand fixes its trace, plays without a difference are one hand, and no list of a hand is
--- the beginning of the same list of another.
+-- Tests of parts are exact, what is compared of a hand fixes its trace, plays without a difference
+-- are the same hand, and no list of a hand is the beginning of the same list of another.
 pub mod ExactTests
 pub mod FirstNumbers
 pub mod SameSetups

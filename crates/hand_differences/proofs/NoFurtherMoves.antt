@@ -1,12 +1,13 @@
--- Of hands with one setup that are played to their end, the moves of neither are the beginning of the other's.
+-- For hands with the same setup that are played to their end, neither list of moves is the
+-- beginning of the other.
 use Rattle.std.proofs.Common.{◌≡◌, ℕ, ◌+◌, ◌≤◌, false, nat_le, List, [], ◌∷◌, ◌++◌, map, reverse, length, refl, sym, ap, subst, ◌∙◌, arith}
 use Rattle.std.proofs.lemmas.Bool.{both_ways}
 use Rattle.std.proofs.lemmas.List.{length-map, length-reverse, map-append, reverse-append}
-use Rattle.canon_blocks.proofs.StreetMoves.{AreFalling, legal_falling}
+use Rattle.canon_laws.proofs.StreetMoves.{AreFalling, legal_falling}
 use Rattle.canon_laws.proofs.AllStreets.{legal_since}
 use Rattle.play_laws.proofs.PastLawKept.{reached_more}
 use Rattle.canon_laws.proofs.SameCore.{plain_again}
-use Rattle.canon_script.specs.CanonScript.{plain_move, plain_moves}
+use Rattle.play_event.specs.CanonScript.{plain_move, plain_moves}
 use Rattle.play_event.specs.Due.{is_bring_in_due, is_move_due, is_unfinished, turn}
 use Rattle.play_event.specs.Games.{street_count}
 use Rattle.play_event.specs.Laws.{AreLegal}
@@ -48,7 +49,7 @@ pub record HasEnded (setup : Setup) (rules : Rules) (events : List Said) : Type 
   pub legal : AreLegal setup rules events
   pub finished : is_unfinished (turn setup (past_of setup events)).1 ≡ false
 
--- what is due after moves is not due where the betting is closed
+-- after moves that close the betting no bet is due
 never_due : (setup : Setup) (older : List Move) (street : ℕ) (due : Due) → IsBetDue setup older street due → (is_bring_in_due setup older street ≡ false) × (is_move_due setup older street ≡ false) → ⊥
 never_due setup older street _ (bring_first so) closed = both_ways (is_bring_in_due setup older street) closed.0 so
 never_due setup older street _ (move_now no_bring so) closed = both_ways (is_move_due setup older street) closed.1 so
@@ -74,7 +75,7 @@ none_further setup rules others placed events older (move ∷ rest) ended same l
     let R : List Move → Type 0 = λ l. AreReached move.street (l ++ older) in
     absurd (no_further setup rules others placed events move older ended same (subst F none law.0) (subst R none falling.0) since.0 reached.0)
 
--- what a trace has of moves behind those of another is nothing
+-- the moves that a trace has after those of another are none
 pub no_more_moves : (setup : Setup) (rules others : Rules) (events later : List Said) (rest : List TracedMove) → HasEnded setup rules events → AreLegal setup others later
     → traced_moves setup (moves_of (past_of setup later)) ≡ traced_moves setup (moves_of (past_of setup events)) ++ rest → rest ≡ []
 no_more_moves setup rules others events later rest ended legal is =

@@ -1,16 +1,17 @@
--- Of hands with one setup and the same moves that are played to their end, the places of neither are the beginning of the other's:
--- how many cards an owner has of a street follows from the moves and from what was discarded on earlier streets.
+-- For hands with the same setup and moves that are played to their end, neither list of dealt cards
+-- is the beginning of the other: how many cards an owner has of a street follows from the moves and
+-- from the discards on earlier streets.
 use Rattle.std.proofs.Common.{◌≡◌, ℕ, zero, suc, ◌+◌, ◌≤◌, ◌<◌, Bool, true, false, ◌==◌, nat_le, inl, inr, List, [], ◌∷◌, ◌++◌, map, filter, length, Option, Some, None, refl, sym, ap, subst, ◌∙◌, arith, if◌then◌else◌}
 use Rattle.std.specs.List.{AllByRecursion, flat_map, list_any, range_with_len}
 use Rattle.std.proofs.lemmas.Bool.{and_from, and_right, both_ways, eq-eqb, false_from_ne_true, ne_eqb}
 use Rattle.std.proofs.lemmas.List.{append-nil, length-append, length-map}
 use Rattle.std.proofs.lemmas.List.Elements.{filter-append}
-use Rattle.canon_blocks.proofs.StreetLists.{IsUnplayed, unplayed}
-use Rattle.canon_blocks.proofs.TraceOrder.{IsOwner, a_seat, finals_from, finals_group, finals_of, is_final, on_street_is, the_board}
-use Rattle.canon_blocks.proofs.TraceOrderCounts.{legal_owned}
-use Rattle.canon_blocks.proofs.TracedSlots.{dealt_same, discarded_same}
+use Rattle.canon_laws.proofs.StreetLists.{IsUnplayed, unplayed}
+use Rattle.canon_laws.proofs.TraceOrder.{IsOwner, a_seat, finals_from, finals_group, finals_of, is_final, on_street_is, the_board}
+use Rattle.canon_laws.proofs.TraceOrderCounts.{legal_owned}
+use Rattle.canon_laws.proofs.TracedSlots.{dealt_same, discarded_same}
 use Rattle.canon_laws.proofs.StreetDiscards.{out_finals}
-use Rattle.canon_script.specs.CanonScript.{dealt_slots, discarded_slots, is_dealt_to, is_discard_of}
+use Rattle.play_event.specs.CanonScript.{dealt_slots, discarded_slots, is_dealt_to, is_discard_of}
 use Rattle.card_set.specs.declared.card.Slot.{Slot}
 use Rattle.play_event.proofs.ClashLaws.{among_append}
 use Rattle.play_event.proofs.OwnerLaws.{is_same_owner-self}
@@ -35,13 +36,13 @@ use Rattle.hand_differences.proofs.NoFurtherMoves.{HasEnded}
 
 -- ---- how many cards an owner has of a street
 
--- how many hole cards of a street a seat has, where it was live when the street began or not: on a street that draws as many as
--- it discarded there
+-- how many hole cards of a street a seat has, depending on whether it was live when the street
+-- began: on a street that draws, as many as it discarded there
 pub holes_of : Setup → ℕ → (live : Bool) → (out : ℕ) → ℕ
 holes_of setup street live out =
     if live then (if has_draw setup.code street then out else hole_cards_on setup.code street) else 0
 
--- how many cards an owner has of a street that the hand came to
+-- how many cards of a street an owner has, if the hand came to the street
 pub cards_of : Setup → List Move → ℕ → Option ℕ → (out : ℕ → ℕ) → ℕ
 cards_of setup moves street None out = board_cards_on setup.code street
 cards_of setup moves street (Some seat) out = holes_of setup street (is_live (moves_before street moves) seat) (out seat)
@@ -106,16 +107,17 @@ module _ (setup : Setup) (rules : Rules) (events : List Said) (ended : HasEnded 
       ∙ length-map (filter (is_out_of street seat) (finals_of setup placed (street_count setup.code))) (λ (p : Place). p.slot)
       ∙ ap (λ (l : List Place). length l) (out_finals setup rules events street seat (street_count setup.code) ended.legal some (omega (arith, most)) least last)
 
--- ---- the places of a trace in its order
+-- ---- the dealt cards of a trace, in its order
 
--- a place of a trace: its owner and street are of the hand, and it was discarded behind its street, if it was
+-- a dealt card of a trace: its owner and street are of the hand, and if it was discarded, it was
+-- after its street
 record IsTraced (setup : Setup) (place : TracedPlace) : Type 0 where
   owned : IsOwner setup place.owner
   since : 1 ≤ place.street
   within : place.street ≤ street_count setup.code
   out_after : 0 < place.discarded → place.street < place.discarded
 
--- each place is of the street of those behind it or of an earlier one
+-- each dealt card is of the street of those after it or of an earlier one
 abbrev AreRisingStreets : List TracedPlace → Type 0
 AreRisingStreets [] = Unit {0}
 AreRisingStreets (place ∷ rest) = AllByRecursion (λ (other : TracedPlace). place.street ≤ other.street) rest × AreRisingStreets rest
@@ -142,7 +144,7 @@ rising_streets setup placed start (suc count) some =
     (λ place among. let it = finals_from setup placed (start + 1) count place (omega arith) among in omega (arith, it.1.0))
     (rising_streets setup placed (start + 1) count (omega arith))
 
--- what is so of all is so of those behind some
+-- what holds for all holds for those after the first ones
 behind : (P : TracedPlace → Type 0) (front rest : List TracedPlace) → AllByRecursion P (front ++ rest) → AllByRecursion P rest
 behind P [] rest all = all
 behind P (place ∷ front) rest all = behind P front rest all.1
@@ -159,7 +161,7 @@ none_out setup street seat (place ∷ rest) some traced late =
     ap (λ b. if b then (place ∷ filter (is_discard_of seat street) rest) else filter (is_discard_of seat street) rest) (and_right (is_same_owner place.owner (Some seat)) (place.discarded == street) other)
     ∙ none_out setup street seat rest some traced.1 late.1
 
--- ---- no place further
+-- ---- no further dealt card
 
 all_traced : (setup : Setup) (rules : Rules) (events : List Said) → AreLegal setup rules events → AllByRecursion (IsTraced setup) (traced_places setup (past_of setup events))
 all_traced setup rules events legal =
@@ -168,14 +170,14 @@ all_traced setup rules events legal =
     let it = is_final setup placed (street_count setup.code) place among in
     record { owned = legal_owned setup rules events legal place it.among; since = it.least; within = it.most; out_after = (legal_past setup rules events legal).places.out_after place it.among })
 
--- what a list has more than its beginning
+-- by how much a list is longer than its beginning
 longer : {A B : Type 0} (f : A → B) (p : A → Bool) (front : List A) (first : A) (rest : List A) → p first ≡ true → length (map f (filter p (front ++ first ∷ rest))) ≡ length (map f (filter p front)) → ⊥
 longer f p front first rest passes same =
     let split : filter p (front ++ first ∷ rest) ≡ filter p front ++ (first ∷ filter p rest) =
     filter-append p front (first ∷ rest) ∙ ap (λ b. filter p front ++ (if b then (first ∷ filter p rest) else filter p rest)) passes in
     omega (arith, same, length-map (filter p (front ++ first ∷ rest)) f, length-map (filter p front) f, ap (λ l. length l) split, length-append (filter p front) (first ∷ filter p rest))
 
--- what a trace has of places behind those of another is nothing
+-- the dealt cards that a trace has after those of another are none
 pub no_more_places : (setup : Setup) (rules others : Rules) (events later : List Said) (rest : List TracedPlace) → HasEnded setup rules events → HasEnded setup others later → moves_of (past_of setup events) ≡ moves_of (past_of setup later)
     → traced_places setup (past_of setup later) ≡ traced_places setup (past_of setup events) ++ rest → rest ≡ []
 unfolding cards_if cards_of

@@ -1,4 +1,4 @@
--- The first of some notes that differs stands behind those that are the same.
+-- The first of some notes that differs comes after those that are the same.
 use Rattle.std.proofs.Common.{◌≡◌, ℕ, ◌+◌, ◌-◌, ◌≤◌, ◌<◌, Bool, false, true, cond, List, [], ◌∷◌, drop, find, get_or, length, take, Option, Some, None, sym, ap, ap₂, ◌∙◌, arith}
 use Rattle.std.proofs.lemmas.List.{get_or_default, take_all}
 use Rattle.hand_records.specs.declared.notes.NoteName.{NoteName}

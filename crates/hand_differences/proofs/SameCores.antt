@@ -1,10 +1,10 @@
--- Sound plays with one setup, one list of moves and of places, and the same shown seats have one trace: who mucked, the pots,
--- returns, shares and finishing stacks follow.
+-- Sound plays with the same setup, moves, dealt cards and shown seats have the same trace: who
+-- mucked, the pots, returns, shares and finishing stacks follow.
 use Rattle.std.proofs.Common.{◌≡◌, ℕ, ◌≤◌, ◌<◌, ◌+◌, ◌&&◌, ◌==◌, nat_le, not, List, map, filter, sym, ap, subst, ◌∙◌}
 use Rattle.std.specs.List.{list_any}
 use Rattle.canon_laws.proofs.SameCore.{core_by, core_parts, plain_again}
-use Rattle.canon_script.specs.CanonScript.{plain_moves}
-use Rattle.canon_script.specs.TraceCore.{TraceCore, core_of}
+use Rattle.play_event.specs.CanonScript.{plain_moves}
+use Rattle.play_event.specs.TraceCore.{TraceCore, core_of}
 use Rattle.chip_ledger.specs.LiveRow.{flagged}
 use Rattle.hand_canon.specs.Sound.{IsSound}
 use Rattle.hand_canon.specs.WholeTrace.{IsTraceOf}
@@ -12,7 +12,7 @@ use Rattle.hand_records.specs.SoundRecord.{script_said}
 use Rattle.hand_records.specs.TraceRows.{place_said}
 use Rattle.hand_records.specs.declared.trace.Play.{Play}
 use Rattle.hand_records.specs.declared.trace.Trace.{Trace}
-use Rattle.list_laws.proofs.NumbersOfRange.{filter_range, is_in}
+use Rattle.card_set.proofs.NumbersOfRange.{filter_range, is_in}
 use Rattle.play_event.specs.Past.{Move, Past, moves_of}
 use Rattle.play_event.specs.Played.{move_said}
 use Rattle.play_event.specs.Scripts.{past_at_end}
@@ -66,11 +66,11 @@ module _ (setup : Setup) (past later : Past) (trace other : Trace) (is : IsTrace
 abbrev pub past_played : Play → Past
 past_played play = past_at_end play.hand.setup (script_said play.hand)
 
--- the trace of a sound play under the setup of another that is the same
+-- the trace of a sound play under the setup of another play, if the setups are the same
 pub traced_under : (play other : Play) → IsSound other → play.hand.setup ≡ other.hand.setup → IsTraceOf play.hand.setup (past_played other) other.trace
 traced_under play other too same = subst (λ (setup : Setup). IsTraceOf setup (past_played other) other.trace) (sym same) too.trace
 
--- the setups of records whose traces have one are one
+-- records whose traces have the same setup have the same setup
 pub setups_played : (play other : Play) → IsSound play → IsSound other → play.trace.setup ≡ other.trace.setup → play.hand.setup ≡ other.hand.setup
 setups_played play other sound too same = sym sound.trace.same_setup ∙ same ∙ too.trace.same_setup
 

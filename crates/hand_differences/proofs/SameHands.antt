@@ -1,11 +1,11 @@
--- Sound plays without a difference are one hand.
+-- Sound plays without a difference are the same hand.
 use Rattle.std.proofs.Common.{◌≡◌, ◌↔◌, ℕ, ◌-◌, Bool, true, false, not, cond, ◌==◌, max, List, [], ◌∷◌, length, slice_get, find, Option, Some, None, option_map, option_and_then, bytes_eq, refl, sym, ap, subst, ◌∙◌, arith}
 use Rattle.std.specs.List.{range_with_len}
 use Rattle.std.specs.Option.{option_or}
-use Rattle.list_laws.proofs.Finding.{found_passes}
-use Rattle.list_laws.proofs.NumbersOfRange.{find_nothing}
-use Rattle.list_laws.proofs.Options.{some_is_none}
-use Rattle.list_laws.proofs.Tests.{not_not}
+use Rattle.card_set.proofs.Finding.{found_passes}
+use Rattle.card_set.proofs.NumbersOfRange.{find_nothing}
+use Rattle.card_set.proofs.Options.{some_is_none}
+use Rattle.card_set.proofs.Tests.{not_not}
 use Rattle.chip_ledger.proofs.Same.{live_row_same_by_seats}
 use Rattle.chip_ledger.specs.LiveRow.{flag_of}
 use Rattle.chip_ledger.specs.Seat.{seats_of}
@@ -27,9 +27,9 @@ use Rattle.hand_differences.specs.FirstDifference.{PlainDifference, Note, Shown,
 use Rattle.hand_differences.specs.FirstNumbers.{entry_at, first_other_number, is_same_at}
 use Rattle.hand_differences.specs.SameParts.{is_same_clock, is_same_move, is_same_option, is_same_place, is_same_test, is_same_text}
 
--- ---- what is not told of two values
+-- ---- no difference between two values
 
--- neither of two
+-- neither of the two
 pub neither : {A : Type 0} (a b : Option A) → option_or a b ≡ None → (a ≡ None) × (b ≡ None)
 neither None b none = (refl, none)
 neither (Some x) b none = absurd (some_is_none none)
@@ -45,13 +45,13 @@ made_none f (Some x) none = absurd (some_is_none none)
 
 -- ---- lists
 
--- at a number at which two lists differ, one has an entry
+-- where two lists differ, one of them has an entry
 entry_there : {A : Type 0} (same : A → A → Bool) (a b : Option A) → not (is_same_option same a b) ≡ true → option_or a b ≡ None → ⊥
 entry_there same None None other none = absurd (cc)
 entry_there same None (Some y) other none = some_is_none none
 entry_there same (Some x) b other none = some_is_none none
 
--- lists of which nothing is told have no number at which they differ
+-- lists without a reported difference have no number at which they differ
 number_none : {A : Type 0} (same : A → A → Bool) (make : ℕ → A → PlainDifference) (xs ys : List A)
     → option_and_then (λ number. option_map (make number) (entry_at xs ys number)) (first_other_number same xs ys) ≡ None → first_other_number same xs ys ≡ None
 number_none {A} same make xs ys none = go (first_other_number same xs ys) refl none
@@ -76,7 +76,7 @@ none_of_shown a = ap (option_map Shown) (find_never (λ seat. not (is_same_test 
 
 -- ---- notes
 
--- each note of a list that none differs in is the same
+-- each note of a list in which none differs is the same
 note_at : (a b : SaidNotes) (first : NoteName) (rest : List NoteName) → find (λ name. not (is_same_note a b name)) (first ∷ rest) ≡ None → (is_same_note a b first ≡ true) × (find (λ name. not (is_same_note a b name)) rest ≡ None)
 note_at a b first rest none = go (is_same_note a b first) none
   where
@@ -84,7 +84,7 @@ note_at a b first rest none = go (is_same_note a b first) none
     go true none = (refl, none)
     go false none = absurd (some_is_none none)
 
--- the notes behind each note
+-- the notes after each note
 abbrev after_day : List NoteName
 after_day = names.Time ∷ []
 
@@ -192,7 +192,7 @@ made_of_none : {A : Type 0} (make : ℕ → Option A) (found : Option ℕ) → f
 made_of_none make None none = refl
 made_of_none make (Some number) none = absurd (some_is_none none)
 
--- a trace differs in nothing from itself
+-- a trace does not differ from itself
 none_of_trace : (play other : Play) → play.trace ≡ other.trace → play_difference play other ≡ None
 none_of_trace play other same =
     subst (λ (trace : Trace). option_or (first_row (setup_rows play.trace.setup trace.setup)) (option_or (move_difference play.trace.moves trace.moves) (option_or (card_difference play.trace.places trace.places) (shown_difference play.trace.shown trace.shown))) ≡ None) same
@@ -201,7 +201,7 @@ none_of_trace play other same =
     (both (card_difference play.trace.places play.trace.places) _ (made_of_none _ (first_other_number is_same_place play.trace.places play.trace.places) (none_of_same is_same_place exact_places play.trace.places))
     (none_of_shown play.trace.shown))))
 
--- sound plays differ in nothing but their notes exactly where they have one trace
+-- sound plays differ in nothing but their notes if and only if they have the same trace
 pub same_traces : (place : ℕ) (play other : Play) → IsSound play → IsSound other → (first_difference false place play other ≡ None) ↔ (play.trace ≡ other.trace)
 unfolding first_difference
 same_traces place play other sound too = (
@@ -209,7 +209,7 @@ same_traces place play other sound too = (
   (λ same. both (play_difference play other) None (none_of_trace play other same) refl),
 )
 
--- and in nothing at all exactly where they have the same notes, too
+-- and in nothing at all if and only if they also have the same notes
 pub same_with_notes : (place : ℕ) (play other : Play) → IsSound play → IsSound other → (first_difference true place play other ≡ None) ↔ AreSameHand (λ notes. notes) place play other
 unfolding first_difference
 same_with_notes place play other sound too = (

@@ -1,9 +1,9 @@
--- Setups that differ in no row are one setup.
+-- Setups that differ in no row are equal.
 use Rattle.std.proofs.Common.{◌≡◌, ℕ, Bool, true, false, not, ◌&&◌, ◌==◌, List, bytes_eq, cond, Option, Some, None, refl, ap}
 use Rattle.std.proofs.lemmas.Bool.{and_parts, and_from, eq-eqb, eqb-true}
-use Rattle.list_laws.proofs.Bytes.{same_bytes}
-use Rattle.list_laws.proofs.Options.{some_is_none}
-use Rattle.list_laws.proofs.Tests.{not_not}
+use Rattle.card_set.proofs.Bytes.{same_bytes}
+use Rattle.card_set.proofs.Options.{some_is_none}
+use Rattle.card_set.proofs.Tests.{not_not}
 use Rattle.chip_ledger.specs.SeatRow.{amounts_in}
 use Rattle.hand_canon.proofs.SameSetups.{amounts_same, rakes_same, setups_same}
 use Rattle.play_event.specs.Code.{code_text}
@@ -12,7 +12,7 @@ use Rattle.hand_differences.proofs.ExactTests.{exact_bytes, exact_tests, one_gam
 use Rattle.hand_differences.specs.FirstDifference.{PlainDifference, first_row, has_other_antes, has_other_sizes, setup_rows, Variant, SeatCount, Stacks, BetSizes, Antes, Blinds, Rake}
 use Rattle.hand_differences.specs.SameParts.{is_same_test}
 
--- where no row is told, the first does not hold
+-- if no row is reported, the first does not hold
 pub no_row : (b : Bool) (difference : PlainDifference) (rest : Option PlainDifference) → cond b (Some difference) rest ≡ None → (b ≡ false) × (rest ≡ None)
 no_row true difference rest none = absurd (some_is_none none)
 no_row false difference rest none = (refl, none)
@@ -21,7 +21,7 @@ no_row false difference rest none = (refl, none)
 same_numbers : (xs ys : List ℕ) → not (bytes_eq xs ys) ≡ false → xs ≡ ys
 same_numbers xs ys is = exact_bytes.one xs ys (not_not (bytes_eq xs ys) is)
 
--- setups without a row that holds are one
+-- setups for which no row holds are equal
 pub setup_of_rows : (a b : Setup) → first_row (setup_rows a b) ≡ None → a ≡ b
 setup_of_rows a b none =
     let variant = no_row (not (bytes_eq (code_text a.code) (code_text b.code))) Variant _ none in
@@ -66,7 +66,7 @@ own_sizes a =
 own_antes : (a : Setup) → has_other_antes a a ≡ false
 own_antes a = ap not (and_from (bytes_eq (amounts_in a.antes) (amounts_in a.antes)) (is_same_test a.dead_antes a.dead_antes) (same_bytes (amounts_in a.antes)) (exact_tests.own a.dead_antes))
 
--- and one setup has none
+-- and for equal setups none holds
 pub no_rows : (a : Setup) → first_row (setup_rows a a) ≡ None
 no_rows a =
     row_passed _ Variant _ (own_numbers (code_text a.code))

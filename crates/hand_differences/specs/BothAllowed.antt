@@ -3,7 +3,7 @@ use Rattle.std.specs.Prelude.{◌≤◌, ℕ}
 use Rattle.hand_records.specs.AllowedNotes.{AreAllowed}
 use Rattle.hand_records.specs.declared.notes.Notes.{Notes}
 
--- The notes of two hands with so many seats are allowed there.
+-- The notes of two hands with this number of seats are allowed for them.
 pub record AreBothAllowed (count : ℕ) (first second : Notes) : Type 0 where
   pub few : count ≤ 10
   pub notes : AreAllowed count first

@@ -1,4 +1,4 @@
--- What is told of the first difference of two plays.
+-- The printed text of the first difference of two plays.
 use Rattle.std.specs.Prelude.{ℕ, List, ◌++◌, codes, Option, Some, None}
 use Rattle.std.specs.Fmt.{decimal}
 use Rattle.hand_records.specs.declared.notes.NoteName.{NoteName}
@@ -6,7 +6,7 @@ use Rattle.hand_records.specs.declared.notes.NoteName.TheVariants as names
 use Rattle.hand_differences.specs.FirstDifference as found
 use Rattle.hand_differences.specs.FirstDifference.{PlainDifference}
 
--- what a note is called
+-- the printed name of a note
 abbrev pub note_text : NoteName → List ℕ
 note_text names.Players = codes "players"
 note_text names.Seats = codes "seats"
@@ -21,12 +21,12 @@ note_text names.Month = codes "month"
 note_text names.Day = codes "day"
 note_text names.Time = codes "time"
 
--- whose card it is
+-- the text of a card's owner
 abbrev pub owner_text : Option ℕ → List ℕ
 owner_text None = codes "board"
 owner_text (Some seat) = codes "p" ++ decimal seat
 
--- what is told of a difference, as `move 3, street 1, p2` or `card 9, street 2, board`
+-- the text of a difference, such as `move 3, street 1, p2` or `card 9, street 2, board`
 abbrev pub difference_text : PlainDifference → List ℕ
 difference_text found.Variant = codes "Variant"
 difference_text found.SeatCount = codes "SeatCount"

@@ -1,4 +1,4 @@
--- The first difference of two plays: of their setups, then of their moves, their cards, who was
+-- The first difference of two plays: in their setups, then in their moves, their cards, who was
 -- shown, and their notes.
 use Rattle.std.specs.Prelude.{ℕ, Bool, not, ◌&&◌, ◌==◌, if◌then◌else◌, List, [], ◌∷◌, bytes_eq, find, Option, Some, None, option_and_then, option_map}
 use Rattle.std.specs.Option.{option_or}
@@ -19,7 +19,7 @@ use Rattle.hand_differences.specs.SameParts.{is_same_test, is_same_option, are_s
 use Rattle.hand_differences.specs.declared.difference.Difference as rows
 use Rattle.hand_differences.specs.declared.difference.Difference.TheVariants as differences
 
--- What differs first, with plain numbers for seats. Moves, cards, streets and seats are counted
+-- The first difference, with plain numbers for seats. Moves, cards, streets and seats are counted
 -- from 1; a card of the board has no owner.
 pub data PlainDifference : Type 0 where
   Variant : PlainDifference
@@ -49,19 +49,19 @@ difference_said (differences.Card number street owner) =
 difference_said (differences.Shown seat) = Shown seat.number
 difference_said (differences.Note name) = Note name
 
--- some bet size differs: the bring-in, the small, the big or the least bet
+-- one of the bet sizes differs: the bring-in, the small bet, the big bet or the minimum bet
 abbrev pub has_other_sizes : Setup → Setup → Bool
 has_other_sizes a b =
     not ((a.bring_in == b.bring_in) && (a.small_bet == b.small_bet)
     && (a.big_bet == b.big_bet) && (a.min_bet == b.min_bet))
 
--- the antes differ: some amount as it is held, or whether they are dead
+-- the antes differ: one of the amounts, or whether they are dead
 abbrev pub has_other_antes : Setup → Setup → Bool
 has_other_antes a b =
     not (bytes_eq (amounts_in a.antes) (amounts_in b.antes)
     && is_same_test a.dead_antes b.dead_antes)
 
--- what of two setups differs, in the order in which it is told
+-- what may differ in two setups, in the order in which it is reported
 abbrev pub setup_rows : Setup → Setup → List (Bool × PlainDifference)
 setup_rows a b =
     (not (bytes_eq (code_text a.code) (code_text b.code)), Variant)
@@ -78,7 +78,7 @@ abbrev pub first_row : List (Bool × PlainDifference) → Option PlainDifference
 first_row [] = None
 first_row (row ∷ rest) = if row.0 then Some row.1 else first_row rest
 
--- what is told of a move with this number, from 1
+-- what is reported of the move with this number, from 1
 abbrev pub move_told : ℕ → moves.Move → PlainDifference
 move_told number move = Move number move.street move.seat.number
 
@@ -89,31 +89,31 @@ move_difference played others =
     (λ number. option_map (move_told number) (entry_at played others number))
     (first_other_number is_same_move played others)
 
--- what is told of the place of a card with this number, from 1
+-- what is reported of the dealt card with this number, from 1
 abbrev pub card_told : ℕ → places.Place → PlainDifference
 card_told number place = Card number place.street (owner_of place)
 
--- the first place of a card that differs
+-- the first dealt card that differs
 abbrev pub card_difference : List places.Place → List places.Place → Option PlainDifference
 card_difference dealt others =
     option_and_then
     (λ number. option_map (card_told number) (entry_at dealt others number))
     (first_other_number is_same_place dealt others)
 
--- the least seat that was shown in one of two hands alone
+-- the lowest seat that is shown in only one of two hands
 abbrev pub shown_difference : LiveRow → LiveRow → Option PlainDifference
 shown_difference shown others =
     option_map Shown
     (find (λ seat. not (is_same_test (flag_of shown seat) (flag_of others seat)))
     (seats_of shown.seats))
 
--- the notes, in the order in which they are named
+-- the notes, in the order in which they are compared
 abbrev pub note_names : List NoteName
 note_names =
     names.Players ∷ names.Seats ∷ names.SeatCount ∷ names.Hand ∷ names.Table ∷ names.Venue
     ∷ names.Currency ∷ names.TimeZone ∷ names.Year ∷ names.Month ∷ names.Day ∷ names.Time ∷ []
 
--- a note is the same in both; one that equals its default is not said
+-- a note is the same in both; one that equals its default counts as missing
 abbrev pub is_same_note : SaidNotes → SaidNotes → NoteName → Bool
 is_same_note a b names.Players = are_same_entries is_same_text a.names b.names
 is_same_note a b names.Seats = is_same_text a.seats b.seats
@@ -132,7 +132,7 @@ is_same_note a b names.Time = is_same_option is_same_clock a.time b.time
 abbrev pub note_difference : SaidNotes → SaidNotes → Option PlainDifference
 note_difference a b = option_map Note (find (λ name. not (is_same_note a b name)) note_names)
 
--- what differs of two hands but for their notes
+-- what differs in two hands, leaving their notes aside
 abbrev pub play_difference : Play → Play → Option PlainDifference
 play_difference play other =
     option_or (first_row (setup_rows play.trace.setup other.trace.setup))
@@ -140,8 +140,8 @@ play_difference play other =
     (option_or (card_difference play.trace.places other.trace.places)
     (shown_difference play.trace.shown other.trace.shown)))
 
--- The first difference of two plays, each at this place of its file, from 0. Notes are looked at
--- where they are asked for.
+-- The first difference of two plays, each at this place of its file, from 0. Notes are compared
+-- only if `notes` is set.
 unfoldable pub first_difference : (notes : Bool) → ℕ → Play → Play → Option PlainDifference
 first_difference notes place play other =
     option_or (play_difference play other)

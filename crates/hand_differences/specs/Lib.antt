@@ -1,4 +1,4 @@
--- When parts of two hands are the same, what differs first, and what is told of it.
+-- When parts of two hands are the same, which difference comes first, and how it is printed.
 pub mod BothAllowed
 pub mod SameParts
 pub mod FirstNumbers

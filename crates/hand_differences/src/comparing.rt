@@ -1,4 +1,4 @@
-//! Two plays are compared, and their first difference is named.
+//! Compares two plays and names their first difference.
 ghost use Rattle.std.specs.Prelude.{◌≡◌, IfNone, option_map};
 ghost use Rattle.hand_canon.specs.Sound.{IsSound};
 ghost use Rattle.hand_differences.specs.FirstDifference.{difference_said, first_difference as first_difference_said, play_difference as play_difference_said};
@@ -9,12 +9,12 @@ use crate::notes::note_difference;
 use crate::setups::setup_difference;
 use hand_records::Play;
 
-/// The first difference of two plays, each at this place of its file, from 0; `None` where they are
-/// the same hand. Notes are looked at where they are asked for; one that equals its default is
-/// none, and so is a name of the hand that is its place.
+/// The first difference of two plays, each at this place of its file, from 0; `None` if they are
+/// the same hand. Notes are compared only if `notes` is set; a note that equals its default counts
+/// as missing, and so does a hand's name that is its place.
 ///
-/// Ask for sound plays. No memory is taken. `law_of_same_hands` says that `None` is given exactly
-/// where the traces are the same and, where notes are asked for, the notes.
+/// Ask for sound plays. Nothing is allocated. By `law_of_same_hands` the result is `None` if and
+/// only if the traces are the same and, if notes are compared, the notes.
 pub fn first_difference(notes: bool, place: usize, play: &Play, other: &Play) -> Option<Difference>
     requires play { IsSound play.now }
     requires other { IsSound other.now }
@@ -36,7 +36,7 @@ pub fn first_difference(notes: bool, place: usize, play: &Play, other: &Play) ->
     )
 }
 
-// The first difference of two plays but for their notes.
+// The first difference of two plays, leaving their notes aside.
 fn play_difference(play: &Play, other: &Play) -> Option<Difference>
     ensures told { option_map difference_said result ≡ play_difference_said play.now other.now }
     ensures seats { IfNone result

@@ -1,8 +1,8 @@
-//! What differs first in two plays.
+//! The first difference of two plays.
 use chip_ledger::Seat;
 use hand_records::NoteName;
 
-/// What differs first in two plays, in the order in which it is looked for.
+/// The first difference of two plays, in the order in which differences are looked for.
 #[derive(Clone, Copy, Debug, PartialEq, Eq)]
 pub enum Difference {
     /// The game.
@@ -11,29 +11,29 @@ pub enum Difference {
     SeatCount,
     /// A starting stack.
     Stacks,
-    /// The bring-in, the small, the big or the least bet.
+    /// The bring-in, the small bet, the big bet or the minimum bet.
     BetSizes,
-    /// An ante as it is held, or whether antes are dead.
+    /// An ante, or whether antes are dead.
     Antes,
-    /// A blind as it is named, also where a stack is too short for it.
+    /// A blind in full, even if a stack is too short for it.
     Blinds,
     /// The rake of a pot.
     Rake,
-    /// A move of the first play: its number among all moves, from 1, its street, from 1, and its
+    /// A move of the first play: its number among all moves, from 1; its street, from 1; and its
     /// seat.
     Move {
         number: usize,
         street: u8,
         seat: Seat,
     },
-    /// The place of a card of the first play: its number among all places, from 1, the street of
-    /// its deal, from 1, and the seat that it was dealt to, or `None` for the board.
+    /// A dealt card of the first play: its number among all dealt cards, from 1; the street of its
+    /// deal, from 1; and the seat that it was dealt to, or `None` for the board.
     Card {
         number: usize,
         street: u8,
         owner: Option<Seat>,
     },
-    /// The least seat that was shown in one of the two alone.
+    /// The lowest seat that is shown in only one of the two plays.
     Shown(Seat),
     /// A note.
     Note(NoteName),

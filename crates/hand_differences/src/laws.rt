@@ -10,8 +10,8 @@ ghost use Rattle.hand_records.specs.declared.trace.Play.{Play};
 ghost use Rattle.play_event.specs.declared.played.Move.{Move};
 ghost use Rattle.play_event.specs.declared.played.Place.{Place};
 
-/// Sound plays differ in nothing exactly where they have one trace and, where notes are looked at,
-/// the same notes.
+/// Two sound plays have no difference if and only if they have the same trace and, if notes are
+/// compared, the same notes.
 pub fn law_of_same_hands()
     ensures notes { (place : ℕ) (play other : Play) → IsSound play → IsSound other
         → (first_difference true place play other ≡ None)
@@ -20,8 +20,8 @@ pub fn law_of_same_hands()
         → (first_difference false place play other ≡ None) ↔ (play.trace ≡ other.trace) }
 {}
 
-/// Sound plays with one setup, the same moves and places, and the same shown seats have one trace:
-/// who mucked, the pots, what is returned, the shares and the finishing stacks follow from these.
+/// Sound plays with the same setup, moves, dealt cards and shown seats have the same trace: who
+/// mucked, the pots, the returned chips, the shares and the finishing stacks follow from these.
 pub fn law_of_what_follows()
     ensures { (play other : Play) → IsSound play → IsSound other
         → play.trace.setup ≡ other.trace.setup → play.trace.moves ≡ other.trace.moves
@@ -29,9 +29,9 @@ pub fn law_of_what_follows()
         → play.trace ≡ other.trace }
 {}
 
-/// Of sound plays with one setup neither list of moves is the beginning of the other, and where the
-/// moves are the same neither list of places is: what is due follows from the setup and the moves,
-/// and how many cards then come from these and from what was discarded before.
+/// If two sound plays have the same setup, neither list of moves is a beginning of the other; and
+/// if the moves are the same, neither list of dealt cards is. For what is due follows from the
+/// setup and the moves, and how many cards come next follows from these and the discards so far.
 pub fn law_of_beginnings()
     ensures moves { (play other : Play) → IsSound play → IsSound other
         → play.trace.setup ≡ other.trace.setup → (rest : List Move)
@@ -41,8 +41,8 @@ pub fn law_of_beginnings()
         → (rest : List Place) → other.trace.places ≡ play.trace.places ++ rest → rest ≡ [] }
 {}
 
-/// The number at which two lists of moves, or of places, are first not the same is the one before
-/// which they are the same, and at which they are not.
+/// The number at which two lists of moves, or of dealt cards, first differ is the number at which
+/// they differ and before which they are the same.
 pub fn law_of_first_numbers()
     ensures moves { (played others : List Move) (number : ℕ)
         → (first_other_number is_same_move played others ≡ Some number)
@@ -52,8 +52,8 @@ pub fn law_of_first_numbers()
         ↔ DifferFirstAt dealt others number }
 {}
 
-/// Of sound plays whose setups are the same, both have the move that is told to differ; and where
-/// the moves are the same, both have the place that is told to differ.
+/// If two sound plays have the same setup, both have the move that is reported to differ; and if
+/// the moves are the same, both have the card that is reported to differ.
 pub fn law_of_entries()
     ensures moves { (play other : Play) (number : ℕ) → IsSound play → IsSound other
         → play.trace.setup ≡ other.trace.setup

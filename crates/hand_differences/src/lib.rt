@@ -1,5 +1,5 @@
-//! Two plays are the same hand, or their first difference is named: of what stood before the first
-//! card, of moves, of cards, of who was shown, or of notes.
+//! Finds whether two plays are the same hand, or names their first difference: in what is set
+//! before the first card, in moves, in cards, in who is shown, or in notes.
 #![tactic(auto)]
 
 mod comparing;

@@ -1,5 +1,5 @@
-//! The first number at which two lists of a trace are not the same is found, and the first seat
-//! that one hand alone shows.
+//! Finds the first number at which two lists of a trace differ, and the first seat that only one of
+//! two hands shows.
 ghost use Rattle.std.specs.Prelude.{◌≡◌, max, not, option_map};
 ghost use Rattle.chip_ledger.specs.LiveRow.{flag_of};
 ghost use Rattle.hand_differences.specs.FirstDifference.{card_difference as card_difference_said, difference_said, move_difference as move_difference_said, shown_difference as shown_difference_said};
@@ -40,7 +40,7 @@ fn first_other_move(played: &[Move], others: &[Move]) -> Option<usize>
     None
 }
 
-// Both lists have one move at a number, or neither has one.
+// Both lists have the same move at this number, or neither has one.
 fn is_same_move_at(played: &[Move], others: &[Move], number: usize) -> bool
     ensures { result ≡ is_same_at is_same_move_said played.now others.now number }
 {
@@ -63,7 +63,7 @@ fn move_at(played: &[Move], others: &[Move], number: usize) -> Option<Move>
     }
 }
 
-// The first place of a card that differs.
+// The first dealt card that differs.
 pub(crate) fn card_difference(dealt: &[Place], others: &[Place]) -> Option<Difference>
     ensures { option_map difference_said result ≡ card_difference_said dealt.now others.now }
 {
@@ -80,7 +80,7 @@ pub(crate) fn card_difference(dealt: &[Place], others: &[Place]) -> Option<Diffe
     })
 }
 
-// The number of the first place that differs.
+// The number of the first dealt card that differs.
 fn first_other_place(dealt: &[Place], others: &[Place]) -> Option<usize>
     ensures { result ≡ first_other_number is_same_place_said dealt.now others.now }
 {
@@ -92,7 +92,7 @@ fn first_other_place(dealt: &[Place], others: &[Place]) -> Option<usize>
     None
 }
 
-// Both lists have one place at a number, or neither has one.
+// Both lists have the same dealt card at this number, or neither has one.
 fn is_same_place_at(dealt: &[Place], others: &[Place], number: usize) -> bool
     ensures { result ≡ is_same_at is_same_place_said dealt.now others.now number }
 {
@@ -104,7 +104,7 @@ fn is_same_place_at(dealt: &[Place], others: &[Place], number: usize) -> bool
     }
 }
 
-// The place at a number.
+// The dealt card at a number.
 fn place_at(dealt: &[Place], others: &[Place], number: usize) -> Option<Place>
     ensures { result ≡ entry_at dealt.now others.now number }
 {
@@ -122,7 +122,7 @@ fn greater(a: usize, b: usize) -> usize
     if a < b { b } else { a }
 }
 
-// The least seat that was shown in one of two hands alone.
+// The lowest seat that is shown in only one of two hands.
 pub(crate) fn shown_difference(shown: &LiveRow, others: &LiveRow) -> Option<Difference>
     ensures { option_map difference_said result ≡ shown_difference_said shown.now others.now }
 {
@@ -135,7 +135,7 @@ pub(crate) fn shown_difference(shown: &LiveRow, others: &LiveRow) -> Option<Diff
     None
 }
 
-// A seat was shown in one of two hands alone.
+// The seat is shown in only one of two hands.
 fn is_shown_in_one(shown: &LiveRow, others: &LiveRow, seat: Seat) -> bool
     ensures { result ≡ not (is_same_test_said (flag_of shown.now seat.number)
         (flag_of others.now seat.number)) }

@@ -1,4 +1,4 @@
-//! The notes of two hands are compared, in the order in which notes are named.
+//! Compares the notes of two hands, in the order in which notes are listed.
 ghost use Rattle.std.specs.Prelude.{◌≡◌, ◌≤◌, IfSome, bytes_eq, decimal, find, map, not, option_map};
 ghost use Rattle.std.proofs.Props.{props};
 ghost use Rattle.chip_ledger.specs.Seat.{seats_of};
@@ -12,7 +12,7 @@ use crate::difference::Difference;
 use first_fault::Text;
 use hand_records::{Clock, NoteName, Notes};
 
-// The first note that differs, of hands with so many seats, each at this place of its file.
+// The first note that differs in two hands of `count` seats, each at this place of its file.
 pub(crate) fn note_difference(
     place: usize,
     count: u8,
@@ -49,7 +49,7 @@ pub(crate) fn note_difference(
     }
 }
 
-// The notes of two hands with so many seats, each at this place of its file.
+// The notes of two hands of `count` seats, each at this place of its file.
 #[derive(Clone, Copy)]
 struct BothNotes<'a> {
     place: usize,
@@ -78,7 +78,7 @@ impl BothNotes<'_> {
         }
     }
 
-    // A note is the same.
+    // The note is the same in both.
     fn is_same_note(&self, name: NoteName) -> bool
         ensures { result ≡ is_same_note_said
             (said_notes self.now.place self.now.count self.now.notes.now)
@@ -116,7 +116,8 @@ fn are_same_names(count: u8, names: &[Option<Text>; 10], others: &[Option<Text>;
     true
 }
 
-// The numbers of so many seats are the same. What is noted is not what is usual.
+// The seat numbers at the table are the same for the first `count` seats. Numbers that are noted
+// are never the default ones.
 fn are_same_seats(count: u8, seats: &Option<[u8; 10]>, others: &Option<[u8; 10]>) -> bool
     requires few { count ≤ 10 }
     requires seats { IfSome seats.now (AreSeatNumbers count) }
@@ -131,7 +132,7 @@ fn are_same_seats(count: u8, seats: &Option<[u8; 10]>, others: &Option<[u8; 10]>
     }
 }
 
-// The labels of two hands are the same. A label that is the place of the hand is none.
+// The names of two hands are the same. A name that is the hand's place counts as missing.
 fn is_same_label(place: usize, label: &Option<Text>, other: &Option<Text>) -> bool
     ensures { result ≡ is_same_text_said (kept_label place label.now)
         (kept_label place other.now) }
@@ -143,7 +144,7 @@ fn is_same_label(place: usize, label: &Option<Text>, other: &Option<Text>) -> bo
     }
 }
 
-// The label of a hand, unless it is the place of the hand.
+// The name of a hand, unless it is the hand's place.
 fn label_behind<'a>(place: usize, label: &'a Option<Text>) -> Option<&'a [u8]>
     ensures { option_map (λ text. text.now) result ≡ kept_label place label.now }
 {
@@ -158,7 +159,7 @@ fn label_behind<'a>(place: usize, label: &'a Option<Text>) -> Option<&'a [u8]>
     }
 }
 
-// A text is the decimal digits of a number.
+// The text is the decimal digits of the number.
 fn is_decimal(text: &[u8], number: u64) -> bool
     ensures { result ≡ bytes_eq text.now (decimal number) }
 {
@@ -177,7 +178,7 @@ fn is_decimal(text: &[u8], number: u64) -> bool
     }
 }
 
-// A text that is said or not is the same.
+// Two optional texts are the same.
 fn is_same_text(a: &Option<Text>, b: &Option<Text>) -> bool
     ensures { result ≡ is_same_text_said a.now b.now }
 {
@@ -188,7 +189,7 @@ fn is_same_text(a: &Option<Text>, b: &Option<Text>) -> bool
     }
 }
 
-// A small number that is said or not is the same.
+// Two optional small numbers are the same.
 fn is_same_byte(a: Option<u8>, b: Option<u8>) -> bool
     ensures { result ≡ is_same_number a b }
 {
@@ -199,7 +200,7 @@ fn is_same_byte(a: Option<u8>, b: Option<u8>) -> bool
     }
 }
 
-// A year that is said or not is the same.
+// Two optional years are the same.
 fn is_same_year(a: Option<u16>, b: Option<u16>) -> bool
     ensures { result ≡ is_same_number a b }
 {
@@ -210,7 +211,7 @@ fn is_same_year(a: Option<u16>, b: Option<u16>) -> bool
     }
 }
 
-// A time of a day that is said or not is the same.
+// Two optional times of day are the same.
 fn is_same_time(a: Option<Clock>, b: Option<Clock>) -> bool
     ensures { result ≡ is_same_option is_same_clock_said a b }
 {

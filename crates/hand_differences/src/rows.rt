@@ -1,4 +1,4 @@
-//! Rows of two traces are compared: moves, and places of cards.
+//! Compares single moves and dealt cards of two traces.
 ghost use Rattle.std.specs.Prelude.{◌≡◌};
 ghost use Rattle.play_event.specs.Said.{seat_named};
 ghost use Rattle.play_event.specs.Places.{is_same_owner as is_same_owner_said};
@@ -8,14 +8,14 @@ use card_set::{Slot, place_in_deck};
 use chip_ledger::Seat;
 use play_event::{Act, Move, Place};
 
-// Both hold, or neither does.
+// Both are true, or both are false.
 pub(crate) fn is_same_test(a: bool, b: bool) -> bool
     ensures { result ≡ is_same_test_said a b }
 {
     if a { b } else { !b }
 }
 
-// One move.
+// The moves are the same.
 pub(crate) fn is_same_move(a: &Move, b: &Move) -> bool
     ensures { result ≡ is_same_move_said a.now b.now }
 {
@@ -29,7 +29,7 @@ pub(crate) fn is_same_move(a: &Move, b: &Move) -> bool
         && a.unit_to == b.unit_to
 }
 
-// One act.
+// The acts are the same.
 fn is_same_act(a: Act, b: Act) -> bool
     ensures { result ≡ is_same_act_said a b }
 {
@@ -42,7 +42,7 @@ fn is_same_act(a: Act, b: Act) -> bool
     }
 }
 
-// One place of a card.
+// The dealt cards are the same, with owner and streets.
 pub(crate) fn is_same_place(a: &Place, b: &Place) -> bool
     ensures { result ≡ is_same_place_said a.now b.now }
 {
@@ -52,7 +52,7 @@ pub(crate) fn is_same_place(a: &Place, b: &Place) -> bool
         && a.gone == b.gone
 }
 
-// One owner.
+// The owners are the same.
 fn is_same_owner(a: Option<Seat>, b: Option<Seat>) -> bool
     ensures { result ≡ is_same_owner_said (seat_named a) (seat_named b) }
 {
@@ -63,7 +63,7 @@ fn is_same_owner(a: Option<Seat>, b: Option<Seat>) -> bool
     }
 }
 
-// One known card, or both unknown.
+// Both are the same known card, or both are unknown.
 fn is_same_slot(a: Slot, b: Slot) -> bool
     ensures { result ≡ is_same_slot_said a b }
 {

@@ -1,4 +1,4 @@
-//! Two setups are compared, part by part.
+//! Compares two setups, part by part.
 ghost use Rattle.std.specs.Prelude.{◌≡◌, IfNone, bytes_eq, not, option_map};
 ghost use Rattle.chip_ledger.specs.SeatRow.{amounts_in};
 ghost use Rattle.play_event.specs.Code.{code_text};
@@ -52,7 +52,7 @@ fn are_other_amounts(a: &SeatRow, b: &SeatRow) -> bool
     a.amounts[..a.seats as usize] != b.amounts[..b.seats as usize]
 }
 
-// Some bet size differs.
+// One of the bet sizes differs.
 fn has_other_sizes(a: &Setup, b: &Setup) -> bool
     ensures { result ≡ has_other_sizes_said a.now b.now }
 {

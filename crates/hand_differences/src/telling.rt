@@ -1,4 +1,4 @@
-//! What is told of the first difference of two plays.
+//! Prints the first difference of two plays.
 ghost use Rattle.std.specs.Prelude.{◌≡◌, IfOk, string_bytes};
 ghost use Rattle.hand_differences.specs.DifferenceText.{difference_text as difference_text_said, note_text as note_text_said, owner_text as owner_text_said};
 ghost use Rattle.hand_differences.specs.FirstDifference.{Card, difference_said};
@@ -10,8 +10,8 @@ use chip_ledger::Seat;
 use hand_records::NoteName;
 use std::alloc::Global;
 
-/// What is told of a difference, as `move 3, street 1, p2`, `card 9, street 2, board` or
-/// `Note players`.
+/// The text of a difference, such as `move 3, street 1, p2`, `card 9, street 2, board` or `Note
+/// players`.
 pub fn difference_text(alloc: Global, difference: Difference) -> Result<String, Memory>
     ensures { IfOk result
         (λ text. string_bytes text ≡ difference_text_said (difference_said difference)) }
@@ -49,7 +49,7 @@ pub fn difference_text(alloc: Global, difference: Difference) -> Result<String, 
     Ok(String::from_str(alloc, word)?)
 }
 
-// What is told of a card.
+// The text of a dealt card that differs.
 fn card_text(
     alloc: Global,
     number: usize,
@@ -64,7 +64,7 @@ fn card_text(
     Ok(format!(in alloc; "card {number}, street {street}, {owner}")?)
 }
 
-// Whose card it is.
+// The text of a card's owner.
 fn owner_text(alloc: Global, owner: Option<Seat>) -> Result<String, Memory>
     ensures { IfOk result (λ text. string_bytes text ≡ owner_text_said (seat_named owner)) }
 {
@@ -77,7 +77,7 @@ fn owner_text(alloc: Global, owner: Option<Seat>) -> Result<String, Memory>
     }
 }
 
-/// What a note is called, as `players` or `time_zone`.
+/// The printed name of a note, such as `players` or `time_zone`.
 pub fn note_text(note: NoteName) -> &'static str
     ensures { result.now ≡ note_text_said note }
 {

@@ -1,15 +1,16 @@
--- What the seats and the board have in a game with a board, once the board of some street is dealt.
+-- What the seats and the board have, in a game with a board, once the board cards of some street
+-- are dealt.
 use Rattle.std.proofs.Common.{◌≡◌, ◌+◌, ◌≤◌, ◌<◌, ◌==◌, nat_lt, ℕ, zero, suc, Bool, true, false, List, [], ◌∷◌, ◌++◌, map, filter, flat_map, length, Some, None, inl, inr, refl, sym, ◌∙◌, ap, arith, length-append}
 use Rattle.std.specs.List.{range_with_len}
 use Rattle.std.proofs.lemmas.Bool.{and_from, and_left, and_parts, cases_lt, eq-eqb, eqb-true, lt-ltb}
 use Rattle.std.proofs.lemmas.List.{length-map, map-append}
 use Rattle.card_set.specs.declared.card.Slot.{Slot}
-use Rattle.canon_script.specs.CanonScript.{dealt_slots, held_slots}
-use Rattle.canon_blocks.proofs.TraceOrder.{finals_group, finals_of, the_board}
-use Rattle.canon_blocks.proofs.TraceOrderCounts.{legal_owned, seat_same}
-use Rattle.canon_blocks.proofs.TracedSlots.{dealt_same, discarded_same}
+use Rattle.play_event.specs.CanonScript.{dealt_slots, held_slots}
+use Rattle.canon_laws.proofs.TraceOrder.{finals_group, finals_of, the_board}
+use Rattle.canon_laws.proofs.TraceOrderCounts.{legal_owned, seat_same}
+use Rattle.canon_laws.proofs.TracedSlots.{dealt_same, discarded_same}
 use Rattle.canon_laws.proofs.AllStreets.{legal_since, none_first}
-use Rattle.list_laws.proofs.NumbersOfRange.{flat_more}
+use Rattle.card_set.proofs.NumbersOfRange.{flat_more}
 use Rattle.play_event.specs.declared.setup.Rules.{Rules}
 use Rattle.play_event.specs.declared.setup.Setup.{Setup}
 use Rattle.play_event.specs.Games.{board_cards_on, game_of, street_count}
@@ -30,7 +31,7 @@ use Rattle.play_laws.proofs.PlaceGroups.{passed}
 use Rattle.play_laws.proofs.PlaceLists.{rising}
 use Rattle.play_laws.proofs.PlayedStreets.{board_count}
 use Rattle.play_laws.proofs.UnknownOrder.{legal_sorted}
-use Rattle.showdown_laws.proofs.StreetSplits.{by_streets, is_before, none_before, split}
+use Rattle.play_laws.proofs.StreetSplits.{by_streets, is_before, none_before, split}
 use Rattle.hand_equity.specs.Street.{board_slots}
 use Rattle.hand_equity.proofs.BoardSlots.{fewer}
 use Rattle.hand_equity.proofs.FlopGames.{IsFlopGame}
@@ -71,7 +72,7 @@ own_places setup rules events seat are =
     own_test place true mine on none = and_from (is_same_owner place.owner (Some seat)) (place.discarded == 0) mine (eq-eqb place.discarded 0 (none mine)) ∙ sym (and_from (is_same_owner place.owner (Some seat)) (nat_lt place.street (4 + 1)) mine on)
     own_test place false other on none = and_left (is_same_owner place.owner (Some seat)) (place.discarded == 0) other ∙ sym (and_left (is_same_owner place.owner (Some seat)) (nat_lt place.street (4 + 1)) other)
 
--- the places in the order of the trace, of one seat
+-- the dealt cards of one seat, in the order of the trace
 pub held_places : (setup : Setup) (rules : Rules) (events : List Said) (seat : ℕ) → AreFlopEvents setup rules events → 1 ≤ seat → seat ≤ setup.stacks.seats → held_slots (traced_places setup (past_of setup events)) seat ≡ map slot_of (filter (is_out_of 0 seat) (places_of setup.code (past_of setup events)))
 held_places setup rules events seat are least most =
     let past = past_of setup events in

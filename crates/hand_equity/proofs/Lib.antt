@@ -1,4 +1,4 @@
--- Lemmas on worths, cards and counts.
+-- Lemmas on strengths, cards and counts.
 pub mod Absent
 pub mod AddedCards
 pub mod Alike

@@ -1,4 +1,4 @@
--- The rows that are gathered of a trace are what lies on the table when a street begins.
+-- The rows that are gathered from a trace are the cards on the table when a street begins.
 use Rattle.std.proofs.Common.{◌≡◌, ◌≤◌, ◌&&◌, not, ℕ, Bool, true, nat_le, nat_lt, List, length, map, find, None, sym, ◌∙◌, ap, subst, arith}
 use Rattle.std.specs.List.{list_any}
 use Rattle.std.proofs.lemmas.Bool.{and_from, le-leb}
@@ -9,7 +9,7 @@ use Rattle.card_set.specs.declared.set.CardSet.{CardSet}
 use Rattle.card_set.specs.CardSet.{is_in, is_one_of}
 use Rattle.card_set.specs.Known.{is_unknown, known_cards}
 use Rattle.card_set.specs.Row.{cards_of}
-use Rattle.canon_script.specs.CanonScript.{dealt_slots, held_slots}
+use Rattle.play_event.specs.CanonScript.{dealt_slots, held_slots}
 use Rattle.chip_ledger.specs.declared.live_row.LiveRow.{LiveRow}
 use Rattle.chip_ledger.specs.LiveRow.{flag_of}
 use Rattle.chip_ledger.specs.Seat.{seats_of}
@@ -17,14 +17,14 @@ use Rattle.chip_ledger.proofs.SeatLists.{any_seats}
 use Rattle.hand_canon.specs.RowTests.{is_fold_before}
 use Rattle.hand_records.specs.declared.trace.Trace.{Trace}
 use Rattle.hand_records.specs.TraceRows.{place_said}
-use Rattle.list_laws.proofs.Finding.{find_agree}
+use Rattle.card_set.proofs.Finding.{find_agree}
 use Rattle.play_event.specs.declared.hands.HandRow.{HandRow}
 use Rattle.play_event.specs.declared.played.Move as rows
 use Rattle.play_event.specs.declared.played.Place as places
 use Rattle.play_event.specs.SeatSlots.{slots_of_hand}
 use Rattle.showdown_split.specs.Hands.{holding}
 use Rattle.hand_equity.specs.Equity.{plays_board}
-use Rattle.hand_equity.specs.Rest.{standing_of}
+use Rattle.hand_equity.specs.Undealt.{standing_of}
 use Rattle.hand_equity.specs.Street.{board_slots, cards_of_seat, deals_board, first_unknown, is_live_on, is_unknown_seat, standing_on, traced}
 use Rattle.hand_equity.proofs.SameTable.{AreSame}
 
@@ -57,7 +57,7 @@ same_unknown trace street hands live are =
     ap (λ (b : Bool). b && list_any is_unknown (slots_of_hand hands n)) (are.flags n least (omega (arith, most)))
     ∙ ap (λ (l : List Slot). is_live_on trace street n && list_any is_unknown l) (are.held n least))
 
--- and the same lies on the table
+-- and the cards on the table are the same
 pub same_table : (trace : Trace) (street : ℕ) (hands : HandRow) (live : LiveRow) (board : CardRow) (dead : CardSet) (all : List places.Place) → AreGathered trace street hands live → all ≡ trace.places → cards_of board ≡ known_cards (board_slots (map place_said all) street) → ((card : Card) → is_in dead card ≡ list_any (λ seat. not (flag_of live seat) && is_one_of card (holding hands seat)) (seats_of live.seats)) → AreSame (standing_of hands live board dead) (standing_on trace street)
 same_table trace street hands live board dead all are same_places board_is dead_is = record {
   seats = are.seats;

@@ -8,13 +8,13 @@ use Rattle.card_set.specs.Different.{AllDifferent}
 use Rattle.card_set.specs.Known.{is_unknown, known_cards}
 use Rattle.card_set.proofs.KnownCards.{all_known_length}
 use Rattle.canon_laws.proofs.TidyTraces.{tidy_cards}
-use Rattle.canon_script.specs.CanonScript.{dealt_slots, held_slots}
-use Rattle.canon_script.specs.TraceCore.{TraceCore}
+use Rattle.play_event.specs.CanonScript.{dealt_slots, held_slots}
+use Rattle.play_event.specs.TraceCore.{TraceCore}
 use Rattle.chip_ledger.specs.Seat.{IsSeatOf}
 use Rattle.hand_canon.specs.Sound.{IsSound}
 use Rattle.hand_records.specs.SoundRecord.{script_said}
 use Rattle.hand_records.specs.declared.trace.Play.{Play}
-use Rattle.list_laws.proofs.NumbersOfRange.{find_none}
+use Rattle.card_set.proofs.NumbersOfRange.{find_none}
 use Rattle.play_event.specs.declared.setup.Setup.{Setup}
 use Rattle.play_event.specs.Games.{game_of}
 use Rattle.play_event.specs.Laws.{IsAmong}
@@ -30,9 +30,9 @@ use Rattle.play_laws.proofs.DiscardCounts.{is_out_of}
 use Rattle.play_laws.proofs.InDeck.{legal_cards}
 use Rattle.play_laws.proofs.PlaceGroups.{passed}
 use Rattle.play_laws.proofs.PlaceLists.{rising}
-use Rattle.showdown_laws.proofs.ApartCards.{both_different}
-use Rattle.showdown_laws.proofs.DealtOnce.{dealt_once}
-use Rattle.showdown_laws.proofs.StreetSplits.{is_before}
+use Rattle.play_laws.proofs.ApartCards.{both_different}
+use Rattle.play_laws.proofs.DealtOnce.{dealt_once}
+use Rattle.play_laws.proofs.StreetSplits.{is_before}
 use Rattle.hand_equity.specs.Equity.{plays_board}
 use Rattle.hand_equity.specs.LiveHands.{IsLive}
 use Rattle.hand_equity.specs.Street.{IsReady, board_slots, deals_board, first_unknown, is_live_on, is_unknown_seat, standing_on, traced}
@@ -99,7 +99,7 @@ whole_hand play street seat sound on inside =
     ∙ whole setup rules events seat are seats.first seats.last (omega (arith, come, on.least))
     ∙ ap (λ (s : Setup). (game_of s.code).hole) (sym sound.trace.same_setup)
 
--- what passes one of two tests is among the places
+-- what passes one of two tests is among the dealt cards
 among_either : (placed : List Place) (mine its : Place → Bool) (place : Place) → IsAmong (filter mine placed ++ filter its placed) place → IsAmong placed place
 among_either placed mine its place among =
     elim (among_append (filter mine placed) (filter its placed) place among) [ inl here ↦ (passed mine placed place here).among | inr there ↦ (passed its placed place there).among ]
@@ -121,7 +121,7 @@ different_cards play street seat sound on inside =
     (λ place is. (and_parts (is_same_owner place.owner (Some seat)) (place.discarded == 0) is).0)
     (λ place is. (and_parts (is_same_owner place.owner None) (nat_lt place.street (street + 1)) is).0))))
 
--- a live seat has no unknown card, where no seat is named
+-- a live seat has no unknown card, if no seat is named
 all_known : (play : Play) (street seat : ℕ) → first_unknown play.trace street ≡ None → IsSeatOf play.trace.setup.stacks.seats seat → is_live_on play.trace street seat ≡ true → list_any is_unknown (held_slots (traced play.trace) seat) ≡ false
 all_known play street seat none inside live =
     let seats = play.trace.setup.stacks.seats in

@@ -1,17 +1,17 @@
--- A board is dealt where a seat is live.
+-- If board cards are dealt, a seat is live.
 use Rattle.std.proofs.Common.{◌≡◌, ◌+◌, ◌<◌, ◌≤◌, ◌==◌, ◌||◌, ◌&&◌, not, nat_lt, ℕ, Bool, true, false, if◌then◌else◌, List, [], ◌∷◌, map, length, None, refl, sym, ◌∙◌, ap, arith}
 use Rattle.std.specs.List.{list_any}
 use Rattle.std.proofs.lemmas.Bool.{leb-false}
 use Rattle.std.proofs.lemmas.List.{length-map}
 use Rattle.card_set.specs.declared.card.Slot.{Slot}
 use Rattle.canon_laws.proofs.SameCore.{plain_again}
-use Rattle.canon_script.specs.CanonScript.{dealt_slots, plain_move, plain_moves}
+use Rattle.play_event.specs.CanonScript.{dealt_slots, plain_move, plain_moves}
 use Rattle.chip_ledger.specs.Seat.{IsSeatOf, seats_of}
 use Rattle.hand_canon.specs.RowTests.{is_fold_before}
-use Rattle.list_laws.proofs.Any.{list_any-filter, list_any-map}
-use Rattle.list_laws.proofs.Counting.{counted_some}
-use Rattle.list_laws.proofs.NumbersOfRange.{some_in_range}
-use Rattle.list_laws.proofs.Reversed.{list_any-reverse}
+use Rattle.card_set.proofs.Any.{list_any-filter, list_any-map}
+use Rattle.card_set.proofs.Counting.{counted_some}
+use Rattle.card_set.proofs.NumbersOfRange.{some_in_range}
+use Rattle.card_set.proofs.Reversed.{list_any-reverse}
 use Rattle.play_event.specs.declared.played.Move as rows
 use Rattle.play_event.specs.declared.setup.Rules.{Rules}
 use Rattle.play_event.specs.declared.setup.Setup.{Setup}
@@ -63,7 +63,7 @@ some_live setup rules events street are least most some =
     let found = some_in_range (is_live moves) 1 setup.stacks.seats (counted_some (is_live moves) (seats_of setup.stacks.seats) (omega (arith, more))) in
     (found.0, (record { first = found.1.0; last = omega (arith, found.1.1.0) }, found.1.1.1))
 
--- a seat folded among the moves before a street, where one of the rows says so
+-- a seat folded among the moves before a street, if one of the rows says so
 pub folded_rows : (setup : Setup) (street seat : ℕ) (played : List rows.Move) (moves : List Move) → map move_said played ≡ traced_moves setup moves
     → is_live (moves_before street moves) seat ≡ not (list_any (is_fold_before street seat) played)
 folded_rows setup street seat played moves same =

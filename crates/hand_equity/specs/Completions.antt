@@ -1,4 +1,4 @@
--- What a completion is, and that none stands twice in a list.
+-- What a completion is, and when no two in a list are the same.
 use Rattle.std.specs.Prelude.{◌≡◌, true, List, [], ◌∷◌, length}
 use Rattle.card_set.specs.declared.card.Card.{Card}
 use Rattle.card_set.specs.CardSet.{AreSameCards, is_one_of}
@@ -6,9 +6,9 @@ use Rattle.card_set.specs.Different.{AllDifferent, Every}
 use Rattle.hand_order.specs.Choices.{IsAmong}
 use Rattle.play_event.specs.declared.code.Code.{Code}
 use Rattle.hand_equity.specs.Equity.{lacking}
-use Rattle.hand_equity.specs.Rest.{Standing, rest_of}
+use Rattle.hand_equity.specs.Undealt.{Standing, rest_of}
 
--- as many different cards of the rest as the board lacks
+-- different cards of the rest, as many as the board is missing
 pub record IsCompletion (code : Code) (standing : Standing) (cards : List Card) : Type 0 where
   pub long : length cards ≡ lacking code standing
   pub different : AllDifferent cards

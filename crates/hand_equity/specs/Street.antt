@@ -1,4 +1,4 @@
--- What lies on the table of a played hand when a street begins.
+-- The cards on the table of a played hand when a street begins.
 use Rattle.std.specs.Prelude.{◌≡◌, ◌≤◌, ◌&&◌, ℕ, Bool, true, false, not, nat_le, nat_lt, List, length, map, find, flat_map, Option, Some, None}
 use Rattle.std.specs.List.{list_any, range_with_len}
 use Rattle.card_set.specs.declared.card.Card.{Card}
@@ -6,7 +6,7 @@ use Rattle.card_set.specs.declared.card.Slot.{Slot}
 use Rattle.card_set.specs.CardSet.{is_one_of}
 use Rattle.card_set.specs.Known.{is_unknown, known_cards}
 use Rattle.chip_ledger.specs.Seat.{seats_of}
-use Rattle.canon_script.specs.CanonScript.{dealt_slots, held_slots}
+use Rattle.play_event.specs.CanonScript.{dealt_slots, held_slots}
 use Rattle.hand_canon.specs.RowTests.{is_fold_before}
 use Rattle.hand_records.specs.declared.trace.Trace.{Trace}
 use Rattle.hand_records.specs.TraceRows.{place_said}
@@ -16,9 +16,9 @@ use Rattle.hand_equity.specs.declared.refusal.NoEquity.TheVariants as refusals
 use Rattle.hand_equity.specs.declared.row.EquityRow.{EquityRow}
 use Rattle.hand_equity.specs.Equity.{CanComplete, IsEquity, plays_board}
 use Rattle.hand_equity.specs.LiveHands.{IsLive}
-use Rattle.hand_equity.specs.Rest.{Standing}
+use Rattle.hand_equity.specs.Undealt.{Standing}
 
--- the places of a trace, with plain numbers for seats
+-- the dealt cards of a trace, with plain numbers for seats
 abbrev pub traced : Trace → List TracedPlace
 traced trace = map place_said trace.places
 
@@ -30,18 +30,18 @@ is_live_on trace street seat = not (list_any (is_fold_before street seat) trace.
 abbrev pub cards_of_seat : Trace → ℕ → List Card
 cards_of_seat trace seat = known_cards (held_slots (traced trace) seat)
 
--- the board of all streets up to this one
+-- the board, of all streets up to this one
 abbrev pub board_slots : List TracedPlace → ℕ → List Slot
 board_slots placed street = flat_map (dealt_slots placed None) (range_with_len 1 street)
 
--- the card is that of a seat that folded before
+-- the card belongs to a seat that folded before
 abbrev pub is_folded_card : Trace → ℕ → Card → Bool
 is_folded_card trace street card =
     list_any
     (λ seat. not (is_live_on trace street seat) && is_one_of card (cards_of_seat trace seat))
     (seats_of trace.setup.stacks.seats)
 
--- what lies on the table when a street begins
+-- the cards on the table when a street begins
 abbrev pub standing_on : Trace → ℕ → Standing
 standing_on trace street = record {
   hands = record {
@@ -53,8 +53,7 @@ standing_on trace street = record {
   dead = is_folded_card trace street;
 }
 
--- the game has a board, and the hand dealt some of it on this street, which is the second, third
--- or fourth
+-- the game has a board, and the hand dealt a board card on this street, which is 2, 3 or 4
 abbrev pub deals_board : Trace → ℕ → Bool
 deals_board trace street =
     plays_board trace.setup.code && (nat_le 2 street && nat_le street 4)
@@ -82,9 +81,9 @@ HasNoEquity trace street refusals.NoStreet = deals_board trace street ≡ false
 HasNoEquity trace street (refusals.UnknownCards seat) =
     (deals_board trace street ≡ true) × (first_unknown trace street ≡ Some seat.number)
 
--- what a trace guarantees: no seat has more cards than a row, and where a board is dealt on a
--- street, a seat is live then, and the board can be completed for those that are, if their cards
--- are known
+-- what holds for every trace: no seat has more cards than a row, and if a board card is dealt on a
+-- street, a seat is live then, and the board can be completed for the live seats if their cards are
+-- known
 pub record IsReady (trace : Trace) (street : ℕ) : Type 0 where
   pub held : (seat : ℕ) → length (held_slots (traced trace) seat) ≤ 7
   pub board : deals_board trace street ≡ true

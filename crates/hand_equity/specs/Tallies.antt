@@ -1,15 +1,15 @@
--- What a tally says after more boards.
+-- What a tally counts after more boards.
 use Rattle.std.specs.Prelude.{◌≡◌, ◌+◌, ◌-◌, ◌≤◌, ℕ, List, length, slice_index}
 use Rattle.card_set.specs.declared.card.Card.{Card}
 use Rattle.hand_equity.specs.declared.tally.BoardTally.{BoardTally}
 use Rattle.hand_equity.specs.Contest.{Contest, HasNobody, IsShared, Ties, Wins}
 use Rattle.hand_equity.specs.Counting.{CountsOn, Grows, IsCountOf}
 
--- what a seat with this number has of a row of counts
+-- the count of seat number n in a row of counts
 abbrev pub count_for : List ℕ → ℕ → ℕ
 count_for counts seat = slice_index counts (seat - 1)
 
--- a tally has one board more, with its outcome
+-- a tally has one more board, with its outcome
 pub record HasBoardMore (contest : Contest) (before after : BoardTally) : Type 0 where
   pub boards : after.boards ≡ before.boards + 1
   pub nobody : Grows (HasNobody contest) before.nobody after.nobody
@@ -38,7 +38,7 @@ pub record HasBoardsMore
       (count_for before.ties seat)
       (count_for after.ties seat)
 
--- a tally is that of these boards
+-- a tally counts these boards
 pub record IsTallyOf
     (contest : List Card → Contest)
     (lists : List (List Card))

@@ -17,7 +17,7 @@ total_line hand street row =
     ++ (codes " shared " ++ (decimal row.shared
     ++ codes "\n")))))))
 
--- the line of a seat, which begins with the letter p: what it wins and ties, behind a label
+-- the line of a seat, which begins with the letter p: what it wins and ties, after a label
 abbrev pub seat_line : List ℕ → List ℕ → List ℕ → ℕ → List ℕ
 seat_line label wins ties seat =
     112 ∷ decimal seat ++ (label ++ (decimal (count_for wins seat)
@@ -37,7 +37,7 @@ low_line row =
     ++ (codes " shared " ++ (decimal row.low_shared
     ++ codes "\n")))
 
--- the lines of low hands, in a game that pays half of a pot by them
+-- the lines of low hands, in a game that pays them
 abbrev pub low_lines : Bool → EquityRow → List ℕ → List ℕ
 low_lines split row seats =
     if split
@@ -48,7 +48,7 @@ low_lines split row seats =
 abbrev pub seats_on : Trace → ℕ → List ℕ
 seats_on trace street = filter (is_live_on trace street) (seats_of trace.setup.stacks.seats)
 
--- the text of the equity of a hand, which has this number, on a street
+-- the text of the equity of a hand with this number on a street
 abbrev pub equity_said : ℕ → ℕ → Trace → EquityRow → List ℕ
 equity_said hand street trace row =
     total_line hand street row

@@ -1,5 +1,5 @@
-//! Equity is counted over all completions of a board, in the first order and, where half of a pot
-//! is paid by it, in the second.
+//! Counts equity over all completions of a board, in the high order and, if half of a pot goes to
+//! low hands, in the low order.
 ghost use Rattle.std.specs.Prelude.{◌≡◌, ◌≤◌, ◌+◌, ◌-◌, ◌++◌, ℕ, IsTrue, List, length, sum, true, false};
 ghost use Rattle.card_set.specs.declared.card.Card.{Card};
 ghost use Rattle.card_set.specs.Row.{cards_of};
@@ -7,28 +7,28 @@ ghost use Rattle.hand_order.specs.Choices.{IsAmong, choices};
 ghost use Rattle.hand_equity.specs.Boards.{boards_with};
 ghost use Rattle.hand_equity.specs.Equity.{CanComplete, IsEquity, plays_board};
 ghost use Rattle.hand_equity.specs.LiveHands.{CanPlay, IsLive, contest_of_hands, live_hands, order_of};
-ghost use Rattle.hand_equity.specs.Rest.{rest_cards, standing_of};
+ghost use Rattle.hand_equity.specs.Undealt.{rest_cards, standing_of};
 ghost use Rattle.hand_equity.specs.Tallies.{IsEmptyTally, IsTallyOf};
 
 use crate::boards::{Contenders, count_boards};
-use crate::rest::Rest;
 use crate::row::{EquityRow, row_of};
 use crate::table::rest_beside;
 use crate::tally::BoardTally;
+use crate::undealt::Undealt;
 use card_set::{CardRow, CardSet};
 use chip_ledger::LiveRow;
 use hand_order::HandOrder;
 use play_event::HandRow;
 use variant_table::Variant;
 
-/// How often each live seat wins or ties, over all completions of the board: each set of as many
-/// cards as the board lacks to five, of the game's deck without the live hands, the board and the
-/// dead cards, counts once.
+/// How often each live seat wins or ties, over all boards of five cards that complete this one. The
+/// missing cards come from the game's deck without the cards of live seats, the board and the dead
+/// cards, and each set of cards counts once.
 ///
 /// `hands` are the hole cards of the seats, of which the known ones count, and `live` says which
-/// seats are live. The game is hold'em, short-deck or Omaha. `board` has none to five cards. The
-/// time that it takes grows with the completions: for two seats of hold'em 990 on a flop, and
-/// 1,712,304 without a board.
+/// seats are live. The game is hold'em, short-deck hold'em or Omaha. `board` has at most five
+/// cards. The time grows with the number of completions: for two seats of hold'em 990 on a flop,
+/// and 1,712,304 without a board.
 pub fn equity<V: Variant>(
     hands: &HandRow,
     live: &LiveRow,
@@ -36,10 +36,9 @@ pub fn equity<V: Variant>(
     dead: &CardSet,
 ) -> EquityRow
     requires game { IsTrue (plays_board V.CODE) }
-    requires seats { live.now.seats ≤ hands.now.seats }
     requires complete { CanComplete V.CODE (standing_of hands.now live.now board.now dead.now) }
 
-    // The rule, exactly.
+    // The rule.
     ensures equity { IsEquity V.CODE (standing_of hands.now live.now board.now dead.now) result }
 
     // What follows from it.
@@ -59,8 +58,8 @@ pub fn equity<V: Variant>(
     row_of(&high, &low)
 }
 
-// The tally of the second order, in a game that pays by two; in another game an empty one.
-fn low_tally<V: Variant>(contenders: &Contenders, rest: &Rest, board: &CardRow) -> BoardTally
+// The tally of the low order if the game pays low hands, and otherwise an empty one.
+fn low_tally<V: Variant>(contenders: &Contenders, rest: &Undealt, board: &CardRow) -> BoardTally
     requires room { length (cards_of board.now) ≤ 5 }
     requires playable { (more : List Card)
         → IsAmong more (choices (5 - length (cards_of board.now)) (rest_cards rest.now))
@@ -81,7 +80,7 @@ fn low_tally<V: Variant>(contenders: &Contenders, rest: &Rest, board: &CardRow) 
 }
 
 // The tally of an order over all completions of a board.
-fn tally_of<O: HandOrder>(contenders: &Contenders, rest: &Rest, board: &CardRow) -> BoardTally
+fn tally_of<O: HandOrder>(contenders: &Contenders, rest: &Undealt, board: &CardRow) -> BoardTally
     requires room { length (cards_of board.now) ≤ 5 }
     requires playable { (more : List Card)
         → IsAmong more (choices (5 - length (cards_of board.now)) (rest_cards rest.now))

@@ -1,10 +1,10 @@
-//! The board of a trace up to a street, and which seats are live when it begins.
+//! The board of a trace up to a street, and which seats are live when the street begins.
 ghost use Rattle.std.specs.Prelude.{◌≡◌, ◌≤◌, ℕ, not, None, length, map, nat_lt};
 ghost use Rattle.std.specs.List.{list_any};
 ghost use Rattle.card_set.specs.Known.{known_cards};
 ghost use Rattle.card_set.specs.Row.{cards_of};
 ghost use Rattle.chip_ledger.specs.LiveRow.{flag_of};
-ghost use Rattle.canon_script.specs.CanonScript.{dealt_slots};
+ghost use Rattle.play_event.specs.CanonScript.{dealt_slots};
 ghost use Rattle.hand_canon.specs.RowTests.{is_fold_before};
 ghost use Rattle.hand_records.specs.TraceRows.{place_said};
 ghost use Rattle.hand_equity.specs.Street.{board_slots};
@@ -28,7 +28,7 @@ pub fn deals_on(places: &[Place], street: u8) -> bool
     false
 }
 
-/// The known cards of the board of all streets up to this one.
+/// The known cards of the board, of all streets up to this one.
 pub fn board_up_to(places: &[Place], street: u8) -> CardRow
     requires { length (board_slots (map place_said places.now) street) ≤ 7 }
     ensures { cards_of result ≡ known_cards (board_slots (map place_said places.now) street) }
@@ -40,7 +40,7 @@ pub fn board_up_to(places: &[Place], street: u8) -> CardRow
     known_row(&board)
 }
 
-/// The seats, of so many, that did not fold before a street.
+/// Which of the first `seats` seats did not fold before a street.
 pub fn live_before(moves: &[Move], street: u8, seats: u8) -> LiveRow
     requires least { 2 ≤ seats }
     requires greatest { seats ≤ 10 }

@@ -1,5 +1,5 @@
-//! What follows from the definition of equity, whatever gave it. The functions do nothing: each
-//! contract is a law.
+//! What follows from the definition of equity, however it is computed. The functions do nothing:
+//! each contract is a law.
 ghost use Rattle.std.specs.Prelude.{◌≡◌, ◌-◌, ◌*◌, ◌/◌, ◌≤◌, ℕ, List, length};
 ghost use Rattle.card_set.specs.declared.card.Card.{Card};
 ghost use Rattle.card_set.specs.CardSet.{AreSameCards};
@@ -9,16 +9,16 @@ ghost use Rattle.hand_equity.specs.declared.row.EquityRow.{EquityRow};
 ghost use Rattle.hand_equity.specs.Completions.{AreApart, IsCompletion};
 ghost use Rattle.hand_equity.specs.Equity.{HasNothing, IsEquity, completions, lacking};
 ghost use Rattle.hand_equity.specs.LiveHands.{IsLive};
-ghost use Rattle.hand_equity.specs.Rest.{Standing, rest_of};
+ghost use Rattle.hand_equity.specs.Undealt.{Standing, rest_of};
 
-/// What lies on the table has one equity.
+/// The same cards on the table have one equity.
 #[tactic(auto, using(crate::proofs::OneEquity::one_equity))]
 pub fn law_of_one_equity()
     ensures { (code : Code) (standing : Standing) (row other : EquityRow)
         → IsEquity code standing row → IsEquity code standing other → row ≡ other }
 {}
 
-/// A seat that is not live, or is none of the hand, wins and ties 0 times.
+/// A seat that is not live, or is no seat of the hand, wins and ties 0 times.
 #[tactic(auto, using(crate::proofs::Absent::absent))]
 pub fn law_of_absent_seats()
     ensures { (code : Code) (standing : Standing) (row : EquityRow) (seat : ℕ)
@@ -26,7 +26,7 @@ pub fn law_of_absent_seats()
         → HasNothing row seat }
 {}
 
-/// The completions are the sets of as many different cards of the rest as the board lacks, each
+/// The completions are the sets of different cards of the rest that fill the board to five, each
 /// once.
 pub fn law_of_completions()
     ensures each { (code : Code) (standing : Standing) (more : List Card)
@@ -37,7 +37,7 @@ pub fn law_of_completions()
     ensures once { (code : Code) (standing : Standing) → AreApart (completions code standing) }
 {}
 
-/// With n cards in the rest the completions are 1, n or n (n - 1) / 2 where the board lacks no
+/// With n cards in the rest there are 1, n or n (n - 1) / 2 completions if the board is missing no
 /// card, one or two.
 pub fn law_of_totals()
     ensures none { (code : Code) (standing : Standing) (row : EquityRow)

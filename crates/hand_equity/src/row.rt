@@ -7,21 +7,21 @@ use crate::tally::BoardTally;
 /// completions. The first seat's are at index 0, and a seat that is not live has 0.
 #[derive(Clone, Copy, Debug, PartialEq, Eq)]
 pub struct EquityRow {
-    /// The completions.
+    /// All completions.
     pub total: u32,
-    /// Those in which some seats tie.
+    /// Completions on which some seats tie.
     pub shared: u32,
-    /// Those in which a seat beats every other.
+    /// Completions on which a seat beats every other.
     pub wins: [u32; 10],
-    /// Those in which no seat beats a seat, and another is even with it.
+    /// Completions on which no seat beats this seat, and another is even with it.
     pub ties: [u32; 10],
-    /// Those in which no seat has a low hand; 0 in a game that does not pay half of a pot by them.
+    /// Completions on which no seat has a low hand; 0 in a game that pays no low hands.
     pub low_none: u32,
-    /// Those in which some low hands tie.
+    /// Completions on which some low hands tie.
     pub low_shared: u32,
-    /// Those in which a seat has a low hand that beats every other, or the only one.
+    /// Completions on which a seat has the only low hand, or one that beats every other.
     pub low_wins: [u32; 10],
-    /// Those in which no low hand beats a seat's, and another is even with it.
+    /// Completions on which no low hand beats this seat's, and another is even with it.
     pub low_ties: [u32; 10],
     pub ghost all_wins: { length wins ≡ 10 },
     pub ghost all_ties: { length ties ≡ 10 },
@@ -29,7 +29,7 @@ pub struct EquityRow {
     pub ghost all_low_ties: { length low_ties ≡ 10 },
 }
 
-/// The row of what two tallies say.
+/// The row made from the tallies of the high and the low order.
 pub fn row_of(high: &BoardTally, low: &BoardTally) -> EquityRow
     ensures total { result.total ≡ high.now.boards }
     ensures shared { result.shared ≡ high.now.shared }

@@ -1,4 +1,4 @@
-//! The equity of a played hand on a street: of the seats that are live when it begins.
+//! The equity of a played hand on a street, for the seats that are live when the street begins.
 ghost use Rattle.std.specs.Prelude.{◌≡◌, ◌+◌, IfErr, IfOk, IsTrue, sum, true};
 ghost use Rattle.hand_canon.specs.Sound.{IsSound};
 ghost use Rattle.hand_equity.specs.Equity.{plays_board};
@@ -16,21 +16,22 @@ use play_event::Code;
 use variant_table::{FO8, FT, NS, NT, PO, Variant};
 
 /// How often each seat that is live when a street begins would have won, over all boards that
-/// complete the one of this street. The streets are 2, 3 and 4: flop, turn and river. Known cards
-/// of seats that folded before do not come; unknown ones may.
+/// complete the board of that street. The streets are 2, 3 and 4: flop, turn and river. Known cards
+/// of seats that folded before are not dealt again; unknown ones may be.
 ///
 /// # Errors
 ///
-/// The hand dealt no board on this street, or a live seat has a card that stayed unknown.
+/// No board card was dealt on this street, or a live seat has a card that stayed unknown.
 #[tactic(auto, using(crate::proofs::Ready::ready))]
 pub fn equity_of(play: &Play, street: u8) -> Result<EquityRow, NoEquity>
     requires { IsSound play.now }
 
-    // The rule, exactly.
+    // The rule.
     ensures equity { IfOk result (IsEquityOn play.now.trace street) }
     ensures refused { IfErr result (HasNoEquity play.now.trace street) }
 
-    // What follows from it: each board is won or shared, and by a low too, or has none.
+    // What follows from it: each board is won or tied; and for low hands it is won or tied, or
+    // there is none.
     ensures together { IfOk result (λ row. row.total ≡ sum row.wins + row.shared) }
     ensures together_low { IfOk result (λ row. (game_of play.now.trace.setup.code).split ≡ true
         → row.total ≡ sum row.low_wins + row.low_shared + row.low_none) }

@@ -11,9 +11,9 @@ use hand_canon::Play;
 use std::alloc::Global;
 use variant_table::table_of;
 
-/// The text of the equity of a hand, which has this number, on a street: a line of all completions,
-/// then one a seat that is live when the street begins. In a game that pays half of a pot by low
-/// hands their lines follow.
+/// The text of the equity of a hand, numbered `hand`, on a street: one line for all completions,
+/// and one for each seat that is live when the street begins. If the game pays low hands, their
+/// lines follow.
 pub fn equity_text(
     alloc: Global,
     hand: u32,
@@ -34,7 +34,7 @@ pub fn equity_text(
     Ok(text.into_bytes())
 }
 
-// Puts the line of all completions.
+// Appends the line of all completions.
 fn push_total(text: &mut String, hand: u32, street: u8, row: &EquityRow) -> Result<(), Memory>
     ensures { OnOk result (string_bytes text.new
         ≡ string_bytes text.old ++ total_line hand street row.now) }
@@ -48,7 +48,7 @@ fn push_total(text: &mut String, hand: u32, street: u8, row: &EquityRow) -> Resu
     Ok(())
 }
 
-// Puts the lines of low hands, in a game that pays half of a pot by them.
+// Appends the lines of low hands, in a game that pays them.
 fn push_low(text: &mut String, split: bool, live: &LiveRow, row: &EquityRow) -> Result<(), Memory>
     ensures { OnOk result (string_bytes text.new
         ≡ string_bytes text.old ++ low_lines split row.now (flagged live.now)) }
@@ -62,7 +62,7 @@ fn push_low(text: &mut String, split: bool, live: &LiveRow, row: &EquityRow) -> 
     push_seats(text, " low wins ", live, &row.low_wins, &row.low_ties)
 }
 
-// Puts a line for each live seat, with a label.
+// Appends a line with a label for each live seat.
 fn push_seats(
     text: &mut String,
     label: &str,
@@ -80,7 +80,7 @@ fn push_seats(
     Ok(())
 }
 
-// Puts the line of a seat, if it is live.
+// Appends the line of a seat, if it is live.
 fn push_seat(
     text: &mut String,
     label: &str,

@@ -1,4 +1,5 @@
--- A hand of few seats, whose draws discard two cards each at most, needs no more cards than the deck has; and it has few discards.
+-- A hand with few seats, whose draws discard at most two cards each, needs no more cards than the
+-- deck has; and it has few discards.
 use Rattle.std.proofs.Common.{◌≡◌, ℕ, ◌+◌, ◌*◌, ◌-◌, ◌≤◌, Bool, true, false, ◌&&◌, ◌||◌, ◌==◌, cond, if◌then◌else◌, List, [], ◌∷◌, length, refl, ap, subst, ◌∙◌, arith}
 use Rattle.std.proofs.lemmas.Bool.{and_parts, eq-eqb, eqb-true}
 use Rattle.card_places.specs.Room.{sum_from}
@@ -40,7 +41,7 @@ pub record IsStreet (setup : Setup) (street : ℕ) : Type 0 where
   pub first : 1 ≤ street
   pub last : street ≤ street_count setup.code
 
--- the most cards of a street that a seat is dealt, where it discards two at most
+-- the most cards of a street that a seat is dealt, if it discards at most two
 abbrev pub hole_few : Code → ℕ → ℕ
 hole_few code street = if has_draw code street then 2 else hole_cards_on code street
 
@@ -102,7 +103,7 @@ board_few setup before street cards few on fits = record {
   out = few.out;
 }
 
--- a discard of two cards at most by a seat that has discarded none
+-- a discard of at most two cards by a seat that has discarded none
 pub discard_few : (setup : Setup) (before : Past) (street seat : ℕ) (cards : List Slot) → IsFewDealt setup before → cards_discarded before street seat ≡ 0 → length cards ≤ 2 → IsFewDealt setup (Discarded street seat cards ∷ before)
 discard_few setup before street seat cards few none two = record {
   all = few.all;
@@ -117,7 +118,7 @@ discard_few setup before street seat cards few none two = record {
 pub move_few : (setup : Setup) (before : Past) (move : Move) → IsFewDealt setup before → IsFewDealt setup (Moved move ∷ before)
 move_few setup before move few = record { all = few.all; holes = few.holes; boards = few.boards; out = few.out }
 
--- what is owed fits
+-- what is due fits
 pub owed_fits : (setup : Setup) (before : Past) (street seat : ℕ) → IsFewDealt setup before → cards_owed setup before street seat + hole_cards_dealt before street seat ≤ hole_few setup.code street
 owed_fits setup before street seat few = by_draw (has_draw setup.code street) (few.holes street seat) (few.out street seat)
   where
@@ -173,7 +174,7 @@ less_if : (a b : Bool) → cond b 1 0 ≤ cond (a || b) 1 0
 less_if true b = one_if b
 less_if false b = omega arith
 
--- one discard more, by a seat that did not draw on the street
+-- one more discard, by a seat that did not draw on the street
 pub one_drawn : (setup : Setup) (before : Past) (street seat : ℕ) (cards : List Slot) → 1 ≤ street → street ≤ 5 → IsSeatOf setup.stacks.seats seat → has_drawn before street seat ≡ false → all_drawn setup before + 1 ≤ all_drawn setup (Discarded street seat cards ∷ before)
 one_drawn setup before street seat cards first five in_hand undrawn =
     sum_more (drawn_on setup (Discarded street seat cards ∷ before)) (drawn_on setup before) 1 5 street 1

@@ -1,4 +1,5 @@
--- Whatever comes next is legal; and something comes as long as a deal, a draw, a bring-in or a move is due.
+-- Whatever comes next is legal; and something comes as long as a deal, a draw, a bring-in or a move
+-- is due.
 use Rattle.std.proofs.Common.{◌≡◌, ℕ, ◌≤◌, ◌<◌, Bool, true, false, ◌&&◌, ◌==◌, not, nat_lt, nat_le, if◌then◌else◌, Option, Some, None, List, [], ◌∷◌, find, refl, sym, ap, subst, ◌∙◌, arith}
 use Rattle.std.specs.List.{list_any}
 use Rattle.std.specs.Option.{option_map}
@@ -6,8 +7,8 @@ use Rattle.std.proofs.lemmas.Bool.{and_parts, eq-eqb, eqb-true, le-ltb, ltb-true
 use Rattle.card_set.specs.declared.card.Slot.{Slot}
 use Rattle.card_set.specs.declared.card.Slot.TheVariants as slots
 use Rattle.card_set.specs.Known.{is_unknown}
-use Rattle.list_laws.proofs.Any.{none_passes}
-use Rattle.list_laws.proofs.Tests.{false_true}
+use Rattle.card_set.proofs.Any.{none_passes}
+use Rattle.card_set.proofs.Tests.{false_true}
 use Rattle.play_event.specs.declared.event.Spelled.TheVariants as spelled
 use Rattle.play_event.specs.declared.limit.Opener.{Opener}
 use Rattle.play_event.specs.declared.limit.Opener.TheVariants as openers
@@ -19,11 +20,11 @@ use Rattle.play_event.specs.Chips.{all_in, street_chips}
 use Rattle.play_event.specs.Due.{has_opened_betting, has_to_move, is_bring_in_due, is_unfinished, turn}
 use Rattle.play_event.specs.HistoryRules.{history_rules}
 use Rattle.play_event.specs.MoveReasons.{is_other_seat, is_undecided}
-use Rattle.play_event.specs.Mover.{first_in_turn, mover, next_in_turn, seats_from}
+use Rattle.play_event.specs.PlayerToAct.{first_in_turn, player_to_act, next_in_turn, seats_from}
 use Rattle.play_event.specs.Openers.{InTurn, NoSeat, TheSeat, Undecided, UpCards, able_seats, has_unknown_up_card, in_turn, opener_by, up_cards_opener}
 use Rattle.play_event.specs.Past.{BroughtIn, Called, Folded, Move, Past, Raised, moves_of, moves_on}
 use Rattle.play_event.specs.Places.{is_held_by, is_up}
-use Rattle.play_event.specs.Price.{owed, price}
+use Rattle.play_event.specs.CurrentBet.{to_call, current_bet}
 use Rattle.play_event.specs.Raising.{has_able_opponent, is_reopened, is_within_cap, may_raise}
 use Rattle.play_event.specs.Said as said
 use Rattle.play_event.specs.Said.{Said}
@@ -34,7 +35,7 @@ use Rattle.play_event.specs.Table.{places_of, up_cards}
 use Rattle.play_event.specs.Targets.{greatest_target, is_legal_target, least_target}
 use Rattle.play_event.specs.TurnTargets.{is_bet_due}
 use Rattle.play_event.specs.ValidSetup.{IsValid}
-use Rattle.play_event.proofs.MoverLaws.{mover_has_to_move}
+use Rattle.play_event.proofs.PlayerToActLaws.{player_to_act_has_to_move}
 use Rattle.play_event.proofs.StreetLaws.{few_streets}
 use Rattle.play_event.proofs.TargetLaws.{targets_end}
 use Rattle.play_laws.proofs.BettingDue.{bet_of}
@@ -42,10 +43,10 @@ use Rattle.play_laws.proofs.DueAtEvents as due_at
 use Rattle.play_laws.proofs.DueAtEvents.{IsDue, unfinished_due}
 use Rattle.play_laws.proofs.FittingPasts.{has_movers, legal_moves}
 use Rattle.play_event.proofs.FloorLaws.{bet_unfinished}
-use Rattle.canon_blocks.proofs.CardEvents.{legal_at}
-use Rattle.canon_ranges.proofs.MoverSeats.{mover_in_hand}
+use Rattle.canon_laws.proofs.CardEvents.{legal_at}
+use Rattle.canon_laws.proofs.PlayerToActSeats.{player_to_act_in_hand}
 use Rattle.hand_gen.specs.Coming.{call_of, ends_of, move_by, raise_of}
-use Rattle.hand_gen.specs.Stock.{Stock}
+use Rattle.hand_gen.specs.HandSource.{HandSource}
 use Rattle.hand_gen.proofs.CardsOut.{IsStreet}
 use Rattle.hand_gen.proofs.GoingHands.{IsGoing, all_known, move_goes, on_street}
 use Rattle.hand_gen.proofs.KnownCards.{AreKnown, kept_known}
@@ -53,7 +54,7 @@ use Rattle.hand_gen.proofs.MovesTake.{bring_in_takes, call_takes, fold_takes, ra
 use Rattle.hand_gen.proofs.RaisesAbove.{raises_above}
 use Rattle.chip_ledger.specs.Seat.{IsSeatOf}
 
--- where no up-card is unknown it is never unknown whose turn it is
+-- if no up-card is unknown, the player to act is always known
 found_turn : (found : Option ℕ) → in_turn found ≡ Undecided → ⊥
 found_turn None is = absurd (false_true (ap is_undecided is))
 found_turn (Some seat) is = absurd (false_true (ap is_undecided is))
@@ -72,8 +73,8 @@ first_known setup holds NoSeat known is = absurd (false_true (ap is_undecided is
 first_known setup holds Undecided known is = known refl
 first_known setup holds (TheSeat seat) known is = found_turn (find holds (seats_from setup seat)) is
 
-mover_known : (setup : Setup) (ups : UpCards) (moves : List Move) (street : ℕ) → has_unknown_up_card setup ups moves ≡ false → mover setup ups moves street ≡ Undecided → ⊥
-mover_known setup ups moves street known =
+player_to_act_known : (setup : Setup) (ups : UpCards) (moves : List Move) (street : ℕ) → has_unknown_up_card setup ups moves ≡ false → player_to_act setup ups moves street ≡ Undecided → ⊥
+player_to_act_known setup ups moves street known =
     first_known setup (has_to_move setup moves street) (next_in_turn setup (opener_by (opener_of setup.code) setup ups moves street) (moves_on street moves))
     (next_known setup (opener_by (opener_of setup.code) setup ups moves street) (moves_on street moves) (opener_known (opener_of setup.code) setup ups moves street known))
 
@@ -85,14 +86,14 @@ none_unknown (slots.Unknown ∷ rest) known = absurd known
 positive : (n : ℕ) → nat_lt 0 n ≡ true → 0 < n
 positive n is = ltb-true 0 n is
 
--- a raise is allowed where the seat may go above the price
-raise_parts : (setup : Setup) (moves : List Move) (street seat : ℕ) → may_raise setup history_rules moves street seat ≡ true → price setup moves street < all_in setup moves street seat
+-- a raise is allowed if the seat may go above the current bet
+raise_parts : (setup : Setup) (moves : List Move) (street seat : ℕ) → may_raise setup history_rules moves street seat ≡ true → current_bet setup moves street < all_in setup moves street seat
 raise_parts setup moves street seat may =
     let able : Bool = has_able_opponent setup moves seat in
-    let above : Bool = nat_lt (price setup moves street) (all_in setup moves street seat) in
+    let above : Bool = nat_lt (current_bet setup moves street) (all_in setup moves street seat) in
     let most = and_parts (able && above && is_within_cap history_rules.caps moves street) (is_reopened history_rules.reopen setup moves street seat) may in
     let some = and_parts (able && above) (is_within_cap history_rules.caps moves street) most.0 in
-    ltb-true (price setup moves street) (all_in setup moves street seat) (and_parts able above some.0).1
+    ltb-true (current_bet setup moves street) (all_in setup moves street seat) (and_parts able above some.0).1
 
 -- a bring-in is due on the first street, before any bet
 record IsToOpen (moves : List Move) (street : ℕ) : Type 0 where
@@ -108,7 +109,7 @@ to_open setup moves street is =
     let one : street ≡ 1 = eqb-true street 1 first.1 in
     record { first = one; unopened = subst (λ (s : ℕ). list_any (λ (m : Move). has_opened_betting m.act) (moves_on s moves) ≡ false) one (not-true opened most.1) }
 
-module _ (setup : Setup) (valid : IsValid setup) (four : setup.stacks.seats ≤ 4) (events : List Said) (stock : Stock) (going : IsGoing setup events stock.deck) where
+module _ (setup : Setup) (valid : IsValid setup) (four : setup.stacks.seats ≤ 4) (events : List Said) (stock : HandSource) (going : IsGoing setup events stock.deck) where
   abbrev now : Past
   now = past_of setup events
 
@@ -116,9 +117,9 @@ module _ (setup : Setup) (valid : IsValid setup) (four : setup.stacks.seats ≤ 
   moves = moves_of (past_of setup events)
 
   abbrev turn_of : ℕ → InTurn
-  turn_of street = mover setup (up_cards setup.code now) moves street
+  turn_of street = player_to_act setup (up_cards setup.code now) moves street
 
-  -- whose turn it is
+  -- the player to act
   ups_known : has_unknown_up_card setup (up_cards setup.code now) moves ≡ false
   ups_known =
       none_passes (λ seat. list_any is_unknown (up_cards setup.code now seat)) (able_seats setup moves) (λ seat.
@@ -128,12 +129,12 @@ module _ (setup : Setup) (valid : IsValid setup) (four : setup.stacks.seats ≤ 
   now_due street due turned unfinished =
       subst (λ (s : ℕ). IsDue setup now s due) (ap (λ (t : ℕ × Due). t.0) turned) (unfinished_due setup now due (ap (λ (t : ℕ × Due). t.1) turned) unfinished)
 
-  pub the_mover : (street : ℕ) (due : Due) → turn setup now ≡ (street, due) → is_bet_due due ≡ true → (seat : ℕ) × (turn_of street ≡ TheSeat seat)
-  the_mover street due turned bets = by_turn (turn_of street) refl
+  pub the_player_to_act : (street : ℕ) (due : Due) → turn setup now ≡ (street, due) → is_bet_due due ≡ true → (seat : ℕ) × (turn_of street ≡ TheSeat seat)
+  the_player_to_act street due turned bets = by_turn (turn_of street) refl
     where
       by_turn : (t : InTurn) → turn_of street ≡ t → (seat : ℕ) × (turn_of street ≡ TheSeat seat)
       by_turn (TheSeat seat) is = (seat, is)
-      by_turn Undecided is = absurd (mover_known setup (up_cards setup.code now) moves street ups_known is)
+      by_turn Undecided is = absurd (player_to_act_known setup (up_cards setup.code now) moves street ups_known is)
       by_turn NoSeat is =
           absurd (has_movers setup history_rules (places_of setup.code now) moves (up_cards setup.code now) street due (legal_moves setup history_rules events going.legal)
           (bet_of setup now street due (now_due street due turned (bet_unfinished due bets)) bets) is)
@@ -141,7 +142,7 @@ module _ (setup : Setup) (valid : IsValid setup) (four : setup.stacks.seats ≤ 
   abbrev Good : Said → Type 0
   Good event = IsGoing setup (event ∷ events) stock.deck
 
-  -- the moves of the seat in turn
+  -- the moves of the player to act
   module _ (street : ℕ) (due : Due) (turned : turn setup now ≡ (street, due)) (seat : ℕ) (who : turn_of street ≡ TheSeat seat) where
     own : is_other_seat setup moves (Some seat) (turn_of street) ≡ false
     own = ap (is_other_seat setup moves (Some seat)) who ∙ ap not (eq-eqb seat seat refl)
@@ -150,10 +151,10 @@ module _ (setup : Setup) (valid : IsValid setup) (four : setup.stacks.seats ≤ 
     known = ap is_undecided who
 
     in_hand : IsSeatOf setup.stacks.seats seat
-    in_hand = mover_in_hand setup (up_cards setup.code now) moves street seat who
+    in_hand = player_to_act_in_hand setup (up_cards setup.code now) moves street seat who
 
     has_to : has_to_move setup moves street seat ≡ true
-    has_to = mover_has_to_move setup (up_cards setup.code now) moves street seat who
+    has_to = player_to_act_has_to_move setup (up_cards setup.code now) moves street seat who
 
     on : IsStreet setup street
     on = on_street setup four events stock going street due turned
@@ -218,7 +219,7 @@ module _ (setup : Setup) (valid : IsValid setup) (four : setup.stacks.seats ≤ 
     pub move_good : due ≡ dues.Move → (number : ℕ) → Good (move_by setup history_rules moves street seat number)
     move_good is number =
         let ends = targets_end setup history_rules moves street seat in
-        chosen (number == 0) (nat_le number 2) (number == 3) (nat_lt 0 (owed setup moves street seat))
+        chosen (number == 0) (nat_le number 2) (number == 3) (nat_lt 0 (to_call setup moves street seat))
         (raise_of seat (option_map (λ (t : ℕ × ℕ). t.0) (ends_of setup history_rules moves street seat)))
         (raise_of seat (option_map (λ (t : ℕ × ℕ). t.1) (ends_of setup history_rules moves street seat)))
         (raised (λ (t : ℕ × ℕ). t.0) is ends.least_legal (ends.within (least_target history_rules.reopen setup moves street seat) ends.least_legal).1)

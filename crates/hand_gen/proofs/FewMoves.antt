@@ -1,10 +1,11 @@
--- A move that comes takes chips of its seat, ends the seat's hand, opens the betting, or is the first of its seat on a street; so there are few.
+-- A move that comes takes chips from its seat, ends the seat's hand, opens the betting, or is the
+-- seat's first on a street; so there are few.
 use Rattle.std.proofs.Common.{◌≡◌, ℕ, ◌+◌, ◌*◌, ◌-◌, ◌≤◌, ◌<◌, Bool, true, false, ◌&&◌, ◌||◌, ◌==◌, not, cond, if◌then◌else◌, List, [], ◌∷◌, refl, ap, ◌∙◌, arith}
 use Rattle.std.specs.List.{list_any}
 use Rattle.std.proofs.lemmas.Bool.{eq-eqb}
 use Rattle.card_places.specs.Room.{sum_from}
 use Rattle.card_places.proofs.Sums.{sum_least, sum_more, sum_most}
-use Rattle.list_laws.proofs.Tests.{false_true, or_right}
+use Rattle.card_set.proofs.Tests.{false_true, or_right}
 use Rattle.play_event.specs.declared.setup.Setup.{Setup}
 use Rattle.play_event.specs.Chips.{chips_left}
 use Rattle.play_event.specs.Due.{has_opened_betting}
@@ -24,7 +25,7 @@ stake setup moves seat = chips_left setup moves seat + (bit (is_live moves seat)
 abbrev pub opening : List Move → ℕ
 opening moves = bit (not (list_any (λ (move : Move). has_opened_betting move.act) (moves_on 1 moves)))
 
--- how many moves may come at most
+-- the most moves that may come
 abbrev pub moves_left : Setup → List Move → ℕ
 moves_left setup moves = sum_from (stake setup moves) 1 setup.stacks.seats + opening moves
 
@@ -43,7 +44,7 @@ not_less a true so = let none : ◌≡◌ {A = ℕ} (bit (not a)) 0 = ap {B = �
 not_less true false so = omega arith
 not_less false false so = omega arith
 
--- a test that some move of a street passes, one of more passes
+-- a test that some move of a street passes, one of more moves passes
 some_more : (p : Move → Bool) (move : Move) (street : ℕ) (moves : List Move) → list_any p (moves_on street moves) ≡ true → list_any p (moves_on street (move ∷ moves)) ≡ true
 some_more p move street moves some = by_street (move.street == street)
   where
@@ -51,7 +52,7 @@ some_more p move street moves some = by_street (move.street == street)
     by_street true = or_right (p move) (list_any p (moves_on street moves)) some
     by_street false = some
 
--- the newest move is one of its street
+-- the newest move is on its street
 some_now : (p : Move → Bool) (move : Move) (street : ℕ) (moves : List Move) → move.street ≡ street → p move ≡ true → list_any p (moves_on street (move ∷ moves)) ≡ true
 some_now p move street moves on passes = by_street (move.street == street) (eq-eqb move.street street on)
   where
@@ -87,7 +88,7 @@ pub data Takes (setup : Setup) (move : Move) (moves : List Move) : Type 0 where
   first : 1 ≤ move.street → move.street ≤ 5 → has_moved moves move.street move.seat ≡ false → Takes setup move moves
   opens : move.street ≡ 1 → has_opened_betting move.act ≡ true → list_any (λ (m : Move). has_opened_betting m.act) (moves_on 1 moves) ≡ false → Takes setup move moves
 
--- so one move less is left
+-- so one move fewer is left
 pub one_less : (setup : Setup) (move : Move) (moves : List Move) → 1 ≤ move.seat → move.seat ≤ setup.stacks.seats → Takes setup move moves → moves_left setup (move ∷ moves) + 1 ≤ moves_left setup moves
 one_less setup move moves low high takes = by_kind takes
   where
@@ -120,7 +121,7 @@ one_less setup move moves low high takes = by_kind takes
         let here = bit_falls (not (list_any (λ (m : Move). has_opened_betting m.act) (moves_on 1 (move ∷ moves)))) (not (list_any (λ (m : Move). has_opened_betting m.act) (moves_on 1 moves))) (ap not now) (ap not unopened) in
         omega (arith, here, sum_least (stake setup moves) (stake setup (move ∷ moves)) 1 setup.stacks.seats (λ seat from. stake_less setup move moves seat))
 
--- all that comes is no more than this
+-- all that comes is at most this
 firsts_most : (seat : ℕ) → sum_from (λ street. bit (not (has_moved [] street seat))) 1 5 ≤ 5
 firsts_most seat = omega arith
 

@@ -8,8 +8,8 @@ use Rattle.card_set.specs.declared.card.Slot.{Slot}
 use Rattle.card_set.specs.declared.card.Slot.TheVariants as slots
 use Rattle.card_set.specs.Deck.{is_same_card}
 use Rattle.card_set.specs.Known.{known_slots}
-use Rattle.canon_script.specs.PlayedScript.{is_move}
-use Rattle.list_laws.proofs.Counting.{count_both, count_by-cons, count_by-joined}
+use Rattle.play_event.specs.PlayedScript.{is_move}
+use Rattle.card_set.proofs.Counting.{count_both, count_by-cons, count_by-joined}
 use Rattle.play_event.specs.declared.reason.Due.{Due}
 use Rattle.play_event.specs.declared.reason.Due.TheVariants as dues
 use Rattle.play_event.specs.declared.setup.Setup.{Setup}
@@ -34,15 +34,15 @@ use Rattle.play_event.proofs.StreetLaws.{few_streets}
 use Rattle.play_laws.proofs.DueAtEvents.{turn_reaches}
 use Rattle.play_laws.proofs.LegalPlaces.{LegalPast, legal_past}
 use Rattle.play_laws.proofs.PastLawKept.{DrawsNext, is_next_to_draw}
-use Rattle.canon_blocks.proofs.CardEvents.{board_legal, board_placed, deal_legal, deal_placed, discard_legal, discard_placed}
+use Rattle.canon_laws.proofs.CardEvents.{board_legal, board_placed, deal_legal, deal_placed, discard_legal, discard_placed}
 use Rattle.hand_gen.specs.Coming.{held_by}
-use Rattle.hand_gen.specs.Stock.{Stock, after_cards, draw_of, full_deck, next_cards}
+use Rattle.hand_gen.specs.HandSource.{HandSource, after_cards, draw_of, full_deck, next_cards}
 use Rattle.hand_gen.proofs.CardsOut.{IsFewDealt, IsStreet, all_drawn, board_few, board_fits, cards_out, deal_few, deck_enough, discard_few, discards, move_few, none_dealt, one_drawn, owed_fits}
 use Rattle.hand_gen.proofs.FewMoves.{Takes, moves_left, one_less}
 use Rattle.hand_gen.proofs.FreshCards.{none_taken}
 use Rattle.hand_gen.proofs.KnownCards.{AreKnown, borne, cards_known, deal_borne, discard_borne, few_enough, fold_borne, has_places, kept_known, none_misplaced}
 use Rattle.hand_gen.proofs.MovesTake.{made_to}
-use Rattle.hand_gen.proofs.PriceRisen.{AreTaken}
+use Rattle.hand_gen.proofs.BetRaised.{AreTaken}
 use Rattle.hand_gen.proofs.StockCounts.{all_in_deck, deck_length, once_in_deck, taken_counts, taken_length}
 use Rattle.chip_ledger.specs.Seat.{IsSeatOf}
 
@@ -101,7 +101,7 @@ known_joined xs ys = map-append (λ card. slots.Known card) xs ys
 take_few : {X : Type 0} (count : ℕ) (xs : List X) → length (take count xs) ≤ count
 take_few count xs = omega (arith, length-take count xs)
 
-module _ (setup : Setup) (four : setup.stacks.seats ≤ 4) (events : List Said) (stock : Stock) (going : IsGoing setup events stock.deck) where
+module _ (setup : Setup) (four : setup.stacks.seats ≤ 4) (events : List Said) (stock : HandSource) (going : IsGoing setup events stock.deck) where
   abbrev now : Past
   now = past_of setup events
 
@@ -121,7 +121,7 @@ module _ (setup : Setup) (four : setup.stacks.seats ≤ 4) (events : List Said) 
       let same : (turn setup now).0 ≡ street = ap (λ (t : ℕ × Due). t.0) turned in
       record { first = omega (arith, law.past.since, reach.on, same); last = omega (arith, reach.within, same) }
 
-  -- one event more
+  -- one more event
   more : (event : Said) (resolved : Resolved) (deck : List Card) → with_event setup event now ≡ resolved ∷ now → why setup history_rules now event ≡ None → count_by is_other (event ∷ events) ≤ cards_out (resolved ∷ now) + discards (resolved ∷ now) → IsDealtFrom setup (resolved ∷ now) deck → IsGoing setup (event ∷ events) deck
   more event resolved deck comes legal others dealt = record {
     legal = (legal, going.legal);
@@ -129,14 +129,14 @@ module _ (setup : Setup) (four : setup.stacks.seats ≤ 4) (events : List Said) 
     state = subst (λ (p : Past). IsDealtFrom setup p deck) (sym comes) dealt;
   }
 
-  -- the stock has cards enough, none of which lies on the table
+  -- the stock has enough cards, none of which is on the table
   pub deck_is : length state.dealt + length stock.deck ≡ deck_of setup.code
   deck_is =
       let p : Card → Bool = is_in_deck setup.code in
       omega (arith, state.cards p, state.cards (λ card. not (p card)), count_both p state.dealt, count_both p stock.deck, count_both p (full_deck setup.code), deck_length setup.code)
 
-  in_stock : (count : ℕ) → count + cards_out now ≤ deck_of setup.code → count ≤ length stock.deck
-  in_stock count fits = omega (arith, fits, state.out, deck_is)
+  in_source : (count : ℕ) → count + cards_out now ≤ deck_of setup.code → count ≤ length stock.deck
+  in_source count fits = omega (arith, fits, state.out, deck_is)
 
   free_cards : (count street : ℕ) → count ≤ length stock.deck → has_taken_card setup.code placed street (known_slots (next_cards count stock)) ≡ false
   free_cards count street enough =
@@ -157,7 +157,7 @@ module _ (setup : Setup) (four : setup.stacks.seats ≤ 4) (events : List Said) 
       let dealt : List Slot = known_slots cards in
       let long : length dealt ≡ count = length-map cards (λ card. slots.Known card) ∙ taken_length count stock in
       let few : IsFewDealt setup (Dealt street seat dealt ∷ now) = deal_few setup now street seat dealt state.few (on_street street due turned) in_hand (omega (arith, long, owed_fits setup now street seat state.few)) in
-      let enough : count ≤ length stock.deck = in_stock count (omega (arith, long, deck_enough setup (Dealt street seat dealt ∷ now) four few)) in
+      let enough : count ≤ length stock.deck = in_source count (omega (arith, long, deck_enough setup (Dealt street seat dealt ∷ now) four few)) in
       more (said.Hole seat dealt) (Dealt street seat dealt) (after_cards count stock).deck (deal_placed setup now street due seat dealt turned)
       (deal_legal setup history_rules now street due seat dealt turned going_on (kind dealt) (owed_some count in_hand some) (right_count count (length dealt) long some) (free_cards count street enough))
       (omega (arith, going.others, count_by-cons is_other (said.Hole seat dealt) events, long, some))
@@ -187,7 +187,7 @@ module _ (setup : Setup) (four : setup.stacks.seats ≤ 4) (events : List Said) 
       let cards : List Card = next_cards count stock in
       let long : length cards ≡ count = taken_length count stock in
       let few : IsFewDealt setup (Boarded street cards ∷ now) = board_few setup now street cards state.few (on_street street (dues.Deal street) turned) (omega (arith, long, board_fits setup now street state.few)) in
-      let enough : count ≤ length stock.deck = in_stock count (omega (arith, long, deck_enough setup (Boarded street cards ∷ now) four few)) in
+      let enough : count ≤ length stock.deck = in_source count (omega (arith, long, deck_enough setup (Boarded street cards ∷ now) four few)) in
       more (said.Board cards) (Boarded street cards) (after_cards count stock).deck (board_placed setup now street (dues.Deal street) cards turned)
       (board_legal setup history_rules now street cards turned (lt-ltb 0 _ (omega (arith, some))) (right_count count (length cards) long some) (free_cards count street enough))
       (omega (arith, going.others, count_by-cons is_other (said.Board cards) events, long, some))

@@ -1,4 +1,5 @@
--- Where all cards are known, what folds and discards leave of the places bears the same cards; and the first cards that a seat has may be discarded.
+-- If all cards are known, folds and discards leave the same dealt cards; and the first cards of a
+-- seat may be discarded.
 use Rattle.std.proofs.Common.{◌≡◌, ℕ, zero, suc, ◌+◌, ◌≤◌, Bool, true, false, ◌&&◌, not, nat_lt, if◌then◌else◌, Option, List, [], ◌∷◌, ◌++◌, length, map, filter, take, count_by, refl, sym, ap, subst, ◌∙◌, arith}
 use Rattle.std.specs.List.{list_any}
 use Rattle.std.proofs.lemmas.Bool.{le-ltb, or_from}
@@ -15,7 +16,7 @@ use Rattle.play_event.specs.Naming.{after_discard, after_names, blanks_in, disca
 use Rattle.play_event.specs.Places.{Place, after_deal, after_fold, folded_place, gone_now, is_held_by, is_past_deck, is_in_group, places_dealt}
 use Rattle.play_event.specs.Taken.{has_misplaced_card, is_misplaced, newly_known}
 
--- what the places bear
+-- the dealt cards, as known cards
 abbrev pub borne : List Place → List Slot
 borne placed = map (λ (place : Place). place.slot) placed
 
@@ -37,7 +38,7 @@ rest_known : (slot : Slot) (rest : List Slot) → AreKnown (slot ∷ rest) → A
 rest_known (slots.Known card) rest known = known
 rest_known slots.Unknown rest known = absurd known
 
--- so none is unknown
+-- so no slot is unknown
 pub none_unknown : (placed : List Place) → AreKnown (borne placed) → list_any (λ (place : Place). is_unknown place.slot) placed ≡ false
 none_unknown [] known = refl
 none_unknown (place ∷ rest) known =
@@ -53,7 +54,7 @@ kept_known q (place ∷ rest) known = by_test (q place) place.slot refl known (k
     by_test true slots.Unknown is now later = absurd now
     by_test false slot is now later = later
 
--- a deal puts its cards behind those that lie there
+-- a deal puts its cards after those that were dealt before
 dealt_borne : (owner : Option ℕ) (street : ℕ) (late : Bool) (index number : ℕ) (cards : List Slot) → borne (places_dealt owner street late index number cards) ≡ cards
 dealt_borne owner street late index number [] = refl
 dealt_borne owner street late index number (card ∷ rest) = ap (λ l. card ∷ l) (dealt_borne owner street late (index + 1) (number + 1) rest)
@@ -67,7 +68,7 @@ deal_borne code owner street cards placed =
     let news : List Place = places_dealt owner street (is_past_deck code placed street) (count_by (is_in_group owner street) placed) (length placed) cards in
     joined_borne placed news ∙ ap (λ l. borne placed ++ l) (dealt_borne owner street (is_past_deck code placed street) (count_by (is_in_group owner street) placed) (length placed) cards)
 
--- a fold leaves what lies there
+-- a fold leaves the dealt cards the same
 pub fold_borne : (seat : ℕ) (placed : List Place) → borne (after_fold seat placed) ≡ borne placed
 fold_borne seat placed = each (length placed) placed
   where
@@ -103,7 +104,7 @@ pub discard_borne : (street seat : ℕ) (names : List Slot) (placed : List Place
 discard_borne street seat names placed known =
     names_borne (is_held_by seat) (discarded_now street (length placed)) (known_cards names) (other_names (filter (is_held_by seat) placed) (known_cards names)) (blanks_in names) placed (λ place. refl) known
 
--- and no card becomes known where all are
+-- and no card becomes known if all are
 none_new : (olds news : List Place) → AreKnown (borne olds) → newly_known olds news ≡ []
 none_new [] news known = refl
 none_new (old ∷ olds) [] known = refl
@@ -114,7 +115,7 @@ none_new (old ∷ olds) (new ∷ news) known =
 pub none_misplaced : (code : Code) (olds news : List Place) → AreKnown (borne olds) → has_misplaced_card code olds news ≡ false
 none_misplaced code olds news known = ap (list_any (is_misplaced code news)) (none_new olds news known)
 
--- the first cards of a seat find their places
+-- the first cards of a seat are matched with its cards
 without_none : (slot : Slot) → without slot [] ≡ []
 without_none slots.Unknown = refl
 without_none (slots.Known card) = refl

@@ -1,4 +1,4 @@
--- What one step more makes of the draws, the cards and the events of a made hand.
+-- What one more step does to the draws, the cards and the events of a made hand.
 pub mod DrawLaws
 pub mod StockLaws
 pub mod SetupLaws
@@ -9,7 +9,7 @@ pub mod RecordLaws
 pub mod LoadLaws
 pub mod CountLaws
 pub mod FewMoves
-pub mod PriceRisen
+pub mod BetRaised
 pub mod RaisesAbove
 pub mod MovesTake
 pub mod StockCounts

@@ -1,4 +1,4 @@
--- One play more is counted.
+-- One more play is counted.
 use Rattle.std.proofs.Common.{◌≡◌, ℕ, ◌+◌, List, [], ◌∷◌, ◌++◌, length, sum_by, sym, subst, ap, ◌∙◌, arith, length-append}
 use Rattle.std.proofs.lemmas.List.{length-map, map-append}
 use Rattle.std.proofs.lemmas.List.Elements.{All-push}
@@ -12,14 +12,14 @@ use Rattle.hand_gen.specs.Load.{AreCountsOf, IsLoadTo, IsSummaryOf}
 use Rattle.hand_gen.specs.Loaded.{IsWithCounts}
 use Rattle.hand_gen.specs.Made.{AreMadeFrom, IsMade, number_behind, number_behind_all}
 use Rattle.hand_gen.proofs.MadeLaws.{number_more, one_hand_more}
-use Rattle.list_laws.proofs.Entries.{zip_push}
+use Rattle.card_set.proofs.Entries.{zip_push}
 use Rattle.hand_records.specs.Plays.{hands_of}
 
 -- one more summand
 one_sum : (f : PlayCounts → ℕ) (counts : List PlayCounts) (more : PlayCounts) (before after : ℕ) → before ≡ sum_by f counts → after ≡ before + f more → after ≡ sum_by f (counts ++ more ∷ [])
 one_sum f counts more before after is step = omega (arith, is, step, sum_by_push f counts more)
 
--- the summary of one play more
+-- the summary of one more play
 summary_more : (plays : List Play) (play : Play) (before after : Summary) (more : PlayCounts) → IsSummaryOf plays before → AreCountsOf play more → IsWithCounts before more after → IsSummaryOf (plays ++ play ∷ []) after
 summary_more plays play before after more is counted step =
     record {
@@ -39,7 +39,7 @@ summary_more plays play before after more is counted step =
 pub count_is : (seed number : ℕ) (summary : Summary) (loaded : IsLoadTo seed number summary) (count : ℕ) → summary.hands ≡ count → length loaded.plays ≡ count
 count_is seed number summary loaded count is = sym loaded.sums.hands ∙ is
 
--- one hand more is loaded
+-- one more hand is loaded
 pub one_play_more : (seed number : ℕ) (before after : Summary) (play : Play) (more : PlayCounts) (place next : ℕ) → IsLoadTo seed number before → before.hands ≡ place → IsMade place number play.hand → next ≡ number_behind number play.hand → IsSound play → AreCountsOf play more → IsWithCounts before more after → IsLoadTo seed next after
 one_play_more seed number before after play more place next loaded count made behind sound counted step =
     let hands : List Record = hands_of loaded.plays in

@@ -1,10 +1,10 @@
--- A script whose events have come makes progress, and there is one behind which nothing comes.
+-- A script whose events have come makes progress, and there is one after which nothing comes.
 use Rattle.std.proofs.Common.{◌+◌, ◌≡◌, ℕ, ◌≤◌, true, ◌&&◌, not, nat_le, nat_lt, Option, Some, None, IfSome, List, [], ◌∷◌, length, reverse, count_by, refl, sym, ap, subst, ◌∙◌, arith, zero, suc}
 use Rattle.std.proofs.lemmas.Bool.{and_parts, le-ltb}
 use Rattle.std.proofs.lemmas.List.{length-map, reverse-reverse}
 use Rattle.canon_laws.proofs.MoveCounts.{move_count}
-use Rattle.canon_script.specs.PlayedScript.{is_move}
-use Rattle.canon_script.specs.TraceCore.{core_of}
+use Rattle.play_event.specs.PlayedScript.{is_move}
+use Rattle.play_event.specs.TraceCore.{core_of}
 use Rattle.card_set.specs.declared.card.Card.{Card}
 use Rattle.card_set.specs.declared.card.Slot.{Slot}
 use Rattle.card_set.specs.declared.card.Slot.TheVariants as slots
@@ -13,12 +13,12 @@ use Rattle.chip_ledger.specs.Pots.{PlainPot}
 use Rattle.chip_ledger.specs.RakeRow.{rake_of}
 use Rattle.chip_ledger.specs.Rakes.{chips_in, first_rake_above}
 use Rattle.hand_canon.specs.LegalHand.{IsLegalHand}
-use Rattle.list_laws.proofs.Counting.{count_both}
-use Rattle.list_laws.proofs.Finding.{none_stronger}
-use Rattle.list_laws.proofs.NumbersOfRange.{find_no}
-use Rattle.list_laws.proofs.Options.{none_from_not}
-use Rattle.list_laws.proofs.Reversed.{count_reversed}
-use Rattle.list_laws.proofs.Tests.{all_four}
+use Rattle.card_set.proofs.Counting.{count_both}
+use Rattle.card_set.proofs.Finding.{none_stronger}
+use Rattle.card_set.proofs.NumbersOfRange.{find_no}
+use Rattle.card_set.proofs.Options.{none_from_not}
+use Rattle.card_set.proofs.Reversed.{count_reversed}
+use Rattle.card_set.proofs.Tests.{all_four}
 use Rattle.play_event.specs.declared.code.Code.{Code}
 use Rattle.play_event.specs.declared.code.Code.TheVariants as games
 use Rattle.play_event.specs.declared.setup.Setup.{Setup}
@@ -35,10 +35,10 @@ use Rattle.play_event.specs.Streets.{deck_of}
 use Rattle.play_event.specs.Table.{places_of}
 use Rattle.play_event.specs.Trace.{has_unknown_card, is_shown}
 use Rattle.play_event.proofs.ScriptLaws.{at_end}
-use Rattle.hand_gen.specs.Made.{HaveCome, next_event, stock_behind, stock_of}
+use Rattle.hand_gen.specs.Made.{HaveCome, next_event, source_behind, source_of}
 use Rattle.hand_gen.specs.Progress.{HasEnd, IsSmall, MakesProgress}
 use Rattle.hand_gen.specs.Setups.{IsMadeSetup}
-use Rattle.hand_gen.specs.Stock.{Stock, full_deck}
+use Rattle.hand_gen.specs.HandSource.{HandSource, full_deck}
 use Rattle.hand_gen.proofs.CardsOut.{deck_enough, few_drawn}
 use Rattle.hand_gen.proofs.FewMoves.{left_at_start}
 use Rattle.hand_gen.proofs.GoingHands.{IsGoing, all_known, at_start, deck_is, is_other}
@@ -47,12 +47,12 @@ use Rattle.hand_gen.proofs.ProgressLaws.{ended, goes_on}
 use Rattle.hand_gen.proofs.SetupLaws.{made_small}
 use Rattle.hand_gen.proofs.ShownPots.{none_unshown}
 
-module _ (setup : Setup) (small : IsSmall setup) (start : Stock) (whole_deck : start.deck ≡ full_deck setup.code) where
+module _ (setup : Setup) (small : IsSmall setup) (start : HandSource) (whole_deck : start.deck ≡ full_deck setup.code) where
   -- so a made hand goes on, event by event
-  pub made_going : (events : List Said) → HaveCome setup history_rules start events → IsGoing setup events (stock_behind setup history_rules start events).deck
+  pub made_going : (events : List Said) → HaveCome setup history_rules start events → IsGoing setup events (source_behind setup history_rules start events).deck
   made_going [] come = subst (λ (deck : List Card). IsGoing setup [] deck) (sym whole_deck) (at_start setup)
   made_going (event ∷ before) come =
-      goes_on setup small.valid small.few_seats before (stock_behind setup history_rules start before) (made_going before come.1) event come.0
+      goes_on setup small.valid small.few_seats before (source_behind setup history_rules start before) (made_going before come.1) event come.0
 
 few_cards : (code : Code) → deck_of code ≤ 52
 few_cards games.FT = omega arith
@@ -99,12 +99,12 @@ no_rake setup pots small =
     none_from_not (first_rake_above setup.rakes pots)
     (ap not (find_no (λ number. nat_lt (chips_in pots number) (rake_of setup.rakes number)) 1 11 (λ number low high. le-ltb (chips_in pots number) (rake_of setup.rakes number) (omega (arith, small.no_rakes number)))))
 
-module _ (setup : Setup) (small : IsSmall setup) (start : Stock) (whole_deck : start.deck ≡ full_deck setup.code) (script : List Said) (come : HaveCome setup history_rules start (reverse script)) where
+module _ (setup : Setup) (small : IsSmall setup) (start : HandSource) (whole_deck : start.deck ≡ full_deck setup.code) (script : List Said) (come : HaveCome setup history_rules start (reverse script)) where
   abbrev now : Past
   now = past_of setup (reverse script)
 
-  abbrev stock : Stock
-  stock = stock_behind setup history_rules start (reverse script)
+  abbrev stock : HandSource
+  stock = source_behind setup history_rules start (reverse script)
 
   going : IsGoing setup (reverse script) stock.deck
   going = made_going setup small start whole_deck (reverse script) come
@@ -155,14 +155,14 @@ module _ (setup : Setup) (small : IsSmall setup) (start : Stock) (whole_deck : s
       }
 
 -- and so does what is made of a made setup
-pub hands_progress : (place number : ℕ) (setup : Setup) (script : List Said) → IsMadeSetup place number setup → HaveCome setup history_rules (stock_of number setup) (reverse script) → MakesProgress setup (stock_of number setup) script
-hands_progress place number setup script made come = progress setup (made_small place number setup made) (stock_of number setup) refl script come
+pub hands_progress : (place number : ℕ) (setup : Setup) (script : List Said) → IsMadeSetup place number setup → HaveCome setup history_rules (source_of number setup) (reverse script) → MakesProgress setup (source_of number setup) script
+hands_progress place number setup script made come = progress setup (made_small place number setup made) (source_of number setup) refl script come
 
--- a hand ends: from events that have come there are some behind which nothing comes
-module _ (setup : Setup) (small : IsSmall setup) (start : Stock) (whole_deck : start.deck ≡ full_deck setup.code) where
+-- a hand ends: from events that have come there are some after which nothing comes
+module _ (setup : Setup) (small : IsSmall setup) (start : HandSource) (whole_deck : start.deck ≡ full_deck setup.code) where
   ends_from : (left : ℕ) (events : List Said) → HaveCome setup history_rules start events → 4352 ≤ left + length events → HasEnd setup start
   ends_from zero events come far =
-      let few = few_events setup events (stock_behind setup history_rules start events).deck small (made_going setup small start whole_deck events come) in
+      let few = few_events setup events (source_behind setup history_rules start events).deck small (made_going setup small start whole_deck events come) in
       absurd (omega (arith, far, few.moves, few.others, count_both is_move events))
   ends_from (suc left) events come far = by_next (next_event setup history_rules start events) refl (λ event is. ends_from left (event ∷ events) (is, come) (omega (arith, far)))
     where
@@ -176,5 +176,5 @@ module _ (setup : Setup) (small : IsSmall setup) (start : Stock) (whole_deck : s
           }
       by_next (Some event) is later = later event is
 
-pub hands_end : (place number : ℕ) (setup : Setup) → IsMadeSetup place number setup → HasEnd setup (stock_of number setup)
-hands_end place number setup made = ends_from setup (made_small place number setup made) (stock_of number setup) refl 4352 [] tt (omega arith)
+pub hands_end : (place number : ℕ) (setup : Setup) → IsMadeSetup place number setup → HasEnd setup (source_of number setup)
+hands_end place number setup made = ends_from setup (made_small place number setup made) (source_of number setup) refl 4352 [] tt (omega arith)

@@ -1,13 +1,14 @@
--- A made hand makes progress: what comes next is legal, and where nothing comes the hand is over but for its shows.
+-- A made hand makes progress: what comes next is legal, and when nothing comes the hand is over
+-- except for its shows.
 use Rattle.std.proofs.Common.{◌≡◌, ℕ, ◌-◌, ◌≤◌, ◌<◌, Bool, true, false, ◌||◌, nat_lt, if◌then◌else◌, Option, Some, None, List, ◌∷◌, take, is_some, refl, sym, ap, subst, ◌∙◌, arith}
 use Rattle.std.specs.List.{list_any}
 use Rattle.std.proofs.lemmas.Bool.{and_parts, lt-ltb, ltb-true}
 use Rattle.std.proofs.lemmas.Option.{same_Some}
 use Rattle.card_set.specs.Known.{known_slots}
-use Rattle.list_laws.proofs.Finding.{some_found}
-use Rattle.list_laws.proofs.NumbersOfRange.{found_in_range}
-use Rattle.list_laws.proofs.Options.{some_is_none}
-use Rattle.list_laws.proofs.Tests.{false_true}
+use Rattle.card_set.proofs.Finding.{some_found}
+use Rattle.card_set.proofs.NumbersOfRange.{found_in_range}
+use Rattle.card_set.proofs.Options.{some_is_none}
+use Rattle.card_set.proofs.Tests.{false_true}
 use Rattle.play_event.specs.declared.reason.Due.{Due}
 use Rattle.play_event.specs.declared.reason.Due.TheVariants as dues
 use Rattle.play_event.specs.declared.setup.Setup.{Setup}
@@ -24,13 +25,13 @@ use Rattle.play_event.specs.Seats.{all_seats, is_live}
 use Rattle.play_event.specs.Streets.{has_draw}
 use Rattle.play_event.specs.ValidSetup.{IsValid}
 use Rattle.play_event.proofs.StreetLaws.{due_is_first}
-use Rattle.street_laws.proofs.CardTurns.{deal_by, draw_by, none_dealt_in_draw}
-use Rattle.street_laws.proofs.DueStreets.{deal_street, draw_street}
+use Rattle.play_laws.proofs.CardTurns.{deal_by, draw_by, none_dealt_in_draw}
+use Rattle.play_laws.proofs.DueStreets.{deal_street, draw_street}
 use Rattle.deal_core.specs.NextDeal.{first_owed}
 use Rattle.betting_numbers.specs.TurnSaid.{in_turn_on}
 use Rattle.hand_gen.specs.Coming.{Coming, bring_in_comes, coming, comes_at, deal_comes, deal_of, discard_or, draw_comes, held_by, move_by, move_comes, nothing_comes}
-use Rattle.hand_gen.specs.Stock.{Stock, after_cards, after_draw, draw_of, next_cards}
-use Rattle.hand_gen.proofs.ComesNext.{bring_in_good, move_good, the_mover}
+use Rattle.hand_gen.specs.HandSource.{HandSource, after_cards, after_draw, draw_of, next_cards}
+use Rattle.hand_gen.proofs.ComesNext.{bring_in_good, move_good, the_player_to_act}
 use Rattle.hand_gen.proofs.GoingHands.{IsGoing, board_goes, discard_goes, hole_goes, on_street}
 use Rattle.chip_ledger.specs.Seat.{IsSeatOf}
 
@@ -41,7 +42,7 @@ live_some : (live : Bool) (n m : ℕ) → 0 < (if live then n - m else 0) → na
 live_some true n m some = some_of n m some
 live_some false n m some = absurd (omega (arith, some))
 
-module _ (setup : Setup) (valid : IsValid setup) (four : setup.stacks.seats ≤ 4) (events : List Said) (stock : Stock) (going : IsGoing setup events stock.deck) where
+module _ (setup : Setup) (valid : IsValid setup) (four : setup.stacks.seats ≤ 4) (events : List Said) (stock : HandSource) (going : IsGoing setup events stock.deck) where
   abbrev now : Past
   now = past_of setup events
 
@@ -49,13 +50,13 @@ module _ (setup : Setup) (valid : IsValid setup) (four : setup.stacks.seats ≤ 
   abbrev pub Goes : Coming → Type 0
   Goes c = (event : Said) → c.event ≡ Some event → IsGoing setup (event ∷ events) c.left.deck
 
-  goes_with : (first : Said) (left : Stock) → IsGoing setup (first ∷ events) left.deck → Goes (record { event = Some first; left = left })
+  goes_with : (first : Said) (left : HandSource) → IsGoing setup (first ∷ events) left.deck → Goes (record { event = Some first; left = left })
   goes_with first left it event is = subst (λ (e : Said). IsGoing setup (e ∷ events) left.deck) (same_Some first event is) it
 
   goes_nowhere : Goes (nothing_comes stock)
   goes_nowhere event is = absurd (some_is_none (sym is))
 
-  -- who is owed cards, and who is not
+  -- which owners are due cards
   owed_seat : (street seat : ℕ) → first_owed setup now street ≡ Some seat → (IsSeatOf setup.stacks.seats seat) × (0 < cards_owed setup now street seat)
   owed_seat street seat is =
       let it = found_in_range (λ s. nat_lt 0 (cards_owed setup now street s)) 1 setup.stacks.seats seat is in
@@ -137,12 +138,12 @@ module _ (setup : Setup) (valid : IsValid setup) (four : setup.stacks.seats ≤ 
   comes_goes street dues.Show turned = goes_nowhere
   comes_goes street dues.Over turned = goes_nowhere
 
-  -- one event more of a made hand
+  -- one more event of a made hand
   pub goes_on : Goes (coming setup history_rules now stock)
   unfolding coming
   goes_on = comes_goes (turn setup now).0 (turn setup now).1 refl
 
-  -- something comes while something is due but shows
+  -- something comes while anything but shows is due
   never_none : (street : ℕ) (due : Due) → turn setup now ≡ (street, due) → is_unfinished due ≡ true → (comes_at setup history_rules now stock street due).event ≡ None → ⊥
   never_none street (dues.Deal on) turned unfinished is = dealt (first_owed setup now on) is
     where
@@ -156,10 +157,10 @@ module _ (setup : Setup) (valid : IsValid setup) (four : setup.stacks.seats ≤ 
       drawn None (Some seat) none = some_is_none none
       drawn None None none = some_is_none none
   never_none street dues.BringIn turned unfinished is =
-      let it = the_mover setup valid four events stock going street dues.BringIn turned refl in
+      let it = the_player_to_act setup valid four events stock going street dues.BringIn turned refl in
       some_is_none (sym (ap (λ t. (bring_in_comes stock t).event) it.1) ∙ is)
   never_none street dues.Move turned unfinished is =
-      let it = the_mover setup valid four events stock going street dues.Move turned refl in
+      let it = the_player_to_act setup valid four events stock going street dues.Move turned refl in
       some_is_none (sym (ap (λ t. (move_comes setup history_rules (moves_of now) street stock t).event) it.1) ∙ is)
   never_none street dues.Show turned unfinished is = false_true unfinished
   never_none street dues.Over turned unfinished is = false_true unfinished

@@ -1,9 +1,9 @@
--- A raise to a legal target goes above the price.
+-- A raise to a legal target goes above the current bet.
 use Rattle.std.proofs.Common.{◌≡◌, ℕ, zero, suc, ◌+◌, ◌-◌, ◌≤◌, ◌<◌, Bool, true, false, ◌&&◌, ◌||◌, ◌==◌, min, nat_le, nat_lt, if◌then◌else◌, inl, inr, List, [], ◌∷◌, length, slice_get, refl, arith}
 use Rattle.std.specs.List.{list_all, list_any}
 use Rattle.std.specs.Option.{option_map_or}
 use Rattle.std.proofs.lemmas.Bool.{and_parts, eqb-true, leb-true, ltb-true, or_cases}
-use Rattle.list_laws.proofs.Tests.{false_true}
+use Rattle.card_set.proofs.Tests.{false_true}
 use Rattle.play_event.specs.declared.code.Code.{Code}
 use Rattle.play_event.specs.declared.code.Code.TheVariants as games
 use Rattle.play_event.specs.declared.limit.Limit.{Limit}
@@ -19,13 +19,13 @@ use Rattle.play_event.specs.Chips.{all_in}
 use Rattle.play_event.specs.Games.{game_of, street_count}
 use Rattle.play_event.specs.Laws.{AreLegal}
 use Rattle.play_event.specs.Past.{Move, moves_of}
-use Rattle.play_event.specs.Price.{full_bet, full_raise, price}
+use Rattle.play_event.specs.CurrentBet.{full_bet, full_raise, current_bet}
 use Rattle.play_event.specs.Said.{Said}
 use Rattle.play_event.specs.Scripts.{past_of}
 use Rattle.play_event.specs.Streets.{chips_of_size, limit_of, unit}
 use Rattle.play_event.specs.Targets.{floor, full_targets, is_legal_target, is_target_in, pot_ceiling}
 use Rattle.play_event.specs.ValidSetup.{IsSizeWhere, IsValid, is_fixed}
-use Rattle.play_event.proofs.FloorLaws.{above_price}
+use Rattle.play_event.proofs.FloorLaws.{above_current_bet}
 use Rattle.chip_ledger.specs.Greatest.{greatest}
 
 -- in fixed limit each street has a bet
@@ -70,40 +70,40 @@ some_unit setup street valid fixed first last =
     (some_size (is_fixed (limit_of setup.code)) setup.small_bet fixed valid.small_bet)
     (some_size (is_fixed (limit_of setup.code)) setup.big_bet fixed valid.big_bet)
 
--- the full targets of fixed limit are above the price
-module _ (the_price the_unit last target : ℕ) (some : 1 ≤ the_unit) where
-  abbrev fulls : Bool → Bool → List ℕ
-  fulls less above = if less then (the_unit ∷ []) else ((the_price + the_unit) ∷ (if above then ((last + the_unit) ∷ []) else []))
+-- the full targets of fixed limit are above the current bet
+module _ (the_current_bet the_unit last target : ℕ) (some : 1 ≤ the_unit) where
+  abbrev full_raise_targets : Bool → Bool → List ℕ
+  full_raise_targets less above = if less then (the_unit ∷ []) else ((the_current_bet + the_unit) ∷ (if above then ((last + the_unit) ∷ []) else []))
 
-  one_of : (less above : Bool) → nat_lt the_price the_unit ≡ less → nat_lt the_price (last + the_unit) ≡ above → list_any (λ full. target == full) (fulls less above) ≡ true → the_price < target
+  one_of : (less above : Bool) → nat_lt the_current_bet the_unit ≡ less → nat_lt the_current_bet (last + the_unit) ≡ above → list_any (λ full. target == full) (full_raise_targets less above) ≡ true → the_current_bet < target
   one_of true above is over any = elim (or_cases (target == the_unit) false any) [
-    | inl here ↦ omega (arith, eqb-true target the_unit here, ltb-true the_price the_unit is)
+    | inl here ↦ omega (arith, eqb-true target the_unit here, ltb-true the_current_bet the_unit is)
     | inr none ↦ false_true none
   ]
-  one_of false true is over any = elim (or_cases (target == the_price + the_unit) (target == last + the_unit || false) any) [
-    | inl here ↦ omega (arith, some, eqb-true target (the_price + the_unit) here)
+  one_of false true is over any = elim (or_cases (target == the_current_bet + the_unit) (target == last + the_unit || false) any) [
+    | inl here ↦ omega (arith, some, eqb-true target (the_current_bet + the_unit) here)
     | inr later ↦ elim (or_cases (target == last + the_unit) false later) [
-      | inl here ↦ omega (arith, eqb-true target (last + the_unit) here, ltb-true the_price (last + the_unit) over)
+      | inl here ↦ omega (arith, eqb-true target (last + the_unit) here, ltb-true the_current_bet (last + the_unit) over)
       | inr none ↦ false_true none
     ]
   ]
-  one_of false false is over any = elim (or_cases (target == the_price + the_unit) false any) [
-    | inl here ↦ omega (arith, some, eqb-true target (the_price + the_unit) here)
+  one_of false false is over any = elim (or_cases (target == the_current_bet + the_unit) false any) [
+    | inl here ↦ omega (arith, some, eqb-true target (the_current_bet + the_unit) here)
     | inr none ↦ false_true none
   ]
 
 goes_above : (limit : Limit) (reopen : Reopen) (setup : Setup) (moves : List Move) (street seat target : ℕ)
-    → (is_fixed limit ≡ false → price setup moves street < floor reopen setup moves street)
+    → (is_fixed limit ≡ false → current_bet setup moves street < floor reopen setup moves street)
     → (is_fixed limit ≡ false → 1 ≤ full_raise setup moves street)
     → (is_fixed limit ≡ true → 1 ≤ unit setup street)
-    → price setup moves street < all_in setup moves street seat → is_target_in limit reopen setup moves street seat target ≡ true
-    → price setup moves street < target
+    → current_bet setup moves street < all_in setup moves street seat → is_target_in limit reopen setup moves street seat target ≡ true
+    → current_bet setup moves street < target
 goes_above limits.No reopen setup moves street seat target above full some chips is = elim (or_cases (nat_le (floor reopen setup moves street) target && nat_le target (all_in setup moves street seat)) (target == all_in setup moves street seat) is) [
   | inl within ↦ omega (arith, above refl, leb-true (floor reopen setup moves street) target (and_parts (nat_le (floor reopen setup moves street) target) (nat_le target (all_in setup moves street seat)) within).0)
   | inr all ↦ omega (arith, chips, eqb-true target (all_in setup moves street seat) all)
 ]
 goes_above limits.Pot reopen setup moves street seat target above full some chips is =
-    let least = price setup moves street + full_raise setup moves street in
+    let least = current_bet setup moves street + full_raise setup moves street in
     let most = min (all_in setup moves street seat) (pot_ceiling setup moves street seat) in
     elim (or_cases (nat_le least target && nat_le target most) ((target == all_in setup moves street seat) && nat_le target (pot_ceiling setup moves street seat)) is) [
       | inl within ↦ omega (arith, full refl, leb-true least target (and_parts (nat_le least target) (nat_le target most) within).0)
@@ -111,21 +111,21 @@ goes_above limits.Pot reopen setup moves street seat target above full some chip
     ]
 goes_above limits.Fixed reopen setup moves street seat target above full some chips is =
     let fits = list_any (λ full. target == full) (full_targets setup moves street) in
-    let the_price = price setup moves street in
+    let the_current_bet = current_bet setup moves street in
     let the_unit = unit setup street in
     let last = full_bet setup moves street in
     elim (or_cases (fits && nat_le target (all_in setup moves street seat)) ((target == all_in setup moves street seat) && nat_lt target (greatest (full_targets setup moves street))) is) [
-      | inl within ↦ one_of the_price the_unit last target (some refl) (nat_lt the_price the_unit) (nat_lt the_price (last + the_unit)) refl refl (and_parts fits (nat_le target (all_in setup moves street seat)) within).0
+      | inl within ↦ one_of the_current_bet the_unit last target (some refl) (nat_lt the_current_bet the_unit) (nat_lt the_current_bet (last + the_unit)) refl refl (and_parts fits (nat_le target (all_in setup moves street seat)) within).0
       | inr all ↦ omega (arith, chips, eqb-true target (all_in setup moves street seat) (and_parts (target == all_in setup moves street seat) (nat_lt target (greatest (full_targets setup moves street))) all).0)
     ]
 
--- a legal target is above the price
+-- a legal target is above the current bet
 pub raises_above : (setup : Setup) (rules : Rules) (events : List Said) (street seat target : ℕ) → IsValid setup → AreLegal setup rules events → 1 ≤ street → street ≤ street_count setup.code
-    → price setup (moves_of (past_of setup events)) street < all_in setup (moves_of (past_of setup events)) street seat
+    → current_bet setup (moves_of (past_of setup events)) street < all_in setup (moves_of (past_of setup events)) street seat
     → is_legal_target rules.reopen setup (moves_of (past_of setup events)) street seat target ≡ true
-    → price setup (moves_of (past_of setup events)) street < target
+    → current_bet setup (moves_of (past_of setup events)) street < target
 raises_above setup rules events street seat target valid legal first last chips is =
     goes_above (limit_of setup.code) rules.reopen setup (moves_of (past_of setup events)) street seat target
-    (λ unfixed. above_price setup rules events valid unfixed legal rules.reopen street)
-    (λ unfixed. let above = above_price setup rules events valid unfixed legal reopens.Full street in omega (arith, above))
+    (λ unfixed. above_current_bet setup rules events valid unfixed legal rules.reopen street)
+    (λ unfixed. let above = above_current_bet setup rules events valid unfixed legal reopens.Full street in omega (arith, above))
     (λ fixed. some_unit setup street valid fixed first last) chips is

@@ -1,4 +1,4 @@
--- What states and notes nothing is sound.
+-- A record that states and notes nothing is sound.
 use Rattle.std.proofs.Common.{◌≡◌, ℕ, ◌-◌, ◌≤◌, List, ◌++◌, find, slice_index_or, None, ap, ◌∙◌}
 use Rattle.card_set.specs.declared.card.Card.{Card}
 use Rattle.chip_ledger.specs.declared.seat_row.TheConstants.{MOST_AMOUNT}
@@ -13,10 +13,10 @@ use Rattle.hand_canon.specs.Agreement.{finish_compared, first_difference, is_dif
 use Rattle.hand_canon.specs.Sound.{IsSound}
 use Rattle.hand_records.specs.StatedFacts.{IsNothingStated}
 use Rattle.hand_gen.specs.Sound.{IsSoundHand}
-use Rattle.hand_gen.specs.Stock.{Stock}
-use Rattle.list_laws.proofs.Options.{for_none, if_none}
+use Rattle.hand_gen.specs.HandSource.{HandSource}
+use Rattle.card_set.proofs.Options.{for_none, if_none}
 
--- where nothing is stated, it fits
+-- if nothing is stated, it fits
 pub nothing_fits : (seats : ℕ) (stated : Stated) → IsNothingStated stated → IsStatedFor seats stated
 nothing_fits seats stated is =
     record {
@@ -26,7 +26,7 @@ nothing_fits seats stated is =
       values = for_none (λ row. row.seats ≡ seats) stated.values is.values;
     }
 
--- no notes are allowed ones
+-- a record without notes is allowed
 pub none_allowed : (seats : ℕ) (notes : Notes) → AreNoNotes notes → AreAllowed seats notes
 none_allowed seats notes none =
     record {
@@ -47,11 +47,11 @@ none_allowed seats notes none =
     }
 
 -- a stock is its number and its deck
-pub same_stock : (stock : Stock) (number : ℕ) (deck : List Card) → stock.number ≡ number → stock.deck ≡ deck → stock ≡ record { number = number; deck = deck }
-same_stock stock number deck number_is deck_is =
+pub same_source : (stock : HandSource) (number : ℕ) (deck : List Card) → stock.number ≡ number → stock.deck ≡ deck → stock ≡ record { number = number; deck = deck }
+same_source stock number deck number_is deck_is =
     ap (λ n. record { number = n; deck = stock.deck }) number_is ∙ ap (λ d. record { number = number; deck = d }) deck_is
 
--- where nothing is stated, nothing differs
+-- if nothing is stated, nothing differs
 nothing_differs : (trace : Trace) (stated : Stated) → IsNothingStated stated → first_difference trace stated ≡ None
 nothing_differs trace stated is =
     ap (find is_different)

@@ -12,9 +12,9 @@ use Rattle.play_event.specs.ValidSetup.{IsSizeWhere, IsValid, is_fixed}
 use Rattle.hand_gen.specs.Draws.{number_after}
 use Rattle.hand_gen.specs.Progress.{IsSmall}
 use Rattle.hand_gen.specs.Setups.{IsMadeSetup, blind_in, blind_of, seats_drawn, stack_drawn}
-use Rattle.list_laws.proofs.Tests.{if_most}
+use Rattle.card_set.proofs.Tests.{if_most}
 
--- each game has four seats or more
+-- each game has at least four seats
 four_seats : (code : Code) → 4 ≤ (game_of code).seats
 four_seats games.FT = omega arith
 four_seats games.NT = omega arith
@@ -141,6 +141,6 @@ made_small place number setup made =
       no_rakes = made.rakes;
     }
 
--- the number behind one draw and then more
+-- the generator's number after one draw and then more
 pub behind_one : (count number : ℕ) → number_after (1 + count) number ≡ number_after count (number_after 1 number)
 behind_one count number = let same : 1 + count ≡ suc count = omega arith in ap (λ n. number_after n number) same

@@ -1,18 +1,19 @@
--- Where each live seat of a contested hand is shown, each pot that two seats or more may win has a shown hand.
+-- If each live seat of a contested hand is shown, each pot that two or more seats may win has a
+-- shown hand.
 use Rattle.std.proofs.Common.{◌≡◌, ℕ, suc, ◌≤◌, Bool, true, false, ◌&&◌, ◌==◌, not, nat_le, nat_lt, if◌then◌else◌, List, [], ◌∷◌, length, map, filter, count_by, Some, None, refl, sym, ap, subst, ◌∙◌, arith}
 use Rattle.std.specs.List.{list_any}
 use Rattle.std.proofs.lemmas.Bool.{and_from, and_parts, le-leb, leb-true}
 use Rattle.std.proofs.lemmas.List.Sums.{length-filter}
 use Rattle.chip_ledger.specs.Pots.{PlainPot, Stake, after_return, is_reached_by_all, kept, layers, levels, may_win, pots_at, pots_of, reaching, with_chips, with_dead}
-use Rattle.list_laws.proofs.Counting.{counted_some, counts_fewer}
-use Rattle.list_laws.proofs.NumbersOfRange.{any_in_range, is_in, some_in_range}
-use Rattle.list_laws.proofs.Tests.{not_true}
+use Rattle.card_set.proofs.Counting.{counted_some, counts_fewer}
+use Rattle.card_set.proofs.NumbersOfRange.{any_in_range, is_in, some_in_range}
+use Rattle.card_set.proofs.Tests.{not_true}
 use Rattle.play_event.specs.declared.setup.Setup.{Setup}
 use Rattle.play_event.specs.Past.{Past, moves_of}
 use Rattle.play_event.specs.Seats.{all_seats, is_live, live_count}
 use Rattle.play_event.specs.Stakes.{dead_antes_of, pots_after, stake_after, stakes_after}
 use Rattle.play_event.specs.Trace.{is_shown}
-use Rattle.canon_script.specs.TraceCore.{core_of}
+use Rattle.play_event.specs.TraceCore.{core_of}
 use Rattle.hand_canon.specs.LegalHand.{showdown_in}
 use Rattle.variant_table.specs.Shares.{Showdown, first_unshown_from, is_contender, is_unshown}
 

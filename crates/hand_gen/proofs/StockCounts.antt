@@ -1,4 +1,5 @@
--- The cards that are taken and those that are left in the stock are the cards that were in it; and it begins with each card of the game once.
+-- The cards that are taken and those that are left in the stock are the cards that were in it; at
+-- first it has each card of the game once.
 use Rattle.std.proofs.Common.{◌≡◌, ℕ, zero, suc, ◌+◌, ◌/◌, ◌^◌, ◌≤◌, ◌<◌, Bool, true, false, ◌==◌, not, cond, if◌then◌else◌, List, [], ◌∷◌, length, map, filter, slice_get, unwrap_or, count_by, refl, sym, ap, arith}
 use Rattle.std.specs.List.{range_with_len, remove}
 use Rattle.std.proofs.lemmas.Bool.{eqb-true}
@@ -6,16 +7,16 @@ use Rattle.std.proofs.lemmas.List.Edits.{length-remove}
 use Rattle.std.proofs.lemmas.Nat.{mod_below}
 use Rattle.card_set.specs.declared.card.Card.{Card}
 use Rattle.card_set.specs.Deck.{card_placed, deck_place, is_same_card}
-use Rattle.list_laws.proofs.Counting.{count_agree, count_by-cons, count_by-map, count_one}
-use Rattle.list_laws.proofs.NumbersOfRange.{all_at}
+use Rattle.card_set.proofs.Counting.{count_agree, count_by-cons, count_by-map, count_one}
+use Rattle.card_set.proofs.NumbersOfRange.{all_at}
 use Rattle.play_event.specs.declared.code.Code.{Code}
 use Rattle.play_event.specs.declared.code.Code.TheVariants as games
 use Rattle.play_event.specs.Streets.{deck_of}
 use Rattle.play_event.specs.Taken.{is_in_deck}
 use Rattle.hand_gen.specs.Draws.{drawn, next_number}
-use Rattle.hand_gen.specs.Stock.{Stock, after_card, after_cards, full_deck, next_card, next_cards, next_place}
+use Rattle.hand_gen.specs.HandSource.{HandSource, after_card, after_cards, full_deck, next_card, next_cards, next_place}
 
--- a card that is taken out at a place counts no more among the others
+-- a card that is taken out at a place is no longer counted among the others
 taken_out : (p : Card → Bool) (cards : List Card) (place : ℕ) (other : Card) → place < length cards → cond (p (unwrap_or (slice_get cards place) other)) 1 0 + count_by p (remove cards place) ≡ count_by p cards
 taken_out p [] place other within = absurd (omega (arith, within))
 taken_out p (card ∷ rest) zero other within = sym (count_by-cons p card rest)
@@ -26,7 +27,7 @@ drawn_within : (count number : ℕ) → 0 < count → drawn count number < count
 drawn_within count number some = mod_below (number / 2 ^ 33) count some
 
 -- what is taken and what is left
-pub taken_counts : (p : Card → Bool) (count : ℕ) (stock : Stock) → count ≤ length stock.deck → count_by p (next_cards count stock) + count_by p (after_cards count stock).deck ≡ count_by p stock.deck
+pub taken_counts : (p : Card → Bool) (count : ℕ) (stock : HandSource) → count ≤ length stock.deck → count_by p (next_cards count stock) + count_by p (after_cards count stock).deck ≡ count_by p stock.deck
 taken_counts p zero stock enough = omega arith
 taken_counts p (suc count) stock enough =
     let place : next_place stock < length stock.deck = drawn_within (length stock.deck) (next_number stock.number) (omega (arith, enough)) in
@@ -38,8 +39,8 @@ taken_counts p (suc count) stock enough =
       taken_counts p count (after_card stock) (omega (arith, enough, length-remove stock.deck (next_place stock) place)),
     )
 
--- so many cards are taken
-pub taken_length : (count : ℕ) (stock : Stock) → length (next_cards count stock) ≡ count
+-- this number of cards is taken
+pub taken_length : (count : ℕ) (stock : HandSource) → length (next_cards count stock) ≡ count
 taken_length zero stock = refl
 taken_length (suc count) stock = ap suc (taken_length count (after_card stock))
 
@@ -57,7 +58,7 @@ kept_fewer p q (card ∷ rest) = by_test (q card) (kept_fewer p q rest)
     by_test true fewer = omega (arith, count_by-cons p card rest, count_by-cons p card (filter q rest), fewer)
     by_test false fewer = omega (arith, count_by-cons p card rest, fewer)
 
--- each card stands once in the whole deck at most
+-- each card occurs at most once in the whole deck
 pub once_in_deck : (code : Code) (card : Card) → count_by (is_same_card card) (full_deck code) ≤ 1
 once_in_deck code card =
     let all : List ℕ = range_with_len 0 52 in

@@ -1,4 +1,5 @@
--- Which event comes next in a hand that is made, after a past, and what it leaves of the stock.
+-- Which event comes next in a hand that is being made, after a past, and what it leaves of the
+-- stock.
 use Rattle.std.specs.Prelude.{ℕ, Bool, ◌==◌, nat_lt, nat_le, if◌then◌else◌, List, take, Option, Some, None}
 use Rattle.std.specs.Option.{option_map}
 use Rattle.card_set.specs.declared.card.Slot.{Slot}
@@ -13,55 +14,55 @@ use Rattle.play_event.specs.Due.{turn}
 use Rattle.play_event.specs.Held.{held_slots}
 use Rattle.play_event.specs.Openers.{InTurn, NoSeat, TheSeat, Undecided}
 use Rattle.play_event.specs.Past.{Move, Past, moves_of}
-use Rattle.play_event.specs.Price.{owed}
+use Rattle.play_event.specs.CurrentBet.{to_call}
 use Rattle.play_event.specs.Raising.{may_raise}
 use Rattle.play_event.specs.Said.{Board, BringIn, Call, Discard, Fold, Hole, Raise, Said}
 use Rattle.play_event.specs.Table.{places_of}
 use Rattle.play_event.specs.Targets.{greatest_target, least_target}
 use Rattle.deal_core.specs.NextDeal.{first_owed}
 use Rattle.betting_numbers.specs.TurnSaid.{in_turn_on}
-use Rattle.hand_gen.specs.Stock.{Stock, after_cards, after_draw, draw_of, next_cards}
+use Rattle.hand_gen.specs.HandSource.{HandSource, after_cards, after_draw, draw_of, next_cards}
 
--- the event that comes next, if one does, and the stock behind it
+-- the event that comes next, if there is one, and the stock after it
 pub record Coming : Type 0 where
   pub event : Option Said
-  pub left : Stock
+  pub left : HandSource
 
 -- no event comes
-abbrev pub nothing_comes : Stock → Coming
+abbrev pub nothing_comes : HandSource → Coming
 nothing_comes stock = record { event = None; left = stock }
 
--- a seat is dealt so many cards
-abbrev pub hole_of : ℕ → Stock → ℕ → Coming
+-- a seat is dealt this number of cards
+abbrev pub hole_of : ℕ → HandSource → ℕ → Coming
 hole_of count stock seat =
     record {
       event = Some (Hole seat (known_slots (next_cards count stock)));
       left = after_cards count stock;
     }
 
--- the board is dealt so many cards
-abbrev pub board_of : ℕ → Stock → Coming
+-- the board is dealt this number of cards
+abbrev pub board_of : ℕ → HandSource → Coming
 board_of count stock =
     record { event = Some (Board (next_cards count stock)); left = after_cards count stock }
 
--- a seat discards the first cards that it has: none, one or two of them, by a draw
-abbrev pub discard_of : List Slot → Stock → ℕ → Coming
+-- a seat discards its first cards: a number is drawn to choose none, one or two of them
+abbrev pub discard_of : List Slot → HandSource → ℕ → Coming
 discard_of held stock seat =
     record { event = Some (Discard seat (take (draw_of 3 stock) held)); left = after_draw stock }
 
--- a seat is dealt all that it is owed, where there is one; else the board is
-abbrev pub deal_of : Option ℕ → (ℕ → ℕ) → ℕ → Stock → Coming
-deal_of (Some seat) owed board stock = hole_of (owed seat) stock seat
-deal_of None owed board stock = board_of board stock
+-- a seat is dealt all the cards that it is due, if there is such a seat; otherwise the board is
+abbrev pub deal_of : Option ℕ → (ℕ → ℕ) → ℕ → HandSource → Coming
+deal_of (Some seat) to_call board stock = hole_of (to_call seat) stock seat
+deal_of None to_call board stock = board_of board stock
 
 -- seats are dealt their cards from p1 upward, and then the board
-abbrev pub deal_comes : Setup → Past → ℕ → Stock → Coming
+abbrev pub deal_comes : Setup → Past → ℕ → HandSource → Coming
 deal_comes setup past street stock =
     deal_of (first_owed setup past street) (cards_owed setup past street)
     (board_cards_owed setup past street) stock
 
--- a seat discards, where there is one that draws next; else what is owed is dealt
-abbrev pub discard_or : Option ℕ → (ℕ → List Slot) → Coming → Stock → Coming
+-- a seat discards, if one is next to draw; otherwise the cards that are due are dealt
+abbrev pub discard_or : Option ℕ → (ℕ → List Slot) → Coming → HandSource → Coming
 discard_or (Some seat) held deal stock = discard_of (held seat) stock seat
 discard_or None held deal stock = deal
 
@@ -69,13 +70,13 @@ discard_or None held deal stock = deal
 abbrev pub held_by : Setup → Past → ℕ → List Slot
 held_by setup past seat = held_slots (Some seat) (places_of setup.code past)
 
--- all seats that draw discard first, and then they are dealt what they are owed
-abbrev pub draw_comes : Setup → Past → ℕ → Stock → Coming
+-- all seats that draw discard first, and then they are dealt the cards that they are due
+abbrev pub draw_comes : Setup → Past → ℕ → HandSource → Coming
 draw_comes setup past street stock =
     discard_or (next_to_draw setup past street) (held_by setup past)
     (deal_comes setup past street stock) stock
 
--- where a seat may raise to: the least and the greatest legal target, if it may raise
+-- the lowest and the highest legal target of a seat, if it may raise
 abbrev pub ends_of : Setup → Rules → List Move → ℕ → ℕ → Option (ℕ × ℕ)
 ends_of setup rules moves street seat =
     if may_raise setup rules moves street seat
@@ -83,17 +84,17 @@ ends_of setup rules moves street seat =
     (least_target rules.reopen setup moves street seat, greatest_target setup moves street seat)
     else None
 
--- a call, which states nothing
+-- a call that states no chips
 abbrev pub call_of : ℕ → Said
 call_of seat = Call (Some seat) None
 
--- a raise to a target; without one it is a call
+-- a raise to a target, or a call if there is none
 abbrev pub raise_of : ℕ → Option ℕ → Said
 raise_of seat (Some target) = Raise (Some seat) (spelled.To target)
 raise_of seat None = call_of seat
 
--- What a seat does, by a number below 8. By 0 it folds where it owes chips; by 1 and 2 it raises to
--- the least target, and by 3 to the greatest, where it may raise; else it calls.
+-- What a seat does, by a number below 8: for 0 it folds if it has chips to call; for 1 and 2 it
+-- raises to the lowest target, and for 3 to the highest, if it may raise; otherwise it calls.
 abbrev pub move_of : (owes : Bool) (ends : Option (ℕ × ℕ)) (seat number : ℕ) → Said
 move_of owes ends seat number =
     if number == 0 then (if owes then Fold (Some seat) else call_of seat)
@@ -104,11 +105,12 @@ move_of owes ends seat number =
 -- what a seat does after moves on a street
 abbrev pub move_by : Setup → Rules → List Move → ℕ → ℕ → ℕ → Said
 move_by setup rules moves street seat number =
-    move_of (nat_lt 0 (owed setup moves street seat)) (ends_of setup rules moves street seat) seat
+    move_of (nat_lt 0 (to_call setup moves street seat)) (ends_of setup rules moves street seat)
+    seat
     number
 
--- the seat in turn moves by a draw of 8; where no seat is in turn, nothing comes
-abbrev pub move_comes : Setup → Rules → List Move → ℕ → Stock → InTurn → Coming
+-- the player to act moves by a number drawn below 8; if no player is to act, nothing comes
+abbrev pub move_comes : Setup → Rules → List Move → ℕ → HandSource → InTurn → Coming
 move_comes setup rules moves street stock (TheSeat seat) =
     record {
       event = Some (move_by setup rules moves street seat (draw_of 8 stock));
@@ -117,14 +119,14 @@ move_comes setup rules moves street stock (TheSeat seat) =
 move_comes setup rules moves street stock NoSeat = nothing_comes stock
 move_comes setup rules moves street stock Undecided = nothing_comes stock
 
--- the seat in turn posts the bring-in
-abbrev pub bring_in_comes : Stock → InTurn → Coming
+-- the player to act posts the bring-in
+abbrev pub bring_in_comes : HandSource → InTurn → Coming
 bring_in_comes stock (TheSeat seat) = record { event = Some (BringIn (Some seat)); left = stock }
 bring_in_comes stock NoSeat = nothing_comes stock
 bring_in_comes stock Undecided = nothing_comes stock
 
--- what comes where this is due on this street; nobody shows or mucks
-abbrev pub comes_at : Setup → Rules → Past → Stock → ℕ → Due → Coming
+-- the event that comes when this is due on this street; nobody shows or mucks
+abbrev pub comes_at : Setup → Rules → Past → HandSource → ℕ → Due → Coming
 comes_at setup rules past stock street (dues.Deal on) = deal_comes setup past on stock
 comes_at setup rules past stock street (dues.Draw on) = draw_comes setup past on stock
 comes_at setup rules past stock street dues.BringIn =
@@ -134,7 +136,7 @@ comes_at setup rules past stock street dues.Move =
 comes_at setup rules past stock street dues.Show = nothing_comes stock
 comes_at setup rules past stock street dues.Over = nothing_comes stock
 
--- what comes next after a past
-unfoldable pub coming : Setup → Rules → Past → Stock → Coming
+-- the event that comes next after a past
+unfoldable pub coming : Setup → Rules → Past → HandSource → Coming
 coming setup rules past stock =
     comes_at setup rules past stock (turn setup past).0 (turn setup past).1

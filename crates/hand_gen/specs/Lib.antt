@@ -1,7 +1,7 @@
--- What the hands are that are made from a number: draws, the deck, the setup, each next event, the
--- records, and that they make progress.
+-- The hands that are made from a number: draws, the deck, the setup, each next event and the
+-- records; and that every made hand is legal and ends.
 pub mod Draws
-pub mod Stock
+pub mod HandSource
 pub mod Setups
 pub mod Coming
 pub mod Seen

@@ -1,5 +1,5 @@
--- The summary of made hands: how many hands, moves and chips of pots there are, and what each
--- format spells of them.
+-- The summary of made hands: how many hands, moves and chips in pots there are, and how many hands
+-- each format can express.
 use Rattle.std.specs.Prelude.{◌≡◌, ℕ, ◌++◌, List, [], ◌∷◌, length, codes, sum_by, All, Option, Some, None, Ok, Err}
 use Rattle.std.specs.Fmt.{decimal}
 use Rattle.std.specs.List.{AllZip}
@@ -23,28 +23,28 @@ use Rattle.hand_gen.specs.declared.summary.Summary.{Summary}
 use Rattle.hand_gen.specs.Made.{AreMadeFrom, number_behind_all}
 use Rattle.hand_records.specs.Plays.{hands_of}
 
--- a hand that has no fact without a spelling is spelled
+-- 1 for a hand that a format can express, and otherwise 0
 abbrev pub hands_spelled : Option Unspelled → ℕ
 hands_spelled None = 1
 hands_spelled (Some fact) = 0
 
--- and its spelling has so many bytes
+-- the bytes of a hand that a format can express, and otherwise 0
 abbrev pub bytes_spelled : Option Unspelled → ℕ → ℕ
 bytes_spelled None bytes = bytes
 bytes_spelled (Some fact) bytes = 0
 
--- whether a hand is spelled, and in how many bytes, by its first fact without a spelling and the
--- bytes that it would have
+-- whether a hand can be written, and in how many bytes, from its first fact that cannot be
+-- expressed and the bytes that it would have
 pub record IsSpelled (fact : Option Unspelled) (bytes : ℕ) (spelled : SpelledSize) : Type 0 where
   pub hands_are : spelled.hands ≡ hands_spelled fact
   pub bytes_are : spelled.bytes ≡ bytes_spelled fact bytes
 
--- what Open Hand History spells of a play: the play is a file of its own
+-- the size of a play in Open Hand History, as a file of its own
 abbrev pub IsInHistories : Play → SpelledSize → Type 0
 IsInHistories play spelled =
     IsSpelled (ohh.unspelled keeps.All play) (length (lines dialects.Added (play ∷ []))) spelled
 
--- what the logs of the game that a play fits spell of it; a play that fits no game is in none
+-- the size of a play in the logs of the game that it fits; a play that fits no game is in none
 pub data IsInLogs (play : Play) (spelled : SpelledSize) : Type 0 where
   fits_none : (fact : Unspelled) → game_of play.trace.setup ≡ Err fact → spelled.hands ≡ 0
       → spelled.bytes ≡ 0
@@ -54,7 +54,7 @@ pub data IsInLogs (play : Play) (spelled : SpelledSize) : Type 0 where
       spelled
       → IsInLogs play spelled
 
--- the numbers of a play: its moves, its pots, and what each format spells of it
+-- the numbers of a play: its moves, its pots, and its size in each format
 pub record AreCountsOf (play : Play) (counts : PlayCounts) : Type 0 where
   pub moves : counts.moves ≡ length play.trace.moves
   pub pots : counts.pots ≡ pot_total_of play.trace
@@ -62,7 +62,7 @@ pub record AreCountsOf (play : Play) (counts : PlayCounts) : Type 0 where
   pub histories : IsInHistories play counts.ohh
   pub in_logs : IsInLogs play counts.acpc
 
--- a summary has the numbers of plays together
+-- a summary adds up the numbers of plays
 pub record IsSummaryOf (plays : List Play) (summary : Summary) : Type 0 where
   pub counts : List PlayCounts
   pub counted : AllZip AreCountsOf plays counts
@@ -75,7 +75,7 @@ pub record IsSummaryOf (plays : List Play) (summary : Summary) : Type 0 where
   pub acpc : summary.acpc ≡ sum_by (λ (c : PlayCounts). c.acpc.hands) counts
   pub acpc_bytes : summary.acpc_bytes ≡ sum_by (λ (c : PlayCounts). c.acpc.bytes) counts
 
--- a summary is that of the made hands from a seed, up to the number that comes behind them: each
+-- a summary is that of the made hands from a seed, up to the generator's number after them: each
 -- has its play, and these are counted
 pub record IsLoadTo (seed number : ℕ) (summary : Summary) : Type 0 where
   pub plays : List Play
@@ -84,7 +84,7 @@ pub record IsLoadTo (seed number : ℕ) (summary : Summary) : Type 0 where
   pub sound : All IsSound plays
   pub sums : IsSummaryOf plays summary
 
--- a summary is that of so many made hands from a seed
+-- a summary is that of this number of made hands from a seed
 pub record IsLoad (seed count : ℕ) (summary : Summary) : Type 0 where
   pub plays : List Play
   pub made : AreMadeFrom 0 seed (hands_of plays)
@@ -92,7 +92,8 @@ pub record IsLoad (seed count : ℕ) (summary : Summary) : Type 0 where
   pub sound : All IsSound plays
   pub sums : IsSummaryOf plays summary
 
--- the lines of hands, moves and pots, and of the hands that the Poker Hand History format spells
+-- the lines of hands, moves and pots, and of the hands that the Poker Hand History format can
+-- express
 abbrev pub played_text : Summary → List ℕ
 played_text summary =
     codes "hands " ++ (decimal summary.hands
@@ -100,7 +101,7 @@ played_text summary =
     ++ (codes "\npots " ++ (decimal summary.pots
     ++ (codes "\nphh " ++ decimal summary.phh))))))
 
--- the lines of what Open Hand History and the logs of the competition spell: hands and bytes
+-- the lines of what Open Hand History and the logs of the competition can express: hands and bytes
 abbrev pub spelled_text : Summary → List ℕ
 spelled_text summary =
     codes "\nohh " ++ (decimal summary.ohh

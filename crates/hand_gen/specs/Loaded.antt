@@ -1,9 +1,9 @@
--- One play more in a summary, and how great the numbers of so many plays may be.
+-- One more play in a summary, and how great the numbers of a count of plays may be.
 use Rattle.std.specs.Prelude.{◌≡◌, ◌≤◌, ℕ, ◌+◌, ◌*◌, ◌^◌}
 use Rattle.hand_gen.specs.declared.summary.PlayCounts.{PlayCounts}
 use Rattle.hand_gen.specs.declared.summary.Summary.{Summary}
 
--- a summary has the numbers of one play more than another
+-- a summary has the numbers of one more play than another
 pub record IsWithCounts (before : Summary) (counts : PlayCounts) (after : Summary) : Type 0 where
   pub hands : after.hands ≡ before.hands + 1
   pub moves : after.moves ≡ before.moves + counts.moves
@@ -14,7 +14,7 @@ pub record IsWithCounts (before : Summary) (counts : PlayCounts) (after : Summar
   pub acpc : after.acpc ≡ before.acpc + counts.acpc.hands
   pub acpc_bytes : after.acpc_bytes ≡ before.acpc_bytes + counts.acpc.bytes
 
--- the numbers of so many plays are not too great for a sum of 128 bits
+-- the numbers of this many plays are not too great for a sum of 128 bits
 pub record IsFewIn (count : ℕ) (summary : Summary) : Type 0 where
   pub hands : summary.hands ≤ count
   pub moves : summary.moves ≤ count * 2 ^ 64

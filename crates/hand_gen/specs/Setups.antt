@@ -10,31 +10,31 @@ use Rattle.play_event.specs.ValidSetup.{is_fixed}
 use Rattle.hand_gen.specs.Draws.{drawn, number_after}
 use Rattle.play_event.specs.Games.{all_games}
 
--- the game of a hand by its place among the hands, from 0
+-- the game of a hand, by its place among the hands, from 0
 abbrev pub game_at : ℕ → Code
 game_at place = slice_index_or all_games (place % 11) games.FT
 
--- how many seats are drawn behind a number
+-- the number of seats that is drawn after a number
 abbrev pub seats_drawn : ℕ → ℕ
 seats_drawn number = 2 + drawn 3 (number_after 1 number)
 
--- the stack of a seat is drawn behind the number of seats and the stacks before it
+-- the stack of a seat is drawn after the number of seats and the stacks before it
 abbrev pub stack_drawn : ℕ → ℕ → ℕ
 stack_drawn number seat = 100 + drawn 401 (number_after (1 + seat) number)
 
--- chips that a game of stud has, and another game has not
+-- chips that a stud game has, and no other game
 abbrev pub in_stud : Code → ℕ → ℕ
 in_stud code chips = if is_stud code then chips else 0
 
--- chips that are used in fixed limit alone
+-- chips that are used in fixed limit only
 abbrev pub in_fixed : Code → ℕ → ℕ
 in_fixed code chips = if is_fixed (limit_of code) then chips else 0
 
--- chips that are used in no limit and pot limit alone
+-- chips that are used in no limit and pot limit only
 abbrev pub in_other : Code → ℕ → ℕ
 in_other code chips = if is_fixed (limit_of code) then 0 else chips
 
--- the blinds are 1 for p1 and 2 for p2; of two seats it is the other way round
+-- the blinds are 1 for p1 and 2 for p2; heads-up it is the other way round
 abbrev pub blind_of : ℕ → ℕ → ℕ
 blind_of seats seat =
     if seat == 1 then (if seats == 2 then 2 else 1)
@@ -45,9 +45,9 @@ blind_of seats seat =
 abbrev pub blind_in : Code → ℕ → ℕ → ℕ
 blind_in code seats seat = if is_stud code then 0 else blind_of seats seat
 
--- The setup of the hand at a place, where the draws have come to a number. Stud has antes of 1 and
--- a bring-in of 1; the small bet is 2, the big bet 4, and the least bet 2. Antes are not dead, and
--- no pot has a rake.
+-- The setup of the hand at a place, where the generator has come to a number. Stud has antes of 1
+-- and a bring-in of 1; the small bet is 2, the big bet 4, and the minimum bet 2. Antes are not
+-- dead, and no pot has a rake.
 pub record IsMadeSetup (place number : ℕ) (setup : Setup) : Type 0 where
   pub code : setup.code ≡ game_at place
   pub seats : setup.stacks.seats ≡ seats_drawn number
@@ -66,6 +66,6 @@ pub record IsMadeSetup (place number : ℕ) (setup : Setup) : Type 0 where
   pub least_bet : setup.min_bet ≡ in_other setup.code 2
   pub rakes : (pot : ℕ) → rake_of setup.rakes pot ≡ 0
 
--- the number to which the draws come behind a setup
+-- the generator's number after a setup
 abbrev pub number_behind_setup : ℕ → Setup → ℕ
 number_behind_setup number setup = number_after (1 + setup.stacks.seats) number

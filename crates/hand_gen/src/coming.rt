@@ -1,22 +1,22 @@
-//! Which event comes next.
+//! Which event of a made hand comes next.
 ghost use Rattle.std.specs.Prelude.{◌≡◌};
 ghost use Rattle.play_event.specs.declared.reason.Due.TheVariants as dues;
 ghost use Rattle.replay_core.specs.Told.{WhereTogether};
 ghost use Rattle.betting_numbers.specs.TurnSaid.{in_turn_on};
 ghost use Rattle.hand_gen.specs.Coming.{bring_in_comes, coming, move_comes};
 ghost use Rattle.hand_gen.specs.Seen.{event_said};
-ghost use Rattle.hand_gen.specs.Stock as stocks;
+ghost use Rattle.hand_gen.specs.HandSource as stocks;
 ghost use Rattle.play_event.specs.Past.{moves_of};
 
 use crate::dealing::{deal, draw};
+use crate::hand_source::HandSource;
 use crate::moving::make_move;
-use crate::stock::Stock;
 use play_event::{Due, Kind};
 use replay_core::HandInPlay;
 use variant_table::Variant;
 
-/// The event that comes next, if one does. What it takes of the stock is taken.
-pub fn next<V: Variant>(hand: &HandInPlay<V>, stock: &mut Stock) -> Option<Kind>
+/// The next event, if there is one. Its cards and numbers are taken from the stock.
+pub fn next<V: Variant>(hand: &HandInPlay<V>, stock: &mut HandSource) -> Option<Kind>
     ensures event { WhereTogether hand.now.betting hand.now.cards
         (λ past. event_said result ≡ (coming hand.now.betting.setup
         hand.now.betting.rules past stock.old).event) }
@@ -35,27 +35,27 @@ pub fn next<V: Variant>(hand: &HandInPlay<V>, stock: &mut Stock) -> Option<Kind>
     }
 }
 
-// The bring-in of the seat in turn.
+// The bring-in by the player to act.
 fn bring_in<V: Variant>(hand: &HandInPlay<V>) -> Option<Kind>
     requires due { hand.now.betting.due ≡ dues.BringIn }
     ensures event { WhereTogether hand.now.betting hand.now.cards
-        (λ past. (stock : stocks.Stock) → event_said result
+        (λ past. (stock : stocks.HandSource) → event_said result
         ≡ (bring_in_comes stock (in_turn_on hand.now.betting.setup past
         hand.now.betting.street)).event) }
     ensures left { WhereTogether hand.now.betting hand.now.cards
-        (λ past. (stock : stocks.Stock) → stock
+        (λ past. (stock : stocks.HandSource) → stock
         ≡ (bring_in_comes stock (in_turn_on hand.now.betting.setup past
         hand.now.betting.street)).left) }
 {
     let up = hand.opening_up_cards();
-    match hand.betting.turn_now(&up) {
+    match hand.betting.to_act(&up) {
         Some(seat) => Some(Kind::BringIn { actor: Some(seat) }),
         None => None,
     }
 }
 
-// The move of the seat in turn.
-fn acted<V: Variant>(hand: &HandInPlay<V>, stock: &mut Stock) -> Option<Kind>
+// The move of the player to act.
+fn acted<V: Variant>(hand: &HandInPlay<V>, stock: &mut HandSource) -> Option<Kind>
     requires due { hand.now.betting.due ≡ dues.Move }
     ensures event { WhereTogether hand.now.betting hand.now.cards
         (λ past. event_said result
@@ -69,7 +69,7 @@ fn acted<V: Variant>(hand: &HandInPlay<V>, stock: &mut Stock) -> Option<Kind>
         (in_turn_on hand.now.betting.setup past hand.now.betting.street)).left) }
 {
     let up = hand.opening_up_cards();
-    match hand.betting.turn_now(&up) {
+    match hand.betting.to_act(&up) {
         Some(seat) => Some(make_move(&hand.betting, &up, seat, stock)),
         None => None,
     }

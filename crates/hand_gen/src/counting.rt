@@ -1,4 +1,4 @@
-//! The numbers of one play.
+//! The numbers of one made hand.
 ghost use Rattle.std.specs.Prelude.{◌≡◌, ◌≤◌, ◌*◌, ◌^◌, ◌∷◌, [], Ok, IfOk, length};
 ghost use Rattle.std.specs.List.{AllByRecursion};
 ghost use Rattle.acpc_game.specs.GameView.{game_in};
@@ -41,7 +41,7 @@ pub fn counts_of(alloc: Global, file: &[Play]) -> Result<PlayCounts, Memory>
     })
 }
 
-// What Open Hand History spells of a play, which is a file of its own.
+// The size of a play in Open Hand History, as a file of its own.
 fn in_histories(alloc: Global, file: &[Play]) -> Result<SpelledSize, Memory>
     requires sound { AllByRecursion IsSound file.now }
     requires one { length file.now ≤ 1 }
@@ -54,7 +54,7 @@ fn in_histories(alloc: Global, file: &[Play]) -> Result<SpelledSize, Memory>
     }
 }
 
-// What the logs of the game that a play fits spell of it.
+// The size of a play in the logs of the game that it fits.
 fn in_logs(alloc: Global, play: &Play, file: &[Play]) -> Result<SpelledSize, Memory>
     requires sound { AllByRecursion IsSound file.now }
     requires one { file.now ≡ play.now ∷ [] }
@@ -66,7 +66,7 @@ fn in_logs(alloc: Global, play: &Play, file: &[Play]) -> Result<SpelledSize, Mem
     }
 }
 
-// What the logs of a game spell of a play, which is a file of its own.
+// The size of a play in the logs of a game, as a file of its own.
 fn in_logs_of(alloc: Global, game: &Game, file: &[Play]) -> Result<SpelledSize, Memory>
     requires sound { AllByRecursion IsSound file.now }
     requires one { length file.now ≤ 1 }
@@ -80,7 +80,7 @@ fn in_logs_of(alloc: Global, game: &Game, file: &[Play]) -> Result<SpelledSize, 
     }
 }
 
-// A hand that is spelled in so many bytes.
+// A hand that is written in this number of bytes.
 fn spelled_in(bytes: usize) -> SpelledSize
     ensures hands { result.hands ≡ 1 }
     ensures bytes { result.bytes ≡ bytes }
@@ -91,7 +91,7 @@ fn spelled_in(bytes: usize) -> SpelledSize
     }
 }
 
-// A hand that is not spelled.
+// A hand that cannot be written.
 fn not_spelled() -> SpelledSize
     ensures hands { result.hands ≡ 0 }
     ensures bytes { result.bytes ≡ 0 }
@@ -99,7 +99,7 @@ fn not_spelled() -> SpelledSize
     SpelledSize { hands: 0, bytes: 0 }
 }
 
-// All pots of a trace together.
+// The total of all pots of a trace.
 fn pot_total(trace: &Trace) -> u128
     ensures sum { result ≡ pot_total_of trace.now }
     ensures few { result ≤ 11 * 2 ^ 64 }
@@ -111,7 +111,7 @@ fn pot_total(trace: &Trace) -> u128
     all
 }
 
-// How many hands of one the Poker Hand History format spells.
+// Whether the Poker Hand History format can express the hand, as 1 or 0.
 fn in_tables(play: &Play) -> u128
     ensures hands { result ≡ hands_spelled (phh.unspelled play.now) }
     ensures one { result ≤ 1 }

@@ -1,4 +1,4 @@
-//! What the deals and draws of a street bring next.
+//! The next event of the deals and draws of a street.
 ghost use Rattle.std.specs.Prelude.{◌≡◌, ◌≤◌, take, Some};
 ghost use Rattle.card_set.specs.Row.{slots_of};
 ghost use Rattle.chip_ledger.specs.SeatsSaid.{seat_said};
@@ -10,9 +10,9 @@ ghost use Rattle.play_event.specs.Said.{kind_said};
 ghost use Rattle.play_event.specs.Table.{places_of};
 ghost use Rattle.hand_gen.specs.Coming as comes;
 ghost use Rattle.hand_gen.specs.Seen as seen;
-ghost use Rattle.hand_gen.specs.Stock.{after_draw};
+ghost use Rattle.hand_gen.specs.HandSource.{after_draw};
 
-use crate::stock::Stock;
+use crate::hand_source::HandSource;
 use card_places::{NextDeal, slots};
 use card_set::SlotRow;
 use chip_ledger::{LiveRow, Seat};
@@ -20,8 +20,8 @@ use deal_core::Cards;
 use play_event::Kind;
 use variant_table::Variant;
 
-/// What comes next in the draw of the street: a discard, or a deal.
-pub fn draw<V: Variant>(cards: &Cards<V>, live: &LiveRow, on: u8, stock: &mut Stock) -> Kind
+/// The next event of a street's draw: a discard, or a deal.
+pub fn draw<V: Variant>(cards: &Cards<V>, live: &LiveRow, on: u8, stock: &mut HandSource) -> Kind
     requires street { on ≤ V.STREETS }
     requires live { live.now.seats ≡ cards.now.seats }
     ensures event { WhereLive cards.now live.now (λ setup past. setup.code ≡ V.CODE
@@ -35,8 +35,8 @@ pub fn draw<V: Variant>(cards: &Cards<V>, live: &LiveRow, on: u8, stock: &mut St
     }
 }
 
-/// What is dealt next on the street: to a seat what it is owed, or to the board.
-pub fn deal<V: Variant>(cards: &Cards<V>, live: &LiveRow, on: u8, stock: &mut Stock) -> Kind
+/// The next deal of the street: to a seat that is due cards, or to the board.
+pub fn deal<V: Variant>(cards: &Cards<V>, live: &LiveRow, on: u8, stock: &mut HandSource) -> Kind
     requires street { on ≤ V.STREETS }
     requires live { live.now.seats ≡ cards.now.seats }
     ensures event { WhereLive cards.now live.now (λ setup past.
@@ -48,8 +48,8 @@ pub fn deal<V: Variant>(cards: &Cards<V>, live: &LiveRow, on: u8, stock: &mut St
     dealt(next, stock)
 }
 
-// So many cards are dealt to a seat or to the board.
-fn dealt(next: NextDeal, stock: &mut Stock) -> Kind
+// Deals this number of cards to a seat or to the board.
+fn dealt(next: NextDeal, stock: &mut HandSource) -> Kind
     requires { next.count ≤ 7 }
     ensures event { Some (kind_said result)
         ≡ (seen.dealt_to (seat_said next.owner) next.count stock.old).event }
@@ -67,7 +67,7 @@ fn dealt(next: NextDeal, stock: &mut Stock) -> Kind
 }
 
 // The discard of a seat.
-fn discard<V: Variant>(cards: &Cards<V>, seat: Seat, stock: &mut Stock) -> Kind
+fn discard<V: Variant>(cards: &Cards<V>, seat: Seat, stock: &mut HandSource) -> Kind
     requires { seat.number ≤ cards.now.seats }
     ensures event { (past : Past) → StandsFor cards.now past → Some (kind_said result)
         ≡ (comes.discard_of (held_slots (Some seat.number) (places_of V.CODE past)) stock.old
@@ -82,7 +82,7 @@ fn discard<V: Variant>(cards: &Cards<V>, seat: Seat, stock: &mut Stock) -> Kind
     }
 }
 
-// The first slots of a row, so many of them.
+// The first slots of a row, `count` of them.
 #[tactic(auto, using(std::proofs::lemmas::List::take_min))]
 fn first_slots(row: &SlotRow, count: u8) -> SlotRow
     ensures { slots_of result ≡ take count (slots_of row.now) }

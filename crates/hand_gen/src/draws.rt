@@ -1,8 +1,8 @@
-//! Numbers are drawn one after the other.
+//! Draws pseudo-random numbers, each from the one before.
 ghost use Rattle.std.specs.Prelude.{◌≡◌, ◌<◌};
 ghost use Rattle.hand_gen.specs.Draws as draws;
 
-// What the number before is multiplied by, and what is added.
+// The factor and the addend that lead from one number to the next.
 const FACTOR: u128 = 6_364_136_223_846_793_005;
 
 const STEP: u128 = 1_442_695_040_888_963_407;
@@ -15,7 +15,7 @@ pub fn next_number(number: u64) -> u64
     ((u128::from(number) * FACTOR + STEP) % (1 << 64)) as u64
 }
 
-/// What the number draws, of so many from 0 upward.
+/// The choice that a number makes among `count`, from 0 upward.
 pub fn drawn(count: u64, number: u64) -> u64
     requires { 0 < count }
     ensures value { result ≡ draws.drawn count number }

@@ -1,35 +1,35 @@
-//! The script of a made hand, event by event.
+//! Makes the script of a hand, event by event.
 ghost use Rattle.std.specs.Prelude.{◌≡◌, ◌<◌, ◌^◌, length, map, IfOk};
-ghost use Rattle.canon_script.specs.PlayedScript.{IsWithinLimits};
+ghost use Rattle.play_event.specs.PlayedScript.{IsWithinLimits};
 ghost use Rattle.hand_canon.specs.LegalHand.{IsLegalHand};
 ghost use Rattle.play_event.specs.declared.setup.Setup.{Setup as SetupNow};
 ghost use Rattle.play_event.specs.HistoryRules as histories;
 ghost use Rattle.play_event.specs.Said.{said_of};
-ghost use Rattle.hand_gen.specs.Made.{IsMadeScript, backward, stock_behind};
+ghost use Rattle.hand_gen.specs.GeneratedHand.{IsMadeScript, backward, source_behind};
 ghost use Rattle.hand_gen.specs.MadeTo.{IsMadeTo, IsStep, IsUnderway};
 ghost use Rattle.hand_gen.specs.Progress.{IsSmall};
-ghost use Rattle.hand_gen.specs.Stock as stocks;
+ghost use Rattle.hand_gen.specs.HandSource as stocks;
 
 use crate::coming::next;
-use crate::stock::Stock;
+use crate::hand_source::HandSource;
 use card_set::Memory;
 use play_event::{Event, Reopen, Rules, Script, Setup};
 use replay_core::HandInPlay;
 use std::alloc::Global;
 use variant_table::Variant;
 
-/// The script of a made hand of the game `V`, from this stock.
+/// The script of a made hand of the game `V`, made from this stock.
 pub fn script_of<V: Variant>(
     alloc: Global,
     setup: &Setup,
-    stock: &mut Stock,
+    stock: &mut HandSource,
 ) -> Result<Script, Memory>
     requires small { IsSmall setup.now }
     requires code { setup.now.code ≡ V.CODE }
     requires deck { stock.old.deck ≡ stocks.full_deck setup.now.code }
     ensures made { IfOk result (IsMadeScript setup.now stock.old) }
     ensures left { IfOk result (λ script. stock.new
-        ≡ stock_behind setup.now histories.history_rules stock.old (backward script)) }
+        ≡ source_behind setup.now histories.history_rules stock.old (backward script)) }
     ensures within { IfOk result (λ script. IsWithinLimits (map said_of script)) }
     ensures legal { IfOk result (λ script.
         IsLegalHand setup.now histories.history_rules (map said_of script)) }
@@ -45,7 +45,7 @@ pub fn script_of<V: Variant>(
     }
 }
 
-/// What hand histories rule beyond the game.
+/// The rules of hand histories beyond those of the game.
 pub fn history_rules() -> Rules
     ensures { result ≡ histories.history_rules }
 {
@@ -56,16 +56,16 @@ pub fn history_rules() -> Rules
     }
 }
 
-// Puts the event that comes next behind the others, if one comes.
+// Appends the next event, if there is one.
 fn play_next<V: Variant>(
     hand: &mut HandInPlay<V>,
     script: &mut Script,
-    stock: &mut Stock,
+    stock: &mut HandSource,
 ) -> Result<bool, Memory>
     requires underway { IsUnderway
         hand.old.betting hand.old.cards script.old stock.old }
     requires few { length script.old < 2 ^ 31 }
-    ensures step { (setup : SetupNow) (start : stocks.Stock)
+    ensures step { (setup : SetupNow) (start : stocks.HandSource)
         → IsMadeTo setup start hand.old.betting hand.old.cards script.old stock.old
         → IfOk result (IsStep setup start script.old hand.new.betting
         hand.new.cards script.new stock.new) }

@@ -1,4 +1,4 @@
-//! Hands are made from a number: the same hands from the same number, each of them legal.
+//! Makes hands from a number: the same hands from the same number, each of them legal.
 #![tactic(auto)]
 
 mod coming;
@@ -6,15 +6,15 @@ mod counting;
 mod dealing;
 mod draws;
 mod hand;
+mod hand_source;
 mod laws;
 mod loading;
 mod making;
 mod moving;
 mod setups;
-mod stock;
 mod summary;
 
 pub use laws::law_of_progress;
 pub use loading::{load, summary_text};
-pub use making::{Made, make, make_play};
+pub use making::{GeneratedHand, make, make_play};
 pub use summary::Summary;

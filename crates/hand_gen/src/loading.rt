@@ -1,4 +1,4 @@
-//! Made hands are played and counted, one hand in memory at a time.
+//! Plays and counts made hands, with one hand in memory at a time.
 ghost use Rattle.std.specs.Prelude.{◌≡◌, ◌≤◌, ◌+◌, ◌++◌, IfOk, OnOk};
 ghost use Rattle.std.specs.Fmt.{decimal};
 ghost use Rattle.std.specs.String.{string_bytes};
@@ -13,11 +13,11 @@ use crate::summary::{PlayCounts, Summary};
 use card_set::Memory;
 use std::alloc::Global;
 
-/// The summary of so many made hands from a seed. It keeps one hand at a time.
+/// The summary of `count` hands made from a seed, with one hand in memory at a time.
 ///
 /// # Errors
 ///
-/// Want of memory.
+/// Out of memory.
 pub fn load(alloc: Global, seed: u64, count: u32) -> Result<Summary, Memory>
     requires few { count ≤ MOST_HANDS }
     ensures { IfOk result (IsLoad seed count) }
@@ -60,7 +60,7 @@ fn no_hands() -> Summary
     }
 }
 
-// The summary with the numbers of one play more. `before` is how many were counted.
+// The summary with the numbers of one more play. `before` is how many were counted so far.
 fn with_counts(summary: Summary, counts: PlayCounts, before: u32) -> Summary
     requires { IsFewIn before summary }
     ensures sums { IsWithCounts summary counts result }
@@ -82,7 +82,7 @@ fn with_counts(summary: Summary, counts: PlayCounts, before: u32) -> Summary
 ///
 /// # Errors
 ///
-/// Want of memory.
+/// Out of memory.
 pub fn summary_text(alloc: Global, summary: &Summary) -> Result<String, Memory>
     ensures { IfOk result (λ text. string_bytes text ≡ loads.summary_text summary.now) }
 {
@@ -92,7 +92,7 @@ pub fn summary_text(alloc: Global, summary: &Summary) -> Result<String, Memory>
     Ok(text)
 }
 
-// Puts the lines of hands, moves, pots and tables at the end of a text.
+// Appends the lines of hands, moves, pots and tables to a text.
 fn push_played(alloc: Global, text: &mut String, summary: &Summary) -> Result<(), Memory>
     ensures { OnOk result (string_bytes text.new
         ≡ string_bytes text.old ++ loads.played_text summary.now) }
@@ -104,7 +104,7 @@ fn push_played(alloc: Global, text: &mut String, summary: &Summary) -> Result<()
     Ok(())
 }
 
-// Puts the lines of the formats that are counted in bytes at the end of a text.
+// Appends the lines of the formats that are counted in bytes to a text.
 fn push_spelled(alloc: Global, text: &mut String, summary: &Summary) -> Result<(), Memory>
     ensures { OnOk result (string_bytes text.new
         ≡ string_bytes text.old ++ loads.spelled_text summary.now) }
@@ -117,7 +117,7 @@ fn push_spelled(alloc: Global, text: &mut String, summary: &Summary) -> Result<(
     Ok(())
 }
 
-// Puts a number at the end of a text, behind its label.
+// Appends a label and a number to a text.
 fn push_number(alloc: Global, text: &mut String, label: &str, number: u128) -> Result<(), Memory>
     ensures { OnOk result (string_bytes text.new
         ≡ string_bytes text.old ++ (label.now ++ decimal number)) }

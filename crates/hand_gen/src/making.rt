@@ -1,20 +1,20 @@
-//! Made hands, one after the other.
+//! Makes hands, one after the other.
 ghost use Rattle.std.specs.Prelude.{◌≡◌, ◌≤◌, All, IfOk, map};
-ghost use Rattle.canon_script.specs.PlayedScript.{IsWithinLimits};
+ghost use Rattle.play_event.specs.PlayedScript.{IsWithinLimits};
 ghost use Rattle.first_fault.specs.declared.limits.TheConstants.{MOST_HANDS};
 ghost use Rattle.play_event.specs.HistoryRules.{history_rules as rules_of_histories};
 ghost use Rattle.play_event.specs.Said.{said_of};
 ghost use Rattle.hand_canon.specs.LegalHand.{IsLegalHand};
-ghost use Rattle.hand_gen.specs.Made.{AreMade, IsMade, IsMadeScript, backward, number_behind, stock_behind};
+ghost use Rattle.hand_gen.specs.GeneratedHand.{AreMade, IsMade, IsMadeScript, backward, number_behind, source_behind};
 ghost use Rattle.hand_gen.specs.Progress.{IsSmall};
 ghost use Rattle.hand_gen.specs.Setups as setups;
-ghost use Rattle.hand_gen.specs.Stock.{full_deck};
+ghost use Rattle.hand_gen.specs.HandSource.{full_deck};
 ghost use Rattle.hand_canon.specs.Sound.{IsSound};
 ghost use Rattle.hand_gen.specs.Sound.{IsSoundHand};
 
 use crate::hand::{history_rules, script_of};
+use crate::hand_source::HandSource;
 use crate::setups::{number_behind_setup, setup_at};
-use crate::stock::Stock;
 use card_set::Memory;
 use hand_records::{Notes, Play, Record, Records, Stated};
 use play_event::{Script, Setup};
@@ -22,18 +22,18 @@ use replay_core::{ReplayFault, replay};
 use std::alloc::Global;
 use variant_table::by_code;
 
-/// A made hand with its trace, and the number to which the draws come behind it.
+/// A made hand with its trace, and the generator's number after it.
 #[derive(Debug, Drop)]
-pub struct Made {
+pub struct GeneratedHand {
     pub play: Play,
     pub number: u64,
 }
 
-/// So many made hands, from a seed.
+/// Makes `count` hands from a seed.
 ///
 /// # Errors
 ///
-/// Want of memory.
+/// Out of memory.
 pub fn make(alloc: Global, seed: u64, count: u32) -> Result<Records, Memory>
     requires few { count ≤ MOST_HANDS }
     ensures made { IfOk result (AreMade seed count) }
@@ -56,20 +56,20 @@ pub fn make(alloc: Global, seed: u64, count: u32) -> Result<Records, Memory>
     Ok(hands)
 }
 
-/// The hand at a place among the made hands, from 0, where the draws have come to this number, with
-/// its trace.
+/// The hand at a place among the made hands, from 0, with its trace; `number` is the generator's
+/// number before it.
 ///
 /// # Errors
 ///
-/// Want of memory.
-pub fn make_play(alloc: Global, place: u32, number: u64) -> Result<Made, Memory>
+/// Out of memory.
+pub fn make_play(alloc: Global, place: u32, number: u64) -> Result<GeneratedHand, Memory>
     ensures made { IfOk result (λ made. IsMade place number made.play.hand) }
     ensures behind { IfOk result (λ made. made.number ≡ number_behind number made.play.hand) }
     ensures sound { IfOk result (λ made. IsSound made.play) }
 {
     let setup = setup_at(place, number);
     let start = number_behind_setup(number, &setup);
-    let mut stock = match Stock::full(alloc, start, setup.code) {
+    let mut stock = match HandSource::full(alloc, start, setup.code) {
         Ok(stock) => stock,
         Err(memory) => return Err(memory),
     };
@@ -92,19 +92,19 @@ pub fn make_play(alloc: Global, place: u32, number: u64) -> Result<Made, Memory>
         stated: Stated::nothing(),
         notes: Notes::none(),
     };
-    Ok(Made {
+    Ok(GeneratedHand {
         play: Play { hand, trace },
         number: stock.number(),
     })
 }
 
 // The script of a made hand of the game that its setup names.
-fn script_by_code(alloc: Global, setup: &Setup, stock: &mut Stock) -> Result<Script, Memory>
+fn script_by_code(alloc: Global, setup: &Setup, stock: &mut HandSource) -> Result<Script, Memory>
     requires small { IsSmall setup.now }
     requires deck { stock.old.deck ≡ full_deck setup.now.code }
     ensures made { IfOk result (IsMadeScript setup.now stock.old) }
     ensures left { IfOk result (λ script. stock.new
-        ≡ stock_behind setup.now rules_of_histories stock.old (backward script)) }
+        ≡ source_behind setup.now rules_of_histories stock.old (backward script)) }
     ensures within { IfOk result (λ script. IsWithinLimits (map said_of script)) }
     ensures legal { IfOk result (λ script.
         IsLegalHand setup.now rules_of_histories (map said_of script)) }

@@ -1,4 +1,4 @@
-//! What the seat in turn does.
+//! What the player to act does in a made hand.
 ghost use Rattle.std.specs.Prelude.{◌≡◌, ◌≤◌, ℕ, true, None};
 ghost use Rattle.std.specs.Option.{option_map};
 ghost use Rattle.betting_numbers.specs.LegalMoves.{IsTurn, WhereUps};
@@ -8,20 +8,20 @@ ghost use Rattle.play_event.specs.Said.{kind_said};
 ghost use Rattle.play_event.specs.TurnTargets.{is_bet_due};
 ghost use Rattle.hand_gen.specs.Coming.{move_by, move_of, raise_of};
 ghost use Rattle.hand_gen.specs.Seen.{ends_said};
-ghost use Rattle.hand_gen.specs.Stock.{after_draw, draw_of};
+ghost use Rattle.hand_gen.specs.HandSource.{after_draw, draw_of};
 
-use crate::stock::Stock;
+use crate::hand_source::HandSource;
 use betting_core::{Betting, Targets};
 use chip_ledger::Seat;
 use play_event::{Kind, Spelled, UpRow};
 use variant_table::Variant;
 
-/// The move of the seat in turn.
+/// The move of the player to act.
 pub fn make_move<V: Variant>(
     betting: &Betting<V>,
     up: &UpRow,
     seat: Seat,
-    stock: &mut Stock,
+    stock: &mut HandSource,
 ) -> Kind
     requires row { up.now.seats ≡ betting.now.setup.stacks.seats }
     requires bets { is_bet_due betting.now.due ≡ true }
@@ -33,12 +33,12 @@ pub fn make_move<V: Variant>(
     ensures left { stock.new ≡ after_draw stock.old }
 {
     let number = stock.draw(8);
-    let owes = 0 < betting.owed(seat);
+    let owes = 0 < betting.to_call(seat);
     let ends = betting.targets(up);
     chosen(owes, ends, seat, number)
 }
 
-// What a seat does by a number that was drawn.
+// The move that a drawn number chooses.
 fn chosen(owes: bool, ends: Option<Targets>, seat: Seat, number: u64) -> Kind
     ensures { kind_said result ≡ move_of owes (ends_said ends) seat.number number }
 {
@@ -57,7 +57,7 @@ fn chosen(owes: bool, ends: Option<Targets>, seat: Seat, number: u64) -> Kind
     }
 }
 
-// A raise to a target; without one it is a call.
+// A raise to a target, or a call if there is none.
 fn raise(seat: Seat, target: Option<u64>) -> Kind
     ensures { kind_said result ≡ raise_of seat.number target }
 {
@@ -70,7 +70,7 @@ fn raise(seat: Seat, target: Option<u64>) -> Kind
     }
 }
 
-// A call, which states nothing.
+// A call that states no chips.
 fn call(seat: Seat) -> Kind
     ensures { kind_said result ≡ raise_of seat.number None }
 {
@@ -80,7 +80,7 @@ fn call(seat: Seat) -> Kind
     }
 }
 
-// The least target, if there is one.
+// The lowest target, if there is one.
 fn least(ends: Option<Targets>) -> Option<u64>
     ensures { result ≡ option_map (λ (t : ℕ × ℕ). t.0) (ends_said ends) }
 {
@@ -90,7 +90,7 @@ fn least(ends: Option<Targets>) -> Option<u64>
     }
 }
 
-// The greatest target, if there is one.
+// The highest target, if there is one.
 fn greatest(ends: Option<Targets>) -> Option<u64>
     ensures { result ≡ option_map (λ (t : ℕ × ℕ). t.1) (ends_said ends) }
 {

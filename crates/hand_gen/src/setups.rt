@@ -24,7 +24,7 @@ const GAMES: [Code; 11] = [
     Code::FB,
 ];
 
-/// The setup of the hand at a place, where the draws have come to this number.
+/// The setup of the hand at a place, where the generator has come to this number.
 pub fn setup_at(place: u32, number: u64) -> Setup
     ensures { IsMadeSetup place number result }
 {
@@ -47,14 +47,14 @@ pub fn setup_at(place: u32, number: u64) -> Setup
     }
 }
 
-// The game of a hand by its place.
+// The game of a hand, by its place.
 fn game_at(place: u32) -> Code
     ensures { result ≡ setups.game_at place }
 {
     GAMES[place as usize % 11]
 }
 
-// The stacks, drawn behind this number.
+// The stacks, drawn after this number.
 #[tactic(auto, using(crate::proofs::DrawLaws::one_draw_more))]
 fn stacks(number: u64, seats: u8) -> SeatRow
     requires least { 2 ≤ seats }
@@ -87,7 +87,7 @@ fn even_row(seats: u8, amount: u64) -> SeatRow
     row
 }
 
-// Chips where they are used, and else none.
+// Chips if they are used, and otherwise 0.
 fn chips_where(used: bool, chips: u64) -> u64
     ensures { result ≡ (if used then chips else 0) }
 {
@@ -125,14 +125,14 @@ fn blind(stud: bool, seats: u8, seat: u8) -> u64
     }
 }
 
-/// The number to which the draws come behind a setup.
+/// The generator's number after the setup was drawn.
 pub fn number_behind_setup(number: u64, setup: &Setup) -> u64
     ensures { result ≡ setups.number_behind_setup number setup.now }
 {
     number_behind(number, 1 + setup.stacks.seats)
 }
 
-// The number behind so many draws.
+// The number after `count` draws.
 #[tactic(auto, using(crate::proofs::DrawLaws::one_draw_more))]
 fn number_behind(number: u64, count: u8) -> u64
     ensures { result ≡ number_after count number }

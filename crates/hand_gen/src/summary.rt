@@ -1,7 +1,7 @@
-//! The numbers of one play, and of made hands together.
+//! The numbers of one play, and of all made hands.
 ghost use Rattle.std.specs.Prelude.{◌≤◌, ◌*◌, ◌^◌};
 
-/// Whether a format spells a hand, 1 or 0, and in how many bytes.
+/// Whether a format can express a hand, as 1 or 0, and in how many bytes.
 #[derive(Clone, Copy, Debug, PartialEq, Eq)]
 pub struct SpelledSize {
     pub hands: u128,
@@ -10,7 +10,7 @@ pub struct SpelledSize {
     pub ghost few: { bytes ≤ 2 ^ 64 },
 }
 
-/// The numbers of a play: its moves, the chips of its pots, and what each format spells of it.
+/// The numbers of a play: its moves, the chips of its pots, and its size in each format.
 #[derive(Clone, Copy, Debug, PartialEq, Eq)]
 pub struct PlayCounts {
     pub moves: u128,
@@ -23,8 +23,8 @@ pub struct PlayCounts {
     pub ghost one: { phh ≤ 1 },
 }
 
-/// How many hands, moves and chips of pots there are, and how many hands each format spells, and in
-/// how many bytes.
+/// How many hands, moves and chips in pots there are, and how many hands each format can express,
+/// and in how many bytes.
 #[derive(Clone, Copy, Debug, PartialEq, Eq)]
 pub struct Summary {
     pub hands: u128,

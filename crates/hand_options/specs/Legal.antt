@@ -1,4 +1,4 @@
--- Options are what is due after a past, and which moves of the seat in turn are legal there.
+-- Options are what is due after a past, and which moves of the player to act are legal there.
 use Rattle.std.specs.Prelude.{◌≡◌, ◌≤◌, ◌<◌, ℕ, Bool, true, false, ◌&&◌, ◌==◌, nat_le, if◌then◌else◌, List, take, is_none, slice_index, Option, Some, None, option_and_then}
 use Rattle.std.specs.List.{list_any}
 use Rattle.std.specs.Option.{option_map_or}
@@ -23,17 +23,17 @@ use Rattle.hand_options.specs.declared.choices.Options.{Options}
 use Rattle.hand_options.specs.declared.choices.RaiseSet.{RaiseSet}
 use Rattle.hand_options.specs.declared.choices.RaiseSet.TheVariants as sets
 
--- the seat in turn, where it is known
+-- the player to act, if known
 abbrev pub seat_known : InTurn → Option ℕ
 seat_known (TheSeat seat) = Some seat
 seat_known NoSeat = None
 seat_known Undecided = None
 
--- the seat in turn, where this is due on this street: a move and a bring-in are some seat's
+-- the player to act, if this is due on this street: only a move and a bring-in are some player's
 abbrev pub seat_at : Setup → Past → ℕ × Due → Option ℕ
 seat_at setup past now = if is_bet_due now.1 then seat_known (in_turn_on setup past now.0) else None
 
--- the seat in turn after a past
+-- the player to act after a past
 abbrev pub seat_in_turn : Setup → Past → Option ℕ
 seat_in_turn setup past = seat_at setup past (turn setup past)
 
@@ -41,18 +41,18 @@ seat_in_turn setup past = seat_at setup past (turn setup past)
 abbrev pub is_legal : Setup → Rules → Past → Said → Bool
 is_legal setup rules past event = is_none (why setup rules past event)
 
--- a fold of a seat is legal
+-- a fold by a seat is legal
 abbrev pub is_legal_fold : Setup → Rules → Past → ℕ → Bool
 is_legal_fold setup rules past seat = is_legal setup rules past (Fold (Some seat))
 
--- the chips that a call adds, where a call is legal that states no amount
+-- the chips that a call adds, if a call that states no amount is legal
 abbrev pub call_of : Setup → Rules → Past → ℕ → Option ℕ
 call_of setup rules past seat =
     if is_legal setup rules past (Call (Some seat) None)
     then Some (chips_to_call setup (moves_of past) (turn setup past).0 seat)
     else None
 
--- the chips of the street to which a bring-in goes, where it is legal
+-- the chips on the street to which a bring-in goes, if it is legal
 abbrev pub bring_in_of : Setup → Rules → Past → ℕ → Option ℕ
 bring_in_of setup rules past seat =
     if is_legal setup rules past (BringIn (Some seat))
@@ -70,44 +70,48 @@ is_in_set sets.None target = false
 is_in_set (sets.Range least greatest) target = nat_le least target && nat_le target greatest
 is_in_set (sets.List count to) target = list_any (λ one. target == one) (take count to)
 
--- so many targets are listed: one, or two that rise
+-- this number of targets is listed: one, or two in rising order
 pub record AreListed (count : ℕ) (to : List ℕ) : Type 0 where
   -- there is a target
   pub some : 1 ≤ count
   -- and there are no more than two
   pub few : count ≤ 2
-  -- of two the first is the lesser
+  -- of two, the first is the lower one
   pub rising : count ≡ 2 → slice_index to 0 < slice_index to 1
+  -- there is room for two
+  pub room : length to ≡ 2
+  -- and where one is listed the other place holds 0
+  pub spare : count ≡ 1 → slice_index to 1 ≡ 0
 
 -- a set has the form of its limit: in fixed limit it lists its targets, and in the other limits it
--- tells the least and the greatest
+-- names the lowest and the highest
 abbrev pub IsSetOf : Limit → RaiseSet → Type 0
 IsSetOf limit sets.None = Unit {0}
 IsSetOf limit (sets.Range least greatest) = (is_fixed limit ≡ false) × (least ≤ greatest)
 IsSetOf limit (sets.List count to) = (is_fixed limit ≡ true) × AreListed count to
 
--- What is due after a past, and which moves of the seat in turn are legal. Where no seat is in turn
--- no move is there.
+-- What is due after a past, and which moves of the player to act are legal. If no player is to act,
+-- there are no moves.
 pub record AreOptions (setup : Setup) (rules : Rules) (past : Past) (options : Options)
     : Type 0 where
   -- what is due is that of the rules
   pub due : options.due ≡ (turn setup past).1
-  -- and so is the seat in turn
+  -- and so is the player to act
   pub seat : seat_said options.seat ≡ seat_in_turn setup past
-  -- a fold is there exactly where it is legal
+  -- a fold is offered if and only if it is legal
   pub fold : options.fold
       ≡ option_map_or (is_legal_fold setup rules past) (seat_in_turn setup past) false
-  -- a call is there exactly where it is legal, with the chips that it adds
+  -- a call is offered if and only if it is legal, with the chips that it adds
   pub call : options.call ≡ option_and_then (call_of setup rules past) (seat_in_turn setup past)
-  -- a bring-in is there exactly where it is legal, with the chips to which it goes
+  -- a bring-in is offered if and only if it is legal, with the chips to which it goes
   pub bring_in : options.bring_in
       ≡ option_and_then (bring_in_of setup rules past) (seat_in_turn setup past)
-  -- the targets that are there are exactly those to which a raise is legal
+  -- the targets that are offered are exactly those to which a raise is legal
   pub raise : (target : ℕ) → is_in_set options.raise target
       ≡ option_map_or (is_legal_raise setup rules past target) (seat_in_turn setup past) false
-  -- and they are told in the form of the game's limit
+  -- and they are given in the form of the game's limit
   pub form : IsSetOf (limit_of setup.code) options.raise
 
--- it is not known whose turn it is: an up-card that decides it is unknown
+-- the player to act is not known: an up-card that decides it is unknown
 abbrev pub IsUndecided : Setup → Past → Type 0
 IsUndecided setup past = in_turn_on setup past (turn setup past).0 ≡ Undecided

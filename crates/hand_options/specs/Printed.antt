@@ -1,4 +1,4 @@
--- Options are printed as a line of what is due, and a line for each legal move.
+-- Prints options as one line for what is due, and one line for each legal move.
 use Rattle.std.specs.Prelude.{◌≤◌, ℕ, Bool, ◌==◌, if◌then◌else◌, List, [], ◌++◌, codes, flat_map, take, Option}
 use Rattle.std.specs.Fmt.{decimal}
 use Rattle.std.specs.Option.{option_map_or}
@@ -9,11 +9,11 @@ use Rattle.hand_options.specs.declared.choices.Options.{Options}
 use Rattle.hand_options.specs.declared.choices.RaiseSet.{RaiseSet}
 use Rattle.hand_options.specs.declared.choices.RaiseSet.TheVariants as sets
 
--- the name of the seat in turn
+-- the name of the player to act
 abbrev pub seat_text : Option ℕ → List ℕ
 seat_text seat = option_map_or default_name seat []
 
--- what is due, of a move and a bring-in with the seat in turn
+-- what is due, with the player to act if it is a move or a bring-in
 abbrev pub due_text : Due → Option ℕ → List ℕ
 due_text dues.Move seat = codes "move " ++ seat_text seat
 due_text dues.BringIn seat = codes "bring-in " ++ seat_text seat
@@ -22,7 +22,7 @@ due_text (dues.Draw street) seat = codes "draw street " ++ decimal street
 due_text dues.Show seat = codes "show"
 due_text dues.Over seat = codes "over"
 
--- the first line: the hand, how many events took place, and what is due behind them
+-- the first line: the hand, how many events took place, and what is due after them
 abbrev pub head_line : ℕ → ℕ → Options → List ℕ
 head_line hand events options =
     codes "hand "
@@ -63,7 +63,7 @@ raise_lines sets.None = []
 raise_lines (sets.Range least greatest) = range_line least greatest
 raise_lines (sets.List count to) = flat_map target_line (take count to)
 
--- the text of the options after so many events of the hand with this number
+-- the text of the options after this number of events of the hand with this number
 abbrev pub options_said : ℕ → ℕ → Options → List ℕ
 options_said hand events options =
     head_line hand events options

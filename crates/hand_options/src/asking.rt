@@ -1,4 +1,4 @@
-//! The first events of a play are played, and the options behind them are told.
+//! Plays the first events of a play, and gives the options after them.
 ghost use Rattle.std.specs.Prelude.{◌≡◌, ◌≤◌, length, is_some};
 ghost use Rattle.hand_canon.specs.LegalHand.{IsLegalHand};
 ghost use Rattle.hand_canon.specs.Sound.{IsSound};
@@ -16,11 +16,11 @@ use hand_records::{Play, Record};
 use replay_core::HandInPlay;
 use variant_table::{Variant, by_code};
 
-/// What is due after the first `events` events of a play, and which moves of the seat in turn are
+/// What is due after the first `events` events of a play, and which moves of the player to act are
 /// legal there.
 ///
-/// Ask for a sound play, and for no more events than its script has. The hand is played once, up to
-/// there, and no memory is taken. Where one seat is live the hand is over, though that seat may
+/// Ask for a sound play, and for at most as many events as its script has. The hand is played once,
+/// up to there, and nothing is allocated. With one live seat the hand is over, though that seat may
 /// still show.
 pub fn options(play: &Play, events: u32) -> Options
     requires sound { IsSound play.now }

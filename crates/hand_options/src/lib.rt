@@ -1,4 +1,4 @@
-//! After the first events of a hand it is told what is due, and which moves are legal.
+//! After the first events of a hand: what is due, and which moves are legal.
 #![tactic(auto)]
 
 mod asking;
@@ -12,5 +12,5 @@ mod targets;
 
 pub use asking::options;
 pub use choices::{Options, RaiseSet};
-pub use laws::law_of_one_text;
+pub use laws::{law_of_one_options, law_of_one_text};
 pub use printing::options_text;

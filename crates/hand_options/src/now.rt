@@ -1,4 +1,4 @@
-//! The machines of betting and cards say what is due now, and which moves are legal.
+//! Reads from the state of betting and cards what is due now, and which moves are legal.
 ghost use Rattle.std.specs.Prelude.{◌≡◌, true, IfNone};
 ghost use Rattle.hand_options.specs.Legal.{AreOptions, IsUndecided};
 ghost use Rattle.play_event.specs.TurnTargets.{is_bet_due};
@@ -10,8 +10,8 @@ use play_event::Due;
 use replay_core::HandInPlay;
 use variant_table::Variant;
 
-/// What is due now, and which moves of the seat in turn are legal. No seat is told where it is not
-/// known whose turn it is.
+/// What is due now, and which moves of the player to act are legal. There is no player to act if an
+/// up-card that decides it is unknown.
 pub fn options_now<V: Variant>(hand: &HandInPlay<V>) -> Options
     ensures legal { WhereTogether hand.now.betting hand.now.cards
         (λ past. AreOptions hand.now.betting.setup hand.now.betting.rules past result) }
@@ -24,7 +24,7 @@ pub fn options_now<V: Variant>(hand: &HandInPlay<V>) -> Options
         return no_options(due);
     }
     let up = hand.opening_up_cards();
-    match hand.betting.turn_now(&up) {
+    match hand.betting.to_act(&up) {
         Some(seat) => options_of(&hand.betting, &up, seat),
         None => no_options(due),
     }

@@ -1,4 +1,4 @@
-//! Options are printed as a line of what is due, and a line for each legal move.
+//! Prints options as one line for what is due, and one line for each legal move.
 ghost use Rattle.std.specs.Prelude.{◌≡◌, ◌++◌, IfOk, OnOk, is_some, codes, decimal, flat_map, string_bytes};
 ghost use Rattle.chip_ledger.specs.SeatsSaid.{default_name, seat_said};
 ghost use Rattle.hand_options.specs.Printed.{HasTargets, bring_in_line, call_line, due_text, fold_line, options_said, raise_lines, range_line, target_line};
@@ -10,14 +10,14 @@ use chip_ledger::Seat;
 use play_event::Due;
 use std::alloc::Global;
 
-/// The text of the options after so many events of the hand with this number, in bytes.
+/// The text of the options after `events` events of the hand with this number, in bytes.
 ///
-/// Ask for a seat exactly where a move or a bring-in is due, and for a list of one or two targets:
-/// the options of a play are such.
+/// The options must have a player to act if and only if a move or a bring-in is due, and a list of
+/// one or two targets: the options of a play are always such.
 ///
 /// # Errors
 ///
-/// Want of memory.
+/// Out of memory.
 pub fn options_text(
     alloc: Global,
     hand: u32,
@@ -38,7 +38,7 @@ pub fn options_text(
     Ok(text.into_bytes())
 }
 
-// Puts what is due at the end of a text, of a move and a bring-in with the seat in turn.
+// Appends what is due to a text, with the player to act if it is a move or a bring-in.
 fn push_due(text: &mut String, due: Due, seat: Option<Seat>) -> Result<(), Memory>
     requires { is_some seat ≡ is_bet_due due }
     ensures { OnOk result (string_bytes text.new
@@ -54,7 +54,7 @@ fn push_due(text: &mut String, due: Due, seat: Option<Seat>) -> Result<(), Memor
     }
 }
 
-// Puts what the seat in turn has to do.
+// Appends what the player to act has to do.
 fn push_turn(text: &mut String, what: &str, seat: Seat) -> Result<(), Memory>
     ensures { OnOk result (string_bytes text.new
         ≡ string_bytes text.old ++ (what.now ++ default_name seat.number)) }
@@ -64,7 +64,7 @@ fn push_turn(text: &mut String, what: &str, seat: Seat) -> Result<(), Memory>
     Ok(())
 }
 
-// Puts what is dealt or drawn, and on which street.
+// Appends what is dealt or drawn, and on which street.
 fn push_street(text: &mut String, what: &str, street: u8) -> Result<(), Memory>
     ensures { OnOk result (string_bytes text.new
         ≡ string_bytes text.old ++ (what.now ++ (codes " street " ++ decimal street))) }
@@ -73,7 +73,7 @@ fn push_street(text: &mut String, what: &str, street: u8) -> Result<(), Memory>
     Ok(())
 }
 
-// Puts the line of a fold, if it is legal.
+// Appends the line of a fold, if it is legal.
 fn push_fold(text: &mut String, fold: bool) -> Result<(), Memory>
     ensures { OnOk result (string_bytes text.new ≡ string_bytes text.old ++ fold_line fold) }
 {
@@ -83,7 +83,7 @@ fn push_fold(text: &mut String, fold: bool) -> Result<(), Memory>
     Ok(())
 }
 
-// Puts the line of a call, if it is legal: the chips that it adds.
+// Appends the line of a call, if it is legal: the chips that it adds.
 fn push_call(text: &mut String, call: Option<u64>) -> Result<(), Memory>
     ensures { OnOk result (string_bytes text.new ≡ string_bytes text.old ++ call_line call) }
 {
@@ -93,7 +93,7 @@ fn push_call(text: &mut String, call: Option<u64>) -> Result<(), Memory>
     Ok(())
 }
 
-// Puts the line of a bring-in, if it is legal: the chips to which it goes.
+// Appends the line of a bring-in, if it is legal: the chips to which it goes.
 fn push_bring_in(text: &mut String, target: Option<u64>) -> Result<(), Memory>
     ensures { OnOk result (string_bytes text.new
         ≡ string_bytes text.old ++ bring_in_line target) }
@@ -104,7 +104,7 @@ fn push_bring_in(text: &mut String, target: Option<u64>) -> Result<(), Memory>
     Ok(())
 }
 
-// Puts the lines of the raises that are legal.
+// Appends the lines of the raises that are legal.
 fn push_raises(text: &mut String, raise: RaiseSet) -> Result<(), Memory>
     requires { HasTargets raise }
     ensures { OnOk result (string_bytes text.new
@@ -117,7 +117,7 @@ fn push_raises(text: &mut String, raise: RaiseSet) -> Result<(), Memory>
     }
 }
 
-// Puts the line of a range, which may be one target.
+// Appends the line of a range, which may be one target.
 fn push_range(text: &mut String, least: u64, greatest: u64) -> Result<(), Memory>
     ensures { OnOk result (string_bytes text.new
         ≡ string_bytes text.old ++ range_line least greatest) }
@@ -130,7 +130,7 @@ fn push_range(text: &mut String, least: u64, greatest: u64) -> Result<(), Memory
     }
 }
 
-// Puts a line for each of the targets.
+// Appends a line for each of the targets.
 fn push_targets(text: &mut String, targets: &[u64]) -> Result<(), Memory>
     ensures { OnOk result (string_bytes text.new
         ≡ string_bytes text.old ++ flat_map target_line targets.now) }
@@ -144,7 +144,7 @@ fn push_targets(text: &mut String, targets: &[u64]) -> Result<(), Memory>
     }
 }
 
-// Puts the line of one target.
+// Appends the line of one target.
 fn push_target(text: &mut String, target: u64) -> Result<(), Memory>
     ensures { OnOk result (string_bytes text.new
         ≡ string_bytes text.old ++ target_line target) }

@@ -1,11 +1,11 @@
-//! The seat in turn may fold, call, bring in and raise as the betting says.
+//! Which of fold, call, bring-in and raise the betting allows the player to act.
 ghost use Rattle.std.specs.Prelude.{◌≡◌, ◌≤◌, true, Some};
 ghost use Rattle.betting_numbers.specs.LegalMoves.{IsTurn, WhereUps};
 ghost use Rattle.hand_options.specs.Legal.{AreOptions};
 ghost use Rattle.hand_options.specs.Sets.{no_options as no_options_said};
 ghost use Rattle.play_event.specs.Openers.{TheSeat};
 ghost use Rattle.play_event.specs.TurnTargets.{is_bet_due};
-ghost use Rattle.street_laws.specs.Dues.{is_move as is_move_said};
+ghost use Rattle.play_laws.specs.Dues.{is_move as is_move_said};
 
 use crate::choices::{Options, RaiseSet};
 use crate::targets::raise_set;
@@ -14,7 +14,7 @@ use chip_ledger::Seat;
 use play_event::{Due, UpRow};
 use variant_table::Variant;
 
-/// The options of the seat in turn, where a move or a bring-in is due.
+/// The options of the player to act, when a move or a bring-in is due.
 pub fn options_of<V: Variant>(betting: &Betting<V>, up: &UpRow, seat: Seat) -> Options
     requires row { up.now.seats ≡ betting.now.setup.stacks.seats }
     requires bets { is_bet_due betting.now.due ≡ true }
@@ -47,7 +47,7 @@ pub fn options_of<V: Variant>(betting: &Betting<V>, up: &UpRow, seat: Seat) -> O
     }
 }
 
-/// The options where no seat is in turn: there are none.
+/// The options when no player is to act: there are none.
 pub fn no_options(due: Due) -> Options
     ensures { result ≡ no_options_said due }
 {

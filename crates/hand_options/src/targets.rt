@@ -1,4 +1,4 @@
-//! The set of legal targets follows from the least and the greatest of them and the game's limit.
+//! The set of legal targets, from the lowest and the highest of them and the game's limit.
 ghost use Rattle.std.specs.Prelude.{◌≡◌};
 ghost use Rattle.play_event.specs.declared.limit.Limit.TheVariants as limits;
 ghost use Rattle.hand_options.specs.Sets.{set_between as set_said, set_of};
@@ -7,7 +7,7 @@ use crate::choices::RaiseSet;
 use betting_core::Targets;
 use play_event::Limit;
 
-/// The set of the legal targets, of which these are the least and the greatest.
+/// The set of legal targets between these, the lowest and the highest of them.
 pub fn raise_set(limit: Limit, ends: Option<Targets>) -> RaiseSet
     ensures { result ≡ set_of limit ends }
 {
@@ -17,7 +17,7 @@ pub fn raise_set(limit: Limit, ends: Option<Targets>) -> RaiseSet
     }
 }
 
-// The set of the legal targets between its ends. Fixed limit has no others.
+// The set of legal targets from `least` to `greatest`. In fixed limit there are no others.
 fn set_between(limit: Limit, least: u64, greatest: u64) -> RaiseSet
     ensures { result ≡ set_said limit least greatest }
 {

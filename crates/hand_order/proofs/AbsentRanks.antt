@@ -5,7 +5,7 @@ use Rattle.std.specs.Int.{bit_at, trailing_zeros}
 use Rattle.std.proofs.lemmas.Bool.{cases_lt, ne_eqb}
 use Rattle.std.proofs.lemmas.Nat.Bits.{bit_at-trailing_zeros, bit_at-zero}
 use Rattle.hand_order.specs.Lowest.{has_height}
-use Rattle.list_laws.proofs.Bits.{moved}
+use Rattle.card_set.proofs.Bits.{moved}
 
 -- the bits below the lowest are not set
 below_lowest : (n k : ℕ) → n < 2 ^ 16 → k < trailing_zeros w16 n → bit_at n k ≡ 0
@@ -19,7 +19,7 @@ below_lowest n k small below =
 height_bit : (mask h : ℕ) → 2 ≤ h → has_height mask h ≡ (bit_at mask (h - 2) == 1)
 height_bit mask h some = ap (λ (b : Bool). bit_at mask (cond b 12 (h - 2)) == 1) (ne_eqb h 1 (λ one. omega arith))
 
--- ranks are absent where their bits are not set
+-- ranks are absent if their bits are not set
 pub ranks_absent : (mask from k : ℕ) → mask < 2 ^ 16 → 2 ≤ from → k < trailing_zeros w16 (mask / 2 ^ (from - 2)) → has_height mask (from + k) ≡ false
 ranks_absent mask from k small some below =
     let off = below_lowest (mask / 2 ^ (from - 2)) k (omega arith) below in
@@ -27,7 +27,7 @@ ranks_absent mask from k small some below =
     let bit = sym (ap (bit_at mask) place) ∙ sym (moved mask (from - 2) k) ∙ off in
     height_bit mask (from + k) (omega arith) ∙ ne_eqb (bit_at mask (from + k - 2)) 1 (λ set. omega arith)
 
--- and the next is there, where it is one of thirteen
+-- and the next is there, if it is one of thirteen
 pub rank_next : (mask from : ℕ) → mask < 2 ^ 16 → 2 ≤ from → from + trailing_zeros w16 (mask / 2 ^ (from - 2)) ≤ 13 → has_height mask (from + trailing_zeros w16 (mask / 2 ^ (from - 2))) ≡ true
 rank_next mask from small some within =
     let n = mask / 2 ^ (from - 2) in
@@ -41,7 +41,7 @@ rank_next mask from small some within =
           absurd (omega (arith, all, within, ap (trailing_zeros w16) {x = n} {y = 0} (omega arith)))
     ]
 
--- from the ace on, where it is absent
+-- from the ace on, if it is absent
 pub after_ace : (mask from k tail : ℕ) → mask < 2 ^ 16 → from ≡ 1 → has_height mask from ≡ false → tail ≡ trailing_zeros w16 mask → k < 1 + tail → has_height mask (from + k) ≡ false
 after_ace mask from zero tail small one absent is below = ap (has_height mask) {x = from + 0} {y = from} (omega arith) ∙ absent
 after_ace mask from (suc k) tail small one absent is below =

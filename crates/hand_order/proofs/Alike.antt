@@ -1,4 +1,5 @@
--- What is told of different cards by how often their ranks occur, by their suits and by what each passes does not depend on their order.
+-- What depends only on how often ranks occur, on suits and on tests of single cards does not depend
+-- on the order of the cards.
 use Rattle.std.proofs.Common.{◌≡◌, ℕ, ◌<◌, ◌==◌, ◌&&◌, Bool, true, false, List, [], ◌∷◌, length, Option, refl, sym, ◌∙◌, ap, subst, arith, eqb-true}
 use Rattle.std.specs.List.{list_all}
 use Rattle.std.proofs.lemmas.Bool.{and_parts}
@@ -10,7 +11,7 @@ use Rattle.card_set.specs.Different.{Every, AllDifferent}
 use Rattle.card_set.specs.Ranks.{is_one_suit, ranks_occurring, ranks_of}
 use Rattle.card_set.proofs.Listing.{occurring-same, ranks_of-same}
 use Rattle.hand_order.proofs.SameChoices.{every_one_of, one_of_every}
-use Rattle.list_laws.proofs.Tests.{same_test}
+use Rattle.card_set.proofs.Tests.{same_test}
 
 -- what passes a test
 abbrev pub Passes : (Card → Bool) → Card → Type 0
@@ -32,7 +33,7 @@ pub every_map : (P Q : Card → Type 0) → ((card : Card) → P card → Q card
 every_map P Q turn [] every = tt
 every_map P Q turn (card ∷ rest) every = (turn card every.0, every_map P Q turn rest every.1)
 
--- what holds of each card holds of each of the same cards
+-- what holds for each card of a list holds for each of the same cards
 pub every_same : (P : Card → Type 0) (a b : List Card) → AreSameCards a b → Every P a → Every P b
 every_same P a b same every = every_map (λ card. is_one_of card b ≡ true) P (λ card is. one_of_every P card a every (same card ∙ is)) b (every_one_of b)
 
@@ -49,7 +50,7 @@ suited_same (card ∷ rest) (first ∷ others) some same suited =
 pub is_one_suit-same : (a b : List Card) → 0 < length a → 0 < length b → AreSameCards a b → is_one_suit a ≡ is_one_suit b
 is_one_suit-same a b some_a some_b same = same_test (is_one_suit a) (is_one_suit b) (suited_same a b some_b same) (suited_same b a some_a (λ card. sym (same card)))
 
--- what is told by how often ranks occur and whether the cards are of one suit
+-- what depends only on how often ranks occur and on whether the cards are of one suit
 pub told_alike : (f : ℕ → ℕ → ℕ → List ℕ → Bool → Option ℕ) (height : Rank → ℕ) (a b : List Card) → AllDifferent a → AllDifferent b → 0 < length a → 0 < length b → AreSameCards a b
     → f (ranks_occurring height a 4) (ranks_occurring height a 3) (ranks_occurring height a 2) (ranks_of height a) (is_one_suit a) ≡ f (ranks_occurring height b 4) (ranks_occurring height b 3) (ranks_occurring height b 2) (ranks_of height b) (is_one_suit b)
 told_alike f height a b different_a different_b some_a some_b same =

@@ -12,7 +12,7 @@ use Rattle.hand_order.specs.declared.ladder.FlushPlace.TheVariants as flushes
 use Rattle.hand_order.specs.declared.straights.LowStraight.{LowStraight}
 use Rattle.hand_order.specs.Choices.{choices, IsAmong, AreHeld}
 use Rattle.hand_order.specs.Digits.{class_above, AreDigits}
-use Rattle.hand_order.specs.Ladder.{flush_class, ladder_points, leveled}
+use Rattle.hand_order.specs.Ladder.{flush_class, ladder_points, flush_ranked}
 use Rattle.hand_order.specs.Patterns.{Fits, IsPicked, IsPattern, pattern, IsBestNumber, IsBestPattern}
 use Rattle.hand_order.specs.Points.{greatest}
 use Rattle.hand_order.specs.StraightRanks.{HasStraight, topped}
@@ -97,7 +97,7 @@ straight_chosen flush low cards top different found none =
     ]
 
 -- no choice has more
-over : (flush : FlushPlace) (low : LowStraight) (cards : List Card) (class : ℕ) (hs : List ℕ) (top clubs diamonds hearts spades most : ℕ) → AllDifferent cards → AreBest flush low cards class hs top clubs diamonds hearts spades → most ≡ max (max (max (max (max (class_above (leveled flush class) hs) (topped 4 top)) clubs) diamonds) hearts) spades
+over : (flush : FlushPlace) (low : LowStraight) (cards : List Card) (class : ℕ) (hs : List ℕ) (top clubs diamonds hearts spades most : ℕ) → AllDifferent cards → AreBest flush low cards class hs top clubs diamonds hearts spades → most ≡ max (max (max (max (max (class_above (flush_ranked flush class) hs) (topped 4 top)) clubs) diamonds) hearts) spades
     → (other : List Card) → IsAmong other (choices 5 cards) → ladder_points flush low other ≤ most
 over flush low cards class hs top clubs diamonds hearts spades most different best is other among =
     let held = held_chosen 5 cards other different among in
@@ -139,13 +139,13 @@ over flush low cards class hs top clubs diamonds hearts spades most different be
         all (suit_fits (suits_before card.suit) cards (card ∷ rest) (suited_every card rest suited) among held suited)
 
 -- the greatest of all is that of the choices
-pub high_best : (flush : FlushPlace) (low : LowStraight) (cards : List Card) (class : ℕ) (hs : List ℕ) (top clubs diamonds hearts spades most : ℕ) → AllDifferent cards → AreBest flush low cards class hs top clubs diamonds hearts spades → most ≡ max (max (max (max (max (class_above (leveled flush class) hs) (topped 4 top)) clubs) diamonds) hearts) spades
+pub high_best : (flush : FlushPlace) (low : LowStraight) (cards : List Card) (class : ℕ) (hs : List ℕ) (top clubs diamonds hearts spades most : ℕ) → AllDifferent cards → AreBest flush low cards class hs top clubs diamonds hearts spades → most ≡ max (max (max (max (max (class_above (flush_ranked flush class) hs) (topped 4 top)) clubs) diamonds) hearts) spades
     → greatest (λ choice. Some (ladder_points flush low choice)) (choices 5 cards) ≡ Some most
 high_best flush low cards class hs top clubs diamonds hearts spades most different best is =
     let plain = pattern_reached flush low cards class hs different best.plain in
-    let none = less_chosen flush low cards 0 (class_above (leveled flush class) hs) (omega arith) plain in
+    let none = less_chosen flush low cards 0 (class_above (flush_ranked flush class) hs) (omega arith) plain in
     let reached =
-    max_chosen flush low cards _ spades (max_chosen flush low cards _ hearts (max_chosen flush low cards _ diamonds (max_chosen flush low cards _ clubs (max_chosen flush low cards (class_above (leveled flush class) hs) (topped 4 top) plain
+    max_chosen flush low cards _ spades (max_chosen flush low cards _ hearts (max_chosen flush low cards _ diamonds (max_chosen flush low cards _ clubs (max_chosen flush low cards (class_above (flush_ranked flush class) hs) (topped 4 top) plain
     (straight_chosen flush low cards top different best.found none))
     (suit_chosen flush low cards 0 clubs different best.of_clubs none))
     (suit_chosen flush low cards 1 diamonds different best.of_diamonds none))
@@ -172,7 +172,7 @@ class_few class kind = elim (pattern_cases class kind) [
 ]
 
 -- the class of a pattern is at most seven
-pub leveled_few : (flush : FlushPlace) (class : ℕ) → IsPattern class → leveled flush class ≤ 15
+pub leveled_few : (flush : FlushPlace) (class : ℕ) → IsPattern class → flush_ranked flush class ≤ 15
 leveled_few flushes.BelowFullHouse class kind = class_few class kind
 leveled_few flushes.AboveFullHouse class kind = by_test (class == 6) (class_few class kind)
   where

@@ -1,4 +1,5 @@
--- The best pattern is read from the masks of the heights that occur once, twice, three times and four times at least.
+-- The best pattern is read from the masks of the heights that occur at least once, twice, three
+-- times and four times.
 use Rattle.std.proofs.Common.{◌≡◌, ◌↔◌, ℕ, suc, ◌+◌, ◌-◌, ◌*◌, ◌^◌, ◌%◌, ◌<◌, ◌≤◌, ◌==◌, Bool, true, false, cond, List, [], ◌∷◌, inl, inr, refl, sym, ◌∙◌, ap, subst, arith, eqb-true, bit_and, w16}
 use Rattle.std.specs.Int.{bit_at, bit_not}
 use Rattle.std.proofs.lemmas.Bool.{cases_lt, eqb-false}
@@ -15,9 +16,9 @@ use Rattle.hand_order.proofs.OwnRanks.{InRange-high_ace}
 use Rattle.hand_order.proofs.PlainHands.{pattern_cases, four_and_one, three_and_two, three_alone, two_and_two, two_alone, ones_alone}
 use Rattle.hand_order.proofs.ShownRanks.{top_shown, tops_picked}
 use Rattle.hand_order.specs.Patterns.{without, Fits, IsPicked, OfRanks, AreSome, pattern, IsPattern, IsBestNumber, IsBestPattern, AreCounts}
-use Rattle.list_laws.proofs.Numbers.{positive}
-use Rattle.list_laws.proofs.Sums.{once_sum, some_sum}
-use Rattle.list_laws.proofs.Tests.{passes_or_not}
+use Rattle.card_set.proofs.Numbers.{positive}
+use Rattle.card_set.proofs.Sums.{once_sum, some_sum}
+use Rattle.card_set.proofs.Tests.{passes_or_not}
 
 -- a mask without any bit shows nothing
 pub nothing_shown : (mask n h : ℕ) (T : ℕ → ℕ) → Shows mask n T → mask ≡ 0 → n ≤ T h → ⊥
@@ -28,7 +29,7 @@ nothing_shown mask n h T shows is often =
     let off = ap (λ (m : ℕ). bit_at m (h - 2)) is ∙ bit_at-zero (h - 2) in
     absurd (omega arith)
 
--- nor is there a second where the others show none
+-- nor is there a second one if the others show none
 pub no_second : (more n m a x y : ℕ) (T : ℕ → ℕ) → Shows more m (without T a) → more ≡ 0 → 0 < m → m ≤ n → n ≤ T x → m ≤ without T x y → ⊥
 no_second more n m a x y T shows is positive fewer often other =
     elim (passes_or_not (a == x)) [
@@ -36,7 +37,7 @@ no_second more n m a x y T shows is positive fewer often other =
       | inr apart ↦ let here = ap (λ (b : Bool). cond b 0 (T x)) apart in nothing_shown more m x (without T a) shows is (omega arith)
     ]
 
--- where no pair is left, each of the others occurs once
+-- if no pair is left, each of the others occurs once
 others_once : (more a : ℕ) (T : ℕ → ℕ) → Shows more 2 (without T a) → more ≡ 0 → (h : ℕ) → without T a h ≤ 1
 others_once more a T shows is h = elim (cases_lt 1 (without T a h)) [ inl often ↦ absurd (nothing_shown more 2 h (without T a) shows is (omega arith)) | inr once ↦ once ]
 
@@ -58,7 +59,7 @@ digits_of T (n ∷ ns) (h ∷ hs) of some fits =
 pub picked_digits : (T : ℕ → ℕ) (ns hs : List ℕ) → OfRanks high_ace T → AreSome ns → IsPicked T ns hs → AreDigits hs
 picked_digits T ns hs of some picked = digits_of T ns hs of some (picked_fits T ns hs picked)
 
--- what no four says
+-- what follows if there is no four of a kind
 no_four : (four : ℕ) (T : ℕ → ℕ) (ks : List ℕ) → Shows four 4 T → four ≡ 0 → Fits T (4 ∷ 1 ∷ []) ks → ⊥
 no_four four T [] shows is fits = fits
 no_four four T (x ∷ ks) shows is fits = nothing_shown four 4 x T shows is fits.0
@@ -113,7 +114,7 @@ cleared_shows mask rest place n T shows positive small bits = record {
         let same = bits k ∙ ap (λ (t : Bool). cond t 0 (bit_at mask k)) is in
         (λ set. (shows.each k).0 (sym same ∙ set), λ often. same ∙ (shows.each k).1 often)
 
--- no pattern above fits, where none of those above does
+-- no higher pattern fits, if none of those above fits
 none_by : (T : ℕ → ℕ) (k : ℕ) → (k < 7 → (ks : List ℕ) → Fits T (pattern 7) ks → ⊥) → (k < 6 → (ks : List ℕ) → Fits T (pattern 6) ks → ⊥) → (k < 3 → (ks : List ℕ) → Fits T (pattern 3) ks → ⊥) → (k < 2 → (ks : List ℕ) → Fits T (pattern 2) ks → ⊥) → (k < 1 → (ks : List ℕ) → Fits T (pattern 1) ks → ⊥) → (j : ℕ) (ks : List ℕ) → IsPattern j → k < j → Fits T (pattern j) ks → ⊥
 none_by T k no7 no6 no3 no2 no1 j ks kind above fits =
     elim (pattern_cases j kind) [

@@ -1,4 +1,4 @@
--- One card more is chosen, or left.
+-- One more card is chosen, or left out.
 use Rattle.std.proofs.Common.{◌≡◌, ℕ, zero, suc, ◌+◌, ◌-◌, ◌<◌, ◌≤◌, List, [], ◌∷◌, ◌++◌, map, drop, get_or, length-take, Option, None, inl, refl, sym, ◌∙◌, ap, subst, arith, append_assoc, append-nil}
 use Rattle.std.proofs.lemmas.List.{drop_more, get_or-take, drop_all}
 use Rattle.card_set.specs.declared.card.Card.{Card}
@@ -24,13 +24,13 @@ greatest-step points chosen with rest card need some is =
     (greatest-map (λ more. points (chosen ++ more)) (λ others. card ∷ others) (choices (need - 1) rest)
     ∙ greatest-agree (λ others. points (chosen ++ card ∷ others)) (λ more. points (with ++ more)) (choices (need - 1) rest) (λ others. ap points (sym (append_assoc chosen (card ∷ []) others) ∙ ap (λ (l : List Card). l ++ others) (sym is))))
 
--- what is accepted of all choices is accepted of those with the first card
+-- what is accepted for all choices is accepted for those with the first card
 pub accepted_with : (accepts : List Card → Type 0) (chosen with rest : List Card) (card : Card) (need : ℕ) → 0 < need → with ≡ chosen ++ card ∷ [] → ((more : List Card) → IsAmong more (choices need (card ∷ rest)) → accepts (chosen ++ more)) → (more : List Card) → IsAmong more (choices (need - 1) rest) → accepts (with ++ more)
 accepted_with accepts chosen with rest card need some is all more among =
     subst accepts (sym (append_assoc chosen (card ∷ []) more) ∙ ap (λ (l : List Card). l ++ more) (sym is))
     (all (card ∷ more) (subst (IsAmong (card ∷ more)) (sym (choices-cons need card rest some)) (IsAmong-left (card ∷ more) (map (λ others. card ∷ others) (choices (need - 1) rest)) (choices need rest) (IsAmong-map (λ others. card ∷ others) more (choices (need - 1) rest) among))))
 
--- and of those without it
+-- and for those without it
 pub accepted_without : (accepts : List Card → Type 0) (chosen rest : List Card) (card : Card) (need : ℕ) → 0 < need → ((more : List Card) → IsAmong more (choices need (card ∷ rest)) → accepts (chosen ++ more)) → (more : List Card) → IsAmong more (choices need rest) → accepts (chosen ++ more)
 accepted_without accepts chosen rest card need some all more among =
     all more (subst (IsAmong more) (sym (choices-cons need card rest some)) (IsAmong-right more (map (λ others. card ∷ others) (choices (need - 1) rest)) (choices need rest) among))
@@ -65,7 +65,7 @@ best_step points chosen with deck card at need best first second some is left be
     ∙ sym (greatest-step points chosen with (drop (at + 1) deck) card need some is)
     ∙ ap (λ (l : List Card). greatest (λ more. points (chosen ++ more)) (choices need l)) (sym left)
 
--- past the last card none is left
+-- after the last card none is left
 pub drop-past : (row : CardRow) (at : ℕ) → row.len ≤ at → drop at (cards_of row) ≡ []
 drop-past row at past = drop_all at (cards_of row) (omega (arith, length-take row.len row.cards, row.entries, row.fits))
 

@@ -1,4 +1,4 @@
--- Numbers that are written with as many digits compare as their lists of digits do.
+-- Numbers that are written with the same number of digits compare as their lists of digits do.
 use Rattle.std.proofs.Common.{◌≡◌, ℕ, ◌+◌, ◌*◌, ◌^◌, ◌<◌, ◌≤◌, List, [], ◌∷◌, ◌++◌, length, ◌⊎◌, inl, inr, ◌↔◌, refl, ap, arith}
 use Rattle.std.proofs.lemmas.Bool.{cases_lt}
 use Rattle.std.proofs.lemmas.List.Sums.{fold-append}
@@ -18,12 +18,12 @@ pub with_digits-nil : (value : ℕ) → with_digits value [] ≡ value
 unfolding with_digits
 with_digits-nil value = refl
 
--- more digits make no smaller number
+-- more digits do not make a smaller number
 pub with_digits-more : (value : ℕ) (xs : List ℕ) → value ≤ with_digits value xs
 with_digits-more value [] = omega (arith, with_digits-nil value)
 with_digits-more value (x ∷ xs) = omega (arith, with_digits-cons value x xs, with_digits-more (value * 16 + x) xs)
 
--- a smaller number stays smaller when as many digits follow
+-- a smaller number stays smaller if the same number of digits follow
 after_less : (low high : ℕ) (xs ys : List ℕ) → low < high → length xs ≡ length ys → AreDigits xs → AreDigits ys → with_digits low xs < with_digits high ys
 after_less low high [] [] less same digits others = omega (arith, with_digits-nil low, with_digits-nil high)
 after_less low high [] (y ∷ ys) less same digits others = absurd (omega arith)
@@ -70,7 +70,8 @@ number_below (a ∷ b ∷ c ∷ d ∷ []) few digits = omega (arith, digits.0, d
 number_below (a ∷ b ∷ c ∷ d ∷ e ∷ []) few digits = omega (arith, digits.0, digits.1.0, digits.1.1.0, digits.1.1.1.0, digits.1.1.1.1.0)
 number_below (a ∷ b ∷ c ∷ d ∷ e ∷ f ∷ rest) few digits = absurd (omega arith)
 
--- a number with a class above its digits is less exactly where the class is less, or the class is the same and the digits are lower
+-- a number with a class above its digits is smaller if and only if the class is, or the class is
+-- the same and the digits are lower
 pub class_first : (class other : ℕ) (xs ys : List ℕ) → length xs ≤ 5 → length ys ≤ 5 → AreDigits xs → AreDigits ys → (class ≡ other → length xs ≡ length ys) → (class_above class xs < class_above other ys) ↔ ((class < other) ⊎ ((class ≡ other) × IsLower xs ys))
 class_first class other xs ys few few_others digits others same =
     let below = number_below xs few digits in

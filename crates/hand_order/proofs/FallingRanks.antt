@@ -12,7 +12,7 @@ use Rattle.hand_order.proofs.OwnRanks.{several}
 use Rattle.hand_order.proofs.PlainHands.{class_of, hand_picked}
 use Rattle.hand_order.specs.Patterns.{without, Fits, IsPicked, OfRanks, total, AreSome, pattern}
 
--- heights below a bound, each below the one before
+-- heights below a bound, each below the one before it
 abbrev pub FallingFrom : ℕ → List ℕ → Type 0
 FallingFrom bound [] = Unit {0}
 FallingFrom bound (h ∷ hs) = (h < bound) × FallingFrom h hs
@@ -43,7 +43,7 @@ total_several : (m : ℕ) → total (several m 1) ≡ m
 total_several zero = refl
 total_several (suc m) = omega (arith, total_several m)
 
--- where as many fit as there are, falling ones are picked
+-- if as many fit as there are, falling ones are picked
 pub falling_picked : (height : Rank → ℕ) → IsHeight height → (T : ℕ → ℕ) (m bound : ℕ) (hs : List ℕ) → OfRanks height T → Fits T (several m 1) hs → sum_by T falling_heights ≡ m → FallingFrom bound hs → IsPicked T (several m 1) hs
 falling_picked height is T zero bound [] of fits all falling = tt
 falling_picked height is T zero bound (h ∷ hs) of fits all falling = fits
@@ -62,7 +62,7 @@ falling_picked height is T (suc m) bound (h ∷ hs) of fits all falling =
       falling_picked height is (without T h) m h hs (without_of_ranks height T h of) fits.1 (omega (arith, fits.0, total_several m)) falling.1,
     )
 
--- what is picked is one list
+-- only one list is picked
 pub picked_same : (T : ℕ → ℕ) (ns hs ks : List ℕ) → IsPicked T ns hs → IsPicked T ns ks → hs ≡ ks
 picked_same T [] [] [] one other = refl
 picked_same T [] [] (k ∷ ks) one other = absurd other

@@ -13,7 +13,7 @@ without-within T U h within k = by_test (h == k)
     by_test true = omega arith
     by_test false = within k
 
--- what fits still fits where heights occur oftener
+-- what fits still fits if heights occur more often
 pub fits-within : (T U : ℕ → ℕ) (ns hs : List ℕ) → Within T U → Fits T ns hs → Fits U ns hs
 fits-within T U [] [] within fits = tt
 fits-within T U [] (h ∷ hs) within fits = fits
@@ -32,7 +32,7 @@ fits-length T [] (h ∷ hs) fits = absurd fits
 fits-length T (n ∷ ns) [] fits = absurd fits
 fits-length T (n ∷ ns) (h ∷ hs) fits = omega (arith, fits-length (without T h) ns hs fits.1)
 
--- what is picked is the greatest that fits
+-- what is picked is the highest that fits
 pub picked_best : (T U : ℕ → ℕ) (ns hs ks : List ℕ) → Within U T → IsPicked T ns hs → Fits U ns ks → (ks ≡ hs) ⊎ IsLower ks hs
 picked_best T U [] [] [] within picked fits = inl refl
 picked_best T U [] [] (k ∷ ks) within picked fits = absurd fits
@@ -62,13 +62,13 @@ picked_number T U ns hs ks within picked fits digits others =
           omega arith
     ]
 
--- so many cards of the heights are needed
+-- this number of cards of the heights is needed
 abbrev pub needs : List ℕ → List ℕ → ℕ → ℕ
 needs [] hs k = 0
 needs (n ∷ ns) [] k = 0
 needs (n ∷ ns) (h ∷ hs) k = cond (h == k) n 0 + needs ns hs k
 
--- where heights fit, no more is needed than there is
+-- if heights fit, at most what is there is needed
 pub fits_needs : (T : ℕ → ℕ) (ns hs : List ℕ) → Fits T ns hs → Within (needs ns hs) T
 fits_needs T [] hs fits k = omega arith
 fits_needs T (n ∷ ns) [] fits k = omega arith

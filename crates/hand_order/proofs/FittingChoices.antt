@@ -1,4 +1,5 @@
--- Where heights fit the counts of cards, they fit those of a choice of as many cards as the numbers add up to.
+-- If heights fit the counts of cards, they fit those of a choice of as many cards as the numbers
+-- add up to.
 use Rattle.std.proofs.Common.{◌≡◌, ℕ, ◌+◌, ◌*◌, ◌<◌, ◌≤◌, ◌==◌, Bool, true, false, cond, List, [], ◌∷◌, sum_by, count_by, inl, inr, refl, sym, ◌∙◌, ap, subst, arith, eqb-true}
 use Rattle.std.proofs.lemmas.Bool.{ne_eqb}
 use Rattle.std.proofs.lemmas.List.Sums.{sum_by-cons}
@@ -10,9 +11,9 @@ use Rattle.hand_order.specs.Choices.{choices, IsAmong}
 use Rattle.hand_order.proofs.Fits.{needs, fits_needs, needs_fit, fits-within}
 use Rattle.hand_order.proofs.Wanted.{wanted_chosen}
 use Rattle.hand_order.specs.Patterns.{without, Fits, IsOfRank, OfRanks, total, AreSome, among_numbers}
-use Rattle.list_laws.proofs.Counting.{count-le-sum}
-use Rattle.list_laws.proofs.Sums.{sum_by-at, sum_by-none, sum_by-plus, sum_by-same}
-use Rattle.list_laws.proofs.Tests.{passes_or_not}
+use Rattle.card_set.proofs.Counting.{count-le-sum}
+use Rattle.card_set.proofs.Sums.{sum_by-at, sum_by-none, sum_by-plus, sum_by-same}
+use Rattle.card_set.proofs.Tests.{passes_or_not}
 
 pub times_of_ranks : (height : Rank → ℕ) (cards : List Card) → OfRanks height (times height cards)
 times_of_ranks height [] h some = absurd (omega (arith, times-none height h))
@@ -29,7 +30,7 @@ without_of_ranks height T h of k some = of k (by_test (h == k) some)
     by_test true some = absurd (omega arith)
     by_test false some = some
 
--- a sum is what is_one_of at one height, and the rest
+-- a sum is its term at one height, plus the others
 sum_by-split : (T : ℕ → ℕ) (h : ℕ) (ks : List ℕ) → sum_by T ks ≡ T h * sum_by (λ k. cond (h == k) 1 0) ks + sum_by (without T h) ks
 sum_by-split T h [] = omega arith
 sum_by-split T h (k ∷ ks) =
@@ -90,7 +91,7 @@ count_without height is T n h some of =
     here k true = sym (ap (λ (t : Bool). cond {A = ℕ} t 1 0) (ne_eqb 0 n (λ same. omega arith)))
     here k false = refl
 
--- where heights fit as many cards as there are, ranks occur as the numbers say
+-- if heights fit as many cards as there are, ranks occur as the numbers say
 pub fits_counts : (height : Rank → ℕ) → IsHeight height → (T : ℕ → ℕ) (ns hs : List ℕ) (n : ℕ) → 0 < n → OfRanks height T → AreSome ns → Fits T ns hs → sum_by T falling_heights ≡ total ns → count_by (λ k. T k == n) falling_heights ≡ among_numbers n ns
 fits_counts height is T [] hs n positive of some fits all = omega (arith, count-le-sum T n falling_heights positive)
 fits_counts height is T (m ∷ ns) [] n positive of some fits all = absurd fits

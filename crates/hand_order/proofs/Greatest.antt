@@ -1,4 +1,5 @@
--- The greatest points among choices are none exactly where no choice has points, and else those of a choice that no other passes.
+-- The greatest points among choices are none if and only if no choice has points, and otherwise
+-- those of a choice that no other exceeds.
 use Rattle.std.proofs.Common.{◌≡◌, ℕ, ◌<◌, ◌≤◌, max, List, [], ◌∷◌, ◌++◌, map, Option, Some, None, ◌⊎◌, inl, inr, refl, sym, ◌∙◌, ap, arith}
 use Rattle.std.specs.List.{flat_map}
 use Rattle.std.proofs.lemmas.List.Concat.{flat_map-cons}
@@ -7,7 +8,7 @@ use Rattle.std.proofs.lemmas.Bool.{cases_lt}
 use Rattle.card_set.specs.declared.card.Card.{Card}
 use Rattle.hand_order.specs.Choices.{IsAmong}
 use Rattle.hand_order.specs.Points.{better, greatest}
-use Rattle.list_laws.proofs.Numbers.{max_assoc}
+use Rattle.card_set.proofs.Numbers.{max_assoc}
 
 -- the better of three is found in any order
 better_assoc : (a b c : Option ℕ) → better (better a b) c ≡ better a (better b c)
@@ -75,7 +76,7 @@ abbrev pub Says : (List Card → Option ℕ) → List (List Card) → Option ℕ
 Says points xs None = (x : List Card) → IsAmong x xs → points x ≡ None
 Says points xs (Some value) = IsGreatest points xs value
 
--- a choice has no two points
+-- a choice has only one number of points
 none_same : (points : List Card → Option ℕ) (other : List Card) (less : ℕ) → points other ≡ None → points other ≡ Some less → ⊥
 none_same points other less is pointed = cc
 
@@ -104,7 +105,7 @@ larger points x xs first rest is says (inl less) = record {
   most = λ other value among pointed. elim among [ inl here ↦ omega (arith, same_points points other x value first here is pointed) | inr there ↦ omega (arith, says.most other value there pointed) ];
 }
 
--- one choice more
+-- one more choice
 says-cons : (points : List Card → Option ℕ) (x : List Card) (xs : List (List Card)) (first rest : Option ℕ) → points x ≡ first → Says points xs rest → Says points (x ∷ xs) (better first rest)
 says-cons points x xs None None is says = λ other among. no_points points x xs is says other among
 says-cons points x xs None (Some rest) is says = record {
@@ -121,7 +122,8 @@ says-cons points x xs (Some first) None is says = record {
 }
 says-cons points x xs (Some first) (Some rest) is says = larger points x xs first rest is says (cases_lt first rest)
 
--- the greatest of choices is none where none has points, and else the points of one that no other passes
+-- the greatest of choices is none if none has points, and otherwise the points of one that no other
+-- exceeds
 pub says_greatest : (points : List Card → Option ℕ) (xs : List (List Card)) → Says points xs (greatest points xs)
 unfolding greatest
 says_greatest points [] = λ x among. elim among [ ]

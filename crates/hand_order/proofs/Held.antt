@@ -1,4 +1,4 @@
--- A choice has as many cards as were asked for, and they are different where all cards are.
+-- A choice has as many cards as were asked for, and they are different if all cards are.
 use Rattle.std.proofs.Common.{◌≡◌, ◌≢◌, ℕ, zero, suc, ◌+◌, List, [], ◌∷◌, ◌++◌, map, length, ◌⊎◌, inl, inr, refl, sym, ◌∙◌, ap, subst, arith, length-append}
 use Rattle.std.specs.List.{flat_map}
 use Rattle.std.proofs.lemmas.List.Concat.{flat_map-cons}
@@ -8,7 +8,7 @@ use Rattle.card_set.specs.declared.pick.Pick.{Pick}
 use Rattle.card_set.specs.declared.pick.Pick.TheVariants as picks
 use Rattle.hand_order.specs.Choices.{choices, allowed, IsAmong, AreHeld, CanJoin, CanPick}
 
--- a choice of two lists is one of the one or of the other
+-- a choice of two lists is a choice of one or of the other
 pub IsAmong-cases : (x : List Card) (xs ys : List (List Card)) → IsAmong x (xs ++ ys) → IsAmong x xs ⊎ IsAmong x ys
 IsAmong-cases x [] ys among = inr among
 IsAmong-cases x (y ∷ xs) ys (inl here) = inl (inl here)
@@ -43,7 +43,7 @@ unfolding choices
 one_choice cards more (inl here) = here
 one_choice cards more (inr there) = elim there [ ]
 
--- what holds of each card holds of each that is chosen
+-- what holds for each card holds for each that is chosen
 pub every_chosen : (P : Card → Type 0) (n : ℕ) (cards more : List Card) → IsAmong more (choices n cards) → Every P cards → Every P more
 every_chosen P zero cards more among every = subst (Every P) (sym (one_choice cards more among)) tt
 every_chosen P (suc n) [] more among every = absurd (no_choice n more among)
@@ -53,7 +53,7 @@ every_chosen P (suc n) (card ∷ rest) more among every =
       | inr without ↦ every_chosen P (suc n) rest more without every.1
     ]
 
--- of different cards different ones are chosen
+-- from different cards, different ones are chosen
 pub different_chosen : (n : ℕ) (cards more : List Card) → IsAmong more (choices n cards) → AllDifferent cards → AllDifferent more
 different_chosen zero cards more among different = subst AllDifferent (sym (one_choice cards more among)) tt
 different_chosen (suc n) [] more among different = absurd (no_choice n more among)
@@ -77,7 +77,7 @@ length_chosen (suc n) (card ∷ rest) more among =
 pub held_chosen : (n : ℕ) (cards more : List Card) → AllDifferent cards → IsAmong more (choices n cards) → AreHeld n more
 held_chosen n cards more different among = (length_chosen n cards more among, different_chosen n cards more among different)
 
--- no card of the first ones is one of the second
+-- no card of the first ones is among the second
 abbrev pub Apart : List Card → List Card → Type 0
 Apart first second = Every (λ card. Lacks card second) first
 
@@ -100,7 +100,7 @@ pub different_both : (xs ys : List Card) → AllDifferent xs → AllDifferent ys
 different_both [] ys first second apart = second
 different_both (x ∷ xs) ys first second apart = (every-both (λ other. x ≢ other) xs ys first.0 apart.0, different_both xs ys first.1 second apart.1)
 
--- choices of cards that are apart are apart
+-- choices from cards that are apart are apart
 apart_chosen : (m : ℕ) (xs ys more : List Card) → IsAmong more (choices m ys) → Apart xs ys → Apart xs more
 apart_chosen m [] ys more among apart = tt
 apart_chosen m (x ∷ xs) ys more among apart = (every_chosen (λ other. x ≢ other) m ys more among apart.0, apart_chosen m xs ys more among apart.1)
@@ -114,13 +114,13 @@ held_both n m first second chosen others different one other =
           (every_chosen (λ card. Lacks card others) n first chosen one (apart_chosen m first second others other parts.2)),
     )
 
--- choices that follow no card are held
+-- choices after an empty start are held
 pub held_start : (held n : ℕ) (start cards more : List Card) → held ≡ n → start ≡ [] → AllDifferent cards → IsAmong more (choices n cards) → AreHeld held (start ++ more)
 held_start held n start cards more same none different among =
     let is = held_chosen n cards more different among in
     subst (AreHeld held) (ap (λ (l : List Card). l ++ more) (sym none)) (is.0 ∙ sym same, is.1)
 
--- hole cards that follow no card can join the board
+-- hole cards after an empty start can join the board
 pub joins_start : (held : ℕ) (start hole board more : List Card) → held ≡ 5 → start ≡ [] → AllDifferent (hole ++ board) → IsAmong more (choices 2 hole) → CanJoin held (start ++ more) board
 joins_start held start hole board more same none different among =
     let parts = different_parts hole board different in

@@ -1,4 +1,5 @@
--- In a class of the high order all hands have as many ranks that decide, so numbers of hands compare as hands do.
+-- In each class of the high order all hands have the same number of ranks that decide, so the
+-- numbers of hands compare as the hands do.
 use Rattle.std.proofs.Common.{◌≡◌, ℕ, ◌+◌, ◌*◌, ◌^◌, ◌<◌, ◌≤◌, ◌==◌, ◌||◌, Bool, true, false, cond, List, [], ◌∷◌, length, get_or, inl, inr, ◌↔◌, refl, sym, ◌∙◌, ap, arith}
 use Rattle.std.proofs.lemmas.Bool.{or_cases}
 use Rattle.card_set.specs.declared.card.Card.{Card}
@@ -98,7 +99,8 @@ decide_below low cards five = number_below (deciding_ranks low cards) (few_decid
 abbrev pub TableSays : (ℕ → ℕ → ℕ → Bool → Bool → List Bool) → List ℕ → ℕ → ℕ → ℕ → ℕ → Bool → Bool → Type 0
 TableSays table missing four three two one straight flush = (place (table four three two straight flush) ≤ 8) × (cond straight 1 (four + three + two + one) + get_or missing (place (table four three two straight flush)) 0 ≡ 5)
 
--- a hand of five different cards is ranked by a table that says so of each way in which ranks occur
+-- a hand of five different cards is ranked by a table that says this for each way in which ranks
+-- occur
 pub ranked_by : (table : ℕ → ℕ → ℕ → Bool → Bool → List Bool) (missing : List ℕ) → ((four three two one : ℕ) (straight flush : Bool) → 4 * four + 3 * three + 2 * two + one ≡ 5 → (straight ≡ true → four + three + two + one ≡ 5) → (flush ≡ true → four + three + two + one ≡ 5) → TableSays table missing four three two one straight flush)
     → (low : LowStraight) (class : List Card → ℕ) (cards : List Card) → AreHeld 5 cards → class cards ≡ place (table (ranks_occurring high_ace cards 4) (ranks_occurring high_ace cards 3) (ranks_occurring high_ace cards 2) (is_straight low cards) (is_one_suit cards)) → IsRanked class (deciding_ranks low) missing 8 5 cards
 ranked_by table missing every low class cards held is =
@@ -114,7 +116,7 @@ ranked_by table missing every low class cards held is =
       digits = decide_digits low cards;
     }
 
--- how many ranks fewer than the cards decide in each class of the high order
+-- in each class of the high order, the number of cards minus the number of ranks that decide
 abbrev pub high_missing : List ℕ
 high_missing = 4 ∷ 3 ∷ 3 ∷ 0 ∷ 4 ∷ 2 ∷ 2 ∷ 1 ∷ 0 ∷ []
 
@@ -132,7 +134,7 @@ pub high_ranked : (low : LowStraight) (cards : List Card) → AreHeld 5 cards �
 unfolding high_class
 high_ranked low cards held = ranked_by high_table high_missing high_says low (high_class low) cards held refl
 
--- the points of a hand are less exactly where the hand is weaker
+-- a hand has fewer points if and only if it is weaker
 pub high_ordered : (low : LowStraight) (a b : List Card) → AreHeld 5 a → AreHeld 5 b → (high_points low a < high_points low b) ↔ IsWeakerHigh low a b
 high_ordered low a b held_a held_b = ranked_law (high_class low) (deciding_ranks low) high_missing 8 5 a b (high_ranked low a held_a) (high_ranked low b held_b)
 
@@ -140,7 +142,7 @@ high_ordered low a b held_a held_b = ranked_law (high_class low) (deciding_ranks
 pub high_below : (low : LowStraight) (cards : List Card) → AreHeld 5 cards → high_points low cards < 16 ^ 6
 high_below low cards held = let below = decide_below low cards held.0 in omega arith
 
--- the points of the ladder with a flush below a full house are those of the high order
+-- the points with a flush below a full house are those of the high order
 pub ladder_high : (low : LowStraight) (cards : List Card) → ladder_points flushes.BelowFullHouse low cards ≡ high_points low cards
 unfolding high_class
 ladder_high low cards = refl

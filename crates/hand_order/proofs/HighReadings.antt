@@ -13,7 +13,7 @@ use Rattle.hand_order.specs.Choices.{choices, IsAmong, AreHeld}
 use Rattle.hand_order.specs.Digits.{class_above, with_digits}
 use Rattle.hand_order.specs.Points.{greatest}
 use Rattle.hand_order.specs.Straights.{is_run, is_low_straight, is_straight, straight_top, deciding_ranks}
-use Rattle.hand_order.specs.Ladder.{flush_class, ladder_points, ladder_table, leveled}
+use Rattle.hand_order.specs.Ladder.{flush_class, ladder_points, ladder_table, flush_ranked}
 use Rattle.hand_order.proofs.Digits.{AreDigits, number_below}
 use Rattle.hand_order.proofs.RankDigits.{AreDigits-ranks_of}
 use Rattle.hand_order.proofs.Greatest.{Says, says_greatest}
@@ -37,7 +37,7 @@ abbrev class_read : FlushPlace → Bool → Bool → ℕ → ℕ → ℕ → ℕ
 class_read flush true true four three two = 8
 class_read flush false true four three two = flush_class flush
 class_read flush true false four three two = 4
-class_read flush false false four three two = leveled flush (plain_class four three two)
+class_read flush false false four three two = flush_ranked flush (plain_class four three two)
 
 abbrev ReadsAs : FlushPlace → ℕ → ℕ → ℕ → ℕ → Bool → Bool → Type 0
 ReadsAs flush four three two one straight suited = 8 - place (ladder_table flush four three two straight suited) ≡ class_read flush straight suited four three two
@@ -131,7 +131,7 @@ flush_some : (flush : FlushPlace) → 0 < flush_class flush
 flush_some flushes.BelowFullHouse = omega arith
 flush_some flushes.AboveFullHouse = omega arith
 
-leveled_none : (flush : FlushPlace) (class : ℕ) → class ≡ 0 → leveled flush class ≡ 0
+leveled_none : (flush : FlushPlace) (class : ℕ) → class ≡ 0 → flush_ranked flush class ≡ 0
 leveled_none flushes.BelowFullHouse class none = none
 leveled_none flushes.AboveFullHouse class none = ap (λ (k : ℕ). cond (k == 6) 5 k) none
 
@@ -143,19 +143,19 @@ pattern_least flush low cards held =
     let below = number_below (ranks_of high_ace cards) (omega (arith, ranks_of-le high_ace IsHeight-high_ace cards, held.0)) (AreDigits-ranks_of high_ace cards) in
     let bound = by_tests (is_straight low cards) (is_one_suit cards) (λ is. leveled_none flush (class_of cards) (single cards held (straights_of_five low cards is))) (λ is. leveled_none flush (class_of cards) (single cards held (five.flushes is))) below in omega arith
   where
-    by_tests : (s f : Bool) → (s ≡ true → leveled flush (class_of cards) ≡ 0) → (f ≡ true → leveled flush (class_of cards) ≡ 0) → with_digits 0 (ranks_of high_ace cards) < 16 ^ 5 → plain_points flush cards ≤ reading flush s f cards
+    by_tests : (s f : Bool) → (s ≡ true → flush_ranked flush (class_of cards) ≡ 0) → (f ≡ true → flush_ranked flush (class_of cards) ≡ 0) → with_digits 0 (ranks_of high_ace cards) < 16 ^ 5 → plain_points flush cards ≤ reading flush s f cards
     by_tests true true straight suited below = let class = straight refl in omega arith
     by_tests true false straight suited below = let class = straight refl in omega arith
     by_tests false true straight suited below = let class = suited refl in omega (arith, flush_some flush)
     by_tests false false straight suited below = omega arith
 
--- some choice of the cards has at least so many points
+-- some choice of the cards has at least this many points
 pub record IsChosen (flush : FlushPlace) (low : LowStraight) (cards : List Card) (least : ℕ) : Type 0 where
   pub choice : List Card
   pub among : IsAmong choice (choices 5 cards)
   pub reached : least ≤ ladder_points flush low choice
 
--- what is reached and not passed is the greatest of all choices
+-- what is reached and not exceeded is the greatest of all choices
 pub best_greatest : (flush : FlushPlace) (low : LowStraight) (cards : List Card) (most : ℕ) → IsChosen flush low cards most → ((other : List Card) → IsAmong other (choices 5 cards) → ladder_points flush low other ≤ most) → greatest (λ choice. Some (ladder_points flush low choice)) (choices 5 cards) ≡ Some most
 best_greatest flush low cards most best over = by_says (greatest (λ choice. Some (ladder_points flush low choice)) (choices 5 cards)) (says_greatest (λ choice. Some (ladder_points flush low choice)) (choices 5 cards))
   where
@@ -183,7 +183,7 @@ run_reached flush low cards hs bound different fits falling run =
     let least = straight_least flush low found.choice held straight in
     record { choice = found.choice; among = found.among; reached = omega arith }
 
--- and where they fit one suit, a straight flush
+-- and if they fit one suit, a straight flush
 pub suited_run_reached : (flush : FlushPlace) (low : LowStraight) (s : ℕ) (cards : List Card) (hs : List ℕ) (bound : ℕ) → AllDifferent cards → Fits (times high_ace (filter (of_suit s) cards)) (pattern 0) hs → AreDigits hs → FallingFrom bound hs → runs low hs ≡ true → IsChosen flush low cards (class_above 8 (straight_top hs ∷ []))
 suited_run_reached flush low s cards hs bound different fits digits falling run =
     let found = suited_reached s cards hs different fits digits in
@@ -201,7 +201,7 @@ flush_reached flush low s cards hs different fits digits =
     record { choice = found.choice; among = found.among; reached = omega (arith, found.reached) }
 
 -- a choice by how often ranks occur
-pub pattern_reached : (flush : FlushPlace) (low : LowStraight) (cards : List Card) (k : ℕ) (hs : List ℕ) → AllDifferent cards → IsBestPattern (times high_ace cards) k hs → IsChosen flush low cards (class_above (leveled flush k) hs)
+pub pattern_reached : (flush : FlushPlace) (low : LowStraight) (cards : List Card) (k : ℕ) (hs : List ℕ) → AllDifferent cards → IsBestPattern (times high_ace cards) k hs → IsChosen flush low cards (class_above (flush_ranked flush k) hs)
 pattern_reached flush low cards k hs different best =
     let found = plain_reached flush cards k hs different best in
     let least = pattern_least flush low found.choice found.held in

@@ -1,4 +1,4 @@
--- A set with one card more is listed with the card at the end.
+-- A set with one more card is listed with the card at the end.
 use Rattle.std.proofs.Common.{◌≡◌, ◌≢◌, ◌+◌, ◌-◌, ◌<◌, zero, suc, ◌||◌, Bool, true, false, List, [], ◌∷◌, ◌++◌, length-append, ◌⊎◌, inl, inr, refl, sym, ◌∙◌, ap, subst, arith, ℕ, map, drop, Option, None, length-take, length}
 use Rattle.std.proofs.lemmas.List.{length-drop}
 use Rattle.card_set.specs.declared.card.Card.{Card}
@@ -15,9 +15,9 @@ use Rattle.hand_order.specs.Choices.{choices}
 use Rattle.card_set.specs.Row.{cards_of}
 use Rattle.card_set.specs.declared.row.CardRow.{CardRow}
 use Rattle.hand_order.proofs.Held.{different_both}
-use Rattle.list_laws.proofs.Tests.{or_false, or_right, passes_or_not, true_false}
+use Rattle.card_set.proofs.Tests.{or_false, or_right, passes_or_not, true_false}
 
--- a set takes one card more
+-- a set takes one more card
 pub record TakesCard (before after : CardSet) (card : Card) : Type 0 where
   pub absent : is_in before card ≡ false
   pub inside : is_in after card ≡ true
@@ -34,7 +34,7 @@ apart_from card (first ∷ cards) none =
       )
     ]
 
--- a list of the set is one of the other, with the card at the end
+-- a list of the set is a list of the other one, with the card at the end
 pub listing_more : (before after : CardSet) (card : Card) (listing : List Card) → TakesCard before after card → IsListing before listing → IsListing after (listing ++ card ∷ [])
 listing_more before after card listing takes lists = record {
   different = different_both listing (card ∷ []) lists.different (tt, tt) (apart_from card listing (sym (lists.same card) ∙ takes.absent));
@@ -48,7 +48,7 @@ listing_more before after card listing takes lists = record {
         ∙ lists.same other
         ∙ sym (ap (λ (b : Bool). is_one_of other listing || b) apart ∙ or_false (is_one_of other listing))
 
--- and it has one card more
+-- and it has one more card
 pub count_more : (before after : CardSet) (card : Card) → TakesCard before after card → count_of after ≡ count_of before + 1
 count_more before after card takes =
     omega (arith, count_of-listing after (listed before ++ card ∷ []) (listing_more before after card (listed before) takes (listed_listing before)), length-append (listed before) (card ∷ []))
@@ -91,11 +91,11 @@ absent_first card (c ∷ cards) others different among =
       | inr apart ↦ ap (λ (b : Bool). b || is_one_of card cards) apart ∙ absent_first card cards others different.1 among
     ]
 
--- cards that are different from others are apart from a set of those
+-- cards that are different from others are apart from a set of the others
 pub apart_of : (set : CardSet) (cards others : List Card) → AllDifferent (cards ++ others) → ((card : Card) → is_in set card ≡ is_one_of card cards) → AreApart set others
 apart_of set cards others different same card among = same card ∙ absent_first card cards others different among
 
--- of too few cards there is no choice
+-- there is no choice from too few cards
 choices-few : (need : ℕ) (cards : List Card) → length cards < need → choices need cards ≡ []
 unfolding choices
 choices-few zero cards few = absurd (omega arith)
@@ -104,7 +104,7 @@ choices-few (suc n) (card ∷ rest) few =
     ap (λ (l : List (List Card)). map (λ chosen. card ∷ chosen) l ++ choices (suc n) rest) (choices-few n rest (omega arith))
     ∙ choices-few (suc n) rest (omega arith)
 
--- nor of the last cards of a row
+-- nor from the last cards of a row
 pub greatest-few : (points : List Card → Option ℕ) (row : CardRow) (at need : ℕ) → row.len - at < need → greatest points (choices need (drop at (cards_of row))) ≡ None
 greatest-few points row at need few =
     ap (greatest points) (choices-few need (drop at (cards_of row)) (omega (arith, few, length-drop at (cards_of row), length-take row.len row.cards, row.entries, row.fits)))

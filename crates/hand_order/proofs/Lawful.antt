@@ -1,4 +1,5 @@
--- Under a lawful order the greatest points of choices are those of a best choice, and one holding beats another exactly by them.
+-- Under a lawful order the greatest points of choices are those of a best choice, and one holding
+-- beats another if and only if its points are greater.
 use Rattle.std.proofs.Common.{◌≡◌, ◌⊎◌, ℕ, ◌<◌, ◌≤◌, List, Option, Some, None, IsSome, IfSome, IfNone, ◌↔◌, refl, sym, ap, subst, arith, inl, inr}
 use Rattle.std.specs.Option.{option_map, is_some}
 use Rattle.std.proofs.lemmas.Bool.{cases_lt}
@@ -20,15 +21,15 @@ pointed_by : (points : List Card → Option ℕ) (cards : List Card) (o : Option
 pointed_by points cards None is some = absurd (cc)
 pointed_by points cards (Some value) is some = record { value = value; is = is }
 
--- points are there exactly for hands
+-- exactly the hands have points
 abbrev pub Scores : (List Card → Type 0) → (List Card → Type 0) → (List Card → Option ℕ) → Type 0
 Scores looks_at is_hand points = (cards : List Card) → looks_at cards → IsSome (points cards) ↔ is_hand cards
 
--- points are less exactly for weaker hands
+-- points are fewer if and only if the hand is weaker
 abbrev pub Orders : (List Card → Type 0) → (List Card → List Card → Type 0) → (List Card → Option ℕ) → Type 0
 Orders looks_at is_weaker points = (a b : List Card) (low high : ℕ) → looks_at a → looks_at b → points a ≡ Some low → points b ≡ Some high → (low < high) ↔ is_weaker a b
 
--- hands with as many points are even, and even hands have as many
+-- hands with the same points are even, and even hands have the same points
 even_by_order : (looks_at : List Card → Type 0) (is_weaker : List Card → List Card → Type 0) (points : List Card → Option ℕ) → Orders looks_at is_weaker points → (a b : List Card) (one other : ℕ) → looks_at a → looks_at b → points a ≡ Some one → points b ≡ Some other → (one ≡ other) ↔ IsEven is_weaker a b
 even_by_order looks_at is_weaker points ordered a b one other looks_a looks_b is_one is_other =
     let first = ordered a b one other looks_a looks_b is_one is_other in
@@ -50,7 +51,7 @@ compared_by_order looks_at is_weaker points ordered a b looks_a looks_b pointed_
       ]
     ]
 
--- an order whose points are there for its hands, and less for the weaker one, is lawful
+-- an order in which exactly its hands have points, and the weaker one fewer, is lawful
 pub lawful_by_order : (looks_at : List Card → Type 0) (is_hand : List Card → Type 0) (is_weaker : List Card → List Card → Type 0) (points : List Card → Option ℕ) → Scores looks_at is_hand points → Orders looks_at is_weaker points → IsLawful looks_at is_hand is_weaker points
 lawful_by_order looks_at is_hand is_weaker points scored ordered = record {
   scored = scored;
@@ -65,7 +66,7 @@ lawful_by_order looks_at is_hand is_weaker points scored ordered = record {
 pointed : (looks_at : List Card → Type 0) (is_hand : List Card → Type 0) (is_weaker : List Card → List Card → Type 0) (points : List Card → Option ℕ) → IsLawful looks_at is_hand is_weaker points → (cards : List Card) → looks_at cards → is_hand cards → IsPointed points cards
 pointed looks_at is_hand is_weaker points lawful cards are hand = pointed_by points cards (points cards) refl ((lawful.scored cards are).1 hand)
 
--- where no choice has points none is a hand
+-- if no choice has points, none is a hand
 no_hand : (looks_at : List Card → Type 0) (is_hand : List Card → Type 0) (is_weaker : List Card → List Card → Type 0) (points : List Card → Option ℕ) (options : List (List Card)) → IsLawful looks_at is_hand is_weaker points → ((choice : List Card) → IsAmong choice options → looks_at choice) → ((choice : List Card) → IsAmong choice options → points choice ≡ None) → HasNoHand is_hand options
 no_hand looks_at is_hand is_weaker points options lawful are none = λ choice among hand.
     let p = pointed looks_at is_hand is_weaker points lawful choice (are choice among) hand in
@@ -105,7 +106,7 @@ best_most looks_at is_hand is_weaker points options best other most value lawful
       | inr within ↦ within
     ]
 
--- one holding beats another exactly where its points are greater
+-- one holding beats another if and only if its points are greater
 pub beats_exactly : (looks_at : List Card → Type 0) (is_hand : List Card → Type 0) (is_weaker : List Card → List Card → Type 0) (points : List Card → Option ℕ) (options others : List (List Card)) (ours theirs : Option ℕ) → IsLawful looks_at is_hand is_weaker points → ((choice : List Card) → IsAmong choice options → looks_at choice) → ((choice : List Card) → IsAmong choice others → looks_at choice) → IsPointsOfHolding is_hand is_weaker points options ours → IsPointsOfHolding is_hand is_weaker points others theirs → IsLess theirs ours ↔ Beats is_hand is_weaker options others
 beats_exactly looks_at is_hand is_weaker points options others None None lawful are are_others none no_others = (λ less. absurd less, λ beats. none beats.best beats.is_best.among beats.is_best.hand)
 beats_exactly looks_at is_hand is_weaker points options others None (Some value) lawful are are_others none other = (λ less. absurd less, λ beats. none beats.best beats.is_best.among beats.is_best.hand)
@@ -124,7 +125,7 @@ beats_exactly looks_at is_hand is_weaker points options others (Some most) (Some
   ],
 )
 
--- an order in which each hand has a number is lawful where the numbers compare as the hands do
+-- an order in which each hand has a number is lawful if the numbers compare as the hands do
 pub lawful_by_numbers : (looks_at : List Card → Type 0) (is_weaker : List Card → List Card → Type 0) (number : List Card → ℕ) → ((a b : List Card) → looks_at a → looks_at b → (number a < number b) ↔ is_weaker a b) → IsLawful looks_at (λ cards. Unit {0}) is_weaker (λ cards. Some (number cards))
 lawful_by_numbers looks_at is_weaker number law =
     lawful_by_order looks_at (λ cards. Unit {0}) is_weaker (λ cards. Some (number cards)) (λ cards are. (λ some. tt, λ hand. refl)) (λ a b low high are_a are_b is_low is_high.

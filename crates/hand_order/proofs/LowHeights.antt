@@ -1,4 +1,4 @@
--- A rank has the same height whether the ace is low or high, but for the ace itself.
+-- A rank has the same height whether the ace is low or high, except the ace itself.
 use Rattle.std.proofs.Common.{◌≡◌, ◌≤◌, ◌==◌, ℕ, Bool, cond, List, [], ◌∷◌, refl, sym, ◌∙◌, ap, arith}
 use Rattle.std.proofs.lemmas.Bool.{ne_eqb}
 use Rattle.card_set.specs.declared.card.Card.{Card}
@@ -7,7 +7,7 @@ use Rattle.card_set.specs.declared.card.Rank.TheVariants as ranks
 use Rattle.card_set.specs.Ranks.{high_ace, low_ace, times}
 use Rattle.card_set.proofs.Counted.{times-cons, times-none}
 
--- but for the ace, a rank has one height
+-- except for the ace, a rank has only one height
 same_height : (rank : Rank) (h : ℕ) → 2 ≤ h → h ≤ 13 → cond {A = ℕ} (low_ace rank == h) 1 0 ≡ cond (high_ace rank == h) 1 0
 same_height ranks.Ace h low high =
     ap (λ (b : Bool). cond {A = ℕ} b 1 0) (ne_eqb 1 h (λ same. omega arith)) ∙ sym (ap (λ (b : Bool). cond {A = ℕ} b 1 0) (ne_eqb 14 h (λ same. omega arith)))

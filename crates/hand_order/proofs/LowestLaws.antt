@@ -1,11 +1,11 @@
--- The lowest heights that pass make the least number of all that pass.
+-- The lowest heights that pass make the smallest number of all that pass.
 use Rattle.std.proofs.Common.{◌≡◌, ℕ, zero, suc, ◌+◌, ◌-◌, ◌*◌, ◌<◌, ◌≤◌, ◌==◌, Bool, true, false, cond, List, [], ◌∷◌, ◌++◌, length, inl, inr, refl, sym, ◌∙◌, ap, subst, arith, length-append}
 use Rattle.std.proofs.lemmas.Bool.{cases_lt, ne_eqb}
 use Rattle.hand_order.specs.Digits.{with_digits, AreDigits}
 use Rattle.hand_order.specs.Lowest.{lowest}
 use Rattle.hand_order.proofs.Digits.{with_digits-append, with_digits-cons, with_digits-nil}
 use Rattle.hand_order.proofs.FallingRanks.{FallingFrom}
-use Rattle.list_laws.proofs.Numbers.{one_less}
+use Rattle.card_set.proofs.Numbers.{one_less}
 
 -- each height passes the test, and is not below another
 abbrev pub Pass : (ℕ → Bool) → ℕ → List ℕ → Type 0
@@ -22,7 +22,7 @@ last_of : (x : ℕ) (xs : List ℕ) → HasLast (x ∷ xs)
 last_of x [] = record { front = []; last = x; is = refl }
 last_of x (y ∷ ys) = let rest = last_of y ys in record { front = x ∷ rest.front; last = rest.last; is = ap (λ (l : List ℕ). x ∷ l) rest.is }
 
--- a number with one digit more
+-- a number with one more digit
 digit_last : (xs : List ℕ) (x : ℕ) → with_digits 0 (xs ++ x ∷ []) ≡ with_digits 0 xs * 16 + x
 digit_last xs x = with_digits-append 0 xs (x ∷ []) ∙ with_digits-cons (with_digits 0 xs) x [] ∙ with_digits-nil (with_digits 0 xs * 16 + x)
 
@@ -47,7 +47,7 @@ pass_higher has from (h ∷ hs) fails pass = (pass.0, elim (cases_lt from h) [ i
         true_false : true ≡ false → ⊥
         true_false is = cc
 
--- no list of as many heights that pass makes a smaller number
+-- no list of the same number of heights that pass makes a smaller number
 pub record IsLeast (found ks : List ℕ) (n : ℕ) : Type 0 where
   pub long : length found ≡ n
   pub least : with_digits 0 found ≤ with_digits 0 ks
@@ -62,7 +62,7 @@ least_more found front ks m from last rest is below =
     let same = ap (with_digits 0) is ∙ digit_last front last in
     record { long = omega (arith, length-append found (from ∷ []), rest.long); least = omega (arith, digit_last found from, same, rest.least) }
 
--- the lowest height is the last, where it passes
+-- the lowest height is the last, if it passes
 pub lowest_some : (has : ℕ → Bool) (heights from m : ℕ) → lowest has (suc heights) from (suc m) ≡ cond (has from) (lowest has heights (from + 1) m ++ from ∷ []) (lowest has heights (from + 1) (suc m))
 lowest_some has heights from m =
     ap (λ (b : Bool). cond b [] (cond (has from) (lowest has heights (from + 1) (suc m - 1) ++ from ∷ []) (lowest has heights (from + 1) (suc m)))) (ne_eqb (suc m) 0 (λ same. omega arith))

@@ -1,4 +1,4 @@
--- The ranks of a hand, those that occur oftener first, are what is picked from its own counts.
+-- The ranks of a hand, those that occur more often first, are what is picked from its own counts.
 use Rattle.std.proofs.Common.{◌≡◌, ℕ, zero, suc, ◌<◌, ◌≤◌, ◌==◌, Bool, true, false, cond, List, [], ◌∷◌, ◌++◌, length, filter, inl, inr, refl, sym, ◌∙◌, ap, subst, arith, eqb-true, append-nil}
 use Rattle.std.proofs.lemmas.Bool.{cases_lt, eqb-false}
 use Rattle.card_set.specs.declared.card.Card.{Card}
@@ -20,21 +20,21 @@ abbrev pub down : ℕ → List ℕ
 down zero = []
 down (suc b) = suc b ∷ down b
 
--- the count where it is at most so much, else none
+-- the count if it is at most this number, and otherwise none
 abbrev Low : ℕ → ℕ → ℕ → Type 0
 Low n whole t = (whole ≤ n → t ≡ whole) × (n < whole → t ≡ 0)
 
 low-le : (n whole t : ℕ) → Low n whole t → t ≤ n
 low-le n whole t low = elim (cases_lt n whole) [ inl above ↦ omega (arith, low.1 above) | inr within ↦ omega (arith, low.0 within) ]
 
--- the heights from `b` down that occur so many times
+-- the heights from `b` down that occur this number of times
 abbrev exactly : (ℕ → ℕ) → ℕ → ℕ → List ℕ
 exactly T n b = filter (λ h. T h == n) (down b)
 
 abbrev StepFrom : (ℕ → ℕ) → ℕ → List ℕ → List ℕ → ℕ → List ℕ → Type 0
 StepFrom whole m ns hs b found = (T : ℕ → ℕ) → ((k : ℕ) → k ≤ b → Low (suc m) (whole k) (T k)) → ((k : ℕ) → b < k → Low m (whole k) (T k)) → IsPicked T (several (length found) (suc m) ++ ns) (found ++ hs)
 
--- one height more that occurs so many times
+-- one more height that occurs this number of times
 step_yes : (whole : ℕ → ℕ) (m : ℕ) (ns hs : List ℕ) (b : ℕ) (found : List ℕ) → StepFrom whole m ns hs b found → whole (suc b) ≡ suc m → StepFrom whole m ns hs (suc b) (suc b ∷ found)
 step_yes whole m ns hs b found rest is T low high =
     let here : T (suc b) ≡ suc m = (low (suc b) (omega arith)).0 (omega arith) ∙ is in (

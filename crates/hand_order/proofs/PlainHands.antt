@@ -1,4 +1,5 @@
--- The class of a hand without a straight and a flush is a pattern of how often ranks occur, and the best of several cards is the best pattern that they fit.
+-- The class of a hand without a straight and a flush is a pattern of how often ranks occur, and the
+-- best of several cards is the best pattern that they fit.
 use Rattle.std.proofs.Common.{◌≡◌, ◌≢◌, ◌==◌, ◌⊎◌, ℕ, zero, suc, ◌<◌, ◌≤◌, Bool, true, false, cond, List, [], ◌∷◌, ◌++◌, inl, inr, refl, sym, ◌∙◌, ap, subst, arith, eqb-true}
 use Rattle.std.proofs.lemmas.Bool.{cases_lt}
 use Rattle.card_set.specs.declared.card.Card.{Card}
@@ -11,7 +12,7 @@ use Rattle.hand_order.specs.declared.straights.LowStraight.TheVariants as straig
 use Rattle.card_set.specs.Different.{AllDifferent}
 use Rattle.hand_order.specs.Choices.{choices, IsAmong, AreHeld}
 use Rattle.hand_order.specs.Digits.{class_above}
-use Rattle.hand_order.specs.Ladder.{leveled}
+use Rattle.hand_order.specs.Ladder.{flush_ranked}
 use Rattle.hand_order.specs.Straights.{is_straight}
 use Rattle.hand_order.proofs.Digits.{AreDigits, number_below}
 use Rattle.hand_order.proofs.RankDigits.{AreDigits-ranks_of}
@@ -25,7 +26,7 @@ use Rattle.hand_order.specs.Patterns.{without, Within, Fits, IsPicked, among_num
 
 -- the points of a hand without straights and flushes
 abbrev pub plain_points : FlushPlace → List Card → ℕ
-plain_points flush cards = class_above (leveled flush (plain_class (ranks_occurring high_ace cards 4) (ranks_occurring high_ace cards 3) (ranks_occurring high_ace cards 2))) (ranks_of high_ace cards)
+plain_points flush cards = class_above (flush_ranked flush (plain_class (ranks_occurring high_ace cards 4) (ranks_occurring high_ace cards 3) (ranks_occurring high_ace cards 2))) (ranks_of high_ace cards)
 
 pub four_and_one : IsPattern 7
 four_and_one = record { some = search arith; five = refl; class = refl }
@@ -62,7 +63,7 @@ own_pattern cards held =
 pub hand_picked : (cards : List Card) → AreHeld 5 cards → IsPicked (times high_ace cards) (pattern (class_of cards)) (ranks_of high_ace cards)
 hand_picked cards held = subst (λ (p : List ℕ). IsPicked (times high_ace cards) p (ranks_of high_ace cards)) (own_pattern cards held).0 (own_picked high_ace IsHeight-high_ace InRange-high_ace cards held.1)
 
--- heights that fit its counts tell the class of a hand
+-- heights that fit its counts decide the class of a hand
 pub fits_class : (cards : List Card) (k : ℕ) (hs : List ℕ) → AreHeld 5 cards → IsPattern k → Fits (times high_ace cards) (pattern k) hs → class_of cards ≡ k
 fits_class cards k hs held kind fits =
     let all = all_times high_ace IsHeight-high_ace cards ∙ held.0 ∙ sym kind.five in
@@ -73,11 +74,11 @@ fits_class cards k hs held kind fits =
     ∙ kind.class
 
 -- a hand is at least what heights that fit its counts make
-pub plain_least : (flush : FlushPlace) (cards : List Card) (k : ℕ) (hs : List ℕ) → AreHeld 5 cards → IsPattern k → Fits (times high_ace cards) (pattern k) hs → AreDigits hs → class_above (leveled flush k) hs ≤ plain_points flush cards
+pub plain_least : (flush : FlushPlace) (cards : List Card) (k : ℕ) (hs : List ℕ) → AreHeld 5 cards → IsPattern k → Fits (times high_ace cards) (pattern k) hs → AreDigits hs → class_above (flush_ranked flush k) hs ≤ plain_points flush cards
 plain_least flush cards k hs held kind fits digits =
     let class = fits_class cards k hs held kind fits in
     let own = subst (λ (m : ℕ). IsPicked (times high_ace cards) (pattern m) (ranks_of high_ace cards)) class (hand_picked cards held) in
-    let level = ap (leveled flush) class in
+    let level = ap (flush_ranked flush) class in
     omega (arith, picked_number (times high_ace cards) (times high_ace cards) (pattern k) (ranks_of high_ace cards) hs (λ h. omega arith) own fits (AreDigits-ranks_of high_ace cards) digits, level)
 
 -- classes with a pattern of their own
@@ -115,8 +116,8 @@ plain_apart j kind = elim (pattern_cases j kind) [
   ]
 ]
 
--- classes stay in order where a flush is above a full house
-pub leveled_rises : (flush : FlushPlace) (j k : ℕ) → IsPattern j → j < k → leveled flush j < leveled flush k
+-- classes stay in order if a flush ranks above a full house
+pub leveled_rises : (flush : FlushPlace) (j k : ℕ) → IsPattern j → j < k → flush_ranked flush j < flush_ranked flush k
 leveled_rises flushes.BelowFullHouse j k kind less = less
 leveled_rises flushes.AboveFullHouse j k kind less = by_tests (j == 6) refl (k == 6) refl
   where
@@ -141,8 +142,8 @@ choice_within height (suc n) (card ∷ rest) choice among h =
       | inr without ↦ omega (arith, times-cons height card rest h, choice_within height (suc n) rest choice without h)
     ]
 
--- no choice is more
-pub plain_most : (flush : FlushPlace) (cards choice : List Card) (k : ℕ) (hs : List ℕ) → IsBestPattern (times high_ace cards) k hs → IsAmong choice (choices 5 cards) → AreHeld 5 choice → plain_points flush choice ≤ class_above (leveled flush k) hs
+-- no choice is greater
+pub plain_most : (flush : FlushPlace) (cards choice : List Card) (k : ℕ) (hs : List ℕ) → IsBestPattern (times high_ace cards) k hs → IsAmong choice (choices 5 cards) → AreHeld 5 choice → plain_points flush choice ≤ class_above (flush_ranked flush k) hs
 plain_most flush cards choice k hs best among held =
     let within = choice_within high_ace 5 cards choice among in
     let own = hand_picked choice held in
@@ -155,19 +156,19 @@ plain_most flush cards choice k hs best among held =
         | inr most ↦
             let same : class_of choice ≡ k = omega arith in
             let fits_k = subst (λ (m : ℕ). Fits (times high_ace choice) (pattern m) (ranks_of high_ace choice)) same fits in
-            let level = ap (leveled flush) same in
+            let level = ap (flush_ranked flush) same in
             omega (arith, level, picked_number (times high_ace cards) (times high_ace choice) (pattern k) hs (ranks_of high_ace choice) within best.picked fits_k best.digits (AreDigits-ranks_of high_ace choice))
       ]
     ]
 
--- and some choice is as much
+-- and some choice reaches it
 pub record IsReached (flush : FlushPlace) (cards : List Card) (most : ℕ) : Type 0 where
   pub choice : List Card
   pub among : IsAmong choice (choices 5 cards)
   pub held : AreHeld 5 choice
   pub reached : most ≤ plain_points flush choice
 
-pub plain_reached : (flush : FlushPlace) (cards : List Card) (k : ℕ) (hs : List ℕ) → AllDifferent cards → IsBestPattern (times high_ace cards) k hs → IsReached flush cards (class_above (leveled flush k) hs)
+pub plain_reached : (flush : FlushPlace) (cards : List Card) (k : ℕ) (hs : List ℕ) → AllDifferent cards → IsBestPattern (times high_ace cards) k hs → IsReached flush cards (class_above (flush_ranked flush k) hs)
 plain_reached flush cards k hs different best =
     let found = fitting high_ace IsHeight-high_ace (pattern k) hs cards best.kind.some (picked_fits (times high_ace cards) (pattern k) hs best.picked) in
     let among = subst (λ (n : ℕ). IsAmong found.choice (choices n cards)) best.kind.five found.among in

@@ -1,4 +1,4 @@
--- The heights of the cards are digits, which a walk over all heights writes one after the other.
+-- The heights of the cards are digits, written one after another over all heights.
 use Rattle.std.proofs.Common.{◌≡◌, ℕ, ◌+◌, ◌*◌, ◌^◌, ◌<◌, ◌≤◌, ◌==◌, Bool, true, false, cond, List, [], ◌∷◌, ◌++◌, length, take, drop, get_or, filter, refl, sym, ◌∙◌, ap, arith, take-append-drop, append-nil, eq-eqb, length-append, append_assoc}
 use Rattle.std.proofs.lemmas.Bool.{ne_eqb}
 use Rattle.std.proofs.lemmas.List.{take_more}
@@ -45,7 +45,7 @@ AreDigits-ranks_of height cards =
     (AreDigits-append (occurring height cards 3) (occurring height cards 2 ++ occurring height cards 1) (AreDigits-occurring height cards 3)
     (AreDigits-append (occurring height cards 2) (occurring height cards 1) (AreDigits-occurring height cards 2) (AreDigits-occurring height cards 1)))
 
--- the heights among the first ones that so many cards have
+-- the heights, among the first ones, that this number of cards have
 abbrev pub occurring_first : (Rank → ℕ) → List Card → ℕ → ℕ → List ℕ
 occurring_first height cards n i = filter (λ h. times height cards h == n) (take i falling_heights)
 
@@ -53,7 +53,7 @@ pub length-falling_heights : length falling_heights ≡ 14
 unfolding falling_heights
 length-falling_heights = refl
 
--- one height more, which so many cards have
+-- one more height, which this number of cards have
 pub first_yes : (height : Rank → ℕ) (cards : List Card) (n i h : ℕ) → i < 14 → h ≡ get_or falling_heights i 0 → times height cards h ≡ n → occurring_first height cards n (i + 1) ≡ occurring_first height cards n i ++ h ∷ []
 first_yes height cards n i h within is has =
     let test : (times height cards (get_or falling_heights i 0) == n) ≡ true = ap (λ (k : ℕ). times height cards k == n) (sym is) ∙ eq-eqb (times height cards h) n has in
@@ -61,7 +61,7 @@ first_yes height cards n i h within is has =
     ∙ ap (λ (b : Bool). occurring_first height cards n i ++ cond b (get_or falling_heights i 0 ∷ []) []) test
     ∙ ap (λ (k : ℕ). occurring_first height cards n i ++ k ∷ []) (sym is)
 
--- one height more, which other numbers of cards have
+-- one more height, which other numbers of cards have
 pub first_no : (height : Rank → ℕ) (cards : List Card) (n i h : ℕ) → i < 14 → h ≡ get_or falling_heights i 0 → (times height cards h ≡ n → ⊥) → occurring_first height cards n (i + 1) ≡ occurring_first height cards n i
 first_no height cards n i h within is has_not =
     let test : (times height cards (get_or falling_heights i 0) == n) ≡ false = ap (λ (k : ℕ). times height cards k == n) (sym is) ∙ ne_eqb (times height cards h) n has_not in
@@ -69,7 +69,7 @@ first_no height cards n i h within is has_not =
     ∙ ap (λ (b : Bool). occurring_first height cards n i ++ cond b (get_or falling_heights i 0 ∷ []) []) test
     ∙ append-nil (occurring_first height cards n i)
 
--- the first heights are no more than all
+-- there are at most as many first heights as heights
 pub first_le : (height : Rank → ℕ) (cards : List Card) (n i : ℕ) → length (occurring_first height cards n i) ≤ length (occurring height cards n)
 unfolding occurring
 first_le height cards n i =
@@ -85,7 +85,7 @@ first_all height cards n i all = ap (λ (k : ℕ). occurring_first height cards 
 pub ranks_below : (ace : Ace) (cards : List Card) → length cards ≤ 5 → with_digits 0 (ranks_of (height_with ace) cards) < 16 ^ 5
 ranks_below ace cards few = number_below (ranks_of (height_with ace) cards) (omega (arith, ranks_of-le (height_with ace) (IsHeight-with ace) cards)) (AreDigits-ranks_of (height_with ace) cards)
 
--- one digit more
+-- one more digit
 pub digit_more : (digits : List ℕ) (i : ℕ) → i < length digits → with_digits 0 (take (i + 1) digits) ≡ with_digits 0 (take i digits) * 16 + get_or digits i 0
 digit_more digits i within =
     ap (with_digits 0) (take_more digits i 0 within)
@@ -93,7 +93,7 @@ digit_more digits i within =
     ∙ with_digits-cons (with_digits 0 (take i digits)) (get_or digits i 0) []
     ∙ with_digits-nil (with_digits 0 (take i digits) * 16 + get_or digits i 0)
 
--- the first digits make no greater number than all
+-- the first digits make a number that is at most that of all
 pub digits_le : (digits : List ℕ) (i : ℕ) → with_digits 0 (take i digits) ≤ with_digits 0 digits
 digits_le digits i =
     omega (arith, ap (with_digits 0) (sym (take-append-drop i digits)), with_digits-append 0 (take i digits) (drop i digits), with_digits-more (with_digits 0 (take i digits)) (drop i digits))
@@ -102,7 +102,7 @@ digits_le digits i =
 pub few_ranks : (ace : Ace) (cards : List Card) → length (occurring (height_with ace) cards 4) + length (occurring (height_with ace) cards 3) + length (occurring (height_with ace) cards 2) + length (occurring (height_with ace) cards 1) ≤ length cards
 few_ranks ace cards = omega (arith, length-ranks_of (height_with ace) cards, ranks_of-le (height_with ace) (IsHeight-with ace) cards)
 
--- the ranks put one after the other
+-- the ranks, one after another
 pub all_grown : (height : Rank → ℕ) (cards : List Card) (none four three two one : List ℕ) → none ≡ [] → four ≡ none ++ occurring height cards 4 → three ≡ four ++ occurring height cards 3 → two ≡ three ++ occurring height cards 2 → one ≡ two ++ occurring height cards 1 → one ≡ ranks_of height cards
 unfolding ranks_of
 all_grown height cards none four three two one is_none is_four is_three is_two is_one =

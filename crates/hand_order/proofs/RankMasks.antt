@@ -1,4 +1,4 @@
--- The mask of a suit tells which of its ranks a set has.
+-- The mask of a suit shows which of its ranks a set has.
 use Rattle.std.proofs.Common.{◌≡◌, ◌^◌, ◌<◌, ◌==◌, ℕ}
 use Rattle.std.specs.Int.{bit_at}
 use Rattle.card_set.specs.declared.card.Rank.{Rank}

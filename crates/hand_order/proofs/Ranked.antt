@@ -1,4 +1,4 @@
--- Where a class tells how many ranks decide in it, numbers of hands compare as the hands do.
+-- If the class fixes how many ranks decide, the numbers of hands compare as the hands do.
 use Rattle.std.proofs.Common.{◌≡◌, ℕ, ◌+◌, ◌-◌, ◌*◌, ◌^◌, ◌<◌, ◌≤◌, Bool, List, length, get_or, inl, inr, ◌↔◌, sym, ap, arith}
 use Rattle.card_set.specs.declared.card.Card.{Card}
 use Rattle.card_set.specs.declared.card.Rank.{Rank}
@@ -9,20 +9,21 @@ use Rattle.card_set.proofs.Counted.{IsHeight, few_times, counted, length-ranks_o
 use Rattle.hand_order.specs.Digits.{class_above}
 use Rattle.hand_order.proofs.Digits.{AreDigits, class_first, number_below}
 
--- the class of a hand is one of the table's, and tells how many fewer ranks than cards decide in it
+-- the class of a hand is one of the table's, and fixes the number of cards minus the number of
+-- ranks that decide
 pub record IsRanked (class : List Card → ℕ) (list : List Card → List ℕ) (missing : List ℕ) (last total : ℕ) (cards : List Card) : Type 0 where
   pub within : class cards ≤ last
   pub long : length (list cards) + get_or missing (class cards) 0 ≡ total
   pub few : length (list cards) ≤ 5
   pub digits : AreDigits (list cards)
 
--- as many ranks decide in two hands of one class
+-- the same number of ranks decide in two hands of one class
 as_many : (class : List Card → ℕ) (list : List Card → List ℕ) (missing : List ℕ) (last total : ℕ) (a b : List Card) → IsRanked class list missing last total a → IsRanked class list missing last total b → class a ≡ class b → length (list a) ≡ length (list b)
 as_many class list missing last total a b is_a is_b same =
     let moved = ap (λ (k : ℕ). get_or missing k 0) same in
     omega (arith, is_a.long, is_b.long)
 
--- where high ranks are good
+-- if high ranks are good
 pub ranked_law : (class : List Card → ℕ) (list : List Card → List ℕ) (missing : List ℕ) (last total : ℕ) (a b : List Card) → IsRanked class list missing last total a → IsRanked class list missing last total b → (class_above (last - class a) (list a) < class_above (last - class b) (list b)) ↔ IsBelow class list a b
 ranked_law class list missing last total a b is_a is_b =
     let law = class_first (last - class a) (last - class b) (list a) (list b) is_a.few is_b.few is_a.digits is_b.digits (λ equal. as_many class list missing last total a b is_a is_b (omega (arith, is_a.within, is_b.within))) in (
@@ -40,7 +41,7 @@ ranked_law class list missing last total a b is_a is_b =
 pub ranked_below : (class : List Card → ℕ) (list : List Card → List ℕ) (missing : List ℕ) (last total : ℕ) (cards : List Card) → IsRanked class list missing last total cards → last ≤ 8 → class_above (class cards) (list cards) < 16 ^ 6
 ranked_below class list missing last total cards is few = omega (arith, number_below (list cards) is.few is.digits, is.within)
 
--- where low ranks are good, and the greatest number is the weakest hand
+-- if low ranks are good, and the greatest number is the weakest hand
 pub ranked_low_law : (class : List Card → ℕ) (list : List Card → List ℕ) (missing : List ℕ) (last total : ℕ) (a b : List Card) → last ≤ 8 → IsRanked class list missing last total a → IsRanked class list missing last total b → (16 ^ 6 - class_above (class a) (list a) < 16 ^ 6 - class_above (class b) (list b)) ↔ IsBelowLow class list a b
 ranked_low_law class list missing last total a b few is_a is_b =
     let law = class_first (class b) (class a) (list b) (list a) is_b.few is_a.few is_b.digits is_a.digits (λ equal. as_many class list missing last total b a is_b is_a equal) in
@@ -54,7 +55,7 @@ ranked_low_law class list missing last total a b few is_a is_b =
 abbrev pub PlainSays : (ℕ → ℕ → ℕ → List Bool) → List ℕ → ℕ → ℕ → ℕ → ℕ → ℕ → ℕ → Type 0
 PlainSays table missing last most four three two one = 4 * four + 3 * three + 2 * two + one ≤ most → (place (table four three two) ≤ last) × (3 * four + 2 * three + two ≡ get_or missing (place (table four three two)) 0)
 
--- hands are ranked by a table that says so of each way in which ranks occur
+-- hands are ranked by a table that says this for each way in which ranks occur
 pub ranked_plain : (table : ℕ → ℕ → ℕ → List Bool) (missing : List ℕ) (last most : ℕ) → ((four three two one : ℕ) → PlainSays table missing last most four three two one)
     → (height : Rank → ℕ) → IsHeight height → ((cards : List Card) → AreDigits (ranks_of height cards)) → (class : List Card → ℕ) (cards : List Card) → most ≤ 5 → length cards ≤ most → AllDifferent cards → class cards ≡ place (table (ranks_occurring height cards 4) (ranks_occurring height cards 3) (ranks_occurring height cards 2)) → IsRanked class (ranks_of height) missing last (length cards) cards
 ranked_plain table missing last most every height is_height digits class cards most_few few different is =

@@ -1,4 +1,5 @@
--- Two lists of the same different cards have the same choices, each maybe in another order.
+-- Two lists of the same different cards have the same choices, possibly in another order of their
+-- cards.
 use Rattle.std.proofs.Common.{◌≡◌, ℕ, zero, suc, ◌<◌, ◌&&◌, ◌||◌, Bool, true, false, cond, List, [], ◌∷◌, ◌++◌, map, length, filter, Option, Some, None, inl, inr, refl, sym, ◌∙◌, ap, subst, arith}
 use Rattle.std.proofs.lemmas.Bool.{or_cases}
 use Rattle.card_set.specs.declared.card.Card.{Card}
@@ -56,7 +57,7 @@ one_of_every P card (other ∷ rest) every is =
       | inr later ↦ one_of_every P card rest every.1 later
     ]
 
--- a card of a choice is one of the cards
+-- a card of a choice is among the cards
 pub one_of_chosen : (n : ℕ) (cards chosen : List Card) (card : Card) → IsAmong chosen (choices n cards) → is_one_of card chosen ≡ true → is_one_of card cards ≡ true
 one_of_chosen n cards chosen card among is =
     one_of_every (λ other. is_one_of other cards ≡ true) card chosen (every_chosen (λ other. is_one_of other cards ≡ true) n cards chosen among (every_one_of cards)) is
@@ -118,7 +119,7 @@ greatest-same points n a b different_a different_b same alike =
         let ge = says_a.most down.0 other down.1 down.2 in
         ap (λ (m : ℕ). Some m) (omega arith)
 
--- of too few cards there is no choice
+-- there is no choice from too few cards
 pub too_few : (n : ℕ) (cards : List Card) → length cards < n → choices n cards ≡ []
 unfolding choices
 too_few zero cards few = absurd (omega arith)
@@ -126,7 +127,7 @@ too_few (suc n) [] few = refl
 too_few (suc n) (card ∷ rest) few =
     ap (λ (l : List (List Card)). map (λ chosen. card ∷ chosen) l ++ choices (suc n) rest) (too_few n rest (omega arith)) ∙ too_few (suc n) rest (omega arith)
 
--- and of as many cards one
+-- and only one from as many as are needed
 pub all_chosen : (cards : List Card) → choices (length cards) cards ≡ cards ∷ []
 unfolding choices
 all_chosen [] = refl

@@ -15,7 +15,7 @@ use Rattle.hand_order.proofs.SameChoices.{all_chosen, greatest-same}
 pub listing_of : (set : CardSet) (seen cards : List Card) → seen ≡ cards → AllDifferent cards → ((card : Card) → is_in set card ≡ is_one_of card seen) → IsListing set cards
 listing_of set seen cards is different same = subst (IsListing set) is (record { different = subst AllDifferent (sym is) different; same = same })
 
--- and are as many
+-- and there are as many
 pub count_of-row : (set : CardSet) (seen cards : List Card) → seen ≡ cards → AllDifferent cards → ((card : Card) → is_in set card ≡ is_one_of card seen) → count_of set ≡ length cards
 count_of-row set seen cards is different same = count_of-listing set cards (listing_of set seen cards is different same)
 
@@ -24,7 +24,7 @@ pub only_choice : (points : List Card → Option ℕ) (held : ℕ) (cards : List
 only_choice points held cards long =
     ap (λ (n : ℕ). greatest points (choices n cards)) (sym long) ∙ ap (greatest points) (all_chosen cards) ∙ greatest-one points cards
 
--- choices that follow no card are accepted
+-- choices after an empty start are accepted
 pub accepted_listed : (accepts : List Card → Type 0) (held : ℕ) (start seen more : List Card) (set : CardSet) → start ≡ [] → seen ≡ listed set → ((hand : List Card) → AreHeld held hand → accepts hand) → IsAmong more (choices held seen) → accepts (start ++ more)
 accepted_listed accepts held start seen more set none is accepted among =
     let different = subst AllDifferent (sym is) (listed_listing set).different in
@@ -41,6 +41,6 @@ greatest_listed points held start seen listing set none is alike lists =
 pub few_to_choose : (held count : ℕ) → held ≤ 7 → CanChoose held count → count ≤ 7
 few_to_choose held count few can = elim can [ inl five ↦ five.2 | inr all ↦ omega arith ]
 
--- and as many at least as a hand
+-- and at least as many as a hand
 pub enough_to_choose : (held count : ℕ) → CanChoose held count → held ≤ count
 enough_to_choose held count can = elim can [ inl five ↦ omega (arith, five.0, five.1) | inr all ↦ omega arith ]

@@ -21,7 +21,7 @@ use Rattle.hand_order.proofs.FittingChoices.{times_of_ranks}
 use Rattle.hand_order.specs.Tops.{Shows}
 use Rattle.hand_order.proofs.OwnRanks.{InRange-high_ace}
 use Rattle.hand_order.proofs.SuitedHands.{of_suit}
-use Rattle.list_laws.proofs.Tests.{passes_or_not}
+use Rattle.card_set.proofs.Tests.{passes_or_not}
 
 -- the height of a rank is two more than the ranks below it
 pub height_below : (rank : Rank) → high_ace rank ≡ ranks_below rank + 2
@@ -39,7 +39,7 @@ height_below ranks.Queen = refl
 height_below ranks.King = refl
 height_below ranks.Ace = refl
 
--- of different cards one rank of a suit occurs once or not at all
+-- among different cards, a rank of a suit occurs at most once
 pub suit_once : (card : Card) (cards : List Card) → AllDifferent cards → times high_ace (filter (of_suit (suits_before card.suit)) cards) (high_ace card.rank) ≡ cond (is_one_of card cards) 1 0
 suit_once card [] different = times-none high_ace (high_ace card.rank)
 suit_once card (first ∷ rest) different =
@@ -66,7 +66,7 @@ suit_once card (first ∷ rest) different =
         let none = ap (λ (b : Bool). cond {A = ℕ} b 1 0) off in
         times-cons high_ace first (filter (of_suit (suits_before card.suit)) rest) (high_ace card.rank) ∙ omega (arith, none, later)
 
--- of different cards a rank of a suit occurs once exactly where its card is one of them
+-- among different cards, a rank of a suit occurs once if and only if its card is among them
 pub rank_once : (card : Card) (cards : List Card) → AllDifferent cards → times high_ace (filter (of_suit (suits_before card.suit)) cards) (ranks_below card.rank + 2) ≡ cond (is_one_of card cards) 1 0
 rank_once card cards different = sym (ap (times high_ace (filter (of_suit (suits_before card.suit)) cards)) (height_below card.rank)) ∙ suit_once card cards different
 
@@ -90,7 +90,7 @@ are_counts cards different five = record {
   five = omega (arith, all_times high_ace IsHeight-high_ace cards);
 }
 
--- heights of cards are two at least, and fourteen at most
+-- heights of cards are at least two and at most fourteen
 pub height_least : (cards : List Card) (h : ℕ) → 0 < times high_ace cards h → (2 ≤ h) × (h ≤ 14)
 height_least cards h some = let of = times_of_ranks high_ace cards h some in (omega (arith, of.1, height_below of.0), omega (arith, of.1, (InRange-high_ace of.0).1))
 
@@ -114,7 +114,7 @@ suit_shows cards mask s small bits = record {
   small = small;
 }
 
--- the rank with so many ranks below it
+-- the rank with this number of ranks below it
 pub rank_below : (k : ℕ) → k < 13 → (rank : Rank) × (ranks_below rank ≡ k)
 rank_below zero few = (ranks.Two, refl)
 rank_below (suc zero) few = (ranks.Three, refl)

@@ -1,4 +1,5 @@
--- The ways in which ranks occur among at most five cards, and what each class of hands says of the number of ranks.
+-- The ways in which ranks occur among at most five cards, and what each class of hands says of the
+-- number of ranks.
 use Rattle.std.proofs.Common.{◌≡◌, ℕ, zero, suc, ◌+◌, ◌*◌, ◌<◌, ◌≤◌, Bool, true, false, refl, subst, arith}
 
 -- what holds in each way in which ranks occur holds for all hands of at most five cards
@@ -16,7 +17,7 @@ by_counts P quads full trips pairs pair none (suc zero) zero (suc two) one few =
 by_counts P quads full trips pairs pair none (suc zero) (suc three) two one few = absurd (omega arith)
 by_counts P quads full trips pairs pair none (suc (suc four)) three two one few = absurd (omega arith)
 
--- a straight or a flush has five ranks, so it stands beside no pair
+-- a straight or a flush has five ranks, so it has no pair
 abbrev pub OfFive : (ℕ → ℕ → ℕ → ℕ → Bool → Bool → Type 0) → ℕ → ℕ → ℕ → ℕ → Type 0
 OfFive P four three two one = (straight flush : Bool) → 4 * four + 3 * three + 2 * two + one ≡ 5 → (straight ≡ true → four + three + two + one ≡ 5) → (flush ≡ true → four + three + two + one ≡ 5) → P four three two one straight flush
 

@@ -11,8 +11,8 @@ use Rattle.hand_order.specs.Tops.{highest, lowered, tops, Shows}
 use Rattle.hand_order.proofs.FittingChoices.{without_of_ranks, sum_without}
 use Rattle.hand_order.proofs.OwnRanks.{several}
 use Rattle.hand_order.specs.Patterns.{without, IsPicked, IsOfRank, OfRanks}
-use Rattle.list_laws.proofs.Bits.{cleared, top_highest, top_set}
-use Rattle.list_laws.proofs.Sums.{sum_by-same, none_occur}
+use Rattle.card_set.proofs.Bits.{cleared, top_highest, top_set}
+use Rattle.card_set.proofs.Sums.{sum_by-same, none_occur}
 
 -- the highest bit that is shown
 pub top_shown : (mask n : ℕ) (T : ℕ → ℕ) → Shows mask n T → 0 < mask → (n ≤ T (highest mask + 2)) × ((h : ℕ) → n ≤ T h → h ≤ highest mask + 2)

@@ -1,4 +1,5 @@
--- Heights that fit and are a straight are five heights that occur, and the other way round; the bits of a mask tell them.
+-- Heights that fit and are a straight are five heights that occur, and conversely; the bits of a
+-- mask show them.
 use Rattle.std.proofs.Common.{◌≡◌, ◌↔◌, ℕ, ◌+◌, ◌-◌, ◌/◌, ◌^◌, ◌<◌, ◌≤◌, ◌==◌, ◌&&◌, ◌||◌, Bool, true, false, cond, List, [], ◌∷◌, length, ◌⊎◌, inl, inr, refl, sym, ap, subst, arith, eqb-true, eq-eqb, bit_and, max}
 use Rattle.std.specs.Int.{bit_at}
 use Rattle.std.proofs.lemmas.Bool.{cases_lt, and_parts, or_cases, ne_eqb}
@@ -11,8 +12,8 @@ use Rattle.hand_order.specs.Straights.{is_run, is_low_straight, straight_top}
 use Rattle.hand_order.specs.Tops.{Shows}
 use Rattle.hand_order.proofs.FallingRanks.{FallingFrom, fits_below}
 use Rattle.hand_order.proofs.OwnRanks.{several}
-use Rattle.list_laws.proofs.Bits.{moved}
-use Rattle.list_laws.proofs.Tests.{all_five, all_four, five_all}
+use Rattle.card_set.proofs.Bits.{moved}
+use Rattle.card_set.proofs.Tests.{all_five, all_four, five_all}
 
 without-le : (T : ℕ → ℕ) (h k : ℕ) → without T h k ≤ T k
 without-le T h k = by_test (h == k)
@@ -84,7 +85,7 @@ low_top straights.Nothing T a b c d e occur run = absurd (nothing (a == 14) run)
     nothing true is = absurd (cc)
     nothing false is = absurd (cc)
 
--- where a straight fits, its heights occur
+-- if a straight fits, its heights occur
 pub straight_has : (low : LowStraight) (T : ℕ → ℕ) (hs : List ℕ) → ((h : ℕ) → 0 < T h → 2 ≤ h) → Fits T (pattern 0) hs → (is_run hs || is_low_straight low hs) ≡ true → HasStraight low T (straight_top hs)
 straight_has low T [] past fits run = absurd fits
 straight_has low T (a ∷ []) past fits run = absurd fits.1

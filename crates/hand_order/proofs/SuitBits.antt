@@ -23,9 +23,9 @@ use Rattle.hand_order.proofs.OwnRanks.{several}
 use Rattle.hand_order.proofs.PlainHands.{ones_alone}
 use Rattle.hand_order.proofs.ShownRanks.{different_heights, different_without, lowered_shows, top_shown, tops_picked}
 use Rattle.hand_order.proofs.StraightBits.{has_list}
-use Rattle.list_laws.proofs.Bits.{top_set}
+use Rattle.card_set.proofs.Bits.{top_set}
 
--- the highest bits are no more than the different heights
+-- the highest bits are at most as many as the different heights
 tops_few : (T : ℕ → ℕ) (n mask : ℕ) → OfRanks high_ace T → Shows mask 1 T → length (tops n mask) ≤ different_heights T
 tops_few T zero mask of shows = omega arith
 tops_few T (suc n) mask of shows =
@@ -108,7 +108,7 @@ straight_some straights.FiveHigh T top (inr has) = omega (arith, has.0)
 straight_some straights.NineHigh T top (inr has) = omega (arith, has.0)
 straight_some straights.Nothing T top (inr has) = absurd has
 
--- a lower top makes no more
+-- a lower top makes at most as many points
 pub topped_most : (low : LowStraight) (T : ℕ → ℕ) (class top found : ℕ) → HasStraight low T top → top ≤ found → class_above class (top ∷ []) ≤ topped class found
 topped_most low T class top found has below =
     let some = straight_some low T top has in

@@ -31,7 +31,7 @@ filter_chosen p (suc n) (card ∷ rest) choice among =
     ]
     by_test false fewer same is = without_first (suc n) card rest choice (same choice is)
 
--- and one whose cards pass is a choice of those that pass
+-- and a choice of cards that pass is a choice of those that pass
 pub chosen_filter : (p : Card → Bool) (n : ℕ) (cards choice : List Card) → Every (Passes p) choice → IsAmong choice (choices n cards) → IsAmong choice (choices n (filter p cards))
 chosen_filter p zero cards choice every among = subst (λ (l : List Card). IsAmong l (choices 0 (filter p cards))) (sym (one_choice cards choice among)) (none_chosen (filter p cards))
 chosen_filter p (suc n) [] choice every among = among
@@ -85,7 +85,7 @@ suited_class cards held suited =
     none_of zero (suc n) two a b c = absurd (omega arith)
     none_of zero zero (suc n) a b c = absurd (omega arith)
 
--- and those of some choice of the suit are as much
+-- and the ranks of some choice of the suit are as good
 pub record IsSuited (s : ℕ) (cards : List Card) (hs : List ℕ) : Type 0 where
   pub choice : List Card
   pub among : IsAmong choice (choices 5 cards)

@@ -1,11 +1,11 @@
--- The highest bits of a mask are as many as are asked for, where so many are set.
+-- The highest bits of a mask are as many as are asked for, if that many are set.
 use Rattle.std.proofs.Common.{◌≡◌, ℕ, zero, suc, ◌+◌, ◌*◌, ◌^◌, ◌%◌, ◌<◌, ◌≤◌, ◌==◌, Bool, cond, [], ◌∷◌, length, inl, inr, refl, ap, arith, eq-eqb, count_ones, w16}
 use Rattle.std.specs.Int.{bit_at, bit_not}
 use Rattle.std.proofs.Math.Dec.{eqb-suc-suc, eqb-suc-zero, eqb-zero-suc}
 use Rattle.std.proofs.lemmas.Bool.{cases_lt, ne_eqb}
 use Rattle.std.proofs.lemmas.Nat.{and_le_l}
 use Rattle.hand_order.specs.Tops.{highest, lowered, tops}
-use Rattle.list_laws.proofs.Bits.{cleared, first_sum, first_sum-agree, no_ones, ones_sum, top_set}
+use Rattle.card_set.proofs.Bits.{cleared, first_sum, first_sum-agree, no_ones, ones_sum, top_set}
 
 -- a sum without one of its values
 first_sum_without : (f : ℕ → ℕ) (j p : ℕ) → p < j → first_sum f j ≡ f p + first_sum (λ k. cond (p == k) 0 (f k)) j
@@ -31,7 +31,7 @@ ones_lowered mask some small =
     let same = first_sum-agree (bit_at (lowered mask)) (λ k. cond (place == k) 0 (bit_at mask k)) 16 (λ k. cleared mask place k small (omega arith)) in
     omega (arith, ones_sum 16 mask small, ones_sum 16 (lowered mask) (lowered_small mask small), split, same, top_set mask place some small refl)
 
--- as many as are asked for, where so many are set
+-- as many as are asked for, if that many are set
 pub tops_many : (n mask : ℕ) → mask < 2 ^ 16 → n ≤ count_ones mask → length (tops n mask) ≡ n
 tops_many zero mask small many = refl
 tops_many (suc n) mask small many =
@@ -42,7 +42,7 @@ tops_many (suc n) mask small many =
       | inr none ↦ absurd (omega (arith, no_ones mask (omega arith)))
     ]
 
--- and no more than are set
+-- and at most as many as are set
 pub tops_few_ones : (n mask : ℕ) → mask < 2 ^ 16 → length (tops n mask) ≤ count_ones mask
 tops_few_ones zero mask small = omega arith
 tops_few_ones (suc n) mask small =

@@ -5,7 +5,7 @@ use Rattle.std.proofs.lemmas.Bool.{ne_eqb}
 use Rattle.hand_order.specs.Digits.{with_digits}
 use Rattle.hand_order.specs.Tops.{highest, lowered, tops}
 use Rattle.hand_order.proofs.Digits.{with_digits-cons, with_digits-more, with_digits-nil}
-use Rattle.list_laws.proofs.Numbers.{one_less}
+use Rattle.card_set.proofs.Numbers.{one_less}
 
 -- nothing more is written
 pub digits_none : (number mask need : ℕ) → need ≡ 0 → number ≡ with_digits number (tops need mask)
@@ -28,12 +28,12 @@ digits_grown number mask (suc n) place rest some_need some_mask is is_rest =
     ∙ sym (with_digits-cons number (highest mask + 2) (tops n (lowered mask)))
     ∙ ap (λ (b : Bool). with_digits number (cond b [] ((highest mask + 2) ∷ tops n (lowered mask)))) (sym (ne_eqb mask 0 some_mask))
 
--- the number so far is no greater
+-- the number so far is not greater
 pub digit_fits : (number mask need place rest : ℕ) → (need ≡ 0 → ⊥) → (mask ≡ 0 → ⊥) → place ≡ highest mask → rest ≡ bit_and mask (bit_not w16 (1 * 2 ^ place % 2 ^ 16)) → number * 16 + place + 2 ≤ with_digits number (tops need mask)
 digit_fits number mask need place rest some_need some_mask is is_rest =
     omega (arith, digits_grown number mask need place rest some_need some_mask is is_rest, with_digits-more (number * 16 + place + 2) (tops (need - 1) rest))
 
--- twenty times for each digit
+-- twenty times as much for each digit
 abbrev pub widened : ℕ → ℕ → ℕ
 widened zero most = most
 widened (suc n) most = widened n (most * 20)
@@ -52,6 +52,6 @@ digits_small (suc n) value mask most small =
     by_zero true rest = omega (arith, with_digits-nil value, widened-le n (most * 20))
     by_zero false rest = omega (arith, with_digits-cons value (highest mask + 2) (tops n (lowered mask)), rest)
 
--- so few digits make a number that fits
+-- this number of digits makes a number that fits
 pub digits_fit : (n value mask most : ℕ) → value + 2 ≤ most → widened n most < 2 ^ 32 → with_digits value (tops n mask) < 2 ^ 32
 digits_fit n value mask most small room = omega (arith, digits_small n value mask most small, room)

@@ -1,4 +1,4 @@
--- Where cards have as many of each height as are wanted, some choice of them has exactly those.
+-- If cards have as many of each height as are wanted, some choice of them has exactly those.
 use Rattle.std.proofs.Common.{◌≡◌, ℕ, suc, ◌+◌, ◌-◌, ◌≤◌, ◌==◌, Bool, true, false, cond, List, [], ◌∷◌, sum_by, inl, inr, refl, sym, ◌∙◌, ap, subst, arith, eqb-true}
 use Rattle.std.proofs.lemmas.Bool.{cases_lt}
 use Rattle.std.proofs.lemmas.List.Sums.{sum_by-cons}
@@ -9,9 +9,9 @@ use Rattle.card_set.proofs.Counted.{IsHeight, times-none, times-cons}
 use Rattle.hand_order.specs.Choices.{choices, IsAmong}
 use Rattle.hand_order.proofs.SameChoices.{none_chosen, with_first, without_first}
 use Rattle.hand_order.specs.Patterns.{Within}
-use Rattle.list_laws.proofs.Sums.{sum_by-zero}
+use Rattle.card_set.proofs.Sums.{sum_by-zero}
 
--- a choice of so many cards that has exactly the wanted heights
+-- a choice of this number of cards that has exactly the wanted heights
 pub record IsWanted (height : Rank → ℕ) (wanted : ℕ → ℕ) (n : ℕ) (cards : List Card) : Type 0 where
   pub choice : List Card
   pub among : IsAmong choice (choices n cards)
@@ -35,7 +35,7 @@ sum_by-fewer wanted k (h ∷ hs) some =
 skipped : (height : Rank → ℕ) (card : Card) (rest : List Card) (wanted : ℕ → ℕ) (n : ℕ) → IsWanted height wanted n rest → IsWanted height wanted n (card ∷ rest)
 skipped height card rest wanted n is = record { choice = is.choice; among = without_first n card rest is.choice is.among; has = is.has }
 
--- what is wanted of the others, where none of the first card's height is
+-- what is wanted of the others, if the first card's height is not wanted
 skipped_within : (height : Rank → ℕ) (card : Card) (rest : List Card) (wanted : ℕ → ℕ) → Within wanted (times height (card ∷ rest)) → wanted (height card.rank) ≡ 0 → Within wanted (times height rest)
 skipped_within height card rest wanted within none h = other (height card.rank == h) refl
   where
@@ -43,7 +43,7 @@ skipped_within height card rest wanted within none h = other (height card.rank =
     other true test = let same = ap wanted (eqb-true (height card.rank) h test) in omega arith
     other false test = let no = ap (λ (b : Bool). cond {A = ℕ} b 1 0) test in omega (arith, within h, times-cons height card rest h, no)
 
--- what is wanted of the others, where the first card is taken
+-- what is wanted of the others, if the first card is taken
 taken_within : (height : Rank → ℕ) (card : Card) (rest : List Card) (wanted : ℕ → ℕ) → Within wanted (times height (card ∷ rest)) → Within (fewer wanted (height card.rank)) (times height rest)
 taken_within height card rest wanted within h = other (height card.rank == h) refl
   where
@@ -65,7 +65,7 @@ taken height card rest wanted n some is = record {
         let yes = ap (λ (b : Bool). cond {A = ℕ} b 1 0) test in omega arith
     all h false test t u t_is u_is = let no = ap (λ (b : Bool). cond {A = ℕ} b 1 0) test in omega arith
 
--- where no more is wanted than there is, it can be chosen
+-- if at most what is there is wanted, it can be chosen
 pub wanted_chosen : (height : Rank → ℕ) → IsHeight height → (cards : List Card) (wanted : ℕ → ℕ) (n : ℕ) → Within wanted (times height cards) → sum_by wanted falling_heights ≡ n → IsWanted height wanted n cards
 wanted_chosen height is [] wanted n within sum =
     let empty : n ≡ 0 = sym sum ∙ sum_by-zero wanted falling_heights (λ h. omega (arith, within h, times-none height h)) in

@@ -7,7 +7,7 @@ use Rattle.hand_order.specs.Choices.{IsAmong}
 abbrev pub HasNoHand : (List Card → Type 0) → List (List Card) → Type 0
 HasNoHand is_hand options = (choice : List Card) → IsAmong choice options → ¬ (is_hand choice)
 
--- a choice that is a hand of the order and weaker than no other choice
+-- a choice that is a hand of the order and is weaker than no other choice
 pub record IsBest (is_hand : List Card → Type 0) (is_weaker : List Card → List Card → Type 0)
     (options : List (List Card)) (best : List Card) : Type 0 where
   pub among : IsAmong best options
@@ -15,7 +15,7 @@ pub record IsBest (is_hand : List Card → Type 0) (is_weaker : List Card → Li
   pub unbeaten : (other : List Card) → IsAmong other options → is_hand other
       → ¬ (is_weaker best other)
 
--- so many points are those of a best choice
+-- these points are those of a best choice
 pub record IsPointsOfBest (is_hand : List Card → Type 0)
     (is_weaker : List Card → List Card → Type 0) (points : List Card → Option ℕ)
     (options : List (List Card)) (most : ℕ) : Type 0 where
@@ -23,8 +23,8 @@ pub record IsPointsOfBest (is_hand : List Card → Type 0)
   pub is_best : IsBest is_hand is_weaker options best
   pub pointed : points best ≡ Some most
 
--- one holding beats another: it has a best choice, and the other has no hand, or a best choice that
--- is weaker
+-- one holding beats another: it has a best choice, and the other has no hand, or has a best choice
+-- that is weaker
 pub record Beats (is_hand : List Card → Type 0) (is_weaker : List Card → List Card → Type 0)
     (options others : List (List Card)) : Type 0 where
   pub best : List Card
@@ -33,14 +33,14 @@ pub record Beats (is_hand : List Card → Type 0) (is_weaker : List Card → Lis
       HasNoHand is_hand others
       ⊎ ((other : List Card) × IsBest is_hand is_weaker others other × is_weaker other best)
 
--- what a holding's points say: none where no choice is a hand, else those of a best choice
+-- the points of a holding: none if no choice is a hand, otherwise those of a best choice
 abbrev pub IsPointsOfHolding : (List Card → Type 0) → (List Card → List Card → Type 0)
     → (List Card → Option ℕ) → List (List Card) → Option ℕ → Type 0
 IsPointsOfHolding is_hand is_weaker points options None = HasNoHand is_hand options
 IsPointsOfHolding is_hand is_weaker points options (Some most) =
     IsPointsOfBest is_hand is_weaker points options most
 
--- points are less, where none are less than some
+-- fewer points, where no points are fewer than any
 abbrev pub IsLess : Option ℕ → Option ℕ → Type 0
 IsLess None None = ⊥
 IsLess None (Some y) = Unit {0}

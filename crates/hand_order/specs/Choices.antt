@@ -7,14 +7,14 @@ use Rattle.card_set.specs.Different.{AllDifferent}
 use Rattle.card_set.specs.declared.pick.Pick.{Pick}
 use Rattle.card_set.specs.declared.pick.Pick.TheVariants as picks
 
--- all choices of so many of the cards
+-- all choices of this number of the cards
 unfoldable pub choices : ℕ → List Card → List (List Card)
 choices zero cards = [] ∷ []
 choices (suc n) [] = []
 choices (suc n) (card ∷ rest) =
     map (λ chosen. card ∷ chosen) (choices n rest) ++ choices (suc n) rest
 
--- all choices of so many of the first cards, each with all choices of so many of the second ones
+-- all choices of a number of the first cards, each with all choices of a number of the second ones
 abbrev pub choices_of_both : ℕ → List Card → ℕ → List Card → List (List Card)
 choices_of_both n first m second =
     flat_map (λ chosen. map (λ others. chosen ++ others) (choices m second)) (choices n first)
@@ -33,7 +33,8 @@ CanPick held picks.AnyFive hole board =
 CanPick held picks.TwoAndThree hole board = (held ≡ 5) × (2 ≤ length hole) × (3 ≤ length board)
 CanPick held picks.AllHeld hole board = length hole ≡ held
 
--- so many cards can be chosen from: five to seven where a hand has five, else as many as a hand has
+-- this number of cards can be chosen from: five to seven if a hand has five, otherwise as many as a
+-- hand has
 abbrev pub CanChoose : ℕ → ℕ → Type 0
 CanChoose held count = ((held ≡ 5) × (5 ≤ count) × (count ≤ 7)) ⊎ (count ≡ held)
 
@@ -42,15 +43,15 @@ abbrev pub IsAmong : List Card → List (List Card) → Type 0
 IsAmong choice [] = ⊥
 IsAmong choice (option ∷ others) = (choice ≡ option) ⊎ IsAmong choice others
 
--- so many cards, all different
+-- this number of cards, all different
 abbrev pub AreHeld : ℕ → List Card → Type 0
 AreHeld held cards = (length cards ≡ held) × AllDifferent cards
 
--- these cards and three of the board are so many, and all are different
+-- these cards and three of the board are this many, and all are different
 abbrev pub CanJoin : ℕ → List Card → List Card → Type 0
 CanJoin held cards board = (length cards + 3 ≡ held) × AllDifferent (cards ++ board)
 
--- points that do not look at the order of the cards
+-- points that do not depend on the order of the cards
 abbrev pub AreAlike : (List Card → Option ℕ) → ℕ → Type 0
 AreAlike points held =
     (a b : List Card) → AreHeld held a → AreHeld held b → AreSameCards a b → points a ≡ points b

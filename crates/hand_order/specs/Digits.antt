@@ -1,4 +1,4 @@
--- The points that a class and a list of heights make, each height a digit to the base 16.
+-- The points that a class and a list of heights make, each height a digit in base 16.
 use Rattle.std.specs.Prelude.{ℕ, ◌+◌, ◌*◌, ◌^◌, ◌<◌, List, [], ◌∷◌, fold}
 
 -- the number with these digits after those of another

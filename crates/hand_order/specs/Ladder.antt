@@ -1,4 +1,4 @@
--- The ladder of classes of the high orders, where a flush is below a full house or above it.
+-- The classes of the high orders, in which a flush ranks below a full house or above it.
 use Rattle.std.specs.Prelude.{ℕ, ◌-◌, ◌==◌, ◌&&◌, Bool, List, [], ◌∷◌, if◌then◌else◌}
 use Rattle.card_set.specs.declared.card.Card.{Card}
 use Rattle.card_set.specs.Classes.{place}
@@ -15,10 +15,10 @@ abbrev pub flush_class : FlushPlace → ℕ
 flush_class flushes.BelowFullHouse = 5
 flush_class flushes.AboveFullHouse = 6
 
--- the class of a hand without straight and flush, where a full house would have the class 6
-abbrev pub leveled : FlushPlace → ℕ → ℕ
-leveled flushes.BelowFullHouse class = class
-leveled flushes.AboveFullHouse class = if class == 6 then 5 else class
+-- the class of a hand without straight and flush, if a full house would be class 6
+abbrev pub flush_ranked : FlushPlace → ℕ → ℕ
+flush_ranked flushes.BelowFullHouse class = class
+flush_ranked flushes.AboveFullHouse class = if class == 6 then 5 else class
 
 -- the classes by how many ranks occur four times, three times and twice, and whether there is a
 -- straight and a flush
@@ -30,7 +30,7 @@ ladder_table flushes.AboveFullHouse fours threes pairs straight flush =
     ∷ (threes == 1 && pairs == 0) ∷ (pairs == 2) ∷ (pairs == 1 && threes == 0)
     ∷ (fours == 0 && threes == 0 && pairs == 0) ∷ []
 
--- the points of a hand, where the ace begins this straight or none
+-- the points of a hand, given the straight that an ace begins, if any
 abbrev pub ladder_points : FlushPlace → LowStraight → List Card → ℕ
 ladder_points flush low cards =
     class_above

@@ -1,5 +1,5 @@
--- What an order of hands keeps, the choices of a holding, and the heights, straights and classes
--- that points are made of.
+-- What every order of hands satisfies, the choices of a holding, and the heights, straights and
+-- classes that points are made of.
 pub mod Best
 pub mod Choices
 pub mod Digits

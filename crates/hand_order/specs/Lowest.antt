@@ -1,4 +1,4 @@
--- The lowest ranks of a mask, where the ace is the lowest.
+-- The lowest ranks of a mask, with the ace as the lowest.
 use Rattle.std.specs.Prelude.{ℕ, zero, suc, ◌+◌, ◌-◌, ◌==◌, Bool, List, [], ◌∷◌, ◌++◌, if◌then◌else◌}
 use Rattle.std.specs.Int.{bit_at}
 
@@ -6,7 +6,8 @@ use Rattle.std.specs.Int.{bit_at}
 abbrev pub has_height : ℕ → ℕ → Bool
 has_height mask height = bit_at mask (if height == 1 then 12 else height - 2) == 1
 
--- so many of the lowest heights that pass a test, among as many from one on, the greatest first
+-- a number of the lowest heights that pass a test, the highest of them first; the last two numbers
+-- are how many heights are tried and the first of them
 abbrev pub lowest : (ℕ → Bool) → ℕ → ℕ → ℕ → List ℕ
 lowest has zero from need = []
 lowest has (suc heights) from need =

@@ -1,4 +1,4 @@
--- What an order of hands keeps: its points are there exactly for its hands, and compare as the
+-- What every order of hands satisfies: exactly its hands have points, and the points compare as the
 -- hands do.
 use Rattle.std.specs.Prelude.{◌≡◌, ◌<◌, ◌⊎◌, ℕ, List, Option, Some, IsSome, ◌↔◌}
 use Rattle.card_set.specs.declared.card.Card.{Card}
@@ -7,8 +7,8 @@ use Rattle.card_set.specs.declared.card.Card.{Card}
 abbrev pub IsEven : (List Card → List Card → Type 0) → List Card → List Card → Type 0
 IsEven is_weaker a b = ¬ (is_weaker a b) × ¬ (is_weaker b a)
 
--- of the cards that it looks at, as five different ones: only hands have points, the weaker hand
--- has fewer, even hands have as many, and every two hands compare
+-- for the cards that the order applies to, such as five different ones: only hands have points, a
+-- weaker hand has fewer, even hands have the same, and every two hands compare
 pub record IsLawful (looks_at : List Card → Type 0) (is_hand : List Card → Type 0)
     (is_weaker : List Card → List Card → Type 0) (points : List Card → Option ℕ) : Type 0 where
   pub scored : (cards : List Card) → looks_at cards → IsSome (points cards) ↔ is_hand cards

@@ -1,4 +1,4 @@
--- Heights that fit counts, and the patterns of hands without straights and flushes.
+-- How heights fit given counts, and the patterns of hands without straights and flushes.
 use Rattle.std.specs.Prelude.{◌≡◌, ℕ, ◌+◌, ◌-◌, ◌<◌, ◌≤◌, ◌==◌, false, List, [], ◌∷◌, cond, sum_by}
 use Rattle.card_set.specs.declared.card.Rank.{Rank}
 use Rattle.card_set.specs.Classes.{place}
@@ -6,11 +6,11 @@ use Rattle.card_set.specs.Ranks.{falling_heights, high_ace}
 use Rattle.hand_order.specs.Tables.{high_table}
 use Rattle.hand_order.specs.Digits.{AreDigits, with_digits}
 
--- the counts without a height
+-- the counts without those of one height
 abbrev pub without : (ℕ → ℕ) → ℕ → ℕ → ℕ
 without T h k = cond (h == k) 0 (T k)
 
--- each count is at most the other
+-- each count is at most the other one
 abbrev pub Within : (ℕ → ℕ) → (ℕ → ℕ) → Type 0
 Within T U = (h : ℕ) → T h ≤ U h
 
@@ -21,7 +21,7 @@ Fits T [] (h ∷ hs) = ⊥
 Fits T (n ∷ ns) [] = ⊥
 Fits T (n ∷ ns) (h ∷ hs) = (n ≤ T h) × Fits (without T h) ns hs
 
--- and each is the greatest that fits after those before it
+-- and each is the highest that fits after those before it
 abbrev pub IsPicked : (ℕ → ℕ) → List ℕ → List ℕ → Type 0
 IsPicked T [] [] = Unit {0}
 IsPicked T [] (h ∷ hs) = ⊥
@@ -47,7 +47,7 @@ abbrev pub AreSome : List ℕ → Type 0
 AreSome [] = Unit {0}
 AreSome (n ∷ ns) = (0 < n) × AreSome ns
 
--- how often a number is_one_of in a list
+-- how often a number occurs in a list
 abbrev pub among_numbers : ℕ → List ℕ → ℕ
 among_numbers n [] = 0
 among_numbers n (m ∷ ms) = cond (m == n) 1 0 + among_numbers n ms
@@ -74,14 +74,14 @@ pub record IsPattern (k : ℕ) : Type 0 where
       (among_numbers 2 (pattern k))
       ≡ k
 
--- the heights that are picked by the best pattern that fits
+-- the heights that the best pattern that fits picks
 pub record IsBestPattern (T : ℕ → ℕ) (k : ℕ) (hs : List ℕ) : Type 0 where
   pub kind : IsPattern k
   pub picked : IsPicked T (pattern k) hs
   pub digits : AreDigits hs
   pub none : (j : ℕ) (ks : List ℕ) → IsPattern j → k < j → Fits T (pattern j) ks → ⊥
 
--- the digits of a number are the heights that are picked by the best pattern that fits
+-- the digits of a number are the heights that the best pattern that fits picks
 pub record IsBestNumber (T : ℕ → ℕ) (k number : ℕ) : Type 0 where
   pub hs : List ℕ
   pub best : IsBestPattern T k hs

@@ -35,6 +35,6 @@ HasLow straights.Nothing T top = ⊥
 abbrev pub HasStraight : LowStraight → (ℕ → ℕ) → ℕ → Type 0
 HasStraight low T top = HasRun T top ⊎ HasLow low T top
 
--- a class above the top of a straight, and nothing where there is none
+-- a class above the top of a straight, or 0 if there is no straight
 abbrev pub topped : ℕ → ℕ → ℕ
 topped class top = if top == 0 then 0 else class_above class (top ∷ [])

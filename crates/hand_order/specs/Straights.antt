@@ -28,12 +28,12 @@ abbrev pub is_straight : LowStraight → List Card → Bool
 is_straight low cards =
     is_run (ranks_of high_ace cards) || is_low_straight low (ranks_of high_ace cards)
 
--- the top of a straight: its first rank, and of the one that an ace begins the second
+-- the top of a straight: its first rank, or the second if an ace begins it
 abbrev pub straight_top : List ℕ → ℕ
 straight_top (a ∷ b ∷ rest) = if a == b + 1 then a else b
 straight_top _ = 0
 
--- the list that decides within a class: the top of a straight alone, else all ranks
+-- the list that decides within a class: for a straight only its top, otherwise all ranks
 unfoldable pub deciding_ranks : LowStraight → List Card → List ℕ
 deciding_ranks low cards =
     if is_straight low cards
@@ -57,11 +57,11 @@ high_class low cards =
     ∷ []
     )
 
--- a hand is weaker in the high order, where an ace begins this straight or none
+-- a hand is weaker in the high order, given the straight that an ace begins, if any
 abbrev pub IsWeakerHigh : LowStraight → List Card → List Card → Type 0
 IsWeakerHigh low a b = IsBelow (high_class low) (deciding_ranks low) a b
 
--- the points of a hand in the high order: the better its class, the more, above the ranks that
--- decide
+-- the points of a hand in the high order: a better class gives more, and within a class the ranks
+-- that decide do
 abbrev pub high_points : LowStraight → List Card → ℕ
 high_points low cards = class_above (8 - high_class low cards) (deciding_ranks low cards)

@@ -7,20 +7,21 @@ use Rattle.hand_order.specs.StraightRanks.{HasStraight}
 use Rattle.hand_order.specs.declared.ladder.FlushPlace.{FlushPlace}
 use Rattle.hand_order.specs.declared.straights.LowStraight.{LowStraight}
 
--- a flush of the suit has at least so many points
+-- a flush of the suit has at least this many points
 pub record IsFlushOf (flush : FlushPlace) (T : ℕ → ℕ) (least : ℕ) : Type 0 where
   pub hs : List ℕ
   pub fits : Fits T (pattern 0) hs
   pub digits : AreDigits hs
   pub reached : least ≤ class_above (flush_class flush) hs
 
--- a straight flush of the suit has at least so many points
+-- a straight flush of the suit has at least this many points
 pub record IsStraightOf (low : LowStraight) (T : ℕ → ℕ) (least : ℕ) : Type 0 where
   pub top : ℕ
   pub occurs : HasStraight low T top
   pub reached : least ≤ class_above 8 (top ∷ [])
 
--- no flush and no straight flush of the suit has more points, and one has as many, or there is none
+-- no flush and no straight flush of the suit has more points, and one has exactly these; or there
+-- is none
 pub record IsBestOfSuit (flush : FlushPlace) (low : LowStraight) (T : ℕ → ℕ) (most : ℕ) : Type 0
   where
     pub flushes : (hs : List ℕ) → Fits T (pattern 0) hs → AreDigits hs

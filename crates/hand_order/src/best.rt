@@ -1,4 +1,4 @@
-//! The best of a holding is the greatest score of the choices that its pick allows.
+//! Finds the best hand of a holding: the highest score among the choices that its pick allows.
 ghost use Rattle.std.specs.Prelude.{◌≡◌, ℕ, ◌+◌, ◌≤◌, true, false, List, ◌++◌, drop, length, Option, IfSome, IfNone};
 ghost use Rattle.std.specs.Option.{option_map};
 ghost use Rattle.card_set.specs.declared.card.Card.{Card};
@@ -13,9 +13,9 @@ use crate::order::{HandOrder, Score};
 use card_set::{CardRow, CardSet, Pick};
 use std::marker::PhantomData;
 
-/// The score of the best choice that the pick allows, none where no choice is a hand of the order.
-/// `AnyFive` takes five to seven cards, `TwoAndThree` at least two hole and three board cards,
-/// and `AllHeld` as many hole cards as a hand of the order has.
+/// The score of the best choice that the pick allows, or `None` if no choice is a hand of the
+/// order. `AnyFive` takes five to seven cards, `TwoAndThree` at least two hole and three board
+/// cards, and `AllHeld` as many hole cards as a hand of the order has.
 pub fn best_of<O: HandOrder>(hole: &CardRow, board: &CardRow, pick: Pick) -> Option<Score>
     requires usable { CanPick O.HELD pick (cards_of hole.now) (cards_of board.now) }
     requires different { AllDifferent (cards_of hole.now ++ cards_of board.now) }
@@ -27,7 +27,7 @@ pub fn best_of<O: HandOrder>(hole: &CardRow, board: &CardRow, pick: Pick) -> Opt
     greatest_score::<O>(hole, board, pick)
 }
 
-// The greatest score of the choices.
+// The highest score of the choices.
 fn greatest_score<O: HandOrder>(hole: &CardRow, board: &CardRow, pick: Pick) -> Option<Score>
     requires usable { CanPick O.HELD pick (cards_of hole.now) (cards_of board.now) }
     requires different { AllDifferent (cards_of hole.now ++ cards_of board.now) }
@@ -47,7 +47,7 @@ fn greatest_score<O: HandOrder>(hole: &CardRow, board: &CardRow, pick: Pick) -> 
     }
 }
 
-// The cards of the first row, then those of the second.
+// The cards of the first row, followed by those of the second.
 fn joined(first: &CardRow, second: &CardRow) -> CardRow
     requires { length (cards_of first.now) + length (cards_of second.now) ≤ 7 }
     ensures { cards_of result ≡ cards_of first.now ++ cards_of second.now }
@@ -59,12 +59,12 @@ fn joined(first: &CardRow, second: &CardRow) -> CardRow
     row
 }
 
-/// How many points a choice has.
+/// Gives a choice of cards its points.
 pub trait Judge {
     /// Which choices it can judge.
     ghost accepts: { Self → List Card → Type 0 };
 
-    /// The points of a choice, if it has some.
+    /// The points of a choice, if it has any.
     ghost points: { Self → List Card → Option ℕ };
 
     /// The score of the chosen cards.
@@ -73,8 +73,8 @@ pub trait Judge {
         ensures { option_map (λ s. s.points) result ≡ points self.now (cards_of chosen.now) };
 }
 
-/// The best choice of so many of a set's cards, each judged by itself.
-/// The judge may not look at the order of the cards.
+/// The best choice of `held` of a set's cards, each judged by itself. The judge must not depend on
+/// the order of the cards.
 pub fn best_listed<J: Judge>(judge: &J, cards: &CardSet, held: u8) -> Option<Score>
     requires room { held ≤ 7 }
     requires few { count_of cards.now ≤ 7 }
@@ -86,7 +86,7 @@ pub fn best_listed<J: Judge>(judge: &J, cards: &CardSet, held: u8) -> Option<Sco
     best_choice(judge, &cards.to_row(), 0, CardRow::new(), held)
 }
 
-/// The best that can be had with `chosen` and `need` of the cards from place `from` on.
+/// The best choice of `chosen` and `need` of the cards from place `from` on.
 pub fn best_choice<J: Judge>(
     judge: &J,
     cards: &CardRow,
@@ -116,7 +116,7 @@ pub fn best_choice<J: Judge>(
     )
 }
 
-/// The better of two scores, where none is the least.
+/// The better of two scores; no score is lower than any.
 pub fn better_score(first: Option<Score>, second: Option<Score>) -> Option<Score>
     ensures { option_map (λ s. s.points) result
         ≡ better (option_map (λ s. s.points) first) (option_map (λ s. s.points) second) }
@@ -148,7 +148,7 @@ impl<O: HandOrder> Judge for WithBoard<O> {
     }
 }
 
-// The best hand of a set and so many of the cards from place `from` on.
+// The best hand of a set and `need` of the cards from place `from` on.
 fn best_with<O: HandOrder>(chosen: CardSet, cards: &CardRow, from: u8, need: u8) -> Option<Score>
     requires held { count_of chosen + need ≡ O.HELD }
     requires different { AllDifferent (drop from (cards_of cards.now)) }

@@ -1,4 +1,4 @@
-//! The best high hand of a set is the greatest of what its ranks, its straights and its suits make,
+//! Finds the best high hand of a set: the best of what its ranks, its straights and its suits make,
 //! each looked at alone.
 ghost use Rattle.std.specs.Prelude.{◌≡◌, ◌≤◌, ◌<◌, ◌^◌, ℕ, List, Some};
 ghost use Rattle.card_set.specs.declared.card.Card.{Card};
@@ -13,7 +13,7 @@ ghost use Rattle.hand_order.specs.StraightRanks.{topped};
 ghost use Rattle.hand_order.specs.SuitBest.{IsBestOfSuit};
 ghost use Rattle.hand_order.specs.Tops.{Shows};
 
-use crate::ladder::{FlushPlace, flush_class, leveled};
+use crate::ladder::{FlushPlace, flush_class, flush_ranked};
 use crate::levels::levels_of;
 use crate::mask::with_top_digits;
 use crate::pattern::best_pattern;
@@ -21,8 +21,8 @@ use crate::ranks::above_number;
 use crate::straights::{LowStraight, top_straight};
 use card_set::{CardRow, CardSet, Suit};
 
-/// The points of five cards in the high order, where the ace begins this straight or none,
-/// and a flush has this place.
+/// The points of five cards in the high order; `low` is the straight that an ace begins, if any,
+/// and `flush` whether a flush beats a full house.
 pub fn hand_points(cards: &CardRow, low: LowStraight, flush: FlushPlace) -> u32
     requires { AreHeld 5 (cards_of cards.now) }
     ensures { result ≡ ladder_points flush low (cards_of cards.now) }
@@ -30,9 +30,9 @@ pub fn hand_points(cards: &CardRow, low: LowStraight, flush: FlushPlace) -> u32
     best_high(&CardSet::of(cards), low, flush)
 }
 
-/// The points of the best five cards of a set in the high order, where the ace begins this straight
-/// or none, and a flush has this place. Better hands have more points. No choice of five is listed:
-/// the four masks of ranks tell the best one.
+/// The points of the best five cards of a set in the high order; `low` is the straight that an ace
+/// begins, if any, and `flush` whether a flush beats a full house. Better hands have more points.
+/// The choices of five are not listed: four masks of ranks are enough to find the best one.
 pub fn best_high(cards: &CardSet, low: LowStraight, flush: FlushPlace) -> u32
     requires { 5 ≤ count_of cards.now }
     ensures { (listing : List Card) → IsListing cards.now listing
@@ -45,7 +45,7 @@ pub fn best_high(cards: &CardSet, low: LowStraight, flush: FlushPlace) -> u32
     let spades = cards.rank_mask(Suit::S);
     let levels = levels_of(clubs, diamonds, hearts, spades);
     let pattern = best_pattern(levels.all, levels.two, levels.three, levels.four);
-    let plain = above_number(leveled(flush, pattern.class), pattern.number);
+    let plain = above_number(flush_ranked(flush, pattern.class), pattern.number);
     let straight = straight_points(4, top_straight(levels.all, low));
     plain
         .max(straight)
@@ -55,7 +55,7 @@ pub fn best_high(cards: &CardSet, low: LowStraight, flush: FlushPlace) -> u32
         .max(suit_points(spades, low, flush))
 }
 
-// The points of the best flush or straight flush among the ranks of one suit, 0 where there is
+// The points of the best flush or straight flush among the ranks of one suit, or 0 if there is
 // none.
 fn suit_points(mask: u16, low: LowStraight, flush: FlushPlace) -> u32
     requires { mask < 2 ^ 13 }
@@ -68,7 +68,7 @@ fn suit_points(mask: u16, low: LowStraight, flush: FlushPlace) -> u32
     suited.max(straight_points(8, top_straight(mask, low)))
 }
 
-// The points of a straight with this top, 0 where there is none.
+// The points of a straight with this top, or 0 if there is none.
 fn straight_points(class: u32, top: u8) -> u32
     requires { class ≤ 8 }
     ensures { result ≡ topped class top }

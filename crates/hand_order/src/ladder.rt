@@ -1,14 +1,14 @@
-//! The high orders rank their hands by one ladder of classes, but for whether a flush is above a
-//! full house.
+//! The classes of hands of the high orders, which differ only in whether a flush beats a full
+//! house.
 ghost use Rattle.std.specs.Prelude.{◌≡◌};
-ghost use Rattle.hand_order.specs.Ladder.{flush_class, leveled};
+ghost use Rattle.hand_order.specs.Ladder.{flush_class, flush_ranked};
 
-/// Where a flush stands beside a full house.
+/// How a flush ranks beside a full house.
 #[derive(Clone, Copy, Debug, PartialEq, Eq)]
 pub enum FlushPlace {
-    /// As with the whole deck.
+    /// Below it, as with the whole deck.
     BelowFullHouse,
-    /// As with the deck of 36.
+    /// Above it, as with the deck of 36.
     AboveFullHouse,
 }
 
@@ -22,9 +22,9 @@ pub fn flush_class(place: FlushPlace) -> u32
     }
 }
 
-/// A class that was found as if a full house had the class 6.
-pub fn leveled(place: FlushPlace, class: u32) -> u32
-    ensures { result ≡ leveled place class }
+/// The class in this order of a hand whose class was found as if a full house were class 6.
+pub fn flush_ranked(place: FlushPlace, class: u32) -> u32
+    ensures { result ≡ flush_ranked place class }
 {
     match place {
         FlushPlace::BelowFullHouse => class,

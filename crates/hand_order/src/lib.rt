@@ -1,4 +1,4 @@
-//! An order of hands gives each hand a score, and a holding has the greatest score of the choices
+//! An order of hands gives each hand a score, and a holding the highest score of the choices that
 //! it allows.
 #![tactic(auto)]
 

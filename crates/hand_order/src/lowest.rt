@@ -1,12 +1,12 @@
-//! The lowest ranks of a mask, where the ace is the lowest.
+//! The lowest ranks of a mask, with the ace as the lowest.
 ghost use Rattle.std.specs.Prelude.{◌≡◌, ◌≤◌, ◌<◌, ◌+◌, ℕ, true, false, length};
 ghost use Rattle.hand_order.specs.Heights.{heights_of};
 ghost use Rattle.hand_order.specs.Lowest.{has_height, lowest};
 
 use crate::row::RankRow;
 
-/// So many of the lowest ranks of a mask among as many heights from one on, the greatest first.
-/// A mask has the two as bit 0 and the ace as bit 12; the ace has the height 1.
+/// The `need` lowest ranks of a mask, the highest of them first, among `heights` heights from
+/// `from` on. A mask has the two as bit 0 and the ace as bit 12; the ace has height 1.
 pub fn lowest_ranks(mask: u16, heights: u8, from: u8, need: u8) -> RankRow
     requires first { 1 ≤ from }
     requires last { from + heights ≤ 14 }
@@ -27,7 +27,7 @@ pub fn lowest_ranks(mask: u16, heights: u8, from: u8, need: u8) -> RankRow
     row
 }
 
-// How many heights in a row, this one the first of them, a mask has no rank of.
+// How many heights in a row, beginning with this one, are not in a mask.
 fn absent_from(mask: u16, from: u8) -> u8
     requires first { 1 ≤ from }
     requires last { from ≤ 13 }
@@ -43,7 +43,7 @@ fn absent_from(mask: u16, from: u8) -> u8
     (mask >> (from - 2)).trailing_zeros() as u8
 }
 
-// Whether a mask has the rank of a height, the ace the lowest.
+// Whether a mask has the rank of a height, with the ace as the lowest.
 fn has_rank(mask: u16, height: u8) -> bool
     requires first { 1 ≤ height }
     requires last { height ≤ 13 }

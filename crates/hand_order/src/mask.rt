@@ -5,7 +5,7 @@ ghost use lib.Bits.{bit_and};
 ghost use Rattle.hand_order.specs.Digits.{with_digits};
 ghost use Rattle.hand_order.specs.Tops.{highest, tops};
 
-/// The number with so many of the highest ranks as further digits.
+/// The number with `need` of the highest ranks of a mask as further digits.
 pub fn with_top_digits(number: u32, mask: u16, need: u8) -> u32
     requires { with_digits number (tops need mask) < 2 ^ 32 }
     ensures { result ≡ with_digits number (tops need mask) }

@@ -1,4 +1,5 @@
-//! The ranks of a hand make a number: a class above the heights, those that occur oftener first.
+//! The number that the ranks of a hand make: its class first, then its heights, the ranks that
+//! occur more often first.
 ghost use Rattle.std.specs.Prelude.{◌≡◌, ◌+◌, ◌*◌, ◌<◌, ◌≤◌, ◌^◌, ◌++◌, length};
 ghost use Rattle.card_set.specs.Row.{cards_of};
 ghost use Rattle.card_set.specs.Ranks.{falling_heights, occurring, ranks_of, times};
@@ -9,14 +10,14 @@ ghost use Rattle.hand_order.specs.Heights.{heights_of};
 use crate::row::RankRow;
 use card_set::{CardRow, Rank};
 
-/// Where the ace stands among the ranks.
+/// Whether the ace is high or low.
 #[derive(Clone, Copy, Debug, PartialEq, Eq)]
 pub enum Ace {
     High,
     Low,
 }
 
-/// How many ranks occur so many times among the cards.
+/// How many ranks occur this number of times among the cards.
 #[tactic(auto, using(card_set::proofs::Counted::ranks_occurring_count))]
 pub fn count_of_ranks(cards: &CardRow, ace: Ace, occurrences: usize) -> usize
     ensures { result ≡ length (occurring (height_with ace) (cards_of cards.now) occurrences) }
@@ -28,7 +29,7 @@ pub fn count_of_ranks(cards: &CardRow, ace: Ace, occurrences: usize) -> usize
         .count()
 }
 
-/// The different heights of the cards, first those that occur oftener, then the greater.
+/// The different heights of the cards: ranks that occur more often first, then the higher ones.
 pub fn ranks_of(cards: &CardRow, ace: Ace) -> RankRow
     requires { length (cards_of cards.now) ≤ 5 }
     ensures { heights_of result ≡ ranks_of (height_with ace) (cards_of cards.now) }
@@ -41,7 +42,7 @@ pub fn ranks_of(cards: &CardRow, ace: Ace) -> RankRow
     row
 }
 
-// Puts the heights that occur so many times after the others.
+// Appends the heights that occur this number of times.
 fn push_occurring(row: &mut RankRow, cards: &CardRow, ace: Ace, occurrences: usize)
     requires { length (heights_of row.old)
         + length (occurring (height_with ace) (cards_of cards.now) occurrences) ≤ 5 }
@@ -56,7 +57,7 @@ fn push_occurring(row: &mut RankRow, cards: &CardRow, ace: Ace, occurrences: usi
     }
 }
 
-/// All heights, from the greatest: that of an ace to that of an ace that is low.
+/// All heights, from that of a high ace down to that of a low ace.
 #[tactic(auto, unfolding(card_set::specs::Ranks::falling_heights))]
 pub fn all_heights() -> [u8; 14]
     ensures { result ≡ falling_heights }
@@ -76,7 +77,7 @@ pub fn times_of(cards: &CardRow, ace: Ace, height: u8) -> usize
         .count()
 }
 
-/// The height of a rank: 2 to 14, or 1 for an ace that is low.
+/// The height of a rank: 2 to 14, or 1 for a low ace.
 pub fn height_of(rank: Rank, ace: Ace) -> u8
     ensures { result ≡ height_with ace rank }
 {
@@ -100,8 +101,8 @@ pub fn height_of(rank: Rank, ace: Ace) -> u8
     }
 }
 
-/// The number that a class makes above these heights. Of one class and as many heights the number
-/// is less where the first height that differs is lower.
+/// The number that a class and these heights make. For the same class and the same number of
+/// heights, it is lower if the first height that differs is lower.
 pub fn class_above(class: u32, heights: &[u8]) -> u32
     requires class { class ≤ 15 }
     requires below { with_digits 0 heights.now < 16 ^ 5 }
@@ -110,7 +111,7 @@ pub fn class_above(class: u32, heights: &[u8]) -> u32
     above_number(class, number_of(heights))
 }
 
-/// The number that a class makes above one of five digits.
+/// The number that a class and a number of five digits make.
 pub fn above_number(class: u32, number: u32) -> u32
     requires class { class ≤ 15 }
     requires below { number < 16 ^ 5 }
@@ -119,7 +120,7 @@ pub fn above_number(class: u32, number: u32) -> u32
     class * 0x10_0000 + number
 }
 
-// The number with these digits to the base sixteen.
+// The number with these digits in base sixteen.
 fn number_of(digits: &[u8]) -> u32
     requires { with_digits 0 digits.now < 16 ^ 5 }
     ensures { result ≡ with_digits 0 digits.now }

@@ -1,4 +1,4 @@
-//! A row of heights has up to five of them: as many as a hand has different ranks.
+//! A row of up to five heights: as many as a hand has different ranks.
 ghost use Rattle.std.specs.Prelude.{◌≡◌, ◌+◌, ◌<◌, ◌≤◌, [], ◌∷◌, ◌++◌, length};
 
 /// Heights in order: the first `len` of `heights`.
@@ -23,7 +23,7 @@ impl RankRow {
         }
     }
 
-    /// Puts a height after the others. A row holds at most five.
+    /// Appends a height. A row holds at most five.
     pub fn push(&mut self, height: u8)
         requires { length (heights_of self.old) < 5 }
         ensures { heights_of self.new ≡ heights_of self.old ++ height ∷ [] }

@@ -3,7 +3,7 @@ use Rattle.std.proofs.Common.{◌≡◌, ℕ, ◌≤◌, ◌↔◌, Bool, true, 
 use Rattle.std.proofs.lemmas.Bool.{cases_Bool, leb-true, le-leb}
 use Rattle.jiff.specs.Words.{IsDate}
 use Rattle.hand_records.specs.AllowedNotes.{days_in_month}
-use Rattle.list_laws.proofs.Integers.{negative_below, signed, unsigned}
+use Rattle.card_set.proofs.Integers.{negative_below, signed, unsigned}
 
 -- a day that is a date is one that its month has
 pub in_calendar : (year month day : ℕ) (found : Bool) → (IsTrue found ↔ IsDate (pos year) (pos month) (pos day)) → year ≤ 9999 → 1 ≤ month → month ≤ 12 → 1 ≤ day → found ≡ nat_le day (days_in_month year month)

@@ -1,4 +1,4 @@
--- Laws of first refusals, the texts of notes, what is said of notes, usual numbers of seats and dates.
+-- Laws of first refusals, the texts of notes, what notes say, default numbers of seats, and dates.
 pub mod Refusals
 pub mod NoteTexts
 pub mod NoteLaws

@@ -6,11 +6,11 @@ use Rattle.std.proofs.lemmas.List.{get_or-take, get_or_past, length-take}
 use Rattle.std.proofs.lemmas.List.FromFn.{get_or-map-range_with_len}
 use Rattle.std.proofs.lemmas.Slice.Eq.{bytes_eq-Decides}
 use Rattle.chip_ledger.specs.Seat.{seats_of}
-use Rattle.hand_records.specs.AllowedNotes.{unless_usual}
+use Rattle.hand_records.specs.AllowedNotes.{non_default_seats}
 use Rattle.hand_records.specs.declared.notes.Clock.{Clock}
-use Rattle.list_laws.proofs.Bytes.{different_bytes}
-use Rattle.list_laws.proofs.NumbersOfRange.{map_agree}
-use Rattle.list_laws.proofs.Tests.{neither}
+use Rattle.card_set.proofs.Bytes.{different_bytes}
+use Rattle.card_set.proofs.NumbersOfRange.{map_agree}
+use Rattle.card_set.proofs.Tests.{neither}
 use Rattle.hand_records.specs.SaidNotes.{SaidNotes, kept_label, name_said, numbers_said}
 
 -- ---- notes of their parts
@@ -72,7 +72,7 @@ notes_same a b same =
 
 -- ---- names
 
--- names of so many seats that are these, seat by seat
+-- names of this number of seats that are these, seat by seat
 pub names_along : (count : ℕ) (names : List (Option (List ℕ))) (g : ℕ → Option (List ℕ)) → take count names ≡ map g (seats_of count) → map (name_said names) (seats_of count) ≡ map g (seats_of count)
 names_along count names g same =
     map_agree (name_said names) g 1 count (λ seat first last.
@@ -80,14 +80,14 @@ names_along count names g same =
     ∙ ap (λ (all : List (Option (List ℕ))). get_or all (seat - 1) None) same
     ∙ get_or-map-range_with_len g 1 count (seat - 1) seat None (omega (arith, first, last)) (omega (arith, first)))
 
--- what is one along the seats is one at each of them
+-- what is equal along the seats is equal at each of them
 pub at_seat : {B : Type 0} (f g : ℕ → B) (d : B) (count seat : ℕ) → map f (seats_of count) ≡ map g (seats_of count) → 1 ≤ seat → seat ≤ count → f seat ≡ g seat
 at_seat f g d count seat same first last =
     sym (get_or-map-range_with_len f 1 count (seat - 1) seat d (omega (arith, first, last)) (omega (arith, first)))
     ∙ ap (λ all. get_or all (seat - 1) d) same
     ∙ get_or-map-range_with_len g 1 count (seat - 1) seat d (omega (arith, first, last)) (omega (arith, first))
 
--- a test that fails where nothing is said, on names that are alike, one by one
+-- a test that fails if nothing is said, on names that are alike, one by one
 pub tests_alike : (p : Option (List ℕ) → Bool) → p None ≡ false → (xs ys : List (Option (List ℕ))) → ((index : ℕ) → slice_index_or xs index None ≡ slice_index_or ys index None) → list_any p xs ≡ list_any p ys
 tests_alike p none [] [] same = refl
 tests_alike p none [] (y ∷ ys) same =
@@ -98,7 +98,7 @@ tests_alike p none (x ∷ xs) [] same =
     cc (ap p first, none, tests_alike p none xs [] (λ index. same (suc index)))
 tests_alike p none (x ∷ xs) (y ∷ ys) same = ap₂ (λ first rest. p first || rest) (same 0) (tests_alike p none xs ys (λ index. same (suc index)))
 
--- where it fails on all names, it fails on each
+-- if it fails on all names, it fails on each
 pub fails_at : (p : Option (List ℕ) → Bool) → p None ≡ false → (xs : List (Option (List ℕ))) → list_any p xs ≡ false → (index : ℕ) → p (slice_index_or xs index None) ≡ false
 fails_at p none [] fails index = none
 fails_at p none (x ∷ xs) fails zero = (neither (p x) (list_any p xs) fails).0
@@ -123,7 +123,7 @@ module _ (count : ℕ) (xs ys : List (Option (List ℕ))) (same : map (name_said
         ∙ sym (get_or_past (take count ys) index None (omega (arith, late, length-take count ys)))
   ]
 
-  -- and so are all where there are no more
+  -- and so are all, if there are no more
   pub all_alike : ((index : ℕ) → count ≤ index → slice_index_or xs index None ≡ None) → ((index : ℕ) → count ≤ index → slice_index_or ys index None ≡ None)
       → (index : ℕ) → slice_index_or xs index None ≡ slice_index_or ys index None
   all_alike no_more none_more index = elim (cases_lt index count) [
@@ -133,36 +133,36 @@ module _ (count : ℕ) (xs ys : List (Option (List ℕ))) (same : map (name_said
 
 -- ---- numbers of seats
 
--- numbers that are not the usual ones of so many seats
+-- numbers that are not the default ones of this number of seats
 abbrev pub AreUnusual : ℕ → Option (List ℕ) → Type 0
 AreUnusual count numbers = IfSome numbers (λ said. take count said ≢ range_with_len 1 count)
 
-usual_twice : (count : ℕ) (numbers : List ℕ) → option_and_then (unless_usual count) (unless_usual count numbers) ≡ unless_usual count numbers
+usual_twice : (count : ℕ) (numbers : List ℕ) → option_and_then (non_default_seats count) (non_default_seats count numbers) ≡ non_default_seats count numbers
 usual_twice count numbers = by_test (bytes_eq numbers (range_with_len 1 count)) refl
   where
-    by_test : (usual : Bool) → bytes_eq numbers (range_with_len 1 count) ≡ usual → option_and_then (unless_usual count) (cond usual None (Some numbers)) ≡ cond usual None (Some numbers)
+    by_test : (usual : Bool) → bytes_eq numbers (range_with_len 1 count) ≡ usual → option_and_then (non_default_seats count) (cond usual None (Some numbers)) ≡ cond usual None (Some numbers)
     by_test true is = refl
     by_test false is = ap (λ (b : Bool). cond b None (Some numbers)) is
 
-pub said_taken : (count : ℕ) (x : Option (List ℕ)) → numbers_said count x ≡ option_and_then (unless_usual count) (option_map (take count) x)
+pub said_taken : (count : ℕ) (x : Option (List ℕ)) → numbers_said count x ≡ option_and_then (non_default_seats count) (option_map (take count) x)
 said_taken count None = refl
 said_taken count (Some numbers) = refl
 
-said_twice : (count : ℕ) (x : Option (List ℕ)) → option_and_then (unless_usual count) (numbers_said count x) ≡ numbers_said count x
+said_twice : (count : ℕ) (x : Option (List ℕ)) → option_and_then (non_default_seats count) (numbers_said count x) ≡ numbers_said count x
 said_twice count None = refl
 said_twice count (Some numbers) = usual_twice count (take count numbers)
 
 -- numbers that are read of those that are said
 pub numbers_again : (count : ℕ) (x y : Option (List ℕ)) → option_map (take count) x ≡ numbers_said count y → numbers_said count x ≡ numbers_said count y
-numbers_again count x y same = said_taken count x ∙ ap (option_and_then (unless_usual count)) same ∙ said_twice count y
+numbers_again count x y same = said_taken count x ∙ ap (option_and_then (non_default_seats count)) same ∙ said_twice count y
 
--- unusual numbers are said
+-- numbers that are not the default are said
 pub unusual_said : (count : ℕ) (x : Option (List ℕ)) → AreUnusual count x → numbers_said count x ≡ option_map (take count) x
 unusual_said count None unusual = refl
 unusual_said count (Some numbers) unusual =
     ap (λ (b : Bool). cond b None (Some (take count numbers))) (different_bytes (take count numbers) (range_with_len 1 count) unusual)
 
--- ---- the label of the hand
+-- ---- the name of the hand
 
 pub label_twice : (place : ℕ) (said : Option (List ℕ)) → kept_label place (kept_label place said) ≡ kept_label place said
 label_twice place None = refl
@@ -172,7 +172,7 @@ label_twice place (Some text) = by_test (bytes_eq text (decimal place)) refl
     by_test true is = refl
     by_test false is = ap (λ (b : Bool). cond b None (Some text)) is
 
--- a label or else the place
+-- a name, or else the place
 pub label_or_place : (place : ℕ) (said : Option (List ℕ)) → unwrap_or said (decimal place) ≡ unwrap_or (kept_label place said) (decimal place)
 label_or_place place None = refl
 label_or_place place (Some text) = by_test (bytes_eq text (decimal place)) refl

@@ -1,4 +1,4 @@
--- The text of a note is not empty, and is noted again where it is not the default.
+-- The text of a note is not empty, and is noted again if it is not the default.
 use Rattle.hand_records.specs.AllowedNotes.{IsNoteText, noted}
 use Rattle.std.proofs.Common.{Bool, List, None, Some, arith, bytes_eq, cond, false, length, refl, true, ℕ, ◌==◌, ◌||◌, ◌∷◌, ◌≡◌, []}
 use Rattle.std.proofs.lemmas.Bool.{eqb-true}

@@ -1,5 +1,5 @@
--- Which notes may stand in a record: texts that are not too long, numbers in their range, a civil
--- date, and no defaults.
+-- Which notes a record may have: texts that are not too long, numbers in their range, a date of the
+-- calendar, and no defaults.
 use Rattle.std.specs.Prelude.{◌≡◌, ◌≢◌, ℕ, ◌-◌, ◌%◌, ◌≤◌, ◌==◌, ◌&&◌, ◌||◌, Bool, not, if◌then◌else◌, List, length, take, slice_index, slice_index_or, replicate, None, IfSome, Option, Some, bytes_eq, unwrap_or, nat_le, Result, Ok, Err}
 use Rattle.std.specs.List.{range_with_len}
 use Rattle.first_fault.specs.declared.limits.TheConstants.{MOST_TEXT_BYTES}
@@ -15,7 +15,7 @@ IsWithin least most number = (least ≤ number) × (number ≤ most)
 abbrev pub IsNoteText : List ℕ → Type 0
 IsNoteText text = IsWithin 1 MOST_TEXT_BYTES (length text)
 
--- a text of a note that does not say its default
+-- a text of a note that differs from its default
 pub record IsUnusualNote (default note : List ℕ) : Type 0 where
   pub text : IsNoteText note
   pub said : note ≢ default
@@ -24,18 +24,19 @@ pub record IsUnusualNote (default note : List ℕ) : Type 0 where
 abbrev pub IsName : ℕ → List ℕ → Type 0
 IsName seat = IsUnusualNote (default_name seat)
 
--- the numbers of so many seats at the table; they are not 1, 2 and so on, which is the default
+-- the numbers of this number of seats at the table; they are not 1, 2 and so on, which is the
+-- default
 pub record AreSeatNumbers (count : ℕ) (numbers : List ℕ) : Type 0 where
   pub each : (seat : ℕ) → 1 ≤ seat → seat ≤ count → IsWithin 1 255 (slice_index numbers (seat - 1))
   pub no_more : (index : ℕ) → count ≤ index → slice_index numbers index ≡ 0
   pub said : take count numbers ≢ range_with_len 1 count
 
--- how many seats the table of a hand with so many seats has
+-- the number of seats of the table of a hand with this number of seats
 pub record IsSeatCount (count number : ℕ) : Type 0 where
   pub range : IsWithin 1 255 number
   pub said : number ≢ count
 
--- a year has a 29 February
+-- a year has 29 February
 abbrev pub is_leap_year : ℕ → Bool
 is_leap_year year = (year % 4 == 0) && (not (year % 100 == 0) || (year % 400 == 0))
 
@@ -49,14 +50,14 @@ days_in_month year month =
 abbrev pub IsDayOf : ℕ → ℕ → ℕ → Type 0
 IsDayOf year month day = day ≤ days_in_month year month
 
--- a time of a day
+-- a time of day
 pub record IsTime (time : Clock) : Type 0 where
   pub hour : time.hour ≤ 23
   pub minute : time.minute ≤ 59
   pub second : time.second ≤ 59
   pub nano : time.nano ≤ 999999999
 
--- the notes of a hand with so many seats
+-- the notes of a hand with this number of seats
 pub record AreAllowed (count : ℕ) (notes : Notes) : Type 0 where
   pub names : (seat : ℕ) → 1 ≤ seat → seat ≤ count
       → IfSome (slice_index_or notes.names (seat - 1) None) (IsName seat)
@@ -76,22 +77,22 @@ pub record AreAllowed (count : ℕ) (notes : Notes) : Type 0 where
   pub time : IfSome notes.time IsTime
   pub zone : IfSome notes.zone IsNoteText
 
--- the name of a seat's player, or its default where none is said
+-- the name of a seat's player, or its default if none is said
 abbrev pub name_written : Notes → ℕ → List ℕ
 name_written notes seat = unwrap_or (slice_index_or notes.names (seat - 1) None) (default_name seat)
 
--- a note that equals its default is none, and an empty text is none
+-- a note that equals its default is left out, and so is an empty text
 abbrev pub noted : List ℕ → List ℕ → Option (List ℕ)
 noted default text = if (length text == 0) || bytes_eq text default then None else Some text
 
--- the note that a text of at most 255 bytes says, or this fault where it has more
+-- the note in a text of at most 255 bytes, or this fault if it has more
 abbrev pub noted_or : {F : Type 0} → F → List ℕ → List ℕ → Result (Option (List ℕ)) F
 noted_or fault default text =
     if nat_le (length text) MOST_TEXT_BYTES then Ok (noted default text) else Err fault
 
--- numbers of seats, none where they are the usual ones from 1 on
-abbrev pub unless_usual : ℕ → List ℕ → Option (List ℕ)
-unless_usual count numbers =
+-- numbers of seats, left out if they are the default ones from 1 on
+abbrev pub non_default_seats : ℕ → List ℕ → Option (List ℕ)
+non_default_seats count numbers =
     if bytes_eq numbers (range_with_len 1 count) then None else Some numbers
 
 -- there are no notes

@@ -12,7 +12,7 @@ pub record IsHistory (hand : Record) : Type 0 where
   pub sound : IsSoundRecord hand
   pub rules : hand.rules ≡ history_rules
 
--- a hand that stands behind so many moves of its file, and the moves of the file after it
+-- a hand that comes after this number of moves of its file, and the moves of the file after it
 pub record IsNextHand (before : ℕ) (found : Record × ℕ) : Type 0 where
   pub sound : IsHistory found.0
   pub moves : found.1 ≡ before + moves_of found.0

@@ -1,5 +1,5 @@
--- Records and traces: what is said of their rows, which notes are allowed and are said, what a
--- record is as a reader gives it, what it says with plain lists, and when hands are the same.
+-- Records and traces: what their rows say, which notes are allowed and are said, what a record is
+-- as a reader returns it, what it says with plain lists, and when hands are the same.
 pub mod NetRow
 pub mod TraceRows
 pub mod AllowedNotes

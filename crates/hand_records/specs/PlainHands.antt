@@ -22,7 +22,7 @@ sizes_in setup =
       min_bet = setup.min_bet;
     }
 
--- a setup with plain lists, but for its rakes
+-- a setup with plain lists, without its rakes
 pub record PlainSetup : Type 0 where
   pub code : Code
   pub stacks : List ℕ

@@ -1,4 +1,4 @@
--- What is read of plays: their records, and how many moves are written of one.
+-- What is read from plays: their records, and how many moves are written for one.
 use Rattle.std.specs.Prelude.{ℕ, List, length, map}
 use Rattle.hand_records.specs.TraceRows.{core_said}
 use Rattle.hand_records.specs.declared.record.Record.{Record}

@@ -1,14 +1,14 @@
--- The notes that are said of a hand, as one value: those that are no defaults.
+-- The notes that are said of a hand, as one value: those that are not defaults.
 use Rattle.std.specs.Prelude.{◌≡◌, ℕ, ◌-◌, if◌then◌else◌, bytes_eq, List, map, take, slice_index_or, Option, Some, None, option_and_then, option_map}
 use Rattle.std.specs.Fmt.{decimal}
 use Rattle.chip_ledger.specs.Seat.{seats_of}
-use Rattle.hand_records.specs.AllowedNotes.{unless_usual}
+use Rattle.hand_records.specs.AllowedNotes.{non_default_seats}
 use Rattle.hand_records.specs.declared.notes.Clock.{Clock}
 use Rattle.hand_records.specs.declared.notes.Notes.{Notes}
 use Rattle.hand_records.specs.declared.trace.Play.{Play}
 
--- the notes of a hand, each of which is said, and is then no default, or is not said; there is an
--- entry for the name of each seat
+-- the notes of a hand, each of which is either said, and then not a default, or not said; there is
+-- an entry for the name of each seat
 pub record SaidNotes : Type 0 where
   pub names : List (Option (List ℕ))
   pub seats : Option (List ℕ)
@@ -23,21 +23,22 @@ pub record SaidNotes : Type 0 where
   pub time : Option Clock
   pub zone : Option (List ℕ)
 
--- the name of a seat's player among names, where it is said
+-- the name of a seat's player among names, if it is said
 abbrev pub name_said : List (Option (List ℕ)) → ℕ → Option (List ℕ)
 name_said names seat = slice_index_or names (seat - 1) None
 
--- the numbers of so many seats, unless they are the usual ones
+-- the numbers of this number of seats, unless they are the default ones
 abbrev pub numbers_said : ℕ → Option (List ℕ) → Option (List ℕ)
-numbers_said count numbers = option_and_then (λ said. unless_usual count (take count said)) numbers
+numbers_said count numbers = option_and_then (λ said. non_default_seats count (take count said))
+    numbers
 
--- a label of a hand at a place of its file, from 0; a label that is that place is none
+-- the name of a hand at a place of its file, from 0; a name that is that place counts as missing
 abbrev pub kept_label : ℕ → Option (List ℕ) → Option (List ℕ)
 kept_label place None = None
 kept_label place (Some text) = if bytes_eq text (decimal place) then None else Some text
 
--- the notes of so many seats, at a place of the file, from 0: a note that equals its default is
--- none
+-- the notes of this number of seats, at a place of the file, from 0: a note that equals its default
+-- counts as missing
 abbrev pub said_notes : ℕ → ℕ → Notes → SaidNotes
 said_notes place count notes =
     record {
@@ -55,7 +56,7 @@ said_notes place count notes =
       zone = notes.zone;
     }
 
--- the notes of so many seats as they stand in a record
+-- the notes of this number of seats as a record has them
 abbrev pub plain_notes : ℕ → Notes → SaidNotes
 plain_notes count notes =
     record {
@@ -77,8 +78,8 @@ plain_notes count notes =
 abbrev pub notes_of : ℕ → Play → SaidNotes
 notes_of place play = said_notes place play.trace.setup.stacks.seats play.hand.notes
 
--- What is read again of the notes of so many seats, at a place of their file, from 0, is what is
--- kept of them.
+-- What is read back of the notes of this number of seats, at a place of their file, from 0, is what
+-- is kept of them.
 abbrev pub KeepsNotes : (kept : SaidNotes → SaidNotes) → ℕ → ℕ → (notes again : Notes) → Type 0
 KeepsNotes kept place count notes again =
     said_notes place count again ≡ kept (said_notes place count notes)

@@ -1,11 +1,11 @@
--- Hands that are the same, place by place: they have one trace, and the same notes are kept.
+-- Hands that are the same, place by place: they have the same trace, and the same notes are kept.
 use Rattle.std.specs.Prelude.{◌≡◌, ℕ, ◌+◌, List, [], ◌∷◌}
 use Rattle.hand_records.specs.declared.trace.Play.{Play}
 use Rattle.hand_records.specs.declared.writing.Keep.{Keep}
 use Rattle.hand_records.specs.declared.writing.Keep.TheVariants as keeps
 use Rattle.hand_records.specs.SaidNotes.{SaidNotes, notes_of}
 
--- plays, two by two and as many; of the first two this is the place, from 0
+-- plays in pairs, from two lists of the same length; the first pair is at this place, from 0
 unfoldable pub AllPaired : (ℕ → Play → Play → Type 0) → ℕ → List Play → List Play → Type 0
 AllPaired P place [] [] = Unit {0}
 AllPaired P place [] (other ∷ others) = ⊥
@@ -13,8 +13,8 @@ AllPaired P place (play ∷ plays) [] = ⊥
 AllPaired P place (play ∷ plays) (other ∷ others) =
     P place play other × AllPaired P (place + 1) plays others
 
--- two plays at one place of their files have one trace, and the same notes, as far as these are
--- kept
+-- two plays at the same place of their files have the same trace, and the same notes, as far as
+-- these are kept
 pub record AreSameHand (kept : SaidNotes → SaidNotes) (place : ℕ) (play other : Play)
     : Type 0 where
   pub trace : play.trace ≡ other.trace
@@ -24,7 +24,7 @@ pub record AreSameHand (kept : SaidNotes → SaidNotes) (place : ℕ) (play othe
 abbrev pub AreSameHands : (SaidNotes → SaidNotes) → List Play → List Play → Type 0
 AreSameHands kept plays others = AllPaired (AreSameHand kept) 0 plays others
 
--- the notes that are kept: all of them, or those that a notation spells
+-- the notes that are kept: all of them, or those that a notation can express
 abbrev pub kept_notes : Keep → (SaidNotes → SaidNotes) → SaidNotes → SaidNotes
 kept_notes keeps.All spelled notes = notes
 kept_notes keeps.Spelled spelled notes = spelled notes

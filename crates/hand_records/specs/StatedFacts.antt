@@ -1,10 +1,10 @@
--- Stated facts: put together of their parts, and none.
+-- Stated facts: made from their parts, and none.
 use Rattle.std.specs.Prelude.{◌≡◌, ℕ, Option, None}
 use Rattle.chip_ledger.specs.declared.seat_row.SeatRow.{SeatRow}
 use Rattle.hand_records.specs.declared.record.NetRow.{NetRow}
 use Rattle.hand_records.specs.declared.record.Stated.{Stated}
 
--- stated facts, put together
+-- stated facts, made from their parts
 unfoldable pub stated_from : Option SeatRow → Option SeatRow → Option ℕ → Option NetRow → Stated
 stated_from finish wins pot_total values =
     record { finish = finish; wins = wins; pot_total = pot_total; values = values }

@@ -8,9 +8,9 @@ use Rattle.play_event.specs.Played.{move_said}
 use Rattle.play_event.specs.Seats.{all_seats}
 use Rattle.play_event.specs.Trace.{TracedPlace}
 use Rattle.hand_records.specs.declared.trace.Trace.{Trace}
-use Rattle.canon_script.specs.TraceCore.{TraceCore}
+use Rattle.play_event.specs.TraceCore.{TraceCore}
 
--- where a card lies
+-- what a trace says of a dealt card
 abbrev pub place_said : Place → TracedPlace
 place_said row =
     record {
@@ -20,7 +20,7 @@ place_said row =
       discarded = row.gone;
     }
 
--- what a trace keeps, but for the shares of its pots
+-- what a trace keeps, without the shares of its pots
 abbrev pub core_said : Trace → TraceCore
 core_said trace =
     record {

@@ -1,4 +1,4 @@
-//! What a hand is once it was read and played: its record with stated facts and notes, and its
+//! What a hand is after reading and replaying: its record with stated facts and notes, and its
 //! trace.
 #![tactic(auto)]
 
@@ -14,7 +14,7 @@ mod writing;
 
 pub use calendar::has_day;
 pub use moves::Moves;
-pub use notes::{CivilDate, Clock, Moment, NoteName, Notes, name_of, unless_usual};
+pub use notes::{CivilDate, Clock, Moment, NoteName, Notes, name_of, non_default_seats};
 pub use places::Places;
 pub use record::{NetRow, Record, Records, Stated};
 pub use sizes::Sizes;

@@ -1,4 +1,4 @@
-//! The moves of a hand stand in the order in which they were made.
+//! The moves of a hand, in the order in which they were made.
 ghost use Rattle.std.specs.Prelude.{◌≡◌, ◌<◌, [], ◌∷◌, ◌++◌, length, slice_get, Some, OnOk, OnErr};
 ghost use Rattle.std.specs.List.{list_any};
 
@@ -23,7 +23,7 @@ impl Model for Moves {
 }
 
 impl Moves {
-    /// No moves.
+    /// A list without moves.
     pub fn new(alloc: Global) -> Self
         ensures { result ≡ [] }
     {
@@ -32,7 +32,7 @@ impl Moves {
         }
     }
 
-    /// Puts a move after the others. Without memory for it they stay as they were.
+    /// Appends a move. If memory runs out, the list stays as it was.
     pub fn push(&mut self, item: Move) -> Result<(), Memory>
         ensures pushed { OnOk result (self.new ≡ self.old ++ item ∷ []) }
         ensures unchanged { OnErr result (self.new ≡ self.old) }
@@ -58,7 +58,8 @@ impl Moves {
         self.moves.len()
     }
 
-    /// Whether one of them is a raise that a short raise before it has closed.
+    /// Whether one of them is a raise that is legal only if betting always reopens, because of a
+    /// short raise before it.
     pub fn has_closed_raise(&self) -> bool
         ensures { result ≡ list_any (λ move. move.closed) self.now }
     {

@@ -1,13 +1,13 @@
-//! Notes are what a record says of a hand beside its play: who played it, where and when.
+//! Notes are what a record says of a hand besides its play: who played it, where and when.
 ghost use Rattle.std.specs.Prelude.{◌≡◌, ◌≢◌, ◌≤◌, IfSome, option_map, take};
 ghost use Rattle.std.specs.List.{range_with_len};
 ghost use Rattle.chip_ledger.specs.SeatsSaid.{default_name as default_said};
-ghost use Rattle.hand_records.specs.AllowedNotes.{AreNoNotes, name_written, unless_usual as unless_usual_said};
+ghost use Rattle.hand_records.specs.AllowedNotes.{AreNoNotes, name_written, non_default_seats as unless_usual_said};
 
 use chip_ledger::Seat;
 use first_fault::Text;
 
-/// A time of a day.
+/// A time of day.
 #[derive(Clone, Copy, Debug, PartialEq, Eq)]
 pub struct Clock {
     /// 0 to 23.
@@ -38,15 +38,15 @@ pub struct Moment {
     pub time: Clock,
 }
 
-/// The notes of a hand. A note that equals its default, which a reader takes where nothing is said,
+/// The notes of a hand. A note that equals its default, which a reader assumes if nothing is said,
 /// is `None`.
 #[derive(Debug, Drop)]
 pub struct Notes {
     /// The names of the players, the first seat's at index 0. The default of seat 2 is `p2`.
     pub names: [Option<Text>; 10],
-    /// The numbers of the seats at the table, and 0 past the last seat. By default 1, 2 and so on.
+    /// The numbers of the seats at the table, and 0 after the last seat. By default 1, 2 and so on.
     pub seats: Option<[u8; 10]>,
-    /// How many seats the table has. By default as many as the hand.
+    /// The number of seats of the table. By default as many as the hand has.
     pub seat_count: Option<u8>,
     /// The name of the hand. By default its place in its file, from 0, in decimal digits.
     pub hand: Option<Text>,
@@ -65,7 +65,7 @@ pub struct Notes {
 }
 
 impl Notes {
-    /// Nothing is noted.
+    /// A record without notes.
     pub fn none() -> Self
         ensures { AreNoNotes result }
     {
@@ -86,7 +86,7 @@ impl Notes {
     }
 }
 
-/// What a note is called, in the order in which notations try them.
+/// The kinds of notes, in the order in which notations check them.
 #[derive(Clone, Copy, Debug, PartialEq, Eq)]
 pub enum NoteName {
     Players,
@@ -103,7 +103,8 @@ pub enum NoteName {
     Time,
 }
 
-/// The name of a seat's player: the one that is noted, or the default of the seat, as `p2`.
+/// The name of a seat's player: the one that is noted, or the default name of the seat, such as
+/// `p2`.
 pub fn name_of<'a>(notes: &'a Notes, seat: Seat) -> &'a str
     ensures { result.now ≡ name_written notes.now seat.number }
 {
@@ -113,7 +114,7 @@ pub fn name_of<'a>(notes: &'a Notes, seat: Seat) -> &'a str
     }
 }
 
-// The name of a seat where none is noted.
+// The name of a seat if none is noted.
 #[tactic(auto, using(chip_ledger::proofs::DefaultNames::short_name, chip_ledger::proofs::DefaultNames::long_name))]
 fn default_name(seat: Seat) -> &'static str
     ensures { result.now ≡ default_said seat.number }
@@ -132,12 +133,12 @@ fn default_name(seat: Seat) -> &'static str
     }
 }
 
-// The numbers of ten seats where none are noted.
+// The numbers of ten seats if none are noted.
 const USUAL: [u8; 10] = [1, 2, 3, 4, 5, 6, 7, 8, 9, 10];
 
-/// The numbers of so many seats at the table, the first seat's at index 0, unless they are the
-/// default: 1, 2 and so on.
-pub fn unless_usual(numbers: [u8; 10], seats: usize) -> Option<[u8; 10]>
+/// The numbers of `seats` seats at the table, the first seat's at index 0, or `None` if they are
+/// the default: 1, 2 and so on.
+pub fn non_default_seats(numbers: [u8; 10], seats: usize) -> Option<[u8; 10]>
     requires { seats ≤ 10 }
     ensures said { option_map (take seats) result
         ≡ unless_usual_said seats (take seats numbers) }

@@ -1,4 +1,4 @@
-//! The places of a hand are the cards of its seats and of its board, in order.
+//! The dealt cards of a hand's seats and of its board, in order.
 ghost use Rattle.std.specs.Prelude.{◌≡◌, ◌<◌, [], ◌∷◌, ◌++◌, length, slice_get, Some, OnOk, OnErr};
 
 use card_set::Memory;
@@ -6,8 +6,8 @@ use play_event::Place;
 use std::alloc::Global;
 use std::marker::Model;
 
-/// The cards of a hand, by street, then by owner from p1 upward and the board last, then in the
-/// order of dealing.
+/// The dealt cards of a hand, by street, then by owner from p1 upward and the board last, then in
+/// the order of dealing.
 #[derive(Debug, Drop)]
 pub struct Places {
     places: Vec<Place>,
@@ -23,7 +23,7 @@ impl Model for Places {
 }
 
 impl Places {
-    /// No places.
+    /// A list without cards.
     pub fn new(alloc: Global) -> Self
         ensures { result ≡ [] }
     {
@@ -32,7 +32,7 @@ impl Places {
         }
     }
 
-    /// Puts a place after the others. Without memory for it they stay as they were.
+    /// Appends a dealt card. If memory runs out, the list stays as it was.
     pub fn push(&mut self, item: Place) -> Result<(), Memory>
         ensures pushed { OnOk result (self.new ≡ self.old ++ item ∷ []) }
         ensures unchanged { OnErr result (self.new ≡ self.old) }
@@ -43,7 +43,7 @@ impl Places {
         }
     }
 
-    /// The place at this index, from 0. Ask first that the index is below `len`.
+    /// The dealt card at this index, from 0. Ask first that the index is below `len`.
     pub fn get(&self, index: usize) -> Place
         requires { index < length self.now }
         ensures { slice_get self.now index ≡ Some result }
@@ -51,14 +51,14 @@ impl Places {
         self.places[index]
     }
 
-    /// How many places there are.
+    /// How many dealt cards there are.
     pub fn len(&self) -> usize
         ensures { result ≡ length self.now }
     {
         self.places.len()
     }
 
-    /// The places, in order.
+    /// The dealt cards, in order.
     pub fn as_slice(&self) -> &[Place]
         ensures { result.now ≡ self.now }
     {

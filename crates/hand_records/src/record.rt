@@ -8,7 +8,8 @@ use play_event::{Rules, Script, Setup};
 use std::alloc::Global;
 use std::marker::Model;
 
-/// What each seat won or lost, in chips. The first seat's is at index 0, and 0 is the filler.
+/// What each seat won or lost, in chips. The first seat's is at index 0; after the last seat there
+/// is 0.
 #[derive(Clone, Copy, Debug, PartialEq, Eq)]
 pub struct NetRow {
     pub seats: u8,
@@ -21,7 +22,7 @@ pub struct NetRow {
 impl NetRow {
     ghost use Rattle.hand_records.specs.NetRow.{net_of};
 
-    /// A row of so many seats, each with 0.
+    /// A row of `seats` seats, each with 0.
     pub fn new(seats: u8) -> Self
         requires { seats ≤ 10 }
         ensures seats { result.seats ≡ seats }
@@ -52,16 +53,16 @@ impl NetRow {
     }
 }
 
-/// What a record states of the end of a hand, in chips. `None` states nothing.
+/// What a record states of the end of a hand, in chips. `None` means that it is not stated.
 #[derive(Clone, Copy, Debug, PartialEq, Eq)]
 pub struct Stated {
     /// The finishing stacks.
     pub finish: Option<SeatRow>,
-    /// What each seat is paid of the pots, returns not counted.
+    /// What each seat is paid from the pots, not counting returned chips.
     pub wins: Option<SeatRow>,
-    /// All pots together, returns not counted.
+    /// All pots together, not counting returned chips.
     pub pot_total: Option<u64>,
-    /// The finishing stacks less the starting stacks.
+    /// The finishing stacks minus the starting stacks.
     pub values: Option<NetRow>,
 }
 
@@ -109,7 +110,7 @@ impl Model for Records {
 impl Records {
     ghost use Rattle.std.specs.Prelude.{◌<◌, [], ◌∷◌, ◌++◌, slice_get, Some, OnOk, OnErr};
 
-    /// No records.
+    /// A list without records.
     pub fn new(alloc: Global) -> Self
         ensures { result ≡ [] }
     {
@@ -118,16 +119,15 @@ impl Records {
         }
     }
 
-    /// Makes room for so many records more at once, so that those before them need not move as they
-    /// come. Where there is no memory for all of them, they come one by one.
-    pub fn make_room(&mut self, more: usize)
+    /// Reserves room for this many more records at once, so that the records need not be moved as
+    /// they come. If there is no memory for all of them, room is made as they come.
+    pub fn reserve(&mut self, more: usize)
         ensures { self.new ≡ self.old }
     {
         let _ = self.records.try_reserve_exact(more);
     }
 
-    /// Puts a record after the others. Without memory for it they stay as they were, and the record
-    /// is dropped.
+    /// Appends a record. If memory runs out, the list stays as it was and the record is dropped.
     pub fn push(&mut self, item: Record) -> Result<(), Memory>
         ensures pushed { OnOk result (self.new ≡ self.old ++ item ∷ []) }
         ensures unchanged { OnErr result (self.new ≡ self.old) }

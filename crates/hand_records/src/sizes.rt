@@ -1,4 +1,4 @@
-//! The sizes of a hand's bets, as a notation says them, are four amounts of its setup.
+//! The bet sizes of a hand, as a notation states them: four amounts of its setup.
 
 /// The sizes of bets, in chips. A size that the game does not use is 0.
 #[derive(Clone, Copy, Debug, PartialEq, Eq)]

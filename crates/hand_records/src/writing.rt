@@ -1,13 +1,14 @@
-//! A play is written whole or not at all: what of it a notation may have no spelling for.
+//! A play is written completely or not at all: the facts of it that a notation may be unable to
+//! express.
 ghost use Rattle.std.specs.Prelude.{◌≡◌};
 ghost use Rattle.card_set.specs.declared.memory.Memory.{Memory as Refused};
 ghost use Rattle.hand_records.specs.declared.writing.WriteRefusal.TheVariants as refusals;
 
-use card_set::Memory;
 use crate::notes::NoteName;
+use card_set::Memory;
 use std::alloc::{AllocError, AllocFailed};
 
-/// A fact of a play that a notation cannot spell, in the order in which they are tried.
+/// A fact of a play that a notation cannot express, in the order in which facts are checked.
 #[derive(Clone, Copy, Debug, PartialEq, Eq)]
 pub enum Unspelled {
     Variant,
@@ -27,7 +28,7 @@ pub enum Unspelled {
     Note(NoteName),
 }
 
-/// Which notes are to be written: all of them, or those that the notation spells.
+/// Which notes are to be written: all of them, or those that the notation can express.
 #[derive(Clone, Copy, Debug, PartialEq, Eq)]
 pub enum Keep {
     All,

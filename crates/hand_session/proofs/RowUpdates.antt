@@ -6,15 +6,15 @@ use Rattle.std.proofs.lemmas.Bool.{or_parts, true≢false}
 use Rattle.std.proofs.lemmas.List.{append-nil}
 use Rattle.std.proofs.lemmas.List.Concat.{flat_map-append}
 use Rattle.std.proofs.lemmas.List.Sums.{fold-append}
-use Rattle.list_laws.proofs.Bytes.{same_bytes}
-use Rattle.name_index.specs.Names.{with_name}
-use Rattle.name_index.proofs.Placed.{with_known, with_new}
+use Rattle.card_set.proofs.Bytes.{same_bytes}
+use Rattle.report_layout.specs.Names.{with_name}
+use Rattle.report_layout.proofs.Placed.{with_known, with_new}
 use Rattle.hand_session.specs.declared.session_rows.SessionRow.{SessionRow}
 use Rattle.hand_session.specs.declared.visits.Visit.{Visit}
 use Rattle.hand_session.specs.Hands.{Hand, Seated}
 use Rattle.hand_session.specs.Sessions.{is_named, names_among}
 use Rattle.hand_session.specs.Visits.{row_at, row_names, rows_after_seat, steps_of_names, steps_of_seat, visit_in, visit_steps, with_names, with_row, with_visit}
-use Rattle.name_index.proofs.Distinct.{AreDistinct, bytes_flip}
+use Rattle.report_layout.proofs.Distinct.{AreDistinct, bytes_flip}
 use Rattle.hand_session.proofs.SeatNames.{any_names, names_more}
 use Rattle.hand_session.proofs.RowPlaces.{names_after}
 
@@ -45,7 +45,7 @@ at_row (row ∷ rows) name visit asked = by (bytes_eq name row.name) refl (at_ro
         ∙ apart (bytes_eq asked row.name) (bytes_eq asked name) (with_visit (row_at rows name) visit) row (row_at rows asked)
         (λ first second. absurd (true≢false (sym (subst (λ text. bytes_eq text row.name ≡ true) ((bytes_decides asked name).0 second) first) ∙ other)))
 
--- a name keeps its row where none of the visits is its
+-- a name keeps its row if none of the visits is its own
 pub at_others : (hand : Hand) (rows : List SessionRow) (names : List (List ℕ)) (asked : List ℕ) → list_any (bytes_eq asked) names ≡ false
     → row_at (with_names hand rows names) asked ≡ row_at rows asked
 at_others hand rows [] asked none = refl
@@ -55,7 +55,7 @@ at_others hand rows (name ∷ names) asked none =
     ∙ at_row rows name (visit_in name hand) asked
     ∙ ap (λ (b : Bool). cond b (with_visit (row_at rows name) (visit_in name hand)) (row_at rows asked)) parts.0
 
--- and a name that is among different ones has one visit more
+-- and a name that is among different ones has one more visit
 pub at_names : (hand : Hand) (rows : List SessionRow) (names : List (List ℕ)) (asked : List ℕ) → AreDistinct names
     → row_at (with_names hand rows names) asked ≡ cond (list_any (bytes_eq asked) names) (with_visit (row_at rows asked) (visit_in asked hand)) (row_at rows asked)
 at_names hand rows [] asked distinct = refl
@@ -99,7 +99,7 @@ found_rows (row ∷ rows) distinct =
         ap (λ (found : SessionRow). found ∷ map (row_at rows) names) (sym (ap (λ (b : Bool). cond b row (row_at rows name)) (bytes_flip row.name name false parts.0)))
         ∙ ap (λ l. row_at (row ∷ rows) name ∷ l) (passed names parts.1)
 
--- one seat more: its name has a visit, unless a seat before has it
+-- one more seat: its name has a visit, unless a seat before has it
 pub rows_more : (hand : Hand) (rows : List SessionRow) (seats : List Seated) (seat : Seated)
     → rows_after_seat hand seats (with_names hand rows (names_among seats)) seat.name ≡ with_names hand rows (names_among (seats ++ seat ∷ []))
 rows_more hand rows seats seat = by (list_any (is_named seat.name) seats) refl

@@ -3,13 +3,13 @@ use Rattle.std.proofs.Common.{◌≡◌, ℕ, List, [], ◌∷◌, ◌++◌, map
 use Rattle.std.specs.List.{list_any}
 use Rattle.std.proofs.lemmas.List.{map-append}
 use Rattle.std.proofs.lemmas.List.Sums.{fold-append}
-use Rattle.list_laws.proofs.Any.{list_any-map}
-use Rattle.name_index.specs.Names.{with_name}
-use Rattle.name_index.proofs.Distinct.{AreDistinct, any_fold, distinct_fold, fold_once}
+use Rattle.card_set.proofs.Any.{list_any-map}
+use Rattle.report_layout.specs.Names.{with_name}
+use Rattle.report_layout.proofs.Distinct.{AreDistinct, any_fold, distinct_fold, fold_once}
 use Rattle.hand_session.specs.Hands.{Hand, Seated}
 use Rattle.hand_session.specs.Sessions.{all_seated, is_named, names_among, names_of}
 
--- a name is among the names of seats where a seat has it
+-- a name is among the names of seats if a seat has it
 pub any_names : (asked : List ℕ) (seats : List Seated) → list_any (bytes_eq asked) (names_among seats) ≡ list_any (is_named asked) seats
 any_names asked seats = any_fold asked [] (map (λ seat. seat.name) seats) ∙ list_any-map (bytes_eq asked) (λ (seat : Seated). seat.name) seats
 

@@ -5,7 +5,7 @@ use Rattle.hand_session.specs.declared.sessions.OpenSession.{OpenSession}
 use Rattle.hand_session.specs.Hands.{hand_of}
 use Rattle.hand_session.specs.Sessions.{names_of, row_of, steps_after}
 use Rattle.hand_session.specs.Visits.{IsOfHands, MOST_OF_HAND, row_at, row_names}
-use Rattle.name_index.specs.Indexed.{AreIndexed}
+use Rattle.report_layout.specs.Indexed.{AreIndexed}
 
 -- an open session has the rows, the steps and the rakes of these plays, each row found by its name
 pub record IsSessionSoFar (session : OpenSession) (plays : List Play) : Type 0 where

@@ -1,4 +1,4 @@
--- How a session is gathered: what a name does in one hand, and its row with one hand more.
+-- How a session is added up: what a name does in one hand, and its row with one more hand.
 use Rattle.std.specs.Prelude.{ℕ, ◌+◌, ◌*◌, ◌≤◌, ℤ, pos, ◌+ℤ◌, ◌-ℤ◌, ◌≤ℤ◌, ◌==◌, ◌&&◌, ◌||◌, Bool, List, [], ◌∷◌, ◌++◌, map, filter, fold, flat_map, sum_by, bytes_eq, if◌then◌else◌}
 use Rattle.std.specs.List.{list_any}
 use Rattle.chip_ledger.specs.declared.seat_row.TheConstants.{MOST_AMOUNT}
@@ -9,7 +9,7 @@ use Rattle.hand_session.specs.declared.visits.Visit.{Visit}
 use Rattle.hand_session.specs.Hands.{Hand, Seated}
 use Rattle.hand_session.specs.Sessions.{gap_step, is_named}
 
--- what the seats of a name come to
+-- what the seats of a name did, in total
 abbrev pub visit_among : List ℕ → List Seated → Visit
 visit_among name seats =
     record {
@@ -25,7 +25,7 @@ visit_among name seats =
 abbrev pub visit_in : List ℕ → Hand → Visit
 visit_in name hand = visit_among name hand.seats
 
--- a visit with one seat more
+-- a visit with one more seat
 abbrev pub with_seat : Visit → Seated → Visit
 with_seat visit seat =
     record {
@@ -37,7 +37,7 @@ with_seat visit seat =
       won = visit.won || seat.won;
     }
 
--- the row of a name that is not seen yet
+-- the row of a name that has not been seen yet
 abbrev pub new_row : List ℕ → SessionRow
 new_row name =
     record {
@@ -53,7 +53,7 @@ new_row name =
       won = 0;
     }
 
--- a count with one more, where a test passes
+-- a count, plus one if a test passes
 abbrev pub counted : ℕ → Bool → ℕ
 counted count test = if test then count + 1 else count
 
@@ -61,7 +61,7 @@ counted count test = if test then count + 1 else count
 abbrev pub gap_at : SessionRow → Visit → ℤ
 gap_at row visit = if row.hands == 0 then pos 0 else pos visit.started -ℤ pos row.last
 
--- a row with one visit more
+-- a row with one more visit
 abbrev pub with_visit : SessionRow → Visit → SessionRow
 with_visit row visit =
     record {
@@ -93,23 +93,23 @@ abbrev pub row_at : List SessionRow → List ℕ → SessionRow
 row_at [] name = new_row name
 row_at (row ∷ rows) name = if bytes_eq name row.name then row else row_at rows name
 
--- rows with one visit of a name more
+-- rows with one more visit of a name
 abbrev pub with_row : List SessionRow → List ℕ → Visit → List SessionRow
 with_row [] name visit = with_visit (new_row name) visit ∷ []
 with_row (row ∷ rows) name visit =
     if bytes_eq name row.name then with_visit row visit ∷ rows else row ∷ with_row rows name visit
 
--- rows with a row for a name, a new one behind the others where there is none
+-- rows with a row for a name, a new one at the end if there is none
 abbrev pub rows_with : List SessionRow → List ℕ → List SessionRow
 rows_with rows name =
     if list_any (bytes_eq name) (row_names rows) then rows else rows ++ new_row name ∷ []
 
--- rows with the visit of a name in a hand, unless one of these seats before has it
+-- rows with the visit of a name in a hand, unless one of these earlier seats has the name
 abbrev pub rows_after_seat : Hand → List Seated → List SessionRow → List ℕ → List SessionRow
 rows_after_seat hand before rows name =
     if list_any (is_named name) before then rows else with_row rows name (visit_in name hand)
 
--- the steps of a name in the hand with this number, unless one of these seats before has it
+-- the steps of a name in the hand with this number, unless one of these earlier seats has the name
 abbrev pub steps_of_seat : ℕ → Hand → List Seated → List SessionRow → List ℕ → List Step
 steps_of_seat number hand before rows name =
     if list_any (is_named name) before
@@ -126,21 +126,21 @@ abbrev pub steps_of_names : ℕ → Hand → List SessionRow → List (List ℕ)
 steps_of_names number hand rows names =
     flat_map (λ name. visit_steps number (row_at rows name) (visit_in name hand)) names
 
--- the most chips of all seats of a hand
+-- the most chips that all seats of a hand can have together
 abbrev pub MOST_OF_HAND : ℕ
 MOST_OF_HAND = 10 * MOST_AMOUNT
 
--- a number with a sign is no further from 0 than so many
+-- a signed number is at most this far from 0
 pub record IsWithin (most : ℕ) (number : ℤ) : Type 0 where
   pub least : (pos 0 -ℤ pos most) ≤ℤ number
   pub greatest : number ≤ℤ pos most
 
--- a visit is of the chips of one hand
+-- a visit has at most the chips of one hand
 pub record IsOfHand (visit : Visit) : Type 0 where
   pub started : visit.started ≤ MOST_OF_HAND
   pub finished : visit.finished ≤ MOST_OF_HAND
 
--- a row is of no more than so many hands
+-- a row is of at most this number of hands
 pub record IsOfHands (count : ℕ) (row : SessionRow) : Type 0 where
   pub gaps : IsWithin (count * MOST_OF_HAND) row.gaps
   pub net : IsWithin (count * MOST_OF_HAND) row.net

@@ -2,7 +2,7 @@
 ghost use Rattle.std.specs.Prelude.{◌≡◌, ◌-◌, ◌+◌, ℕ, List, false, [], bytes_eq, map, Some, IfOk, OnOk};
 ghost use Rattle.std.specs.List.{list_any, position_from};
 ghost use Rattle.chip_ledger.specs.Seat.{seats_of};
-ghost use Rattle.name_index.specs.Indexed.{AreIndexed};
+ghost use Rattle.report_layout.specs.Indexed.{AreIndexed};
 ghost use Rattle.hand_session.specs.Hands.{hand_of, seated_in};
 ghost use Rattle.hand_session.specs.Ledgers.{HasGrown, TakesHand};
 ghost use Rattle.hand_session.specs.Sessions.{is_named, names_among};
@@ -15,11 +15,11 @@ use crate::visits::{Visit, visit_of};
 use card_set::Memory;
 use chip_ledger::Seat;
 use hand_records::{Play, name_of};
-use name_index::NameIndex;
+use report_layout::NameIndex;
 use std::alloc::Global;
 
 /// The rows of names in the order in which they are first seen, an index of these names, and the
-/// steps.
+/// steps so far.
 #[derive(Drop)]
 pub struct Ledger {
     pub names: NameIndex,
@@ -27,7 +27,7 @@ pub struct Ledger {
     pub steps: Vec<Step>,
 }
 
-/// No names.
+/// A ledger without names.
 pub fn new_ledger(alloc: Global) -> Ledger
     ensures names { AreIndexed result.names [] }
     ensures rows { result.rows.items ≡ [] }
@@ -40,7 +40,8 @@ pub fn new_ledger(alloc: Global) -> Ledger
     }
 }
 
-/// Adds what each name did in a hand with this number, by the first seat of each name.
+/// Adds what each name did in the hand with this number; names come in the order of their first
+/// seats.
 pub fn add_hand(alloc: Global, ledger: &mut Ledger, number: u32, play: &Play) -> Result<(), Memory>
     requires hand { TakesHand ledger.old number }
     requires within { (name : List ℕ)
@@ -119,7 +120,7 @@ fn add_visit_of(
     Ok(())
 }
 
-// The place of the row of a name, which is made where the name is new.
+// The place of the row of a name; the row is made if the name is new.
 fn row_place(alloc: Global, ledger: &mut Ledger, name: &str) -> Result<usize, Memory>
     requires names { AreIndexed ledger.old.names (row_names ledger.old.rows.items) }
     ensures names { OnOk result (AreIndexed ledger.new.names

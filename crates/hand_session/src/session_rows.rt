@@ -5,28 +5,28 @@ use crate::steps::Steps;
 use first_fault::Text;
 use std::marker::Model;
 
-/// What a name came to over all hands. Amounts are chips, of all its seats together.
+/// The totals of a name over all hands. Amounts are chips, of all its seats together.
 #[derive(Debug, Drop)]
 pub struct SessionRow {
-    /// The name, as it is noted, or the default of its seat, as `p2`.
+    /// The name as it is noted, or the default name of its seat, such as `p2`.
     pub name: Text,
-    /// What it started its first hand with.
+    /// The chips that it started its first hand with.
     pub first: u64,
-    /// By how much it came back with more than it had left with, all together.
+    /// By how much it came back with more chips than it had left with, in total.
     pub gaps: i64,
     /// What it won or lost in its hands.
     pub net: i64,
-    /// What it finished its last hand with.
+    /// The chips that it finished its last hand with.
     pub last: u64,
-    /// In how many hands it was.
+    /// The number of hands that it played.
     pub hands: u32,
-    /// In how many of them it put chips in on the first street by a call or a raise.
+    /// The number of these in which it put chips in on the first street by a call or a raise.
     pub entered: u32,
-    /// In how many of them it raised there.
+    /// The number of these in which it raised there.
     pub raised: u32,
-    /// In how many of them it was shown.
+    /// The number of these in which its cards were shown.
     pub shown: u32,
-    /// In how many of them it won chips of a pot.
+    /// The number of these in which it won chips from a pot.
     pub won: u32,
 }
 
@@ -76,7 +76,7 @@ impl SessionRows {
     }
 }
 
-/// What names came to over many hands.
+/// The result of a session over many hands.
 #[derive(Debug, Drop)]
 pub struct Session {
     /// The joins and the gaps that are not 0.

@@ -1,19 +1,20 @@
-//! The steps of all names stand by hand, and within a hand by the first seat of each name.
+//! The steps of all names, by hand, and within a hand by the first seat of each name.
 ghost use Rattle.std.specs.Prelude.{◌≡◌, ◌<◌, length, slice_get, Some};
 
 use first_fault::Text;
 use std::marker::Model;
 
-/// What a step tells of a name. Amounts are chips.
+/// What happened to a name between hands. Amounts are chips.
 #[derive(Clone, Copy, Debug, PartialEq, Eq)]
 pub enum StepKind {
-    /// It is new, and starts with so many chips.
+    /// It is new, and starts with this number of chips.
     Join(u64),
-    /// It starts with so many chips more than it finished its last hand with; fewer are below 0.
+    /// It starts with this number of chips more than it finished its last hand with; fewer are
+    /// below 0.
     Gap(i64),
 }
 
-/// A step of a name: that it joins, or comes to a hand with other chips than it had.
+/// A step of a name: it joins, or starts a hand with another number of chips than it had.
 #[derive(Debug, Drop)]
 pub struct Step {
     /// The number of the hand, from 1.

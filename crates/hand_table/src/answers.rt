@@ -1,14 +1,14 @@
-//! What `replay` answers to a hand, and what `canon` and `check_stated` answer to its trace.
+//! Runs `replay` on the hand of a row, and `canon` and `check_stated` on its trace.
 use crate::facts::{difference_text, fits, stated_of};
 use crate::hands::{hand_of, is_short};
 use crate::traces::{fault_text, script_text, trace_text};
+use crate::words::first_and_rest;
 use hand_canon::{canon, check_stated};
-use hand_rows::first_and_rest;
 use replay_core::replay;
 use std::alloc::{AllocError, Global};
 use variant_table::is_valid;
 
-/// The trace of the row's hand, or what is wrong with it.
+/// The trace of the row's hand, or its fault.
 pub fn replayed(alloc: Global, row: &str) -> Result<Option<String>, AllocError> {
     let Some(hand) = hand_of(alloc, row)? else {
         return Ok(None);
@@ -39,8 +39,8 @@ pub fn canonical(alloc: Global, row: &str) -> Result<Option<String>, AllocError>
     }
 }
 
-/// The first of the row's stated facts that differs from its hand. The facts stand before the hand
-/// and a slash.
+/// The first of the row's stated facts that differs from its hand. The facts come before the hand,
+/// with a slash between them.
 pub fn compared(alloc: Global, row: &str) -> Result<Option<String>, AllocError> {
     let Some((facts, row)) = row.split_once(" / ") else {
         return Ok(None);
@@ -63,7 +63,7 @@ pub fn compared(alloc: Global, row: &str) -> Result<Option<String>, AllocError> 
     }
 }
 
-/// Replays the row's hand so many times as its first word says, and tells how many events were
+/// Replays the row's hand as many times as its first word says, and reports how many events were
 /// played without a fault.
 pub fn repeated(alloc: Global, row: &str) -> Result<Option<String>, AllocError> {
     let (times, row) = first_and_rest(row);

@@ -1,15 +1,17 @@
-//! The betting machine: `betting SETUP: EVENT; EVENT..`. An event is a move, as `raise - to 40`,
-//! `call 2 10`, `fold -` or `bring_in -`; `dealt`, where what is due is ended; `up 3 2c`, the
-//! up-cards of a seat from then on; or a question: `due`, `targets`, `stacks`, `settled`.
+//! Tests the betting: `betting SETUP: EVENT; EVENT..`. An event is a move, such as `raise - to 40`,
+//! `call 2 10`, `fold -` or `bring_in -`; `dealt`, which completes what is due; `up 3 2c`, which
+//! gives a seat its up-cards from then on; or a question: `due`, `targets`, `stacks`, `settled`.
 ghost use Rattle.std.specs.Prelude.{◌≡◌, false};
 ghost use Rattle.play_event.specs.Said.{kind_said};
 ghost use Rattle.play_event.specs.ValidSetup.{IsValid};
-ghost use Rattle.street_laws.specs.CardEvents.{is_card_said};
+ghost use Rattle.play_laws.specs.CardEvents.{is_card_said};
 
+use crate::event_words::move_of;
+use crate::setup_words::setup_of;
+use crate::words::{first_and_rest, seat_of};
 use betting_core::{Betting, Moved};
 use card_set::read_slots;
 use chip_ledger::Seat;
-use hand_rows::{first_and_rest, move_of, seat_of, setup_of};
 use play_event::{Code, Due, Event, Illegal, Kind, Rules, Setup, UpRow};
 use std::alloc::{AllocError, Global};
 use variant_table::{F2L3D, F7S, F7S8, FB, FO8, FR, FT, N2L1D, NS, NT, PO, Variant, is_valid};
@@ -41,7 +43,7 @@ pub fn answer_to(alloc: Global, row: &str) -> Result<Option<String>, AllocError>
     Ok(Some(answer))
 }
 
-// The answers of the machine of one game, one after the other.
+// The answers for one game, one after another.
 fn played<V: Variant>(
     alloc: Global,
     setup: &Setup,
@@ -89,7 +91,7 @@ fn answered<V: Variant>(
     }
 }
 
-// Ends the deal, the draw or the show, and tells what is due then.
+// Completes the deal, the draw or the showing, and reports what is due then.
 fn ended<V: Variant>(alloc: Global, betting: &mut Betting<V>) -> Result<String, AllocError> {
     match betting.due() {
         Due::Deal(_) | Due::Draw(_) | Due::Show => {
@@ -148,7 +150,7 @@ fn stacks_text<V: Variant>(alloc: Global, betting: &Betting<V>) -> Result<String
     Ok(text)
 }
 
-// Makes a move, and tells whose it was and where it went, or why it is refused.
+// Makes a move, and reports whose it was and where it went, or why it is refused.
 fn moved<V: Variant>(
     alloc: Global,
     betting: &mut Betting<V>,

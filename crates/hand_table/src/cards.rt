@@ -1,18 +1,18 @@
-//! The card machine: `cards GAME SEATS: EVENT; EVENT..`. An event is `hole 1 2c??`, `board 2c3d4h`,
-//! `discard 1 2c??`, `show 1 2c3d`, `muck 1` or `fold 1`; what is due from then on, as `due Deal
-//! 1`, `due Draw 2`, `due Show` or `due Over`; `settled`, from when on the hand is; or a question:
-//! `done`, `up`, `hands`, `table`, `mucked`, `unknown`, `places`.
+//! Tests the cards: `cards GAME SEATS: EVENT; EVENT..`. An event is `hole 1 2c??`, `board 2c3d4h`,
+//! `discard 1 2c??`, `show 1 2c3d`, `muck 1` or `fold 1`; what is due from then on, such as `due
+//! Deal 1`, `due Draw 2`, `due Show` or `due Over`; `settled`, after which the hand is settled; or
+//! a question: `done`, `up`, `hands`, `table`, `mucked`, `unknown`, `places`.
 ghost use Rattle.std.specs.Prelude.{◌≡◌, ◌≤◌, true, IsTrue};
 ghost use Rattle.card_places.specs.CardEvents.{is_deal, is_discard};
 ghost use Rattle.play_event.specs.Said.{kind_said};
-ghost use Rattle.street_laws.specs.CardEvents.{is_showing};
-ghost use Rattle.street_laws.specs.Dues.{IsDueWithin};
+ghost use Rattle.play_laws.specs.CardEvents.{is_showing};
+ghost use Rattle.play_laws.specs.Dues.{IsDueWithin};
 
 use crate::traces::seats_text;
+use crate::words::{first_and_rest, seat_of};
 use card_set::{CardRow, Slot, SlotRow, read_slots, slot_text};
 use chip_ledger::{LiveRow, Seat};
 use deal_core::Cards;
-use hand_rows::{first_and_rest, seat_of};
 use play_event::{Code, Due, Event, Illegal, Kind};
 use std::alloc::{AllocError, Global};
 use variant_table::{F2L3D, F7S, F7S8, FB, FO8, FR, FT, N2L1D, NS, NT, PO, Variant};
@@ -50,7 +50,7 @@ struct Told {
     settled: bool,
 }
 
-// The answers of the machine of one game, one after the other.
+// The answers for one game, one after another.
 fn played<V: Variant>(alloc: Global, seats: u8, events: &str) -> Result<String, AllocError> {
     if seats < 2 || V::SEATS < seats || 10 < seats {
         return String::from_str(alloc, "no such seats");
@@ -115,7 +115,7 @@ fn answered<V: Variant>(
     }
 }
 
-// What is due by its words.
+// What is due, from its words.
 fn due_of(text: &str) -> Option<Due> {
     let (word, street) = first_and_rest(text);
     match word.as_bytes() {
@@ -184,7 +184,7 @@ fn cards_text(alloc: Global, row: &CardRow) -> Result<String, AllocError> {
     Ok(text)
 }
 
-// All places in the order of the trace: owner, street, card, and the street of the draw that
+// All dealt cards in the order of the trace: owner, street, card, and the street of the draw that
 // discarded it.
 fn places<V: Variant>(alloc: Global, cards: &Cards<V>) -> Result<String, AllocError> {
     let mut text = String::new(alloc);
@@ -210,7 +210,7 @@ fn places<V: Variant>(alloc: Global, cards: &Cards<V>) -> Result<String, AllocEr
     Ok(text)
 }
 
-// The slots of a row, as `2c??`, and `-` for none.
+// The slots of a row, such as `2c??`, or `-` for none.
 fn push_slots(text: &mut String, slots: &[Slot]) -> Result<(), AllocError> {
     if slots.is_empty() {
         text.push_str("-")?;
@@ -332,7 +332,7 @@ fn discarded<V: Variant>(
     )
 }
 
-// The street of a deal or a draw is one of the game.
+// The street of a deal or a draw is one of the game's.
 fn is_within<V: Variant>(due: Due) -> bool
     ensures { IsTrue result → IsDueWithin V.STREETS due }
 {

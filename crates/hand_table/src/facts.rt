@@ -1,13 +1,13 @@
-//! Facts that are stated of the end of a hand: `finish=99,98,103 wins=0,0,5 pots=5 values=-1,-2,3`.
+//! Stated facts of the end of a hand: `finish=99,98,103 wins=0,0,5 pots=5 values=-1,-2,3`.
 ghost use Rattle.std.specs.Prelude.{◌≡◌, ◌≤◌, IsTrue};
 ghost use Rattle.std.specs.Option.{ForSome};
 ghost use Rattle.chip_ledger.specs.declared.seat_row.TheConstants.{MOST_AMOUNT};
 ghost use Rattle.hand_records.specs.SoundRecord.{IsStatedFor};
 
+use crate::words::row_of;
 use chip_ledger::{MOST_AMOUNT, Seat, SeatRow};
 use hand_canon::{FactDiffers, Which};
 use hand_records::{NetRow, Stated};
-use hand_rows::row_of;
 use std::alloc::{AllocError, Global};
 
 /// The facts that the words state.
@@ -51,7 +51,7 @@ fn nets_of(text: &str) -> Option<NetRow> {
     Some(row)
 }
 
-/// The facts may be stated of a hand of so many seats.
+/// The facts can be stated of a hand of `seats` seats.
 pub fn fits(stated: &Stated, seats: u8) -> bool
     ensures { IsTrue result → IsStatedFor seats stated.now }
 {

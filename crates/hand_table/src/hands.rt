@@ -1,10 +1,11 @@
-//! The hand of a row: its setup and rules, and behind a colon its events, each numbered as its
+//! The hand of a row: its setup and rules, and after a colon its events, each numbered as an
 //! action.
 ghost use Rattle.std.specs.Prelude.{◌≤◌, IsTrue};
-ghost use Rattle.canon_script.specs.PlayedScript.{IsWithinLimits};
+ghost use Rattle.play_event.specs.PlayedScript.{IsWithinLimits};
 ghost use Rattle.replay_core.specs.Events.{said_by};
 
-use hand_rows::{kind_of, setup_of};
+use crate::event_words::kind_of;
+use crate::setup_words::setup_of;
 use play_event::{Event, Rules, Script, Setup};
 use std::alloc::{AllocError, Global};
 
@@ -16,7 +17,7 @@ pub struct Hand {
     pub script: Script,
 }
 
-/// The hand that the row says, none where it says no hand.
+/// The hand that the row says, or `None` if it says no hand.
 pub fn hand_of(alloc: Global, row: &str) -> Result<Option<Hand>, AllocError> {
     let Some((start, events)) = row.split_once(": ") else {
         return Ok(None);
@@ -34,7 +35,7 @@ pub fn hand_of(alloc: Global, row: &str) -> Result<Option<Hand>, AllocError> {
     }))
 }
 
-// The events, none where one has no meaning.
+// The events, or `None` if one of them cannot be read.
 fn script_of(alloc: Global, events: &str) -> Result<Option<Script>, AllocError> {
     let mut script = Script::new(alloc);
     let mut at: u32 = 0;
@@ -58,7 +59,7 @@ pub fn is_short(script: &Script) -> bool
     is_few(script.len())
 }
 
-// Two kinds of events, no more than so many together, are within both limits.
+// Two kinds of events, at most this many together, are within both limits.
 fn is_few(count: usize) -> bool
     ensures { IsTrue result → count ≤ 256 }
 {

@@ -1,13 +1,15 @@
-//! What a list holds after one item was put into it, and what a text holds.
+//! What a list or a text holds after one item is put into it.
+use crate::card_words::slots_text;
+use crate::event_words::{event_text, kind_of};
+use crate::setup_words::setup_of;
 use chip_ledger::Seat;
 use first_fault::Text;
 use hand_records::{Moves, Notes, Places, Record, Records, Stated};
-use hand_rows::{event_text, kind_of, setup_of, slots_text};
 use play_event::{Act, Event, Kind, Move, Place, Rules, Script, Setup};
 use std::alloc::{AllocError, Global};
 
-/// What the lists hold: a script the row's event, places the first card that it deals, moves a
-/// fold, and records the row's setup with such a script.
+/// What the lists hold: a script with the row's event, places with the first card that it deals,
+/// moves with a fold, and records with the row's setup and such a script.
 pub fn pushed(alloc: Global, row: &str) -> Result<Option<String>, AllocError> {
     let Some((start, event)) = row.split_once(": ") else {
         return Ok(None);
@@ -34,7 +36,7 @@ fn script_with(alloc: Global, kind: Kind) -> Result<String, AllocError> {
     }
 }
 
-// The first card of a deal, as a place of the first street.
+// The first card of a deal, as a card of the first street.
 fn places_with(alloc: Global, kind: Kind) -> Result<String, AllocError> {
     let Kind::Hole { seat, cards } = kind else {
         return String::from_str(alloc, "no place");

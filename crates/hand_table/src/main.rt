@@ -1,17 +1,20 @@
-//! Rows of hands are read from the input, one a line, and each is printed again with what the
-//! machines for betting and cards answer to it, or `replay`, and `canon` or `check_stated` behind
-//! it.
+//! Reads rows of hands from the input, one per line, and prints each with the answer of the betting
+//! or the cards, or of `replay` followed by `canon` or `check_stated`.
 #![tactic(auto)]
 
 mod answers;
 mod betting;
+mod card_words;
 mod cards;
+mod event_words;
 mod facts;
 mod hands;
 mod lists;
+mod setup_words;
 mod traces;
+mod words;
 
-use hand_rows::first_and_rest;
+use crate::words::first_and_rest;
 use std::alloc::{AllocError, Global};
 use std::io;
 
@@ -24,8 +27,7 @@ fn main(rt: HostRuntime) -> io::Result<()> {
     Ok(())
 }
 
-// A row with its answer behind it. Headings, which begin with `#`, and empty lines stay as they
-// are.
+// A row followed by its answer. Headings, which begin with `#`, and empty lines stay as they are.
 fn answered(alloc: Global, row: &str) -> Result<String, AllocError> {
     if row.is_empty() || row.starts_with('#') {
         return String::from_str(alloc, row);
@@ -36,7 +38,7 @@ fn answered(alloc: Global, row: &str) -> Result<String, AllocError> {
     }
 }
 
-// The answer to the row, by its first word; none where the row has no meaning.
+// The answer to the row, by its first word, or `None` if the row cannot be read.
 fn answer_to(alloc: Global, row: &str) -> Result<Option<String>, AllocError> {
     let (word, rest) = first_and_rest(row);
     match word.as_bytes() {

@@ -1,13 +1,14 @@
-//! Traces, scripts and faults in words.
+//! Traces, scripts and faults as text.
+use crate::event_words::event_text;
+use crate::words::row_text;
 use chip_ledger::{LiveRow, Seat};
 use hand_records::Trace;
-use hand_rows::{event_text, row_text};
 use play_event::{Illegal, Script};
 use replay_core::ReplayFault;
 use std::alloc::{AllocError, Global};
 
-/// The end of a trace: finishing stacks, each pot with its rake, the seats that may win it and
-/// their shares, what is returned, and who is shown or mucks.
+/// The end of a trace: finishing stacks; each pot with its rake, the seats that may win it and
+/// their shares; what is returned; and who is shown or mucks.
 pub fn trace_text(alloc: Global, trace: &Trace) -> Result<String, AllocError> {
     let finish = row_text(alloc, &trace.finish)?;
     let mut text = format!(in alloc; "finish {finish}")?;
@@ -29,7 +30,7 @@ pub fn trace_text(alloc: Global, trace: &Trace) -> Result<String, AllocError> {
     Ok(text)
 }
 
-/// The seats of a row that are flagged, as `13`, and `-` for none.
+/// The seats of a row that are flagged, such as `13`, or `-` for none.
 pub fn seats_text(alloc: Global, row: &LiveRow) -> Result<String, AllocError> {
     let mut text = String::new(alloc);
     for index in 0..row.seats {
@@ -45,7 +46,7 @@ pub fn seats_text(alloc: Global, row: &LiveRow) -> Result<String, AllocError> {
     Ok(text)
 }
 
-/// What is wrong with a script.
+/// The fault of a script.
 pub fn fault_text(alloc: Global, fault: ReplayFault) -> Result<String, AllocError> {
     match fault {
         ReplayFault::Illegal { event, at, why } => {
@@ -68,7 +69,7 @@ fn reason_text(alloc: Global, reason: Illegal) -> Result<String, AllocError> {
     }
 }
 
-/// The events of a script, each in the words in which it may be read again.
+/// The events of a script, each in words that can be read back.
 pub fn script_text(alloc: Global, script: &Script) -> Result<String, AllocError> {
     let mut text = String::new(alloc);
     let mut cursor = script.cursor();

@@ -1,4 +1,4 @@
--- Each high order has the points of its ladder of classes.
+-- Each high order has the points of its classes.
 use Rattle.std.proofs.Common.{◌≡◌, ℕ, List, Some, refl, sym, ◌∙◌, ap}
 use Rattle.card_set.specs.declared.card.Card.{Card}
 use Rattle.hand_order.specs.declared.ladder.FlushPlace.TheVariants as flushes

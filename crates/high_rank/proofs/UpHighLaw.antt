@@ -1,4 +1,4 @@
--- Numbers of as many up-cards compare as the up-cards do.
+-- Numbers of the same number of up-cards compare as the up-cards do.
 use Rattle.std.proofs.Common.{◌≡◌, ℕ, ◌-◌, ◌<◌, List, [], ◌∷◌, length, ◌↔◌, refl, sym, ◌∙◌, ap, subst, arith}
 use Rattle.card_set.specs.declared.card.Card.{Card}
 use Rattle.card_set.specs.Classes.{place}
@@ -11,7 +11,7 @@ use Rattle.hand_order.proofs.Ranked.{IsRanked, PlainSays, ranked_plain, ranked_l
 use Rattle.hand_order.proofs.Shapes.{by_counts}
 use Rattle.high_rank.specs.UpHigh.{up_high_points, up_high_table}
 
--- how many ranks fewer than the cards decide in each class
+-- in each class, the number of cards minus the number of ranks that decide
 abbrev pub up_missing : List ℕ
 up_missing = 3 ∷ 2 ∷ 2 ∷ 1 ∷ 0 ∷ []
 
@@ -30,11 +30,11 @@ up_ordered a b up_a up_b same =
     ranked_law up_high_class (ranks_of high_ace) up_missing 4 (length b) a b
     (subst (λ (n : ℕ). IsRanked up_high_class (ranks_of high_ace) up_missing 4 n a) same (up_ranked a up_a)) (up_ranked b up_b)
 
--- a number of these up-cards is less than that of others exactly where they are weaker
+-- a number of these up-cards is less than that of others if and only if they are weaker
 pub up_ordered_at : (cards other : List Card) (value : ℕ) → AreUpCards cards → AreUpCards other → length other ≡ length cards → value ≡ up_high_points cards → (up_high_points other < value) ↔ IsWeakerUpHigh other cards
 up_ordered_at cards other value up up_other same is = subst (λ (n : ℕ). (up_high_points other < n) ↔ IsWeakerUpHigh other cards) (sym is) (up_ordered other cards up_other up same)
 
--- a class and a list that are seen of up-cards make their number
+-- a class and a list that are read from up-cards make their number
 pub up_number_is : (cards : List Card) (fours threes pairs class : ℕ) (list : List ℕ) → fours ≡ ranks_occurring high_ace cards 4 → threes ≡ ranks_occurring high_ace cards 3 → pairs ≡ ranks_occurring high_ace cards 2 → class ≡ 4 - place (up_high_table fours threes pairs) → list ≡ ranks_of high_ace cards → class_above class list ≡ up_high_points cards
 unfolding up_high_class
 up_number_is cards fours threes pairs class list is_fours is_threes is_pairs is_class is_list =

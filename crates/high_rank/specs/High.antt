@@ -1,4 +1,4 @@
--- The high order: an ace begins A2345, the least straight, topped by the five.
+-- The high order: an ace begins A2345, the lowest straight, topped by the five.
 use Rattle.std.specs.Prelude.{ℕ, List, Option, Some}
 use Rattle.card_set.specs.declared.card.Card.{Card}
 use Rattle.hand_order.specs.declared.straights.LowStraight.TheVariants as straights

@@ -1,5 +1,5 @@
--- The high order of the deck of 36, six to ace: a flush is above a full house, and an ace begins
--- A6789, the least straight, topped by the nine.
+-- The high order of the deck of 36, six to ace: a flush ranks above a full house, and an ace begins
+-- A6789, the lowest straight, topped by the nine.
 use Rattle.std.specs.Prelude.{◌&&◌, ◌==◌, ℕ, ◌-◌, Bool, List, [], ◌∷◌, Option, Some}
 use Rattle.card_set.specs.declared.card.Card.{Card}
 use Rattle.card_set.specs.Ranks.{high_ace, is_one_suit}

@@ -14,7 +14,7 @@ use Rattle.high_rank.specs.High.{IsHand}
 use Rattle.high_rank.specs.ShortDeck.{short_class, short_table, IsWeaker, points}
 use Rattle.hand_order.proofs.Lawful.{lawful_by_numbers}
 
--- how many ranks fewer than the cards decide in each class
+-- in each class, the number of cards minus the number of ranks that decide
 abbrev pub short_missing : List ℕ
 short_missing = 4 ∷ 3 ∷ 0 ∷ 3 ∷ 4 ∷ 2 ∷ 2 ∷ 1 ∷ 0 ∷ []
 
@@ -40,7 +40,7 @@ unfolding short_class
 short_ranked cards held =
     ranked_by short_table short_missing short_says straights.NineHigh short_class cards held refl
 
--- the points of five cards are less exactly where they are weaker
+-- the points of five cards are fewer if and only if they are weaker
 short_ordered : (a b : List Card) → AreHeld 5 a → AreHeld 5 b
     → (class_above (8 - short_class a) (deciding_ranks straights.NineHigh a)
     < class_above (8 - short_class b) (deciding_ranks straights.NineHigh b))

@@ -1,4 +1,4 @@
-//! The high orders of five cards, of the whole deck and of the short one, and the high order of
+//! The high orders of five cards, for the whole deck and for the short deck, and the high order of
 //! up-cards.
 #![tactic(auto)]
 

@@ -2,8 +2,8 @@
 use card_set::{CardRow, CardSet};
 use hand_order::{FlushPlace, HandOrder, LowStraight, Score, best_high, hand_points};
 
-/// The order of short-deck hold'em, of 36 cards from six to ace.
-/// The ace is low in A6789 only, and suits never break ties.
+/// The order of short-deck hold'em, played with 36 cards from six to ace. The ace is low only in
+/// A6789, and suits never break ties.
 #[derive(Clone, Copy, Debug)]
 pub struct ShortDeckHigh;
 

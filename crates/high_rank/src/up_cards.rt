@@ -1,4 +1,4 @@
-//! The high order of up-cards: straights and flushes do not count.
+//! The high order of up-cards, in which straights and flushes do not count.
 ghost use Rattle.std.specs.Prelude.{◌≡◌, ◌<◌, ◌-◌, List, length, ◌↔◌};
 ghost use Rattle.card_set.specs.declared.card.Card.{Card};
 ghost use Rattle.card_set.specs.Classes.{place};
@@ -9,9 +9,8 @@ ghost use Rattle.high_rank.specs.UpHigh.{up_high_points, up_high_table};
 use card_set::CardRow;
 use hand_order::{Ace, Score, class_above, count_of_ranks, ranks_of};
 
-/// How good the up-cards are where high cards are good:
-/// four, three, two pair, pair, high card, then the ranks.
-/// It compares up-cards with as many others.
+/// How good up-cards are if high cards are good: four of a kind, three of a kind, two pair, pair,
+/// high card, then the ranks. Only compare scores of the same number of up-cards.
 pub fn up_high(cards: &CardRow) -> Score
     requires { AreUpCards (cards_of cards.now) }
     ensures points { result.points ≡ up_high_points (cards_of cards.now) }
@@ -28,7 +27,7 @@ pub fn up_high(cards: &CardRow) -> Score
     }
 }
 
-// The classes of up-cards, the best with the greatest number.
+// The classes of up-cards; the best has the greatest number.
 fn up_class(fours: usize, threes: usize, pairs: usize) -> u32
     ensures { result ≡ 4 - place (up_high_table fours threes pairs) }
 {

@@ -1,8 +1,8 @@
-//! The high order: the better class, then the higher ranks, those that occur oftener first.
+//! The high order: the better class, then the higher ranks, with ranks that occur more often first.
 use card_set::{CardRow, CardSet};
 use hand_order::{FlushPlace, HandOrder, LowStraight, Score, best_high, hand_points};
 
-/// The order of hold'em, Omaha and stud. The ace is low in A2345 only, and suits never break ties.
+/// The order of hold'em, Omaha and stud. The ace is low only in A2345, and suits never break ties.
 #[derive(Clone, Copy, Debug)]
 pub struct High;
 

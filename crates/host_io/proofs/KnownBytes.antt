@@ -1,4 +1,4 @@
--- What calls in a row do to known bytes, and what is left where they end early.
+-- What a series of calls does to known bytes, and what is left if they end early.
 use Rattle.std.proofs.Common.{◌≡◌, ◌≤◌, ℕ, ◌+◌, ◌-◌, List, ◌++◌, length, take, drop, Option, None, Some, sym, ap, subst, ◌∙◌, arith, length-append}
 use Rattle.std.proofs.lemmas.List.{drop_at, take_rest}
 use Rattle.std.proofs.Math.Seq.{take-add}

@@ -1,2 +1,2 @@
--- Lemmas on the bytes that devices tell.
+-- Lemmas on the bytes of devices.
 pub mod KnownBytes

@@ -1,4 +1,4 @@
--- What a call that ends early leaves of known bytes.
+-- What is left of known bytes after a call that ends early.
 use Rattle.std.specs.Prelude.{◌≡◌, ◌<◌, ◌≤◌, ℕ, ◌+◌, ◌-◌, List, ◌++◌, length, take, drop, ⊤, Option, None, Some}
 
 -- known bytes lose the first n
@@ -14,7 +14,7 @@ LosesAtMost n (Some xs) None = ⊥
 LosesAtMost n (Some xs) (Some ys) =
     (ys ≡ drop (length xs - length ys) xs) × (length xs ≤ length ys + n)
 
--- known bytes grow by a front of bs, and not by the whole of it
+-- known bytes have a front part of bs appended, and not all of it
 abbrev pub AppendsPart : Option (List ℕ) → Option (List ℕ) → List ℕ → Type 0
 AppendsPart None new bs = ⊤
 AppendsPart (Some xs) None bs = ⊥

@@ -1,7 +1,7 @@
--- A device may say that it failed only where its count of faults rose.
+-- A device may say that it failed only if its count of faults rose.
 use Rattle.std.specs.Prelude.{ℕ, ◌+◌, ◌-◌, ◌^◌, ◌≤◌, min, Bool, if◌then◌else◌}
 
--- a count of 64 bits after one more: at its last value it stands still
+-- a count of 64 bits plus one; it stops at its greatest value
 abbrev pub counted_up : ℕ → ℕ
 counted_up count = min (count + 1) (2 ^ 64 - 1)
 
@@ -9,6 +9,6 @@ counted_up count = min (count + 1) (2 ^ 64 - 1)
 abbrev pub count_after : Bool → ℕ → ℕ
 count_after failed count = if failed then counted_up count else count
 
--- the count rose from before to now, or it stands at its last value
+-- the count rose from before to now, or has its greatest value
 abbrev pub Rose : ℕ → ℕ → Type 0
 Rose before now = counted_up before ≤ now

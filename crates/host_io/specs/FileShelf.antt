@@ -1,4 +1,4 @@
--- What a shelf over files shows.
+-- What the contract of a shelf over files speaks of.
 use Rattle.std.specs.Prelude.{ℕ}
 use Rattle.host_io.specs.declared.file_shelf.FileShelf.{FileShelf}
 

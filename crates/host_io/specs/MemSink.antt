@@ -1,4 +1,4 @@
--- What a sink in memory shows.
+-- What the contract of a sink in memory speaks of.
 use Rattle.std.specs.Prelude.{◌≡◌, ℕ, ◌-◌, List, [], length}
 use Rattle.host_io.specs.FaultPlan.{IsFresh}
 use Rattle.host_io.specs.declared.fault_plan.FaultPlan.{FaultPlan}
@@ -20,8 +20,8 @@ sink_piece sink = sink.piece
 abbrev pub sink_plan : MemSink → FaultPlan
 sink_plan sink = sink.plan
 
--- a sink took nothing yet: it has so much room, takes so much in one call, and fails at the calls
--- with these numbers
+-- a sink took nothing yet: it has this much room, takes at most this much in one call, and fails at
+-- the calls with these numbers
 pub record IsEmptySink (sink : MemSink) (bytes most : ℕ) (fail_at : List ℕ) : Type 0 where
   pub held : bytes_held sink ≡ []
   pub room : room_left sink ≡ bytes

@@ -1,4 +1,4 @@
--- What a source in memory shows.
+-- What the contract of a source in memory speaks of.
 use Rattle.std.specs.Prelude.{◌≡◌, ℕ, List, drop}
 use Rattle.host_io.specs.FaultPlan.{IsFresh}
 use Rattle.host_io.specs.declared.fault_plan.FaultPlan.{FaultPlan}
@@ -16,8 +16,8 @@ source_piece source = source.piece
 abbrev pub source_plan : MemSource → FaultPlan
 source_plan source = source.plan
 
--- a source gave nothing yet: it has these bytes, gives so many of them in one call, and fails at
--- the calls with these numbers
+-- a source gave nothing yet: it has these bytes, gives at most this many of them in one call, and
+-- fails at the calls with these numbers
 pub record IsFullSource (source : MemSource) (bytes : List ℕ) (most : ℕ) (fail_at : List ℕ) : Type 0
   where
     pub left : bytes_left source ≡ bytes

@@ -1,11 +1,11 @@
--- What a shelf says of a name, by the bytes that lie under it.
+-- The answer of a shelf for a name, by the bytes under it.
 use Rattle.std.specs.Prelude.{◌≡◌, ◌<◌, ◌≤◌, ℕ, Bool, true, false, List, length, Option, None, Some, IsSomeAnd, Result, Ok, Err}
 use Rattle.host_io.specs.declared.shelf.Fetched.{Fetched}
 use Rattle.host_io.specs.declared.shelf.Fetched.TheVariants.{Bytes, Absent, TooLong}
 use Rattle.host_io.specs.declared.shelf.ShelfFault.{ShelfFault}
 use Rattle.host_io.specs.declared.shelf.ShelfFault.TheVariants.{Failed, Memory}
 
--- all of the bytes, if they are at most max; one of the three answers fits, and only that
+-- all of the bytes, if they are at most max; exactly one of the three answers fits
 abbrev pub IsAnswer : Option (List ℕ) → ℕ → Fetched → Type 0
 IsAnswer file max (Bytes fetched) = (file ≡ Some fetched.items) × (length fetched.items ≤ max)
 IsAnswer file max Absent = file ≡ None

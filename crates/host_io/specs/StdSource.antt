@@ -1,4 +1,4 @@
--- What a source over a reader of std shows.
+-- What the contract of a source over a reader of std speaks of.
 use Rattle.std.specs.Prelude.{ℕ}
 use Rattle.host_io.specs.declared.std_source.StdSource.{StdSource}
 

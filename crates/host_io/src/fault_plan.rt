@@ -1,11 +1,11 @@
-//! The calls of an object in memory are numbered from 0, and those fail whose number a list has.
+//! Numbers the calls of an object in memory from 0; the n-th call fails if n is in the list.
 ghost use Rattle.std.specs.Prelude.{◌≤◌, ◌↔◌, IsErr, is_err};
 ghost use Rattle.host_io.specs.FaultPlan.{IsFresh, FailsNext, CountsCall};
 
 use crate::fault::{Failed, count_fault};
 
-/// Which calls fail, how many there were, and how many of them failed. Both counts stand still at
-/// their last value.
+/// Which calls fail, how many there were, and how many of them failed. Both counts stop at their
+/// greatest value.
 #[derive(Debug, Drop)]
 pub(crate) struct FaultPlan {
     fail_at: Vec<u64>,
@@ -25,7 +25,7 @@ impl FaultPlan {
         }
     }
 
-    /// Gives the call that begins its number, and fails it if the list has that number.
+    /// Gives the call that begins its number, and fails it if the number is in the list.
     pub(crate) fn begin_call(&mut self) -> Result<(), Failed>
         ensures fails { IsErr result ↔ FailsNext self.old }
         ensures counts { CountsCall self.old self.new (is_err result) }

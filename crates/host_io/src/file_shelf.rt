@@ -1,4 +1,5 @@
-//! The files of a system are a shelf that counts the errors of the system, and tells no bytes.
+//! The files of a system as a shelf: it counts the errors of the system, and its contract says
+//! nothing of what the files hold.
 ghost use Rattle.std.specs.Prelude.{◌≡◌, ◌≤◌, ◌≢◌, ◌↔◌, ◌⊎◌, None, Some, Ok, Err, IfOk, IfErr, IfSome, IsErrAnd, IsErrOf, IsTrue};
 ghost use Rattle.host_io.specs.Faults.{count_after, Rose};
 ghost use Rattle.host_io.specs.OpenError.{IsMissing};
@@ -13,9 +14,9 @@ use std::io::{ErrorKind, Read};
 use std::rt::Files;
 use std::{fs, io};
 
-/// The files of a system as a shelf, each under its path. What they hold is not known to it.
-/// Only a path that leads nowhere is absent. A folder is a fault, and so is a file that may not be
-/// opened, or that cannot be read to its end. No more than `max + 1` bytes of a file are read.
+/// The files of a system as a shelf, each under its path. Its contract says nothing of what they
+/// hold. Only a path that leads nowhere is absent. A folder is a fault, and so is a file that may
+/// not be opened, or that cannot be read to its end. At most `max + 1` bytes of a file are read.
 #[derive(Drop)]
 pub struct FileShelf<R: Files> {
     files: R,
@@ -47,7 +48,7 @@ impl<R: Files> Shelf for FileShelf<R> {
     }
 }
 
-// The answer for a name, by what came of opening it.
+// The answer for a name, from the result of opening it.
 fn fetch_opened<F: Read + Drop>(
     alloc: Global,
     opened: io::Result<F>,
@@ -74,7 +75,7 @@ impl<R: Files> FileShelf<R> {
     }
 }
 
-// The answer for a name that is there, by the bytes that the source has left.
+// The answer for a name that is there, from the bytes that the source has left.
 fn fetch_from<S: Source>(alloc: Global, source: &mut S, max: usize) -> Result<Fetched, ShelfFault>
     ensures answer { IfOk result (λ fetched.
         IfSome (S.left source.old) (λ bytes. IsAnswer (Some bytes) max fetched)) }

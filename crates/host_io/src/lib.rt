@@ -1,4 +1,4 @@
-//! Bytes come from a source, go to a sink and lie on a shelf, and each of these counts its faults.
+//! Sources of bytes, sinks for bytes, and shelves of named bytes, each of which counts its faults.
 #![tactic(auto)]
 
 mod fault;

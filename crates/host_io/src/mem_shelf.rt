@@ -1,4 +1,4 @@
-//! A shelf in memory answers by the first file with a name, and fails at the calls that are listed.
+//! A shelf in memory, which answers with the first file of a name, and fails at the listed calls.
 ghost use Rattle.std.specs.Prelude.{◌≡◌, ◌≤◌, ◌↔◌, Some, IfOk, IsErrOf};
 ghost use Rattle.std.specs.Option.{option_copied};
 ghost use Rattle.host_io.specs.Faults.{Rose};
@@ -20,8 +20,8 @@ pub struct MemShelf {
 impl MemShelf {
     ghost use Rattle.host_io.specs.MemShelf.{shelf_files, shelf_plan};
 
-    /// A shelf of these files by name, that fails at the calls with these numbers, counted from 0.
-    /// Of equal names the first counts.
+    /// A shelf of these files by name that fails at the calls with these numbers, counted from 0.
+    /// Of files with the same name the first counts.
     pub fn new(files: Vec<(String, Vec<u8>)>, fail_at: Vec<u64>) -> MemShelf
         ensures files { shelf_files result ≡ file_named files.items }
         ensures plan { IsFresh (shelf_plan result) fail_at.items }

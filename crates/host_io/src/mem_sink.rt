@@ -1,5 +1,5 @@
-//! A sink in memory holds what it took in order, and fails at the calls that are listed and where
-//! it is full.
+//! A sink in memory, which holds the bytes that it took in order, and fails at the listed calls and
+//! when it is full.
 ghost use Rattle.std.specs.Prelude.{◌≡◌, ◌⊎◌, ◌+◌, ◌-◌, ◌^◌, ◌<◌, ◌≤◌, ◌↔◌, ◌++◌, min, length, vec_len, vec_capacity, Some, IfOk, OnErr, IsErr, is_err};
 ghost use Rattle.std.specs.Io.{WritesAtMost};
 ghost use Rattle.std.specs.Io.KnownBytes.{WriteAppends};
@@ -13,7 +13,7 @@ use card_set::Memory;
 use std::alloc::Global;
 
 /// A sink in memory, with room for a fixed number of bytes. Each call takes as many as there is
-/// room for and fit one piece.
+/// room for, up to one piece.
 #[derive(Debug, Drop)]
 pub struct MemSink {
     bytes: Vec<u8>,
@@ -35,15 +35,16 @@ impl MemSink {
         &self.bytes
     }
 
-    /// An empty sink with room for `room` bytes, that fails at the calls with these numbers,
-    /// counted from 0. It takes all its memory here. Bytes of any number are one piece.
+    /// An empty sink with room for `room` bytes. It fails at the calls with these numbers (the
+    /// first call is number 0), and allocates all its memory here. A piece may have any number of
+    /// bytes.
     pub fn new(alloc: Global, room: usize, fail_at: Vec<u64>) -> Result<MemSink, Memory>
         ensures { IfOk result (λ sink. IsEmptySink sink room (2 ^ 64 - 1) fail_at.items) }
     {
         MemSink::in_pieces(alloc, room, usize::MAX, fail_at)
     }
 
-    /// As `new`, and a call takes at most `piece` bytes.
+    /// As `new`, but a call takes at most `piece` bytes.
     pub fn in_pieces(
         alloc: Global,
         room: usize,
@@ -98,7 +99,7 @@ impl Sink for MemSink {
     }
 }
 
-// Puts the bytes after the others, into room that is there.
+// Appends the bytes, into room that is already reserved.
 fn push_reserved(held: &mut Vec<u8>, bytes: &[u8])
     requires { vec_len held.old + length bytes.now ≤ vec_capacity held.old }
     ensures items { held.new.items ≡ held.old.items ++ bytes.now }

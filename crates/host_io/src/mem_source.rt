@@ -1,4 +1,4 @@
-//! A source in memory gives its bytes in order, and fails at the calls that a list names.
+//! A source in memory, which gives its bytes in order, and fails at the listed calls.
 ghost use Rattle.std.specs.Prelude.{◌≡◌, ◌+◌, ◌-◌, ◌^◌, ◌≤◌, ◌↔◌, ◌++◌, min, length, take, drop, vec_len, Some, IfOk, OnErr, IsErr, is_err};
 ghost use Rattle.std.specs.Io.{ReadsAtMost};
 ghost use Rattle.std.specs.Io.KnownBytes.{ReadConsumes};
@@ -9,7 +9,7 @@ use crate::fault::Failed;
 use crate::fault_plan::FaultPlan;
 use crate::source::Source;
 
-/// Bytes in memory as a source. Each call gives as many as are left and fit the buffer and one
+/// Bytes in memory as a source. Each call gives as many as are left and fit the buffer, up to one
 /// piece.
 #[derive(Debug, Drop)]
 pub struct MemSource {
@@ -24,15 +24,15 @@ pub struct MemSource {
 impl MemSource {
     ghost use Rattle.host_io.specs.MemSource.{IsFullSource};
 
-    /// A source that has these bytes left, and fails at the calls with these numbers, counted
-    /// from 0. Bytes of any number are one piece.
+    /// A source that has these bytes left. It fails at the calls with these numbers (the first call
+    /// is number 0). A piece may have any number of bytes.
     pub fn new(bytes: Vec<u8>, fail_at: Vec<u64>) -> MemSource
         ensures { IsFullSource result bytes.items (2 ^ 64 - 1) fail_at.items }
     {
         MemSource::in_pieces(bytes, usize::MAX, fail_at)
     }
 
-    /// As `new`, and a call gives at most `piece` bytes.
+    /// As `new`, but a call gives at most `piece` bytes.
     pub fn in_pieces(bytes: Vec<u8>, piece: usize, fail_at: Vec<u64>) -> MemSource
         requires { 1 ≤ piece }
         ensures { IsFullSource result bytes.items piece fail_at.items }
@@ -74,8 +74,8 @@ impl Source for MemSource {
     }
 }
 
-// Copies bytes from that place on to the start of the buffer, as many as there are and fit, and at
-// most `most`, and returns how many.
+// Copies bytes from that place on to the start of the buffer: as many as there are and fit, at most
+// `most`. Returns how many.
 fn copy_from(bytes: &[u8], start: usize, most: usize, buf: &mut [u8]) -> usize
     requires { start ≤ length bytes.now }
     ensures count { result ≡ min (min (length buf.old) most) (length bytes.now - start) }

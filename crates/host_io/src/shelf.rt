@@ -1,4 +1,4 @@
-//! A shelf has bytes under names, and a look at it changes none of them.
+//! A shelf has bytes under names, and reading it changes none of them.
 ghost use Rattle.std.specs.Prelude.{◌≡◌, ◌≤◌, List, ℕ, Option, IfOk, IfSome, IsErrOf};
 ghost use Rattle.host_io.specs.Faults.{Rose};
 ghost use Rattle.host_io.specs.Shelf.{IsAnswer};
@@ -10,14 +10,14 @@ use card_set::Memory;
 use std::alloc::{AllocError, Global};
 use thiserror::Error;
 
-/// What a shelf says of a name.
+/// The answer of a shelf for a name.
 #[derive(Debug, PartialEq, Eq, Drop)]
 pub enum Fetched {
     /// The bytes under the name.
     Bytes(Vec<u8>),
     /// Nothing has this name.
     Absent,
-    /// There are more bytes under the name than were asked for.
+    /// There are more bytes under the name than `max`.
     TooLong,
 }
 
@@ -27,7 +27,7 @@ pub enum ShelfFault {
     /// The shelf failed.
     #[error("the shelf could not be read")]
     Failed,
-    /// There was not enough memory for the bytes.
+    /// Out of memory for the bytes.
     #[error("out of memory")]
     Memory(Memory),
 }
@@ -48,19 +48,20 @@ impl From<AllocError> for ShelfFault {
     }
 }
 
-/// Where bytes lie under names.
+/// Named bytes that can be read.
 pub trait Shelf {
-    /// The bytes under each name, where the shelf tells them; none under a name that is not there.
+    /// The bytes under each name, if the shelf's contract says them; `None` for a name that is not
+    /// there.
     ghost files: { Self → Option (List ℕ → Option (List ℕ)) };
 
     /// How often the shelf has failed. The count never falls.
     ghost faults: { Self → ℕ };
 
-    /// The second is the first after it was asked for this name once. A caller knows no more of it,
-    /// so what it says by it is what it asked for.
+    /// The second is the first after it was asked for this name once. A caller knows no more about
+    /// it, so this only says what was asked for.
     ghost Asked: { Self → Self → List ℕ → Type 0 };
 
-    /// The bytes under a name, if there are at most `max`. No call changes what lies on the shelf.
+    /// The bytes under a name, if there are at most `max`. No call changes what is on the shelf.
     fn fetch(&mut self, alloc: Global, name: &str, max: usize) -> Result<Fetched, ShelfFault>
         ensures answer { IfOk result (λ fetched.
             IfSome (files self.old) (λ files. IsAnswer (files name.now) max fetched)) }

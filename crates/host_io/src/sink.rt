@@ -1,4 +1,4 @@
-//! What a sink takes stands after the bytes that it held.
+//! What a sink takes is appended to the bytes that it holds.
 ghost use Rattle.std.specs.Prelude.{◌≡◌, ◌<◌, ◌≤◌, List, [], ℕ, length, Option, IfOk, IsOk, OnOk, OnErr};
 ghost use Rattle.std.specs.Io.{WritesAtMost};
 ghost use Rattle.std.specs.Io.KnownBytes.{WriteAppends, Appends};
@@ -9,15 +9,15 @@ use crate::fault::Failed;
 
 /// Where bytes are written to.
 pub trait Sink {
-    /// The bytes held, where the sink tells them.
+    /// The bytes held, if the sink's contract says them.
     ghost held: { Self → Option (List ℕ) };
 
     /// How often the sink has failed. The count never falls.
     ghost faults: { Self → ℕ };
 
-    /// Takes bytes from the front of the piece, and holds them after the others. `Ok` has their
-    /// number, which is above zero for a piece that is not empty. After `Failed` the bytes held are
-    /// as before.
+    /// Takes bytes from the front of the piece, and appends them to those held. `Ok` has their
+    /// number, which is above zero unless the piece is empty. After `Failed` the bytes held are as
+    /// before.
     fn write(&mut self, bytes: &[u8]) -> Result<usize, Failed>
         ensures bound { WritesAtMost result bytes.now }
         ensures some { IfOk result (λ count. 0 < length bytes.now → 0 < count) }
@@ -26,8 +26,8 @@ pub trait Sink {
         ensures failed { OnErr result (Rose (faults self.old) (faults self.new)) };
 }
 
-/// Writes all the bytes. After `Failed` the sink has taken a part of them from the front.
-/// The sink is called only for bytes that are not empty.
+/// Writes all the bytes. After `Failed` the sink has taken only a part of them, from the front. The
+/// sink is not called for no bytes.
 pub fn write_all<K: Sink>(out: &mut K, bytes: &[u8]) -> Result<(), Failed>
     ensures held { OnOk result (Appends (K.held out.old) (K.held out.new) bytes.now) }
     ensures part { OnErr result (AppendsPart (K.held out.old) (K.held out.new) bytes.now) }

@@ -21,10 +21,10 @@ pub enum InFault {
     /// The source failed.
     #[error("the input could not be read")]
     ReadFault,
-    /// The source has more bytes than were asked for.
+    /// The source has more than `max` bytes.
     #[error("the input is too long")]
     TooLong,
-    /// There was not enough memory for the bytes.
+    /// Out of memory for the bytes.
     #[error("out of memory")]
     Memory(Memory),
 }
@@ -39,15 +39,15 @@ impl From<AllocError> for InFault {
 
 /// Where bytes are read from.
 pub trait Source {
-    /// The bytes left, where the source tells them.
+    /// The bytes left, if the source's contract says them.
     ghost left: { Self → Option (List ℕ) };
 
     /// How often the source has failed. The count never falls.
     ghost faults: { Self → ℕ };
 
     /// Takes bytes from the front of those that are left, and puts them at the start of the buffer.
-    /// `Ok` has their number. Zero of them for a buffer that is not empty is the end: no byte is
-    /// left. After `Failed` the bytes left are as before.
+    /// `Ok` has their number. Zero for a buffer that is not empty is the end: no byte is left.
+    /// After `Failed` the bytes left are as before.
     fn read(&mut self, buf: &mut [u8]) -> Result<usize, Failed>
         ensures bound { ReadsAtMost result buf.new }
         ensures bytes { ReadConsumes (left self.old) (left self.new) result buf.new }
@@ -55,9 +55,8 @@ pub trait Source {
         ensures failed { OnErr result (Rose (faults self.old) (faults self.new)) };
 }
 
-/// Reads all bytes that the source has left, if there are at most `max`.
-/// A call that fails has taken some bytes from the front of them, and these are lost;
-/// `TooLong` has taken `max + 1`.
+/// Reads all bytes that the source has left, if there are at most `max`. A call that fails has
+/// taken some bytes from the front of them, and these are lost; `TooLong` has taken `max + 1`.
 pub fn read_all<S: Source>(alloc: Global, source: &mut S, max: usize) -> Result<Vec<u8>, InFault>
     ensures bytes { IfOk result (λ all. IfSome (S.left source.old) (λ left. all.items ≡ left)) }
     ensures end { OnOk result (IsAtEnd (S.left source.new)) }
@@ -77,7 +76,7 @@ pub fn read_all<S: Source>(alloc: Global, source: &mut S, max: usize) -> Result<
     let mut piece = [0u8; PIECE];
     loop {
         let room = max - all.len();
-        // One byte more than there is room for, so that a longer input is seen.
+        // One byte more than there is room for, to notice a longer input.
         let asked = room.min(PIECE - 1) + 1;
         match source.read(&mut piece[..asked]) {
             Ok(0) => return Ok(all),

@@ -1,4 +1,5 @@
-//! A writer of std is a sink that counts the writer's errors, and tells no bytes.
+//! A writer of std as a sink: it counts the writer's errors, and its contract says nothing of the
+//! bytes.
 ghost use Rattle.std.specs.Prelude.{◌≡◌, ◌<◌, ◌≤◌, length, None, IfOk, OnErr, is_err};
 ghost use Rattle.std.specs.Io.{WritesAtMost};
 ghost use Rattle.std.specs.Io.KnownBytes.{WriteAppends};
@@ -8,8 +9,8 @@ use crate::fault::{Failed, count_fault};
 use crate::sink::Sink;
 use std::io::Write;
 
-/// A writer of std as a sink. What the writer holds is not known to it.
-/// A writer that takes no byte of a piece that is not empty has failed.
+/// A writer of std as a sink. Its contract says nothing of what the writer holds. A writer that
+/// takes no byte of a piece that is not empty has failed.
 #[derive(Debug, Drop)]
 pub struct StdSink<W: Write> {
     inner: W,
@@ -42,7 +43,7 @@ impl<W: Write> Sink for StdSink<W> {
         ensures later { fault_count self.old ≤ fault_count self.new }
         ensures failed { OnErr result (Rose (fault_count self.old) (fault_count self.new)) }
 
-        // What is taken goes to the writer, where the writer knows what it holds.
+        // What is taken goes to the writer, if the writer's contract says what it holds.
         ensures passed_on { WriteAppends (W.contents (inner_writer self.old))
             (W.contents (inner_writer self.new)) result bytes.now }
         ensures counts { fault_count self.new ≡ count_after (is_err result) (fault_count self.old) }

@@ -1,4 +1,5 @@
-//! A reader of std is a source that counts the reader's errors, and tells no bytes.
+//! A reader of std as a source: it counts the reader's errors, and its contract says nothing of the
+//! bytes.
 ghost use Rattle.std.specs.Prelude.{◌≡◌, ◌≤◌, None, OnErr, is_err};
 ghost use Rattle.std.specs.Io.{ReadsAtMost};
 ghost use Rattle.std.specs.Io.KnownBytes.{ReadConsumes};
@@ -8,7 +9,7 @@ use crate::fault::{Failed, count_fault};
 use crate::source::Source;
 use std::io::Read;
 
-/// A reader of std as a source. What the reader has left is not known to it.
+/// A reader of std as a source. Its contract says nothing of what the reader has left.
 #[derive(Debug, Drop)]
 pub struct StdSource<R: Read> {
     inner: R,
@@ -40,7 +41,7 @@ impl<R: Read> Source for StdSource<R> {
         ensures later { fault_count self.old ≤ fault_count self.new }
         ensures failed { OnErr result (Rose (fault_count self.old) (fault_count self.new)) }
 
-        // What is given is what the reader gives, where the reader knows it.
+        // What is given is what the reader gives, if the reader's contract says it.
         ensures passed_on { ReadConsumes (R.remaining (inner_reader self.old))
             (R.remaining (inner_reader self.new)) result buf.new }
         ensures counts { fault_count self.new ≡ count_after (is_err result) (fault_count self.old) }

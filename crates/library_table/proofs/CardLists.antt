@@ -1,4 +1,4 @@
--- A list of different cards with one card more.
+-- A list of different cards with one more card.
 use Rattle.std.proofs.Common.{◌≡◌, ◌≢◌, ◌||◌, ◌⊎◌, ◌++◌, Bool, true, false, List, [], ◌∷◌, inl, inr, refl, sym, ◌∙◌, ap, subst}
 use Rattle.card_set.specs.declared.card.Card.{Card}
 use Rattle.card_set.specs.declared.set.CardSet.{CardSet}
@@ -7,7 +7,7 @@ use Rattle.card_set.specs.Deck.{is_same_card}
 use Rattle.card_set.specs.Different.{Lacks, AllDifferent}
 use Rattle.card_set.proofs.DeckLaws.{is_same_card-self, is_same_card-true}
 use Rattle.card_set.proofs.SetLaws.{is_one_of-more}
-use Rattle.list_laws.proofs.Tests.{passes_or_not, true_false}
+use Rattle.card_set.proofs.Tests.{passes_or_not, true_false}
 
 lacks_more : (other card : Card) (cards : List Card) → Lacks other cards → other ≢ card → Lacks other (cards ++ card ∷ [])
 lacks_more other card [] lacks apart = (apart, tt)
@@ -23,7 +23,7 @@ different_more card (first ∷ rest) different absent = by_tests (is_same_card f
         let apart : first ≢ card = λ same. let on = ap (is_same_card first) (sym same) ∙ is_same_card-self first in true_false (sym on ∙ is) in
         (lacks_more first card rest different.0 apart, others (is_b ∙ none))
 
--- one card more that was not seen
+-- one more card that was not seen before
 pub listing_more : (before after : CardSet) (cards next : List Card) (card : Card) → IsListing before cards → is_in before card ≡ false → is_in after card ≡ true → ((other : Card) → other ≢ card → is_in after other ≡ is_in before other) → next ≡ cards ++ card ∷ [] → IsListing after next
 listing_more before after cards next card lists absent inside others is =
     subst (IsListing after) (sym is) (record {
@@ -47,6 +47,6 @@ listing_more before after cards next card lists absent inside others is =
         ∙ lists.same other
         ∙ sym (ap (λ (b : Bool). is_one_of other cards || b) apart ∙ or_false (is_one_of other cards))
 
--- a set without cards is listed by no card
+-- a set without cards has only the empty list
 pub listing_none : (set : CardSet) (cards : List Card) → cards ≡ [] → ((card : Card) → is_in set card ≡ false) → IsListing set cards
 listing_none set cards none empty = subst (IsListing set) (sym none) (record { different = tt; same = empty })

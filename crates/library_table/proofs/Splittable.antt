@@ -1,4 +1,4 @@
--- What a split takes, one card and one pot more.
+-- What a split takes, with one more card and one more pot.
 use Rattle.std.proofs.Common.{◌≡◌, ◌≢◌, ◌≤◌, ◌++◌, ℕ, List, [], ◌∷◌}
 use Rattle.std.proofs.lemmas.List.Elements.{All-cons}
 use Rattle.card_set.specs.declared.card.Card.{Card}
@@ -8,7 +8,7 @@ use Rattle.chip_ledger.specs.declared.seat_row.TheConstants.{MOST_AMOUNT}
 use Rattle.chip_ledger.specs.LiveRow.{flagged}
 use Rattle.showdown_split.specs.Playable.{AreWinnable}
 
--- a card that stands neither here nor there
+-- a card that is in neither of the two
 pub lacks_both : (card : Card) (first second : List Card) → Lacks card first → Lacks card second → Lacks card (first ++ second)
 lacks_both card [] second none others = others
 lacks_both card (c ∷ rest) second none others = (none.0, lacks_both card rest second none.1 others)

@@ -1,5 +1,6 @@
-//! How hands compare in each order: `cards best ORDER CARDS CARDS`, `cards up ORDER CARDS CARDS`,
-//! and `cards deal PICK HOLE BOARD CARDS`, in which the last cards are a hand of the high order.
+//! Tests how hands compare in each order: `cards best ORDER CARDS CARDS`, `cards up ORDER CARDS
+//! CARDS`, and `cards deal PICK HOLE BOARD CARDS`, in which the last cards are a hand of the high
+//! order.
 ghost use Rattle.std.specs.Prelude.{◌≡◌, ◌≢◌, ◌≤◌, IfSome, take, drop, length};
 ghost use Rattle.card_set.specs.Different.{AllDifferent};
 ghost use Rattle.card_set.specs.Row.{cards_of};
@@ -46,7 +47,7 @@ fn by_order(name: &str, hands: &str) -> Option<&'static str> {
     }
 }
 
-// How up-cards compare, those that are as many.
+// How two sets of up-cards of the same size compare.
 fn by_up_cards(name: &str, hands: &str) -> Option<&'static str> {
     let (first, second) = words::first_and_rest(hands);
     let (first, second) = (up_cards(first)?, up_cards(second)?);
@@ -85,7 +86,7 @@ fn by_deal(alloc: Global, name: &str, deal: &str) -> Result<Option<&'static str>
     }
 }
 
-// The best of the first so many cards as hole cards, and the others as the board.
+// The best hand of the first `count` cards as hole cards and the others as the board.
 fn best_dealt(text: &str, count: usize, pick: Pick) -> Option<Option<Score>>
     requires { pick ≢ Pick.AllHeld }
 {
@@ -98,7 +99,7 @@ fn best_dealt(text: &str, count: usize, pick: Pick) -> Option<Option<Score>>
     Some(best_of::<High>(&hole, &board, pick))
 }
 
-// So many of the first cards of a row.
+// The first `count` cards of a row.
 fn first_cards(row: &CardRow, count: usize) -> CardRow
     requires { count ≤ length (cards_of row.now) }
     ensures { cards_of result ≡ take count (cards_of row.now) }
@@ -110,7 +111,7 @@ fn first_cards(row: &CardRow, count: usize) -> CardRow
     first
 }
 
-// The cards of a row after so many.
+// The cards of a row after the first `count`.
 fn last_cards(row: &CardRow, count: usize) -> CardRow
     requires { count ≤ length (cards_of row.now) }
     ensures { cards_of result ≡ drop count (cards_of row.now) }
@@ -122,7 +123,7 @@ fn last_cards(row: &CardRow, count: usize) -> CardRow
     last
 }
 
-// The best of the cards, and none where these cards cannot be asked for.
+// The best hand of the cards, or `None` if it cannot be asked for.
 fn best<O: HandOrder>(text: &str) -> Option<Option<Score>> {
     let cards = CardSet::of(&different_cards(text)?);
     let count = cards.len();
@@ -133,7 +134,7 @@ fn best<O: HandOrder>(text: &str) -> Option<Option<Score>> {
     }
 }
 
-// The cards that the text spells, where they are known and different.
+// The cards that the text spells, if they are known and different.
 fn different_cards(text: &str) -> Option<CardRow>
     ensures { IfSome result (λ row. AllDifferent (cards_of row)) }
 {
@@ -155,7 +156,7 @@ fn different_cards(text: &str) -> Option<CardRow>
     Some(row)
 }
 
-// What the first hand is beside the second.
+// How the first hand compares with the second.
 fn compared(first: Option<Score>, second: Option<Score>) -> &'static str {
     match (first, second) {
         (Some(x), Some(y)) => if x > y {

@@ -1,4 +1,4 @@
-//! Each device is made as a case says, and asked what the case asks.
+//! Makes each device as a case says, and asks it what the case asks.
 use crate::device_case::Case;
 use crate::std_devices::{Calls, Reader, Writer};
 use card_set::Memory;
@@ -9,7 +9,7 @@ use host_io::{
 use std::alloc::{AllocError, Global};
 use std::rt::Files;
 
-/// What the device of the row answers, none where the row has no meaning.
+/// What the device of the row answers, or `None` if the row cannot be read.
 pub fn answer_to(rt: &(impl Files + AllocGlobal), row: &str) -> Result<Option<String>, Memory> {
     let alloc = rt.alloc();
     let Some(case) = Case::of(row) else {
@@ -27,7 +27,7 @@ pub fn answer_to(rt: &(impl Files + AllocGlobal), row: &str) -> Result<Option<St
     Ok(Some(answer))
 }
 
-// What `read_all` makes of the text in a source.
+// The result of `read_all` on the text in a source.
 fn of_source(alloc: Global, case: &Case<'_>) -> Result<String, AllocError> {
     let bytes = case.text.as_bytes().to_vec(alloc)?;
     let fail_at = case.fail_at(alloc)?;
@@ -38,7 +38,7 @@ fn of_source(alloc: Global, case: &Case<'_>) -> Result<String, AllocError> {
     what_is_read(alloc, &mut source, case.limit)
 }
 
-// What `read_all` makes of the text in a reader of std.
+// The result of `read_all` on the text in a reader of std.
 fn of_reader(alloc: Global, case: &Case<'_>) -> Result<String, AllocError> {
     let mut source = StdSource::new(Reader {
         bytes: case.text.as_bytes(),
@@ -55,7 +55,7 @@ fn what_is_read(alloc: Global, source: &mut impl Source, max: usize) -> Result<S
     }
 }
 
-// What `write_all` makes of the text in a sink, and what the sink then holds.
+// The result of `write_all` with the text on a sink, and what the sink then holds.
 fn of_sink(alloc: Global, case: &Case<'_>) -> Result<String, Memory> {
     let fail_at = case.fail_at(alloc)?;
     let mut sink = match case.piece {
@@ -66,7 +66,7 @@ fn of_sink(alloc: Global, case: &Case<'_>) -> Result<String, Memory> {
     Ok(what_is_written(alloc, written, sink.held())?)
 }
 
-// What `write_all` makes of the text in a writer of std, and what the writer then holds.
+// The result of `write_all` with the text on a writer of std, and what the writer then holds.
 fn of_writer(alloc: Global, case: &Case<'_>) -> Result<String, AllocError> {
     let mut writer = Writer {
         bytes: Vec::new(alloc),
@@ -90,7 +90,7 @@ fn what_is_written(
     }
 }
 
-// What a shelf in memory answers, of which two files have the name `two`.
+// What a shelf in memory answers that has two files with the name `two`.
 fn of_shelf(alloc: Global, case: &Case<'_>) -> Result<String, Memory> {
     let mut files = Vec::new(alloc);
     for (name, text) in [("two", "first"), ("two", "second"), ("none", "")] {
@@ -106,7 +106,7 @@ fn of_files(alloc: Global, files: &impl Files, case: &Case<'_>) -> Result<String
     what_is_fetched(alloc, &mut FileShelf::new(files), case)
 }
 
-// What a shelf answers to a name, and what to the same name again.
+// What a shelf answers for a name, and for the same name again.
 fn what_is_fetched(
     alloc: Global,
     shelf: &mut impl Shelf,
@@ -118,7 +118,7 @@ fn what_is_fetched(
     format!(in alloc; "{once}, {again}")
 }
 
-// The name that a text stands for: `\0` in it is a byte 0.
+// The name that a text means: `\0` in it is a byte 0.
 fn name_of(alloc: Global, text: &str) -> Result<String, AllocError> {
     match text.split_once("\\0") {
         Some((front, behind)) => format!(in alloc; "{front}\0{behind}"),

@@ -1,5 +1,5 @@
-//! Equity: how often each live seat wins and ties, over all completions of a board:
-//! `equity CODE HANDS BOARD DEAD`, in which seats without cards are not live.
+//! Tests equity, how often each live seat wins and ties over all completions of a board: `equity
+//! CODE HANDS BOARD DEAD`, in which seats without cards are not live.
 ghost use Rattle.std.specs.Prelude.{◌≡◌, ◌≤◌, IsTrue};
 ghost use Rattle.play_event.specs.Games.{game_of};
 ghost use Rattle.hand_equity.specs.Equity.{plays_board};
@@ -13,7 +13,7 @@ use play_event::{Code, HandRow};
 use std::alloc::{AllocError, Global};
 use variant_table::{FO8, FT, NS, NT, PO, Variant};
 
-// What lies on the table.
+// The cards on the table.
 #[derive(Drop)]
 struct Table {
     hands: HandRow,
@@ -53,7 +53,7 @@ fn table_of(row: &str) -> Option<Table> {
     })
 }
 
-// The equity in a game with so many hole cards.
+// The equity in a game with this number of hole cards.
 fn counted<V: Variant>(alloc: Global, table: &Table, hole: u8) -> Result<Option<String>, AllocError>
     requires game { IsTrue (plays_board V.CODE) }
     requires cards { hole ≡ (game_of V.CODE).hole }
@@ -66,7 +66,7 @@ fn counted<V: Variant>(alloc: Global, table: &Table, hole: u8) -> Result<Option<
     Ok(Some(text_of(alloc, &row, live.seats as usize)?))
 }
 
-// The counts of so many seats, and then those of low hands.
+// The counts of `seats` seats, and then those of low hands.
 fn text_of(alloc: Global, row: &EquityRow, seats: usize) -> Result<String, AllocError>
     requires { seats ≤ 10 }
 {
@@ -90,7 +90,7 @@ fn text_of(alloc: Global, row: &EquityRow, seats: usize) -> Result<String, Alloc
     Ok(text)
 }
 
-// How many boards each seat wins, on how many some tie, and on how many each does.
+// How many boards each seat wins, on how many some seats tie, and on how many each seat ties.
 fn push_counts(
     text: &mut String,
     wins: &[u32],

@@ -1,4 +1,5 @@
-//! The tables of the eleven games: `games table CODE`, `games streets CODE`, `games dealt CODE`.
+//! Prints the tables of the eleven games: `games table CODE`, `games streets CODE`, `games dealt
+//! CODE`.
 use crate::words;
 use card_set::{Card, Rank, Suit};
 use play_event::Code;
@@ -85,7 +86,7 @@ fn dealt_text(alloc: Global, code: Code) -> Result<String, AllocError> {
     format!(in alloc; "hole {hole}, board {board}, {fives}")
 }
 
-// What one generic function finds out of a game from its type alone.
+// What one generic function learns about a game from its type alone.
 #[derive(Clone, Copy)]
 struct Dealt {
     hole: u8,

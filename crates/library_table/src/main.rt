@@ -1,5 +1,5 @@
-//! Rows of the rules and of devices are read from the input, one a line, and each is printed again
-//! with what the libraries answer to it.
+//! Reads rows about the rules and devices from the input, one per line, and prints each with the
+//! answer of the libraries.
 #![tactic(auto)]
 
 mod cards;
@@ -25,14 +25,13 @@ fn main(rt: HostRuntime) -> io::Result<()> {
     for line in rt.lines(rt.alloc()) {
         match answered(&rt, line?.as_str()) {
             Ok(row) => println!(rt; "{row}")?,
-            Err(Memory) => return Err(Error::from(ErrorKind::OutOfMemory)),
+            Err(_) => return Err(Error::from(ErrorKind::OutOfMemory)),
         }
     }
     Ok(())
 }
 
-// A row with its answer behind it. Headings, which begin with `#`, and empty lines stay as they
-// are.
+// A row followed by its answer. Headings, which begin with `#`, and empty lines stay as they are.
 fn answered(rt: &(impl Files + AllocGlobal), row: &str) -> Result<String, Memory> {
     let alloc = rt.alloc();
     if row.is_empty() || row.starts_with('#') {
@@ -44,8 +43,8 @@ fn answered(rt: &(impl Files + AllocGlobal), row: &str) -> Result<String, Memory
     }
 }
 
-// The answer of the subject that the first word names, none where the row has no meaning there.
-// What is no subject of the rules is a device.
+// The answer of the subject that the first word names, or `None` if the row cannot be read there. A
+// word that is not a subject of the rules names a device.
 fn answer_to(rt: &(impl Files + AllocGlobal), row: &str) -> Result<Option<String>, Memory> {
     let alloc = rt.alloc();
     let (subject, rest) = words::first_and_rest(row);

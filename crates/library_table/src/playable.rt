@@ -1,4 +1,4 @@
-//! Whether hands and pots are ones that can be split, and a board one that can be completed.
+//! Whether hands and pots can be split, and whether a board can be completed.
 ghost use Rattle.std.specs.Prelude.{◌≡◌, ◌≢◌, ◌≤◌, ◌++◌, [], IsTrue};
 ghost use Rattle.card_set.specs.declared.set.CardSet.{CardSet};
 ghost use Rattle.card_set.specs.Different.{AllDifferent, Lacks};
@@ -6,7 +6,7 @@ ghost use Rattle.card_set.specs.Row.{cards_of};
 ghost use Rattle.chip_ledger.specs.declared.seat_row.TheConstants.{MOST_AMOUNT};
 ghost use Rattle.chip_ledger.specs.LiveRow.{flagged};
 ghost use Rattle.hand_equity.specs.Equity.{CanComplete, plays_board};
-ghost use Rattle.hand_equity.specs.Rest.{standing_of};
+ghost use Rattle.hand_equity.specs.Undealt.{standing_of};
 ghost use Rattle.hand_order.specs.Choices.{CanPick};
 ghost use Rattle.play_event.specs.Games.{game_of};
 ghost use Rattle.showdown_split.specs.Playable.{ArePlayable, AreWinnable};
@@ -48,8 +48,8 @@ fn can_pick<V: Variant>(hole: &CardRow, board: &CardRow) -> bool
     }
 }
 
-/// Whether each live seat has so many cards, all different from one another and from the board's,
-/// and the board is not too long.
+/// Whether each live seat has this number of cards, all different from one another and from the
+/// board's, and the board is not too long.
 pub fn can_complete<V: Variant>(hands: &HandRow, live: &LiveRow, board: &CardRow, cards: u8) -> bool
     requires seats { hands.now.seats ≡ live.now.seats }
     requires game { IsTrue (plays_board V.CODE) }
@@ -102,7 +102,7 @@ fn lacks(card: Card, cards: &[Card]) -> bool
     }
 }
 
-/// Whether each pot is of so many seats, some seat may win it, and it has no more chips than a row
+/// Whether each pot is of `seats` seats, some seat may win it, and it has no more chips than a row
 /// holds.
 #[tactic(auto, using(crate::proofs::Splittable::winnable_more))]
 pub fn are_winnable(pots: &[Pot], seats: u8) -> bool

@@ -1,6 +1,6 @@
-//! Pots: `pots cut LIVE PUTS DEAD` cuts what the seats put, `pots split CODE HANDS BOARD RAKES
-//! POT..` shares pots, each of them CHIPS:SEATS, and `pots seat NUMBER` and `pots chips NUMBER` ask
-//! for a seat and an amount.
+//! Tests pots: `pots cut LIVE PUTS DEAD` cuts what the seats put in, `pots split CODE HANDS BOARD
+//! RAKES POT..` shares pots, each of them CHIPS:SEATS, and `pots seat NUMBER` and `pots chips
+//! NUMBER` ask for a seat and an amount.
 use crate::{rows, shares, words};
 use chip_ledger::{Chips, LiveRow, MOST_AMOUNT, PotRow, Seat, SeatRow, total};
 use side_pots::pots;
@@ -26,7 +26,7 @@ fn is_there(alloc: Global, found: bool) -> Result<Option<String>, AllocError> {
     Ok(Some(String::from_str(alloc, word)?))
 }
 
-// The pots of what the seats put, and what returns to each.
+// The pots that come from what the seats put in, and what is returned to each.
 fn cut(alloc: Global, row: &str) -> Result<Option<String>, AllocError> {
     let (numbers, rest) = words::first_and_rest(row);
     let (amounts, dead) = words::first_and_rest(rest);
@@ -48,7 +48,7 @@ fn cut(alloc: Global, row: &str) -> Result<Option<String>, AllocError> {
     Ok(Some(pots_text(alloc, &pots(&puts, dead, &live))?))
 }
 
-// The pots, the lowest first, and then the returns.
+// The pots, the lowest first, and then the returned chips.
 fn pots_text(alloc: Global, row: &PotRow) -> Result<String, AllocError> {
     let mut text = String::new(alloc);
     for pot in &row.pots[..row.count as usize] {

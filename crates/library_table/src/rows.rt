@@ -1,5 +1,5 @@
-//! Rows of amounts, seats and cards as a row of the table writes them: parts with commas between
-//! them, `-` for nothing.
+//! Amounts, seats and cards as a row of the table writes them: parts separated by commas, `-` for
+//! none.
 ghost use Rattle.std.specs.Prelude.{◌<◌};
 
 use card_set::{CardRow, CardSet, SlotRow, known_row, read_slots};
@@ -26,7 +26,7 @@ pub fn amounts(text: &str) -> Option<SeatRow> {
     Some(row)
 }
 
-/// The flags of so many seats, by the numbers of those that have them, as `1,3`.
+/// The flags of `seats` seats, from the numbers of those that have them, such as `1,3`.
 pub fn flags(seats: u8, text: &str) -> Option<LiveRow> {
     if seats < 2 || 10 < seats {
         return None;

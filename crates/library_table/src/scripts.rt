@@ -1,6 +1,6 @@
-//! Scripts: `scripts packed EVENT; EVENT..` gives their bytes, and `scripts read EVENT; EVENT..`
-//! how many of the events a cursor and `get` give again. An event is the number of its action, its
-//! kind, and what it says: `4 raise 3 to 6`.
+//! Tests scripts: `scripts packed EVENT; EVENT..` gives their bytes, and `scripts read EVENT;
+//! EVENT..` how many of the events a cursor and `get` give back. An event is the number of its
+//! action, its kind, and what it says: `4 raise 3 to 6`.
 use crate::words;
 use card_set::{CardRow, ROW_ENTRIES, Slot, SlotRow, read_slots};
 use chip_ledger::Seat;
@@ -39,7 +39,7 @@ fn packed_text(alloc: Global, script: &Script) -> Result<String, AllocError> {
     Ok(text)
 }
 
-// How many events there are, and how many of them come again in their place.
+// How many events there are, and how many of them are read back at their place.
 fn read_text(alloc: Global, script: &Script, events: &str) -> Result<String, AllocError> {
     let count = script.len();
     let mut cursor = script.cursor();
@@ -125,7 +125,7 @@ fn slots_of(word: &str) -> Option<SlotRow> {
     read_slots(word.as_bytes()).ok()
 }
 
-// The named seat, or `-` for an actor that is not named.
+// The named seat, or `-` for an actor that is left out.
 fn actor_of(word: &str) -> Option<Option<Seat>> {
     match word.as_bytes() {
         b"-" => Some(None),
@@ -137,7 +137,7 @@ fn seat_of(word: &str) -> Option<Seat> {
     Seat::new(word.parse::<u8>().ok()?)
 }
 
-// The chips, or `-` where they are not stated.
+// The chips, or `-` if they are not stated.
 fn stated_of(word: &str) -> Option<Option<u64>> {
     match word.as_bytes() {
         b"-" => Some(None),

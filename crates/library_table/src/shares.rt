@@ -1,5 +1,5 @@
-//! Shares: what each seat gets of pots whose chips, rakes and seats are given, at the hands that
-//! are shown.
+//! Tests shares: what each seat gets of pots whose chips, rakes and seats are given, with the hands
+//! that are shown.
 use crate::playable::{are_playable, are_winnable};
 use crate::{pots, rows, words};
 use card_set::CardRow;

@@ -1,5 +1,5 @@
-//! How cards are spelled: `spelling TEXT` spells each slot of the text again and names its card, or
-//! names the fault of the text.
+//! Tests how cards are written: `spelling TEXT` writes each slot of the text again and names its
+//! card, or names the fault of the text.
 use card_set::{Slot, read_slots, slot_text};
 use std::alloc::{AllocError, Global};
 
@@ -11,7 +11,7 @@ pub fn answer_to(alloc: Global, row: &str) -> Result<Option<String>, AllocError>
     }
 }
 
-// The slots, parted by commas.
+// The slots, separated by commas.
 fn slots_text(alloc: Global, slots: &[Slot]) -> Result<String, AllocError> {
     if slots.is_empty() {
         return String::from_str(alloc, "no slot");
@@ -26,7 +26,7 @@ fn slots_text(alloc: Global, slots: &[Slot]) -> Result<String, AllocError> {
     Ok(text)
 }
 
-// A slot as it is spelled, and its card.
+// A slot as it is written, and its card.
 fn push_slot(text: &mut String, slot: Slot) -> Result<(), AllocError> {
     let [first, second] = slot_text(slot);
     let (first, second) = (char::from(first), char::from(second));

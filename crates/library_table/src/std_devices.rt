@@ -1,4 +1,4 @@
-//! A reader and a writer of std that stop short, and fail at one of their calls.
+//! A reader and a writer of std that take a few bytes at a time, and fail at one of their calls.
 use std::io;
 use std::io::{Error, ErrorKind};
 
@@ -10,7 +10,7 @@ pub struct Calls {
 }
 
 impl Calls {
-    /// No call was made yet; the call with this number fails, or none.
+    /// Before the first call; the call with this number fails, or none.
     pub fn new(failing: Option<u64>) -> Self {
         Calls { next: 0, failing }
     }
@@ -25,7 +25,7 @@ impl Calls {
     }
 }
 
-/// Reads these bytes, at most `piece` a call.
+/// Reads these bytes, at most `piece` per call.
 #[derive(Drop)]
 pub struct Reader<'a> {
     pub bytes: &'a [u8],
@@ -41,7 +41,7 @@ impl io::Read for Reader<'_> {
     }
 }
 
-/// Writes into these bytes, at most `piece` a call, and none where they are full.
+/// Writes into these bytes, at most `piece` per call, and takes none once they are full.
 #[derive(Drop)]
 pub struct Writer {
     pub bytes: Vec<u8>,

@@ -1,4 +1,4 @@
--- Where no rank is left out, those that occur at all are the bits that some suit has.
+-- If no rank is left out, those that occur at all are the bits that some suit has.
 use Rattle.std.proofs.Common.{◌≡◌, ◌↔◌, ℕ, zero, suc, ◌+◌, ◌-◌, ◌<◌, ◌≤◌, ◌==◌, ◌&&◌, Bool, true, false, cond, List, [], ◌∷◌, ◌++◌, refl, sym, ◌∙◌, ap, arith, bit_or, eqb-true, eq-eqb}
 use Rattle.std.specs.Int.{bit_at}
 use Rattle.std.specs.Prelude.{nat_le}
@@ -6,7 +6,7 @@ use Rattle.std.proofs.lemmas.Bool.{le-leb, leb-true}
 use Rattle.hand_order.specs.Lowest.{has_height, lowest}
 use Rattle.low_rank.specs.RazzBest.{is_free, low_count, place_of}
 use Rattle.low_rank.specs.declared.razz.SuitMasks.{SuitMasks}
-use Rattle.list_laws.proofs.Bits.{all_level}
+use Rattle.card_set.proofs.Bits.{all_level}
 
 -- tests that agree have the same lowest heights
 lowest-agree : (f g : ℕ → Bool) (heights from need : ℕ) → ((j : ℕ) → j < heights → f (from + j) ≡ g (from + j)) → lowest f heights from need ≡ lowest g heights from need

@@ -1,4 +1,4 @@
--- The mask of the ranks that a set has tells which low heights occur.
+-- The mask of the ranks of a set shows which low heights occur.
 use Rattle.std.proofs.Common.{◌≡◌, ◌+◌, ◌-◌, ◌<◌, ◌≤◌, ◌==◌, ℕ, Bool, true, false, cond, List, [], ◌∷◌, filter, inl, inr, refl, sym, ◌∙◌, ap, arith, eqb-true, eq-eqb}
 use Rattle.std.specs.Int.{bit_at}
 use Rattle.std.proofs.lemmas.Bool.{cases_lt, le-leb, ne_eqb}

@@ -1,17 +1,17 @@
--- The lowest ranks are as many as the bits of the low ranks, up to five.
+-- There are as many lowest ranks as bits of the low ranks, up to five.
 use Rattle.std.proofs.Common.{◌≡◌, ℕ, zero, suc, ◌+◌, ◌-◌, ◌<◌, ◌≤◌, ◌==◌, ◌^◌, Bool, true, false, cond, [], ◌∷◌, ◌++◌, length, refl, sym, ◌∙◌, ap, arith, bit_and, count_ones, length-append}
 use Rattle.std.specs.Int.{bit_at}
 use Rattle.std.proofs.lemmas.Nat.{and_le_l}
 use Rattle.std.proofs.lemmas.Nat.Bits.{bit_at_and, bit_at-lt}
 use Rattle.hand_order.specs.Lowest.{has_height, lowest}
 use Rattle.hand_order.proofs.LowestLaws.{lowest_some}
-use Rattle.list_laws.proofs.Bits.{bit_counts, first_sum, first_sum-agree, ones_sum}
+use Rattle.card_set.proofs.Bits.{bit_counts, first_sum, first_sum-agree, ones_sum}
 
 -- one for a height that passes
 abbrev pub passing : (ℕ → Bool) → ℕ → ℕ
 passing has h = cond (has h) 1 0
 
--- no more heights than pass
+-- at most as many heights as pass
 lowest_counted : (has : ℕ → Bool) (heights from need : ℕ) → length (lowest has heights from need) ≤ first_sum (λ k. passing has (from + k)) heights
 unfolding first_sum
 lowest_counted has zero from need = omega arith
@@ -26,7 +26,7 @@ lowest_counted has (suc heights) from need =
     by_tests false true rest here is fewer same = omega (arith, is, fewer, length-append (lowest has heights (from + 1) (need - 1)) (from ∷ []))
     by_tests false false rest here is fewer same = omega (arith, same)
 
--- as many as are asked for, where so many pass
+-- as many as are asked for, if that many pass
 lowest_full : (has : ℕ → Bool) (heights from need : ℕ) → need ≤ first_sum (λ k. passing has (from + k)) heights → length (lowest has heights from need) ≡ need
 unfolding first_sum
 lowest_full has zero from need enough = omega arith
@@ -41,7 +41,7 @@ lowest_full has (suc heights) from (suc m) enough =
     by_test true rest enough fewer same = omega (arith, fewer (omega (arith, enough)), length-append (lowest has heights (from + 1) m) (from ∷ []))
     by_test false rest enough fewer same = same (omega (arith, enough))
 
--- a bit of the low ranks is kept, and each other one is not
+-- the bit of a low rank is kept, and any other is dropped
 kept : (all k : ℕ) → bit_at 4223 k ≡ 1 → bit_at (bit_and all 4223) k ≡ bit_at all k
 kept all k set = omega (arith, bit_at_and all 4223 k, bit_at-lt all k, set)
 
@@ -56,7 +56,7 @@ all_of_eight : (f : ℕ → ℕ) → first_sum f 8 ≡ f 0 + f 1 + f 2 + f 3 + f
 unfolding first_sum
 all_of_eight f = omega arith
 
--- equal values have one sum
+-- equal values have equal sums
 same_sum : (a b c d e f g h i j k l m n o p : ℕ) → a ≡ i → b ≡ j → c ≡ k → d ≡ l → e ≡ m → f ≡ n → g ≡ o → h ≡ p → a + b + c + d + e + f + g + h ≡ i + j + k + l + m + n + o + p
 same_sum a b c d e f g h i j k l m n o p first second third fourth fifth sixth seventh eighth = omega arith
 

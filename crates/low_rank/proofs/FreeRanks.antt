@@ -1,4 +1,4 @@
--- Of two groups of ranks the lowest that are free make the least number of all that can be had.
+-- Of two groups of ranks, the lowest that are free make the smallest number of all that can be had.
 use Rattle.std.proofs.Common.{◌≡◌, ℕ, zero, suc, ◌+◌, ◌<◌, ◌≤◌, ◌==◌, ◌&&◌, ◌||◌, ◌⊎◌, not, Bool, true, false, cond, List, [], ◌∷◌, ◌++◌, length, inl, inr, refl, sym, ◌∙◌, ap, subst, arith, eq-eqb, length-append}
 use Rattle.std.specs.Prelude.{nat_le}
 use Rattle.std.proofs.lemmas.Bool.{and_parts, cases_lt, le-leb, leb-true, ne_eqb}
@@ -8,16 +8,16 @@ use Rattle.hand_order.specs.Lowest.{lowest}
 use Rattle.hand_order.proofs.Digits.{AreDigits, same_before}
 use Rattle.hand_order.proofs.FallingRanks.{FallingFrom}
 use Rattle.hand_order.proofs.LowestLaws.{IsLeast, Pass, digits_within, few_lowest, lowest_least, lowest_passes, lowest_some}
-use Rattle.list_laws.proofs.Tests.{and_false, and_true}
+use Rattle.card_set.proofs.Tests.{and_false, and_true}
 use Rattle.low_rank.specs.RazzBest.{both_ranks, class_ranks, first_ranks, is_free, is_height_of, lowest_ranks, often, often_ranks, seldom, seldom_ranks}
 use Rattle.hand_order.proofs.RankDigits.{AreDigits-append}
 
--- how many heights pass a test, among as many from one on
+-- how many heights pass a test, among a number of heights from one on
 abbrev passing : (ℕ → Bool) → ℕ → ℕ → ℕ
 passing has zero from = 0
 passing has (suc heights) from = cond (has from) 1 0 + passing has heights (from + 1)
 
--- where enough pass, as many are found as are needed
+-- if enough pass, as many are found as are needed
 lowest_full : (has : ℕ → Bool) (heights from n : ℕ) → n ≤ passing has heights from → length (lowest has heights from n) ≡ n
 lowest_full has zero from n few = omega arith
 lowest_full has (suc heights) from zero few = refl
@@ -166,7 +166,7 @@ all_spared : (has : ℕ → Bool) (xs : List ℕ) → FallingFrom 14 xs → Pass
 unfolding passing_all
 all_spared has xs falling pass = passing_spared has 13 1 14 xs (omega arith) falling pass
 
--- a height occurs so often
+-- a height occurs this often
 abbrev enough : (ℕ → ℕ) → ℕ → ℕ → Bool
 enough T o h = nat_le o (T h)
 

@@ -27,8 +27,8 @@ use Rattle.hand_order.proofs.PlainHands.{choice_within}
 use Rattle.hand_order.proofs.SameChoices.{none_chosen, with_first}
 use Rattle.hand_order.proofs.Shapes.{by_counts}
 use Rattle.hand_order.proofs.Wanted.{wanted_chosen}
-use Rattle.list_laws.proofs.Sums.{sum_by-plus, sum_by-same, sum_by-cond}
-use Rattle.list_laws.proofs.Tests.{passes_or_not}
+use Rattle.card_set.proofs.Sums.{sum_by-plus, sum_by-same, sum_by-cond}
+use Rattle.card_set.proofs.Tests.{passes_or_not}
 use Rattle.low_rank.specs.Low.{low_points, low_table}
 use Rattle.low_rank.specs.Razz.{points}
 use Rattle.low_rank.specs.RazzBest.{HasClass, class_ranks, first_ranks, is_free, is_height_of, lowest_ranks, often, often_ranks, seldom, seldom_ranks}
@@ -126,7 +126,8 @@ not_occurring : (cards : List Card) (n h : ℕ) → (times low_ace cards h == n)
 unfolding occurring
 not_occurring cards n h off = not_found (λ k. times low_ace cards k == n) falling_heights h off
 
--- no hand has a class that the ranks do not make, and none of a class has a smaller number than its lowest ranks
+-- no hand has a class that the ranks do not make, and none of a class has a smaller number than its
+-- lowest ranks
 choice_least : (T : ℕ → ℕ) (cards choice : List Card) → Counts T cards → IsAmong choice (choices 5 cards) → AreHeld 5 choice → HasClass T (low_class choice) × (with_digits 0 (class_ranks T (low_class choice)) ≤ with_digits 0 (ranks_of low_ace choice))
 choice_least T cards choice counts among held =
     let class = low_class choice in
@@ -170,7 +171,7 @@ found_down p (suc b) bound (x ∷ xs) within falling pass same =
     above h bound [] falling high = refl
     above h bound (x ∷ xs) falling high = ap (λ (t : Bool). t || (is_height_of xs h)) (ne_eqb x h (λ at. omega (arith, falling.0))) ∙ above h x xs falling.1 (omega (arith, falling.0))
 
--- what is one of heights that pass a test passes it
+-- what is among heights that pass a test passes it
 one_passes : (has : ℕ → Bool) (bound h : ℕ) (xs : List ℕ) → FallingFrom bound xs → Pass has 1 xs → is_height_of xs h ≡ true → (has h ≡ true) × (1 ≤ h) × (h < bound)
 one_passes has bound h [] falling pass is = absurd (cc)
 one_passes has bound h (x ∷ xs) falling pass is =
@@ -181,7 +182,7 @@ one_passes has bound h (x ∷ xs) falling pass is =
           (rest.0, rest.1, omega (arith, rest.2, falling.0))
     ]
 
--- of each height as many cards as the two groups need
+-- as many cards of each height as the two groups need
 abbrev wanted : ℕ → List ℕ → ℕ → List ℕ → ℕ → ℕ
 wanted m a o b h = cond (is_height_of a h) m (cond (is_height_of b h) o 0)
 
@@ -210,7 +211,7 @@ sum_wanted m o a b is =
     by_tests h true here false there = omega arith
     by_tests h false here t there = omega arith
 
--- which of the two groups occurs so often
+-- which of the two groups occurs this often
 abbrev group : ℕ → List ℕ → ℕ → List ℕ → ℕ → List ℕ
 group m a o b n = cond (n == m) a (cond (n == o) b [])
 
@@ -243,7 +244,7 @@ occurring_group choice m o a b n is some positive less has =
     by_tests false here true there = found_down (λ h. times low_ace choice h == n) 14 14 b (omega arith) is.others_fall is.others_pass (λ h few. test_of h ∙ second (eqb-true n o there) h (is_height_of a h) refl (is_height_of b h) refl)
     by_tests false here false there = found_down (λ h. times low_ace choice h == n) 14 14 [] (omega arith) tt tt (λ h few. test_of h ∙ neither (eqb-false n m here) (eqb-false n o there) (is_height_of a h) (is_height_of b h))
 
--- the two groups are the ranks of the hand, and tell its class
+-- the two groups are the ranks of the hand, and decide its class
 record Makes (class : ℕ) (a b four three two one : List ℕ) : Type 0 where
   pub list : four ++ (three ++ (two ++ one)) ≡ a ++ b
   pub class_is : place (low_table (length four) (length three) (length two)) ≡ class
@@ -408,6 +409,6 @@ razz_best T cards class different enough counts few none made =
         let value = same_Some _ most says.pointed in
         ap (λ (n : ℕ). Some n) (omega arith)
 
--- ranks that are seen make a number below the sixth place
+-- ranks that are read make a number below the sixth place
 pub seen_number : (T : ℕ → ℕ) (class : ℕ) (ranks seen : List ℕ) → class ≤ 5 → seen ≡ ranks → ranks ≡ class_ranks T class → with_digits 0 seen < 16 ^ 5
 seen_number T class ranks seen few is_seen is = let same = ap (with_digits 0) (is_seen ∙ is) in omega (arith, same, class_number T class few)

@@ -1,4 +1,4 @@
--- The masks of the four suits tell how often each low rank occurs.
+-- The masks of the four suits show how often each low rank occurs.
 use Rattle.std.proofs.Common.{◌≡◌, ◌+◌, ◌-◌, ℕ, Bool, cond, List, inl, inr, sym, ◌∙◌, ap, arith, eq-eqb}
 use Rattle.std.specs.Int.{bit_at}
 use Rattle.std.proofs.lemmas.Bool.{cases_lt, ne_eqb}

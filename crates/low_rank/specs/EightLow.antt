@@ -1,5 +1,5 @@
--- The order of eight-or-better: five different ranks of at most eight, the ace low; straights and
--- flushes do not count.
+-- The order of eight-or-better: five different ranks of at most eight, with the ace low; straights
+-- and flushes do not count.
 use Rattle.std.specs.Prelude.{◌≡◌, ◌&&◌, ℕ, Bool, true, List, Option, Some, None, nat_le, if◌then◌else◌}
 use Rattle.std.specs.List.{list_all}
 use Rattle.card_set.specs.declared.card.Card.{Card}

@@ -1,5 +1,5 @@
--- The points of cards where low cards are good: the weaker they are, the less is left of the
--- greatest number.
+-- The points of cards if low cards are good: the greatest number minus the number that their class
+-- and ranks make.
 use Rattle.std.specs.Prelude.{◌==◌, ◌&&◌, ℕ, ◌-◌, ◌^◌, Bool, List, [], ◌∷◌}
 use Rattle.card_set.specs.declared.card.Card.{Card}
 use Rattle.card_set.specs.Ranks.{low_ace, ranks_of}

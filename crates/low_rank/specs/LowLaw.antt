@@ -24,9 +24,9 @@ use Rattle.low_rank.specs.Low.{low_points, low_table}
 use Rattle.low_rank.specs.Razz as razz
 use Rattle.low_rank.specs.EightLow as eight
 use Rattle.low_rank.specs.DeuceSeven as deuce
-use Rattle.list_laws.proofs.Options.{some_where}
+use Rattle.card_set.proofs.Options.{some_where}
 
--- how many ranks fewer than the cards decide in each class
+-- in each class, the number of cards minus the number of ranks that decide
 abbrev pub low_missing : List ℕ
 low_missing = 0 ∷ 1 ∷ 2 ∷ 2 ∷ 3 ∷ 3 ∷ []
 
@@ -47,7 +47,7 @@ low_ranked cards few different =
     ranked_plain low_table low_missing 5 5 low_says low_ace IsHeight-low_ace
     (AreDigits-ranks_of low_ace) low_class cards (omega arith) few different refl
 
--- the points of as many cards are less exactly where they are weaker
+-- points of the same number of cards are fewer if and only if the cards are weaker
 pub low_ordered : (a b : List Card) → length a ≤ 5 → length a ≡ length b → AllDifferent a
     → AllDifferent b → (low_points a < low_points b) ↔ IsWeakerLow a b
 low_ordered a b few same different_a different_b =
@@ -91,7 +91,7 @@ qualified_points : (cards : List Card) (value : ℕ) → eight.points cards ≡ 
     → (eight.is_qualified cards ≡ true) × (low_points cards ≡ value)
 qualified_points cards value is = cond_some (eight.is_qualified cards) (low_points cards) value is
 
--- the points of low hands that qualify are less exactly where the hand is weaker
+-- the points of low hands that qualify are fewer if and only if the hand is weaker
 eight_ordered : (a b : List Card) (low high : ℕ) → AreHeld 5 a → AreHeld 5 b
     → eight.points a ≡ Some low → eight.points b ≡ Some high → (low < high) ↔ eight.IsWeaker a b
 eight_ordered a b low high held_a held_b is_low is_high =

@@ -1,11 +1,11 @@
--- The lowest ranks of each class of razz: those that occur oftener, and the others beside them.
+-- The lowest ranks of each class of razz: those that occur more often, and the others.
 use Rattle.std.specs.Prelude.{◌≡◌, ◌==◌, ◌&&◌, ◌||◌, not, ℕ, ◌+◌, ◌-◌, Bool, List, [], ◌++◌, length, nat_le, if◌then◌else◌}
 use Rattle.std.specs.List.{list_any}
 use Rattle.std.specs.Int.{bit_at}
 use Rattle.hand_order.specs.Lowest.{lowest}
 use Rattle.low_rank.specs.declared.razz.SuitMasks.{SuitMasks}
 
--- how often the ranks that a class names first occur
+-- how often the ranks occur that a class names first
 abbrev pub often : ℕ → ℕ
 often class =
     if (class == 0) || ((class == 1) || (class == 2)) then 2
@@ -38,19 +38,19 @@ low_count masks height =
 abbrev pub is_height_of : List ℕ → ℕ → Bool
 is_height_of heights height = list_any (λ other. other == height) heights
 
--- the height occurs often enough, and is none of the others
+-- the height occurs often enough, and is not among the others
 abbrev pub is_free : (ℕ → ℕ) → ℕ → List ℕ → ℕ → Bool
 is_free times least others height = nat_le least (times height) && not (is_height_of others height)
 
--- so many of the lowest heights of ranks that pass a test, the greatest first
+-- a number of the lowest heights of ranks that pass a test, the highest of them first
 unfoldable pub lowest_ranks : (ℕ → Bool) → ℕ → List ℕ
 lowest_ranks has many = lowest has 13 1 many
 
--- so many of the lowest ranks that occur so often
+-- a number of the lowest ranks that occur this often
 abbrev pub first_ranks : (ℕ → ℕ) → ℕ → ℕ → List ℕ
 first_ranks times least many = lowest_ranks (is_free times least []) many
 
--- and of the others so many that occur as often as they have to
+-- and of the other ranks, a number of the lowest that occur as often as they have to
 abbrev pub both_ranks : (ℕ → ℕ) → ℕ → ℕ → ℕ → ℕ → List ℕ
 both_ranks times least many other_least other_many =
     first_ranks times least many
@@ -61,6 +61,6 @@ abbrev pub class_ranks : (ℕ → ℕ) → ℕ → List ℕ
 class_ranks times class =
     both_ranks times (often class) (often_ranks class) (seldom class) (seldom_ranks class)
 
--- they are as many as a hand of the class has
+-- there are as many of them as a hand of the class has
 abbrev pub HasClass : (ℕ → ℕ) → ℕ → Type 0
 HasClass times class = length (class_ranks times class) ≡ often_ranks class + seldom_ranks class

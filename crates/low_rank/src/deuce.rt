@@ -1,4 +1,4 @@
-//! Deuce-to-seven reads the high order backwards.
+//! Deuce-to-seven: the high order reversed.
 ghost use Rattle.std.specs.Prelude.{◌≡◌, Some};
 ghost use Rattle.card_set.specs.Row.{cards_of};
 ghost use Rattle.hand_order.specs.Choices.{AreHeld};
@@ -7,7 +7,7 @@ ghost use Rattle.low_rank.specs.DeuceSeven.{points};
 use card_set::{CardRow, CardSet};
 use hand_order::{FlushPlace, HandOrder, Judge, LowStraight, Score, best_listed, hand_points};
 
-/// The order of deuce-to-seven draw. The ace is always high, so A2345 is no straight.
+/// The order of deuce-to-seven draw. The ace is always high, so A2345 is not a straight.
 #[derive(Clone, Copy, Debug)]
 pub struct DeuceSeven;
 

@@ -1,5 +1,5 @@
-//! The best low hand up to the eight is read from which ranks a set has: the five lowest, where
-//! there are five.
+//! Finds the best low hand of at most eight from the ranks of a set: the five lowest, if there are
+//! five.
 ghost use Rattle.std.specs.Prelude.{◌≡◌, ◌≤◌, List};
 ghost use Rattle.std.specs.Option.{option_map};
 ghost use Rattle.card_set.specs.declared.card.Card.{Card};
@@ -14,7 +14,7 @@ use hand_order::{Score, class_above, lowest_ranks};
 // The mask of the ace and of the ranks from two to eight.
 const LOW_RANKS: u16 = 0x107F;
 
-/// The score of the best five of a set's cards in eight-or-better, none where no five qualify.
+/// The score of the best five of a set's cards in eight-or-better, or `None` if no five qualify.
 pub fn best_eight(cards: &CardSet) -> Option<Score>
     requires { 5 ≤ count_of cards.now }
     ensures { (listing : List Card) → IsListing cards.now listing

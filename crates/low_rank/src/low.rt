@@ -1,4 +1,4 @@
-//! Where low cards are good, a score is what the class and the ranks leave of the greatest number.
+//! Scores for low cards: the greatest number minus the number that the class and the ranks make.
 ghost use Rattle.std.specs.Prelude.{◌≡◌, ◌<◌, ◌≤◌, ◌-◌, List, length, ◌↔◌};
 ghost use Rattle.card_set.specs.declared.card.Card.{Card};
 ghost use Rattle.card_set.specs.Classes.{place};
@@ -10,9 +10,8 @@ ghost use Rattle.low_rank.specs.Low.{low_points, low_table};
 use card_set::CardRow;
 use hand_order::{Ace, Score, class_above, count_of_ranks, ranks_of};
 
-/// How good the up-cards are where low cards are good, the ace low:
-/// no pair, pair, two pair, three, four, then the ranks.
-/// It compares up-cards with as many others.
+/// How good up-cards are if low cards are good, with the ace low: no pair, pair, two pair, three of
+/// a kind, four of a kind, then the ranks. Only compare scores of the same number of up-cards.
 pub fn up_low(cards: &CardRow) -> Score
     requires { AreUpCards (cards_of cards.now) }
     ensures points { result.points ≡ low_points (cards_of cards.now) }
@@ -23,7 +22,7 @@ pub fn up_low(cards: &CardRow) -> Score
     low_score(cards)
 }
 
-/// The score of at most five cards where low cards are good.
+/// The score of at most five cards if low cards are good.
 pub fn low_score(cards: &CardRow) -> Score
     requires few { length (cards_of cards.now) ≤ 5 }
     requires different { AllDifferent (cards_of cards.now) }
@@ -38,7 +37,7 @@ pub fn low_score(cards: &CardRow) -> Score
     }
 }
 
-// The classes of low cards, the best with the least number.
+// The classes of low cards; the best has the smallest number.
 fn class_of(fours: usize, threes: usize, pairs: usize) -> u32
     requires { place (low_table fours threes pairs) ≤ 5 }
     ensures { result ≡ place (low_table fours threes pairs) }

@@ -1,4 +1,4 @@
-//! The best hand of razz is read from how often ranks occur: of the best class that can be had, the
+//! Finds the best hand of razz from how often ranks occur: in the best class that can be made, the
 //! lowest ranks.
 ghost use Rattle.std.specs.Prelude.{◌≡◌, ◌<◌, ◌≤◌, ◌+◌, ◌⊎◌, ◌++◌, ℕ, List, length, Some};
 ghost use Rattle.std.specs.Int.{bit_at};
@@ -25,7 +25,7 @@ ghost use Rattle.low_rank.specs.RazzBest.{
 use card_set::{CardSet, Suit};
 use hand_order::{RankRow, Score, class_above};
 
-/// The score of the best five of a set's cards in razz. No choice of five is listed.
+/// The score of the best five of a set's cards in razz. The choices of five are not listed.
 pub fn best_razz(cards: &CardSet) -> Score
     requires { 5 ≤ count_of cards.now }
     ensures { (listing : List Card) → IsListing cards.now listing
@@ -43,7 +43,7 @@ pub fn best_razz(cards: &CardSet) -> Score
     }
 }
 
-/// The ranks of each suit, as masks: bit 0 is the two, and bit 12 the ace.
+/// The ranks of each suit as masks: bit 0 is the two, and bit 12 the ace.
 #[derive(Clone, Copy, Debug)]
 pub struct SuitMasks {
     pub clubs: u16,
@@ -52,14 +52,14 @@ pub struct SuitMasks {
     pub spades: u16,
 }
 
-// A class and the ranks that decide within it.
+// A class, and the ranks that decide within it.
 #[derive(Clone, Copy, Debug)]
 struct LowRanks {
     class: u32,
     ranks: RankRow,
 }
 
-// Which ranks a class has: first those that occur oftener, then the others.
+// Which ranks a class has: those that occur more often first, then the others.
 #[derive(Clone, Copy, Debug)]
 struct Shape {
     often: u8,
@@ -68,7 +68,7 @@ struct Shape {
     seldom_ranks: u8,
 }
 
-// The first class from this one on that the ranks can make. All can make the last.
+// The first class, from this one on, that the ranks can make. They can always make the last.
 fn best_class(masks: &SuitMasks, class: u32) -> LowRanks
     requires { class ≤ 5 }
     ensures within { result.class ≤ 5 }
@@ -85,7 +85,8 @@ fn best_class(masks: &SuitMasks, class: u32) -> LowRanks
     best_class(masks, class + 1)
 }
 
-// The shape of each class: five ranks, a pair, two pairs, three, a full house, four of a rank.
+// The shape of each class: five ranks, a pair, two pair, three of a kind, a full house, four of a
+// kind.
 fn shape_of(class: u32) -> Shape
     ensures often { result.often ≡ often class }
     ensures often_ranks { result.often_ranks ≡ often_ranks class }
@@ -150,8 +151,8 @@ fn lowest_of_shape(masks: &SuitMasks, shape: &Shape) -> RankRow
     joined(&first, &others)
 }
 
-// So many of the lowest ranks that occur often enough and are none of the others, the greatest
-// first, among as many heights from one on.
+// The `need` lowest ranks that occur often enough and are not among the others, the highest of them
+// first, among `heights` heights from `from` on.
 fn lowest_free(
     masks: &SuitMasks,
     least: u8,
@@ -182,7 +183,7 @@ fn lowest_free(
     row
 }
 
-// Whether a rank occurs in enough suits and is none of the others.
+// Whether a rank occurs in enough suits and is not among the others.
 fn is_free(masks: &SuitMasks, least: u8, others: &RankRow, height: u8) -> bool
     requires first { 1 ≤ height }
     requires last { height ≤ 13 }
@@ -196,7 +197,7 @@ fn is_free(masks: &SuitMasks, least: u8, others: &RankRow, height: u8) -> bool
     least <= suits && !is_height_of(others.as_slice(), height)
 }
 
-// A bit of a mask, 1 where it is set.
+// A bit of a mask: 1 if it is set.
 fn bit_of(mask: u16, place: u8) -> u8
     requires { place < 16 }
     ensures bit { result ≡ bit_at mask place }
@@ -212,7 +213,7 @@ fn is_height_of(heights: &[u8], height: u8) -> bool
     heights.iter().any(|other| *other == height)
 }
 
-// The heights of one row, then those of the other.
+// The heights of one row, followed by those of the other.
 fn joined(first: &RankRow, others: &RankRow) -> RankRow
     requires { length (heights_of first.now) + length (heights_of others.now) ≤ 5 }
     ensures { heights_of result ≡ heights_of first.now ++ heights_of others.now }

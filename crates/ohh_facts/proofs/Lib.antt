@@ -1,4 +1,4 @@
--- Laws of what a hand says beside its play.
+-- Laws of the parts of a hand other than its play.
 pub mod Nine
 pub mod NamesFrom
 pub mod Dated

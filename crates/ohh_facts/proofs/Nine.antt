@@ -1,7 +1,7 @@
--- Nine digits, of which the last are zeros, and one more of the first.
+-- Nine digits, the last of them zeros, with one more of the first.
 use Rattle.std.proofs.Common.{◌≡◌, ℕ, suc, ◌+◌, ◌-◌, ◌<◌, ◌≤◌, List, [], ◌∷◌, ◌++◌, length, take, set, get_or, replicate, sym, ap, ◌∙◌, append_assoc, arith}
 use Rattle.std.proofs.lemmas.List.{take_more, length-take-le}
-use Rattle.list_laws.proofs.Entries.{set_at}
+use Rattle.card_set.proofs.Entries.{set_at}
 
 -- one more digit
 pub one_more : (digits nine : List ℕ) (i x : ℕ) → i < length digits → length digits ≤ 9 → x ≡ get_or digits i 0 → nine ≡ take i digits ++ replicate (9 - i) 48 → set nine i x ≡ take (i + 1) digits ++ replicate (9 - (i + 1)) 48

@@ -1,4 +1,4 @@
--- What is paid is the same where its parts are.
+-- What is stated of the pots is the same if its parts are.
 use Rattle.std.proofs.Common.{◌≡◌, ℕ, List, Option, refl}
 use Rattle.ohh_facts.specs.Pots.{PlainPaid}
 

@@ -1,4 +1,4 @@
--- A note that does not say its default is the text of a note.
+-- A text that is not the default of its note is the text of a note.
 use Rattle.std.proofs.Common.{List, ℕ, Option, Some, None, Result, Ok, Err, IfOk, IfSome}
 use Rattle.hand_records.specs.AllowedNotes.{IsNoteText, IsUnusualNote}
 

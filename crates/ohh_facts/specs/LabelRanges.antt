@@ -1,10 +1,10 @@
--- The ranges of what is said of where and when a hand was played.
+-- The ranges of where and when a hand was played.
 use Rattle.std.specs.Prelude.{ℕ, IfSome}
 use Rattle.hand_records.specs.AllowedNotes.{IsNoteText, IsSeatCount}
 use Rattle.ohh_facts.specs.declared.labels.Labels.{Labels}
 use Rattle.ohh_facts.specs.MomentRanges.{IsMoment}
 
--- the labels of a hand with so many seats
+-- the labels of a hand with this number of seats
 pub record AreLabels (seats : ℕ) (labels : Labels) : Type 0 where
   pub hand : IfSome labels.hand IsNoteText
   pub table : IfSome labels.table IsNoteText

@@ -1,4 +1,4 @@
--- What a hand says beside its play.
+-- The parts of a hand in Open Hand History other than its play.
 pub mod Won
 pub mod PotSums
 pub mod Pots

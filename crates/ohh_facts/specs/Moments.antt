@@ -1,4 +1,4 @@
--- When a hand was played, as a text says it: 2024-01-31T20:15:00.5Z.
+-- When a hand was played, as text: 2024-01-31T20:15:00.5Z.
 use Rattle.std.specs.Prelude.{ℕ, ◌-◌, ◌==◌, Bool, ◌&&◌, ◌||◌, nat_le, nat_lt, bytes_eq, if◌then◌else◌, List, ◌++◌, codes, length, take, drop, replicate, slice_index, Result, Ok}
 use Rattle.std.specs.Char.{is_digit}
 use Rattle.std.specs.List.{prefix_len}
@@ -15,11 +15,11 @@ use Rattle.ohh_members.specs.declared.fault.Path.TheVariants as paths
 use Rattle.ohh_members.specs.declared.fault.MemberFault.{MemberFault}
 use Rattle.ohh_members.specs.Values.{wrong, text_said}
 
--- the text says no moment
+-- the text is not a moment
 abbrev pub no_moment : {A : Type 0} → Result A MemberFault
 no_moment = wrong whats.WrongType paths.StartDate
 
--- so many signs of a text, from this place on
+-- the part of a text from this place on, with this many characters
 abbrev pub part : ℕ → ℕ → List ℕ → List ℕ
 part from count text = take count (drop from text)
 
@@ -31,7 +31,7 @@ digits_said least most digits =
     then Ok (digits_value 10 digits)
     else no_moment
 
--- the signs between the numbers of a text of 19 signs or more: YYYY-MM-DD, T or a space, hh:mm:ss
+-- the characters between the numbers of a text of at least 19: YYYY-MM-DD, T or a space, hh:mm:ss
 abbrev pub has_signs : List ℕ → Bool
 has_signs text =
     nat_le 19 (length text)
@@ -39,7 +39,7 @@ has_signs text =
     && (((slice_index text 10 == 84) || (slice_index text 10 == 32))
     && ((slice_index text 13 == 58) && (slice_index text 16 == 58))))
 
--- the day, which the calendar has
+-- the date, which the calendar has
 unfoldable pub day_said : List ℕ → Result CivilDate MemberFault
 day_said text = do
   year ← digits_said 1 9999 (part 0 4 text)
@@ -49,7 +49,7 @@ day_said text = do
       then Ok (record { year = year; month = month; day = day })
       else no_moment
 
--- the time of the day, with these nanoseconds
+-- the time of day, with these nanoseconds
 unfoldable pub clock_said : ℕ → List ℕ → Result Clock MemberFault
 clock_said nano text = do
   hour ← digits_said 0 23 (part 11 2 text)
@@ -57,24 +57,24 @@ clock_said nano text = do
   second ← digits_said 0 59 (part 17 2 text)
   Ok (record { hour = hour; minute = minute; second = second; nano = nano })
 
--- how many digits stand in front
+-- how many digits a text begins with
 abbrev pub digits_in_front : List ℕ → ℕ
 digits_in_front text = prefix_len (λ sign. is_digit sign 10) text
 
--- digits, and zeros behind them, nine in all
+-- digits, padded with zeros on the right to nine
 abbrev pub nine_of : List ℕ → List ℕ
 nine_of digits = digits ++ replicate (9 - length digits) 48
 
--- the zone is that of universal time: Z, +00:00, or nothing
+-- the zone is universal time: Z, +00:00, or nothing
 abbrev pub is_universal : List ℕ → Bool
 is_universal zone =
     (length zone == 0) || (bytes_eq zone (codes "Z") || bytes_eq zone (codes "+00:00"))
 
--- these nanoseconds, and the zone behind them
+-- these nanoseconds, if a zone of universal time follows
 unfoldable pub zoned : ℕ → List ℕ → Result ℕ MemberFault
 zoned nano zone = if is_universal zone then Ok nano else no_moment
 
--- one to nine digits of a fraction of a second, in nanoseconds, and the zone behind them
+-- one to nine digits of a fraction of a second, in nanoseconds, followed by the zone
 unfoldable pub fraction_of : ℕ → List ℕ → Result ℕ MemberFault
 fraction_of count text =
     if nat_le 1 count && nat_le count 9
@@ -82,18 +82,18 @@ fraction_of count text =
     >>= λ nano. zoned nano (drop count text))
     else no_moment
 
--- a point stands in front
+-- the text begins with a point
 abbrev pub has_point : List ℕ → Bool
 has_point text = nat_lt 0 (length text) && (slice_index text 0 == 46)
 
--- what stands behind the seconds: a point and a fraction, or not, and the zone
+-- what comes after the seconds: optionally a point and a fraction, and then the zone
 unfoldable pub fraction_said : List ℕ → Result ℕ MemberFault
 fraction_said text =
     if has_point text
     then fraction_of (digits_in_front (drop 1 text)) (drop 1 text)
     else zoned 0 text
 
--- the moment of a text with its signs
+-- the moment in a text with these separators
 unfoldable pub parts_said : List ℕ → Result Moment MemberFault
 parts_said text = do
   day ← day_said text
@@ -101,7 +101,7 @@ parts_said text = do
   time ← clock_said nano text
   Ok (record { day = day; time = time })
 
--- the moment that a text says
+-- the moment in a text
 unfoldable pub moment_in : List ℕ → Result Moment MemberFault
 moment_in text = if has_signs text then parts_said text else no_moment
 

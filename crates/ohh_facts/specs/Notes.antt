@@ -1,9 +1,9 @@
--- The notes of a hand, examined in this order. A note that equals its default is none.
+-- The notes of a hand, read in this order. A note that equals its default counts as none.
 use Rattle.std.specs.Prelude.{ℕ, ◌+◌, ◌==◌, if◌then◌else◌, List, [], ◌∷◌, codes, length, map, Option, Some, None, option_map, option_and_then, Result, Ok}
 use Rattle.std.specs.Fmt.{decimal, signed_decimal}
 use Rattle.serde_json.specs.Data.{Data, string}
 use Rattle.first_fault.specs.declared.limits.Quantity.TheVariants as quantities
-use Rattle.hand_records.specs.AllowedNotes.{noted, noted_or, unless_usual}
+use Rattle.hand_records.specs.AllowedNotes.{noted, noted_or, non_default_seats}
 use Rattle.hand_records.specs.SaidNotes.{SaidNotes}
 use Rattle.first_fault.specs.Reading.{◌>>=◌, read_if, or_none}
 use Rattle.ohh_members.specs.declared.fault.MemberFaultKind.TheVariants as whats
@@ -25,19 +25,19 @@ note_said default path text =
 unfoldable pub text_note_said : List ℕ → Path → Data → Result (Option (List ℕ)) MemberFault
 text_note_said default path value = text_said path value >>= note_said default path
 
--- a text with this default, or a whole number that stands for its decimal text
+-- a text with this default; a whole number counts as its decimal text
 unfoldable pub label_said : List ℕ → Path → Data → Result (Option (List ℕ)) MemberFault
 label_said default path (string text) = note_said default path text
 label_said default path value =
     integer_said path value >>= λ number. note_said default path (signed_decimal number)
 
--- how many seats the table of a hand with so many seats has
+-- the number of seats of the table of a hand with this number of seats
 unfoldable pub seat_count_said : ℕ → Data → Result (Option ℕ) MemberFault
 seat_count_said count value =
     number_said 1 255 paths.TableSize value
     >>= λ number. Ok (if number == count then None else Some number)
 
--- the labels of a hand with so many seats, at this place of its file, from 0
+-- the labels of a hand with this number of seats, at this place of its file, from 0
 unfoldable pub labels_said : ℕ → ℕ → Data → Result Labels MemberFault
 labels_said place count ohh = do
   hand ← or_none (label_said (decimal place) paths.GameNumber) (field paths.GameNumber ohh)
@@ -56,18 +56,18 @@ labels_said place count ohh = do
         venue = venue;
       })
 
--- the names of players, of whom the first has this seat in the hand
+-- the names of players; the first of them has this seat in the hand
 abbrev pub names_from : ℕ → List PlainPlayer → List (Option (List ℕ))
 names_from seat [] = []
 names_from seat (player ∷ rest) =
     option_and_then (noted (default_name seat)) player.name ∷ names_from (seat + 1) rest
 
--- the notes that players and labels make; a moment is one of universal time
+-- the notes made of players and labels; a moment is in universal time
 abbrev pub notes_of : List PlainPlayer → Labels → SaidNotes
 notes_of players labels =
     record {
       names = names_from 1 players;
-      seats = unless_usual (length players) (map (λ player. player.seat) players);
+      seats = non_default_seats (length players) (map (λ player. player.seat) players);
       seat_count = labels.seat_count;
       hand = labels.hand;
       table = labels.table;

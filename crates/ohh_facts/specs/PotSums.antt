@@ -1,15 +1,15 @@
--- Pots, what they are together, and what is taken of each.
+-- Pots, their total, and the rake of each.
 use Rattle.std.specs.Prelude.{ℕ, List, map, slice_get, sum_by}
 use Rattle.std.specs.List.{range_with_len}
 use Rattle.std.specs.Option.{option_map_or}
 use Rattle.ohh_facts.specs.declared.listed_pot.ListedPot.{ListedPot}
 
--- a pot: its chips with the rake in them, and the rake
+-- a pot: its chips including the rake, and the rake
 pub record PlainListedPot : Type 0 where
   pub amount : ℕ
   pub rake : ℕ
 
--- what a pot says
+-- a pot, as the definitions see it
 abbrev pub plain_listed_pot : ListedPot → PlainListedPot
 plain_listed_pot pot = record { amount = pot.amount; rake = pot.rake }
 

@@ -1,5 +1,4 @@
--- What is stated of the pots of a hand: their amounts, what is taken of them, and what each seat
--- wins.
+-- What a hand states of its pots: their amounts, their rakes, and what each seat wins.
 use Rattle.std.specs.Prelude.{◌≡◌, ◌≤◌, ℕ, ◌+◌, nat_le, nat_lt, ◌&&◌, if◌then◌else◌, List, [], ◌∷◌, ◌++◌, length, map, Option, Some, None, option_map, unwrap_or, ℤ, Result, Ok}
 use Rattle.std.specs.Option.{ForSome}
 use Rattle.serde_json.specs.Data.{Data}
@@ -18,7 +17,7 @@ use Rattle.ohh_members.specs.declared.fault.MemberFault.{MemberFault}
 use Rattle.ohh_facts.specs.declared.listed_pots.ListedPots.{ListedPots}
 use Rattle.ohh_facts.specs.declared.listed_pots.Paid.{Paid}
 use Rattle.ohh_facts.specs.PotSums.{PlainListedPot, plain_listed_pot, all_of, rakes_said}
-use Rattle.ohh_members.specs.Values.{wrong, field, needed, object_said, list_said, number_said, player_said}
+use Rattle.ohh_members.specs.Values.{wrong, field, required, object_said, list_said, number_said, player_said}
 use Rattle.ohh_facts.specs.Won.{PlainWin, plain_win, won_by}
 use Rattle.chip_ledger.specs.SeatRow.{amounts_in}
 
@@ -31,7 +30,7 @@ pub record PlainPots : Type 0 where
 abbrev pub no_pots : PlainPots
 no_pots = record { pots = []; wins = [] }
 
--- what was found says
+-- the pots that were read, as the definitions see them
 abbrev pub plain_found : ListedPots → PlainPots
 plain_found found =
     record
@@ -41,27 +40,27 @@ plain_found found =
 abbrev pub of_pot : ℕ → PotMember → Path
 of_pot index part = paths.Pot index part
 
--- the path of a member of the win with this index, of the pot with this index
+-- the path of a member of the win with this index, in the pot with this index
 abbrev pub of_win : ℕ → ℕ → WinMember → Path
 of_win pot index part = paths.Pot pot (members.Win index part)
 
--- a number which, with what it is added to, is no more than may be stated
+-- a number that, together with what it is added to, is within the limit of stated amounts
 unfoldable pub summed : ℕ → Path → ℕ → Result ℕ MemberFault
 summed before path number =
     if nat_le (before + number) MOST_AMOUNT then Ok number else wrong whats.AmountLimit path
 
--- what a player wins of the pot with this index, after what was won before
+-- what a player wins of the pot with this index, after these wins
 unfoldable pub win_said : List ℤ → ℕ → List PlainWin → ℕ → Data → Result PlainWin MemberFault
 win_said ids pot earlier index value = do
   win ← object_said (of_win pot index wins.Itself) value
-  seat ← needed (of_win pot index wins.PlayerId) win
+  seat ← required (of_win pot index wins.PlayerId) win
       >>= player_said ids (of_win pot index wins.PlayerId)
-  chips ← needed (of_win pot index wins.WinAmount) win
+  chips ← required (of_win pot index wins.WinAmount) win
       >>= number_said 0 MOST_AMOUNT (of_win pot index wins.WinAmount)
   within ← summed (won_by seat earlier) (of_win pot index wins.WinAmount) chips
   Ok (record { seat = seat; chips = within })
 
--- what was won, with one more
+-- the wins with one more
 unfoldable pub win_added : List ℤ → ℕ → List PlainWin → ℕ → Data
     → Result (List PlainWin) MemberFault
 win_added ids pot earlier index value =
@@ -70,11 +69,11 @@ win_added ids pot earlier index value =
 -- the amount of a pot, after the pots before it
 unfoldable pub amount_said : List PlainListedPot → ℕ → Data → Result ℕ MemberFault
 amount_said earlier index pot = do
-  amount ← needed (of_pot index members.Amount) pot
+  amount ← required (of_pot index members.Amount) pot
       >>= number_said 0 MOST_AMOUNT (of_pot index members.Amount)
   summed (all_of earlier) (of_pot index members.Amount) amount
 
--- the rake of a pot; a hand has eleven pots at most, so that nothing is taken after the eleventh
+-- the rake of a pot; a hand has at most eleven pots, so no rake is allowed after the eleventh
 unfoldable pub rake_said : ℕ → Data → Result ℕ MemberFault
 rake_said index pot = do
   rake ← read_if (number_said 0 MOST_AMOUNT (of_pot index members.Rake))
@@ -83,10 +82,10 @@ rake_said index pot = do
       then wrong whats.RakePlace (of_pot index members.Rake)
       else Ok (unwrap_or rake 0)
 
--- what is won of a pot, after what was won before
+-- what is won of a pot, added to what was won before
 unfoldable pub wins_said : List ℤ → ℕ → List PlainWin → Data → Result (List PlainWin) MemberFault
 wins_said ids index earlier pot = do
-  items ← needed (of_pot index members.PlayerWins) pot
+  items ← required (of_pot index members.PlayerWins) pot
       >>= list_said (of_pot index members.PlayerWins)
   added_from (win_added ids index) earlier 0 items
 
@@ -99,13 +98,13 @@ pot_added ids earlier index value = do
   won ← wins_said ids index earlier.wins pot
   Ok (record { pots = earlier.pots ++ record { amount = amount; rake = rake } ∷ []; wins = won })
 
--- what is stated of the pots: what each seat wins, all pots together, and the rakes
+-- what is stated of the pots: what each seat wins, their total, and the rakes
 pub record PlainPaid : Type 0 where
   pub wins : Option (List ℕ)
   pub total : Option ℕ
   pub rakes : List ℕ
 
--- what pots state of a hand with so many seats
+-- what pots state of a hand with this number of seats
 abbrev pub paid_of : ℕ → PlainPots → PlainPaid
 paid_of seats found =
     record {
@@ -114,18 +113,18 @@ paid_of seats found =
       rakes = rakes_said found.pots;
     }
 
--- what is paid says
+-- what is stated, as the definitions see it
 abbrev pub plain_paid : Paid → PlainPaid
 plain_paid paid =
     record { wins = option_map amounts_in paid.wins; total = paid.total; rakes = paid.rakes.rakes }
 
--- what is stated keeps to a hand with so many seats, and to the greatest amount
+-- what is stated fits a hand with this number of seats, and is within the limit of stated amounts
 pub record IsPaid (seats : ℕ) (paid : Paid) : Type 0 where
   pub wins : ForSome paid.wins (λ row. row.seats ≡ seats)
   pub total : ForSome paid.total (λ total. total ≤ MOST_AMOUNT)
   pub rakes : (pot : ℕ) → rake_of paid.rakes pot ≤ MOST_AMOUNT
 
--- nothing is stated, and nothing is taken
+-- no pots are stated, and no rake is taken
 abbrev pub none_paid : PlainPaid
 none_paid = record { wins = None; total = None; rakes = rakes_said [] }
 
@@ -136,7 +135,7 @@ listed_paid ids value = do
   found ← added_from (pot_added ids) no_pots 0 items
   Ok (paid_of (length ids) found)
 
--- what is stated of the pots, where they are listed
+-- what is stated of the pots, if they are listed
 unfoldable pub pots_said : List ℤ → Data → Result PlainPaid MemberFault
 pots_said ids ohh =
     elim (field paths.Pots ohh) [ Some value ↦ listed_paid ids value | None ↦ Ok none_paid ]

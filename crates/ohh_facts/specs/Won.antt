@@ -7,7 +7,7 @@ pub record PlainWin : Type 0 where
   pub seat : ℕ
   pub chips : ℕ
 
--- what a win says
+-- a win, as the definitions see it
 abbrev pub plain_win : Win → PlainWin
 plain_win win = record { seat = win.seat.number; chips = win.chips }
 

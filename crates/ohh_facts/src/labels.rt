@@ -1,4 +1,4 @@
-//! Where and when a hand was played is read from its members.
+//! Reads where and when a hand was played from its members.
 ghost use Rattle.std.specs.Prelude.{IfOk, IfSome};
 ghost use Rattle.serde_json.specs.View.{view};
 ghost use Rattle.first_fault.specs.Reading.{Gives, read_if, or_none};
@@ -12,14 +12,14 @@ ghost use Rattle.ohh_members.specs.Values.{field as field_said};
 
 use crate::moment::read_moment;
 use crate::texts::{label_at, text_at};
-use first_fault::{Stop, Text};
+use first_fault::{ReadError, Text};
 use hand_records::Moment;
 use ohh_members::fault::{MemberFault, Path};
 use ohh_members::values::{field, read_number};
 use serde_json::Value;
 use std::alloc::Global;
 
-/// Where and when a hand was played. What is not said, or equals its default, is `None`.
+/// Where and when a hand was played. What is missing, or equals its default, is `None`.
 #[derive(Debug, Drop)]
 pub struct Labels {
     pub hand: Option<Text>,
@@ -30,14 +30,14 @@ pub struct Labels {
     pub venue: Option<Text>,
 }
 
-/// The labels of a hand with so many seats, at this place of its file, from 0.
+/// The labels of a hand with `seats` seats, at this place of its file, from 0.
 #[tactic(auto, unfolding(crate::specs::Notes::labels_said))]
 pub fn read_labels(
     alloc: Global,
     ohh: &Value,
     place: u32,
     seats: u8,
-) -> Result<Labels, Stop<MemberFault>>
+) -> Result<Labels, ReadError<MemberFault>>
     ensures said { Gives (λ labels. labels) result (labels_said place seats (view ohh.now)) }
     ensures fit { IfOk result (AreLabels seats) }
 {
@@ -58,9 +58,9 @@ pub fn read_labels(
     })
 }
 
-// How many seats the table has, if that is said.
+// The number of seats of the table, if it is there.
 #[tactic(auto, unfolding(crate::specs::Notes::seat_count_said))]
-fn seat_count_at(ohh: &Value, seats: u8) -> Result<Option<u8>, Stop<MemberFault>>
+fn seat_count_at(ohh: &Value, seats: u8) -> Result<Option<u8>, ReadError<MemberFault>>
     ensures said { Gives (λ count. count) result
         (or_none (seat_count_said seats) (field_said paths.TableSize (view ohh.now))) }
     ensures allowed { IfOk result (λ count. IfSome count (IsSeatCount seats)) }
@@ -76,8 +76,8 @@ fn seat_count_at(ohh: &Value, seats: u8) -> Result<Option<u8>, Stop<MemberFault>
     }
 }
 
-// The moment at which the hand began, if it is said.
-fn moment_at(ohh: &Value) -> Result<Option<Moment>, Stop<MemberFault>>
+// The moment at which the hand began, if it is there.
+fn moment_at(ohh: &Value) -> Result<Option<Moment>, ReadError<MemberFault>>
     ensures said { Gives (λ moment. moment) result
         (read_if moment_said (field_said paths.StartDate (view ohh.now))) }
     ensures moment { IfOk result (λ moment. IfSome moment IsMoment) }

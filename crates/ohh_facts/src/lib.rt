@@ -1,5 +1,4 @@
-//! What a hand in Open Hand History says beside its play, its pots and its notes, is read from its
-//! members.
+//! Reads the pots and the notes of a hand in Open Hand History from its members: all but its play.
 #![tactic(auto)]
 
 pub mod labels;

@@ -1,4 +1,4 @@
-//! The pots that are listed, what they are together, and what they state of a hand.
+//! The pots as they are listed, their total, and what they state of a hand.
 ghost use Rattle.std.specs.Prelude.{◌≡◌, ◌≤◌, map};
 ghost use Rattle.chip_ledger.specs.declared.seat_row.TheConstants.{MOST_AMOUNT};
 ghost use Rattle.ohh_facts.specs.PotSums.{all_of, plain_listed_pot};
@@ -7,7 +7,7 @@ use crate::listed_pot::ListedPot;
 use crate::won::Won;
 use chip_ledger::{RakeRow, SeatRow};
 
-/// Pots in the order in which they are listed, what they are together, and what is won of them.
+/// Pots in the order in which they are listed, their total, and what is won of them.
 #[derive(Drop)]
 pub struct ListedPots {
     pub pots: Vec<ListedPot>,
@@ -17,12 +17,12 @@ pub struct ListedPots {
     pub ghost most_total: { total ≤ MOST_AMOUNT },
 }
 
-/// What is stated of the pots of a hand, in chips.
+/// What a hand states of its pots, in chips.
 #[derive(Clone, Copy, Debug, PartialEq, Eq)]
 pub struct Paid {
     /// What each seat wins.
     pub wins: Option<SeatRow>,
-    /// All pots together, their rakes counted.
+    /// All pots together, including their rakes.
     pub total: Option<u64>,
     pub rakes: RakeRow,
 }

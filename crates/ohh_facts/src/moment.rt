@@ -1,5 +1,4 @@
-//! When a hand was played is read from a text: a day of the calendar and a time of the day, in
-//! universal time.
+//! Reads when a hand was played from a text: a date and a time of day, in universal time.
 ghost use Rattle.std.specs.Prelude.{◌≡◌, ◌≤◌, length, IfOk};
 ghost use Rattle.serde_json.specs.View.{view};
 ghost use Rattle.hand_records.specs.AllowedNotes.{IsTime, IsWithin};
@@ -7,15 +6,15 @@ ghost use Rattle.first_fault.specs.Reading.{Gives};
 ghost use Rattle.ohh_facts.specs.MomentRanges.{IsDay, IsMoment};
 ghost use Rattle.ohh_facts.specs.Moments.{clock_said, day_said, digits_in_front as digits_in_front_said, digits_said, fraction_said, has_point as has_point_said, has_signs as has_signs_said, is_universal as is_universal_said, moment_said, nine_of, part as part_said, zoned};
 
-use first_fault::{Stop, are_digits, read_digits};
+use first_fault::{ReadError, are_digits, read_digits};
 use hand_records::{CivilDate, Clock, Moment, has_day};
 use ohh_members::fault::{MemberFault, MemberFaultKind, Path};
-use ohh_members::values::{read_text, wrong};
+use ohh_members::values::{fault_at, read_text};
 use serde_json::Value;
 
 /// The moment at which a hand began.
 #[tactic(auto, unfolding(crate::specs::Moments::moment_in, crate::specs::Moments::parts_said))]
-pub fn read_moment(value: &Value) -> Result<Moment, Stop<MemberFault>>
+pub fn read_moment(value: &Value) -> Result<Moment, ReadError<MemberFault>>
     ensures said { Gives (λ moment. moment) result (moment_said (view value.now)) }
     ensures moment { IfOk result IsMoment }
 {
@@ -30,7 +29,7 @@ pub fn read_moment(value: &Value) -> Result<Moment, Stop<MemberFault>>
     Ok(Moment { day, time })
 }
 
-// Whether the signs between the numbers are those of a moment.
+// Whether the characters between the numbers are those of a moment.
 fn has_signs(text: &[u8]) -> bool
     ensures { result ≡ has_signs_said text.now }
 {
@@ -39,9 +38,9 @@ fn has_signs(text: &[u8]) -> bool
             && ((text[10] == b'T' || text[10] == b' ') && (text[13] == b':' && text[16] == b':')))
 }
 
-// The day of a text with its signs.
+// The date in a text with these separators.
 #[tactic(auto, unfolding(crate::specs::Moments::day_said))]
-fn read_day(text: &[u8]) -> Result<CivilDate, Stop<MemberFault>>
+fn read_day(text: &[u8]) -> Result<CivilDate, ReadError<MemberFault>>
     ensures said { Gives (λ day. day) result (day_said text.now) }
     ensures day { IfOk result IsDay }
 {
@@ -55,10 +54,10 @@ fn read_day(text: &[u8]) -> Result<CivilDate, Stop<MemberFault>>
     }
 }
 
-// What stands behind the seconds: a point and one to nine digits of a fraction, or not, and the
-// zone. The fraction is given in nanoseconds.
+// What comes after the seconds: optionally a point and one to nine digits of a fraction, and then
+// the zone. The fraction is returned in nanoseconds.
 #[tactic(auto, unfolding(crate::specs::Moments::fraction_said, crate::specs::Moments::fraction_of))]
-fn read_fraction(text: &[u8]) -> Result<u32, Stop<MemberFault>>
+fn read_fraction(text: &[u8]) -> Result<u32, ReadError<MemberFault>>
     ensures said { Gives (λ nano. nano) result (fraction_said text.now) }
     ensures most { IfOk result (λ nano. nano ≤ 999999999) }
 {
@@ -76,14 +75,14 @@ fn read_fraction(text: &[u8]) -> Result<u32, Stop<MemberFault>>
     read_zone(nano, zone)
 }
 
-// Whether a point stands in front.
+// Whether the text begins with a point.
 fn has_point(text: &[u8]) -> bool
     ensures { result ≡ has_point_said text.now }
 {
     !text.is_empty() && text[0] == b'.'
 }
 
-// Up to nine digits, and zeros behind them.
+// Up to nine digits, padded with zeros on the right.
 fn nine(digits: &[u8]) -> [u8; 9]
     requires { length digits.now ≤ 9 }
     ensures { result ≡ nine_of digits.now }
@@ -95,9 +94,9 @@ fn nine(digits: &[u8]) -> [u8; 9]
     nine
 }
 
-// These nanoseconds, where the zone behind them is that of universal time.
+// These nanoseconds, if the zone after them is universal time.
 #[tactic(auto, unfolding(crate::specs::Moments::zoned))]
-fn read_zone(nano: u32, zone: &[u8]) -> Result<u32, Stop<MemberFault>>
+fn read_zone(nano: u32, zone: &[u8]) -> Result<u32, ReadError<MemberFault>>
     ensures said { Gives (λ nano. nano) result (zoned nano zone.now) }
     ensures same { IfOk result (λ found. found ≡ nano) }
 {
@@ -108,14 +107,14 @@ fn read_zone(nano: u32, zone: &[u8]) -> Result<u32, Stop<MemberFault>>
     }
 }
 
-// Whether the zone is that of universal time.
+// Whether the zone is universal time.
 fn is_universal(zone: &[u8]) -> bool
     ensures { result ≡ is_universal_said zone.now }
 {
     zone.is_empty() || (zone == b"Z".as_slice() || zone == b"+00:00".as_slice())
 }
 
-// How many digits stand in front.
+// How many digits the text begins with.
 fn digits_in_front(text: &[u8]) -> usize
     ensures { result ≡ digits_in_front_said text.now }
 {
@@ -127,9 +126,9 @@ fn digits_in_front(text: &[u8]) -> usize
     text.len()
 }
 
-// The time of a text with its signs, with these nanoseconds.
+// The time of day in a text with these separators, with these nanoseconds.
 #[tactic(auto, unfolding(crate::specs::Moments::clock_said))]
-fn read_clock(text: &[u8], nano: u32) -> Result<Clock, Stop<MemberFault>>
+fn read_clock(text: &[u8], nano: u32) -> Result<Clock, ReadError<MemberFault>>
     requires { nano ≤ 999999999 }
     ensures said { Gives (λ clock. clock) result (clock_said nano text.now) }
     ensures time { IfOk result IsTime }
@@ -147,7 +146,7 @@ fn read_clock(text: &[u8], nano: u32) -> Result<Clock, Stop<MemberFault>>
 
 // A number from `least` to `most`, in decimal digits.
 #[tactic(auto, unfolding(crate::specs::Moments::digits_said, first_fault::specs::Digits::number_of))]
-fn number_in(digits: &[u8], least: u64, most: u64) -> Result<u64, Stop<MemberFault>>
+fn number_in(digits: &[u8], least: u64, most: u64) -> Result<u64, ReadError<MemberFault>>
     requires { most ≤ 1000000000000000000 }
     ensures said { Gives (λ number. number) result (digits_said least most digits.now) }
     ensures within { IfOk result (IsWithin least most) }
@@ -167,15 +166,15 @@ fn number_in(digits: &[u8], least: u64, most: u64) -> Result<u64, Stop<MemberFau
     }
 }
 
-// The text says no moment.
-fn no_moment() -> Stop<MemberFault>
+// The text is not a moment.
+fn no_moment() -> ReadError<MemberFault>
     ensures { result
-        ≡ Stop.At (record { what = MemberFaultKind.WrongType; path = Path.StartDate }) }
+        ≡ ReadError.Fault (record { what = MemberFaultKind.WrongType; path = Path.StartDate }) }
 {
-    wrong(MemberFaultKind::WrongType, Path::StartDate)
+    fault_at(MemberFaultKind::WrongType, Path::StartDate)
 }
 
-// So many signs of a text, from this place on, or as many as there are.
+// `count` bytes of a text from this place on, or fewer if the text ends.
 fn part(text: &[u8], from: usize, count: usize) -> &[u8]
     ensures { result.now ≡ part_said from count text.now }
 {

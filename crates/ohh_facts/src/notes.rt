@@ -1,7 +1,7 @@
-//! The notes of a hand are read from its players and its labels, and are allowed.
+//! Reads the notes of a hand from its players and its labels, and checks that they are allowed.
 ghost use Rattle.std.specs.Prelude.{◌≡◌, ◌≤◌, ◌<◌, ◌-◌, ◌+◌, ℕ, None, length, map, take, slice_index, slice_index_or, codes, option_and_then, option_map, IfOk, IfSome};
 ghost use Rattle.serde_json.specs.View.{view};
-ghost use Rattle.hand_records.specs.AllowedNotes.{AreAllowed, AreSeatNumbers, IsName, IsNoteText, IsWithin, unless_usual as unless_usual_said, noted};
+ghost use Rattle.hand_records.specs.AllowedNotes.{AreAllowed, AreSeatNumbers, IsName, IsNoteText, IsWithin, non_default_seats as unless_usual_said, noted};
 ghost use Rattle.first_fault.specs.Reading.{Gives};
 ghost use Rattle.ohh_facts.specs.Notes.{names_from, notes_said};
 ghost use Rattle.hand_records.specs.SaidNotes.{plain_notes};
@@ -11,21 +11,22 @@ ghost use Rattle.chip_ledger.specs.SeatsSaid.{default_name};
 use crate::labels::{Labels, read_labels};
 use crate::seated::Seated;
 use card_set::Memory;
-use first_fault::{Stop, Text};
-use hand_records::{Clock, Moment, Notes, keep_short, unless_usual};
+use first_fault::{ReadError, Text};
+use hand_records::{Clock, Moment, Notes, keep_short, non_default_seats};
 use ohh_members::fault::MemberFault;
 use ohh_members::player::Player;
 use serde_json::Value;
 use std::alloc::Global;
 
-/// The notes of a hand with these players by their seats in it, at this place of its file, from 0.
+/// The notes of a hand with these players, in the order of their seats in the hand, at this place
+/// of its file, from 0.
 #[tactic(auto, unfolding(crate::specs::Notes::notes_said))]
 pub fn read_notes(
     alloc: Global,
     ohh: &Value,
     place: u32,
     players: &[Player],
-) -> Result<Notes, Stop<MemberFault>>
+) -> Result<Notes, ReadError<MemberFault>>
     requires { length players.now ≤ 10 }
     ensures said { Gives (plain_notes (length players.now)) result
         (notes_said place (map plain_player players.now) (view ohh.now)) }
@@ -59,7 +60,7 @@ pub fn read_notes(
     })
 }
 
-// The names of players by their seats in the hand.
+// The names of players, in the order of their seats in the hand.
 fn names_of(alloc: Global, seated: &Seated) -> Result<[Option<Text>; 10], Memory>
     ensures said { IfOk result (λ names. take (length seated.now.players.now) names
         ≡ names_from 1 (map plain_player seated.now.players.now)) }
@@ -92,7 +93,7 @@ fn name_of(alloc: Global, player: &Player, seat: u8) -> Result<Option<Text>, Mem
     }
 }
 
-// The zone of a moment.
+// The zone of a moment: UTC, if there is a moment.
 fn zone_of(alloc: Global, moment: Option<Moment>) -> Result<Option<Text>, Memory>
     ensures said { IfOk result (λ zone. zone ≡ option_map (λ moment. codes "UTC") moment) }
     ensures allowed { IfOk result (λ zone. IfSome zone IsNoteText) }
@@ -110,10 +111,10 @@ fn unusual_seats(seated: &Seated) -> Option<[u8; 10]>
         (map (λ player. player.seat) (map plain_player seated.now.players.now)) }
     ensures allowed { IfSome result (AreSeatNumbers (length seated.now.players.now)) }
 {
-    unless_usual(seats_of(seated), seated.players.len())
+    non_default_seats(seats_of(seated), seated.players.len())
 }
 
-// The seats of players at the table, by their seats in the hand.
+// The seats of players at the table, in the order of their seats in the hand.
 fn seats_of(seated: &Seated) -> [u8; 10]
     ensures said { take (length seated.now.players.now) result
         ≡ map (λ player. player.seat) (map plain_player seated.now.players.now) }

@@ -1,4 +1,4 @@
-//! The ids of the players of a hand are of two players at least, and of ten at most.
+//! The ids of the two to ten players of a hand.
 ghost use Rattle.std.specs.Prelude.{◌≤◌, length};
 
 /// The ids of the players of a hand, the first seat's first.

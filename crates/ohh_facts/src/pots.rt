@@ -1,5 +1,4 @@
-//! What is stated of the pots of a hand is read: their amounts, what is taken of them, and what
-//! each seat wins.
+//! Reads what a hand states of its pots: their amounts, their rakes, and what each seat wins.
 ghost use Rattle.std.specs.Prelude.{◌≡◌, ◌≤◌, ◌+◌, length, map, unwrap_or, IfOk};
 ghost use Rattle.std.specs.Option.{ForSome};
 ghost use Rattle.serde_json.specs.View.{view};
@@ -16,15 +15,17 @@ use crate::listed_pots::{ListedPots, Paid};
 use crate::player_ids::PlayerIds;
 use crate::won::{Win, Won};
 use chip_ledger::MOST_AMOUNT;
-use first_fault::Stop;
+use first_fault::ReadError;
 use ohh_members::fault::{MemberFault, MemberFaultKind, Path, PotMember, WinMember};
-use ohh_members::values::{field, needed, read_list, read_number, read_object, read_player, wrong};
+use ohh_members::values::{
+    fault_at, field, read_list, read_number, read_object, read_player, required,
+};
 use serde_json::Value;
 use std::alloc::Global;
 
-/// What is stated of the pots of a hand, where the ids are those of its players by their seats.
+/// What a hand states of its pots; `ids` are those of its players, in the order of their seats.
 #[tactic(auto, unfolding(crate::specs::Pots::pots_said, crate::specs::Pots::listed_paid))]
-pub fn read_pots(alloc: Global, ids: &[i128], ohh: &Value) -> Result<Paid, Stop<MemberFault>>
+pub fn read_pots(alloc: Global, ids: &[i128], ohh: &Value) -> Result<Paid, ReadError<MemberFault>>
     requires some { 2 ≤ length ids.now }
     requires few { length ids.now ≤ 10 }
     ensures said { Gives plain_paid result (pots_said ids.now (view ohh.now)) }
@@ -40,12 +41,12 @@ pub fn read_pots(alloc: Global, ids: &[i128], ohh: &Value) -> Result<Paid, Stop<
     }
 }
 
-// The pots of a list, and what is won of them.
+// Adds the pots of a list, and what is won of them.
 fn add_pots(
     alloc: Global,
     players: &PlayerIds,
     values: &[Value],
-) -> Result<ListedPots, Stop<MemberFault>>
+) -> Result<ListedPots, ReadError<MemberFault>>
     ensures said { Gives plain_found result
         (added_from (pot_added players.now.ids.now) no_pots 0 (map view values.now)) }
     ensures seats { IfOk result (λ found. found.won.sums.seats ≡ length players.now.ids.now) }
@@ -57,14 +58,14 @@ fn add_pots(
     Ok(found)
 }
 
-// The pots with one more, and what is won of it.
+// Adds one pot, and what is won of it.
 #[tactic(auto, unfolding(crate::specs::Pots::pot_added))]
 fn add_pot(
     ids: &[i128],
     found: ListedPots,
     index: u64,
     value: &Value,
-) -> Result<ListedPots, Stop<MemberFault>>
+) -> Result<ListedPots, ReadError<MemberFault>>
     requires ids { length ids.now ≡ found.won.sums.seats }
     ensures said { Gives plain_found result
         (pot_added ids.now (plain_found found) index (view value.now)) }
@@ -83,9 +84,9 @@ fn add_pot(
     Ok(ListedPots { pots, total, won })
 }
 
-// The amount of a pot, after pots that are so much together.
+// The amount of a pot, after pots with this total.
 #[tactic(auto, unfolding(crate::specs::Pots::amount_said))]
-fn read_amount(found: &ListedPots, index: u64, pot: &Value) -> Result<u64, Stop<MemberFault>>
+fn read_amount(found: &ListedPots, index: u64, pot: &Value) -> Result<u64, ReadError<MemberFault>>
     ensures said { Gives (λ amount. amount) result
         (amount_said (map plain_listed_pot found.now.pots.items) index (view pot.now)) }
     ensures within { IfOk result (λ amount. found.now.total + amount ≤ MOST_AMOUNT) }
@@ -94,13 +95,13 @@ fn read_amount(found: &ListedPots, index: u64, pot: &Value) -> Result<u64, Stop<
         index,
         member: PotMember::Amount,
     };
-    let amount = read_number(needed(pot, path)?, 0, MOST_AMOUNT, path)?;
+    let amount = read_number(required(pot, path)?, 0, MOST_AMOUNT, path)?;
     within_sum(found.total, path, amount)
 }
 
-// The rake of a pot; nothing is taken after the eleventh.
+// The rake of a pot; no rake is allowed after the eleventh pot.
 #[tactic(auto, unfolding(crate::specs::Pots::rake_said))]
-fn read_rake(index: u64, pot: &Value) -> Result<u64, Stop<MemberFault>>
+fn read_rake(index: u64, pot: &Value) -> Result<u64, ReadError<MemberFault>>
     ensures said { Gives (λ rake. rake) result (rake_said index (view pot.now)) }
     ensures most { IfOk result (λ rake. rake ≤ MOST_AMOUNT) }
 {
@@ -110,12 +111,12 @@ fn read_rake(index: u64, pot: &Value) -> Result<u64, Stop<MemberFault>>
     };
     let rake = or_zero(number_or_none(pot, path)?);
     if index >= 11 && rake > 0 {
-        return Err(wrong(MemberFaultKind::RakePlace, path));
+        return Err(fault_at(MemberFaultKind::RakePlace, path));
     }
     Ok(rake)
 }
 
-// The number, or 0 where there is none.
+// The number, or 0 if there is none.
 fn or_zero(number: Option<u64>) -> u64
     ensures said { result ≡ unwrap_or number 0 }
     ensures most { ForSome number (λ number. number ≤ MOST_AMOUNT) → result ≤ MOST_AMOUNT }
@@ -126,8 +127,8 @@ fn or_zero(number: Option<u64>) -> u64
     }
 }
 
-// The number at a path, or 0.
-fn number_or_none(pot: &Value, path: Path) -> Result<Option<u64>, Stop<MemberFault>>
+// The number at a path, if it is there.
+fn number_or_none(pot: &Value, path: Path) -> Result<Option<u64>, ReadError<MemberFault>>
     ensures said { Gives (λ number. number) result
         (read_if (number_said 0 MOST_AMOUNT path) (field_said path (view pot.now))) }
     ensures most { IfOk result (λ number. ForSome number (λ number. number ≤ MOST_AMOUNT)) }
@@ -141,9 +142,9 @@ fn number_or_none(pot: &Value, path: Path) -> Result<Option<u64>, Stop<MemberFau
     }
 }
 
-// What is won of a pot, after what was won before.
+// Adds what is won of a pot to what was won before.
 #[tactic(auto, unfolding(crate::specs::Pots::wins_said))]
-fn read_wins(ids: &[i128], index: u64, won: Won, pot: &Value) -> Result<Won, Stop<MemberFault>>
+fn read_wins(ids: &[i128], index: u64, won: Won, pot: &Value) -> Result<Won, ReadError<MemberFault>>
     requires ids { length ids.now ≡ won.sums.seats }
     ensures said { Gives (λ after. map plain_win after.list.items) result
         (wins_said ids.now index (map plain_win won.list.items) (view pot.now)) }
@@ -153,7 +154,7 @@ fn read_wins(ids: &[i128], index: u64, won: Won, pot: &Value) -> Result<Won, Sto
         index,
         member: PotMember::PlayerWins,
     };
-    let values = read_list(needed(pot, path)?, path)?;
+    let values = read_list(required(pot, path)?, path)?;
     let mut after = won;
     for (place, value) in values.iter().enumerate() {
         after = add_win(ids, index, after, place as u64, value)?;
@@ -161,7 +162,7 @@ fn read_wins(ids: &[i128], index: u64, won: Won, pot: &Value) -> Result<Won, Sto
     Ok(after)
 }
 
-// What was won, with one more.
+// Adds one win.
 #[tactic(auto, unfolding(crate::specs::Pots::win_added))]
 fn add_win(
     ids: &[i128],
@@ -169,7 +170,7 @@ fn add_win(
     won: Won,
     index: u64,
     value: &Value,
-) -> Result<Won, Stop<MemberFault>>
+) -> Result<Won, ReadError<MemberFault>>
     requires ids { length ids.now ≡ won.sums.seats }
     ensures said { Gives (λ after. map plain_win after.list.items) result
         (win_added ids.now pot (map plain_win won.list.items) index (view value.now)) }
@@ -180,7 +181,7 @@ fn add_win(
     Ok(after)
 }
 
-// What a player wins of the pot with this index, after what was won before.
+// What a player wins of the pot with this index, after these wins.
 #[tactic(auto, unfolding(crate::specs::Pots::win_said))]
 fn read_win(
     ids: &[i128],
@@ -188,7 +189,7 @@ fn read_win(
     won: &Won,
     index: u64,
     value: &Value,
-) -> Result<Win, Stop<MemberFault>>
+) -> Result<Win, ReadError<MemberFault>>
     requires ids { length ids.now ≡ won.now.sums.seats }
     ensures said { Gives plain_win result
         (win_said ids.now pot (map plain_win won.now.list.items) index (view value.now)) }
@@ -218,22 +219,22 @@ fn read_win(
         },
     };
     let win = read_object(value, itself)?;
-    let seat = read_player(needed(win, id)?, ids, id)?;
-    let chips = read_number(needed(win, amount)?, 0, MOST_AMOUNT, amount)?;
+    let seat = read_player(required(win, id)?, ids, id)?;
+    let chips = read_number(required(win, amount)?, 0, MOST_AMOUNT, amount)?;
     let chips = within_sum(won.sums.get(seat), amount, chips)?;
     Ok(Win { seat, chips })
 }
 
-// A number which, with what it is added to, is no more than may be stated.
+// A number that, together with what it is added to, is within the limit of stated amounts.
 #[tactic(auto, unfolding(crate::specs::Pots::summed))]
-fn within_sum(before: u64, path: Path, number: u64) -> Result<u64, Stop<MemberFault>>
+fn within_sum(before: u64, path: Path, number: u64) -> Result<u64, ReadError<MemberFault>>
     requires before { before ≤ MOST_AMOUNT }
     requires number { number ≤ MOST_AMOUNT }
     ensures said { Gives (λ number. number) result (summed before path number) }
     ensures within { IfOk result (λ number. before + number ≤ MOST_AMOUNT) }
 {
     if before + number > MOST_AMOUNT {
-        return Err(wrong(MemberFaultKind::AmountLimit, path));
+        return Err(fault_at(MemberFaultKind::AmountLimit, path));
     }
     Ok(number)
 }

@@ -1,9 +1,9 @@
-//! The players of a hand are ten at most.
+//! The players of a hand: at most ten.
 ghost use Rattle.std.specs.Prelude.{◌≤◌, length};
 
 use ohh_members::player::Player;
 
-/// The players of a hand by their seats in it, the first seat's first.
+/// The players in the order of their seats in the hand.
 #[derive(Clone, Copy)]
 pub struct Seated<'a> {
     pub players: &'a [Player<'a>],

@@ -1,5 +1,5 @@
-//! Pots are found one after the other, and state what each seat wins, what all are together, and
-//! what is taken of each.
+//! Collects pots one after the other, with what each seat wins, the total, and the rake of each
+//! pot.
 ghost use Rattle.std.specs.Prelude.{◌≡◌, ◌≤◌, ◌+◌, ◌++◌, ◌∷◌, [], ℕ, map, IfOk};
 ghost use Rattle.chip_ledger.specs.RakeRow.{rake_of};
 ghost use Rattle.chip_ledger.specs.declared.seat_row.TheConstants.{MOST_AMOUNT};
@@ -14,7 +14,7 @@ use chip_ledger::RakeRow;
 use std::alloc::Global;
 
 impl ListedPots {
-    /// No pots, of a hand with so many seats.
+    /// No pots yet, for a hand with `seats` seats.
     pub fn new(alloc: Global, seats: u8) -> Self
         requires some { 2 ≤ seats }
         requires few { seats ≤ 10 }
@@ -28,7 +28,7 @@ impl ListedPots {
         }
     }
 
-    /// The same, and one more pot.
+    /// Adds one more pot.
     pub fn with_pot(self, pot: ListedPot) -> Result<Self, Memory>
         requires { self.total + pot.amount ≤ MOST_AMOUNT }
         ensures pots { IfOk result (λ after. map plain_listed_pot after.pots.items
@@ -96,7 +96,7 @@ fn rakes_of(pots: &[ListedPot]) -> RakeRow
     RakeRow { rakes }
 }
 
-// The rake of the pot with this index, or 0 where there is none.
+// The rake of the pot with this index, or 0 if there is no such pot.
 fn rake_at(pots: &[ListedPot], index: usize) -> u64
     ensures said { result ≡ rake_at_said (map plain_listed_pot pots.now) index }
     ensures most { result ≤ MOST_AMOUNT }

@@ -1,4 +1,4 @@
-//! The text of a note is kept where it is not empty and not the default of the note.
+//! Keeps the text of a note if it is neither empty nor the default of the note.
 ghost use Rattle.std.specs.Prelude.{◌≡◌, [], IfOk, IfSome};
 ghost use Rattle.serde_json.specs.View.{view};
 ghost use Rattle.hand_records.specs.AllowedNotes.{IsNoteText};
@@ -6,7 +6,7 @@ ghost use Rattle.first_fault.specs.Reading.{Gives, or_none};
 ghost use Rattle.ohh_facts.specs.Notes.{label_said, text_note_said};
 ghost use Rattle.ohh_members.specs.Values.{field as field_said};
 
-use first_fault::{Quantity, Stop, Text};
+use first_fault::{Quantity, ReadError, Text};
 use hand_records::keep_text;
 use ohh_members::fault::{MemberFault, MemberFaultKind, Path};
 use ohh_members::values::{field, read_integer, read_text};
@@ -15,7 +15,11 @@ use std::alloc::Global;
 
 /// The text of a member, if there is one that is not empty.
 #[tactic(auto, using(crate::proofs::UnusualNotes::unusual_text), unfolding(crate::specs::Notes::text_note_said, crate::specs::Notes::note_said))]
-pub fn text_at(alloc: Global, ohh: &Value, path: Path) -> Result<Option<Text>, Stop<MemberFault>>
+pub fn text_at(
+    alloc: Global,
+    ohh: &Value,
+    path: Path,
+) -> Result<Option<Text>, ReadError<MemberFault>>
     ensures said { Gives (λ note. note) result
         (or_none (text_note_said [] path) (field_said path (view ohh.now))) }
     ensures allowed { IfOk result (λ note. IfSome note IsNoteText) }
@@ -29,15 +33,15 @@ pub fn text_at(alloc: Global, ohh: &Value, path: Path) -> Result<Option<Text>, S
     }
 }
 
-/// The label of a member, with this default, if there is one. A whole number may stand for its
-/// decimal text.
+/// The label of a member with this default, if there is one. A whole number counts as its decimal
+/// text.
 #[tactic(auto, using(crate::proofs::UnusualNotes::unusual_text), unfolding(crate::specs::Notes::label_said, crate::specs::Notes::note_said))]
 pub fn label_at(
     alloc: Global,
     ohh: &Value,
     path: Path,
     default: &str,
-) -> Result<Option<Text>, Stop<MemberFault>>
+) -> Result<Option<Text>, ReadError<MemberFault>>
     ensures said { Gives (λ note. note) result
         (or_none (label_said default.now path) (field_said path (view ohh.now))) }
     ensures allowed { IfOk result (λ note. IfSome note IsNoteText) }

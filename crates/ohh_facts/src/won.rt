@@ -1,4 +1,4 @@
-//! What is won of pots, kept as a list, with what each seat wins of them.
+//! A list of what is won of pots, with what each seat wins.
 ghost use Rattle.std.specs.Prelude.{◌≡◌, ◌≤◌, ◌+◌, ◌++◌, ◌∷◌, [], ℕ, map, IfOk};
 ghost use Rattle.chip_ledger.specs.SeatRow.{amount_of};
 ghost use Rattle.chip_ledger.specs.declared.seat_row.TheConstants.{MOST_AMOUNT};
@@ -25,7 +25,7 @@ pub struct Won {
 }
 
 impl Won {
-    /// Nothing is won by so many seats.
+    /// No wins yet, for `seats` seats.
     pub fn new(alloc: Global, seats: u8) -> Self
         requires some { 2 ≤ seats }
         requires few { seats ≤ 10 }
@@ -38,7 +38,7 @@ impl Won {
         }
     }
 
-    /// The same, and one more win.
+    /// Adds one more win.
     pub fn with(self, win: Win) -> Result<Self, Memory>
         requires seated { win.seat.number ≤ self.sums.seats }
         requires within { amount_of self.sums win.seat.number + win.chips ≤ MOST_AMOUNT }

@@ -10,7 +10,7 @@ use Rattle.ohh_writing.specs.Tree.{hand_tree}
 use Rattle.ohh_writing.proofs.Clean.{hand_clean}
 use Rattle.ohh_reading.specs.Blocks.{blocks_from, blocks_of, is_blank, lines_of}
 
--- the texts of plays, of which the first is at this place
+-- the texts of plays; the first is at this place
 abbrev pub texts : Dialect → ℕ → List Play → List (List ℕ)
 texts dialect place [] = []
 texts dialect place (play ∷ rest) = hand_text dialect place play ∷ texts dialect (place + 1) rest
@@ -24,7 +24,7 @@ clean_at [] clean k d within = absurd (omega (arith, within))
 clean_at (byte ∷ rest) clean zero d within = not_end (eqb byte 10) (list_all (λ byte. not (byte == 10)) rest) clean
 clean_at (byte ∷ rest) clean (suc k) d within = clean_at rest (and_parts (not (byte == 10)) (list_all (λ byte. not (byte == 10)) rest) clean).1 k d (omega (arith, within))
 
--- a text of a hand, and what stands behind its line
+-- a text of a hand, and what comes after its line
 cut_text : (dialect : Dialect) (place : ℕ) (play : Play) (rest : List ℕ) → lines_of (hand_text dialect place play ++ 10 ∷ rest) ≡ hand_text dialect place play ∷ lines_of rest
 cut_text dialect place play rest =
     slice_split_at (λ b. eqb b 10) (hand_text dialect place play) 10 rest (λ k d within. clean_at (hand_text dialect place play) (hand_clean dialect place play) k d within) (eq-eqb 10 10 refl)

@@ -1,4 +1,5 @@
--- Numbers of seats that go round the table once: from one seat to the next they rise, but at one place.
+-- Numbers of seats that go round the table once: from one seat to the next they rise, except at one
+-- place.
 use Rattle.std.proofs.Common.{◌≡◌, ◌≢◌, ℕ, zero, suc, ◌+◌, ◌-◌, ◌<◌, ◌≤◌, ◌==◌, Bool, true, false, not, nat_lt, if◌then◌else◌, List, [], ◌∷◌, length, take, get_or, Some, None, inl, inr, refl, sym, ap, ◌∙◌, arith}
 use Rattle.std.specs.List.{list_any}
 use Rattle.std.proofs.lemmas.Bool.{and_parts, cases_lt, eqb-true, ltb-false}
@@ -6,10 +7,10 @@ use Rattle.std.proofs.lemmas.Bool.Decides.{nat_tests}
 use Rattle.std.proofs.lemmas.List.{length-take-le}
 use Rattle.hand_records.specs.AllowedNotes.{AreSeatNumbers, IsWithin}
 use Rattle.ohh_writing.specs.Seating.{fall, falls, first_or, has_no_repeat, is_circular, number_among}
-use Rattle.list_laws.proofs.Any.{not_among}
-use Rattle.list_laws.proofs.Entries.{any_default, past_default, zero_taken_at}
+use Rattle.card_set.proofs.Any.{not_among}
+use Rattle.card_set.proofs.Entries.{any_default, past_default, zero_taken_at}
 
--- the numbers of so many seats go round: they differ, and rise but behind one seat
+-- the numbers of this many seats go round: they differ, and rise except after one seat
 pub record IsCircle (count : ℕ) (number : ℕ → ℕ) : Type 0 where
   pub each : (seat : ℕ) → 1 ≤ seat → seat ≤ count → IsWithin 1 255 (number seat)
   pub differ : (seat other : ℕ) → 1 ≤ seat → seat < other → other ≤ count → number seat ≢ number other
@@ -29,13 +30,13 @@ no_fall : (x y : ℕ) (down : Bool) → nat_lt y x ≡ down → fall x y ≡ 0 �
 no_fall x y true e none = absurd (let one : fall x y ≡ 1 = rw e refl in omega (arith, one, none))
 no_fall x y false e none = omega (arith, ltb-false y x e)
 
--- no step goes down
+-- no step falls
 none_falls : (back : ℕ) (xs : List ℕ) → falls back xs ≡ 0 → (k : ℕ) → k < length xs → get_or xs k 0 ≤ get_or xs (suc k) back
 none_falls back [] none k within = absurd (omega (arith, within))
 none_falls back (x ∷ rest) none zero within = let first = first_is back rest in omega (arith, no_fall x (first_or back rest) (nat_lt (first_or back rest) x) refl (omega (arith, none)), first)
 none_falls back (x ∷ rest) none (suc k) within = none_falls back rest (omega (arith, none)) k (omega (arith, within))
 
--- one step goes down
+-- exactly one step falls
 record OneFalls (back : ℕ) (xs : List ℕ) : Type 0 where
   at : ℕ
   within : at < length xs
@@ -86,7 +87,7 @@ usual_circle count some few =
       round = λ apart. absurd (apart refl);
     }
 
--- as many numbers are said
+-- the same number of numbers is noted
 pub long : (count : ℕ) (numbers : List ℕ) → 2 ≤ count → AreSeatNumbers count numbers → count ≤ length numbers
 long count numbers some are = elim (cases_lt (length numbers) count) [
   | inl short ↦
@@ -180,11 +181,11 @@ module _ (count : ℕ) (number : ℕ → ℕ) (is : IsCircle count number) where
   front : (seat other : ℕ) → 1 ≤ seat → seat ≤ other → other ≤ is.top → number seat ≤ number other
   front seat other low order high = rising seat other low order (omega (arith, high, is.high)) (λ k from within same. omega (arith, within, same, high))
 
-  -- seats behind the top
+  -- seats after the top
   back : (seat other : ℕ) → is.top < seat → seat ≤ other → other ≤ count → number seat ≤ number other
   back seat other past order high = rising seat other (omega (arith, past)) order high (λ k from within same. omega (arith, from, same, past))
 
-  -- a seat behind the top has a lower number than each up to it
+  -- a seat after the top has a lower number than each up to it
   lower : (seat other : ℕ) → is.top < seat → seat ≤ count → 1 ≤ other → other ≤ is.top → number seat < number other
   lower seat other past high low within =
       let turn = is.round (λ same. omega (arith, same, past, high)) in
@@ -194,7 +195,7 @@ module _ (count : ℕ) (number : ℕ → ℕ) (is : IsCircle count number) where
   abbrev pub after : ℕ → ℕ
   after seat = if seat == count then 1 else seat + 1
 
-  -- behind any seat but the top the next higher number is that of the seat after it
+  -- after any seat but the top, the next higher number is that of the seat after it
   pub next_higher : (seat : ℕ) → 1 ≤ seat → seat ≤ count → seat ≢ is.top → (last : Bool) → (seat == count) ≡ last
       → (number seat < number (if last then 1 else seat + 1)) × ((other : ℕ) → 1 ≤ other → other ≤ count → number seat < number other → number (if last then 1 else seat + 1) ≤ number other)
   next_higher seat low high apart true e =
@@ -246,7 +247,7 @@ module _ (count : ℕ) (number : ℕ → ℕ) (is : IsCircle count number) where
         | inr within ↦ omega (arith, lower (is.top + 1) other (omega arith) before from within)
       ]
 
-  -- each number is one of one seat
+  -- no two seats have the same number
   pub one_seat : (seat other : ℕ) → 1 ≤ seat → seat ≤ count → 1 ≤ other → other ≤ count → number seat ≡ number other → seat ≡ other
   one_seat seat other low high from to same = elim (cases_lt seat other) [
     | inl before ↦ absurd (is.differ seat other low before to same)

@@ -20,12 +20,12 @@ use Rattle.ohh_format.proofs.HandAgain.{IsReadable, counted, hand_read, hand_ste
 use Rattle.hand_records.specs.Plays.{moves_written}
 use Rattle.hand_records.specs.PlainHands.{PlainHand}
 
--- the text of a hand is its tree
+-- the text of a hand reads as its tree
 text_again : (dialect : Dialect) (place : ℕ) (play : Play) → IsTextOf dialect place play → tree_of (hand_text dialect place play) ≡ Some (hand_tree dialect place play)
 text_again dialect place play is = rw (is_utf8-from_IsUtf8 (hand_text dialect place play) is.text) is.tree
 
 module _ (dialect : Dialect) (place : ℕ) (play : Play) (is : IsReadable play) (file_moves : ℕ) (few : file_moves + moves_written play ≤ MOST_FILE_MOVES) where
-  -- the moves of the file after the hand
+  -- the number of moves in the file after the hand
   abbrev moves_after : ℕ
   moves_after = file_moves + moves_in (hand_steps dialect place play is file_moves few)
 
@@ -40,7 +40,7 @@ module _ (dialect : Dialect) (place : ℕ) (play : Play) (is : IsReadable play) 
       let in_limit : nat_lt MOST_HANDS (place + 1) ≡ false = le-ltb MOST_HANDS (place + 1) (omega (arith, within)) in
       rw (in_limit, text_again dialect place play text, at, tree_again within) refl
 
--- hands and the moves of the file, without these moves
+-- hands with the number of moves in the file, without this number
 abbrev hands_found : Result (List PlainHand × ℕ) OhhHandFault → Result (List PlainHand) OhhHandFault
 hands_found found = found >>= λ both. Ok both.0
 

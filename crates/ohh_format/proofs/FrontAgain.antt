@@ -17,23 +17,23 @@ use Rattle.play_event.specs.declared.setup.Setup.{Setup}
 use Rattle.ohh_members.specs.declared.blinds.Blinds.{Blinds}
 use Rattle.ohh_members.specs.declared.fault.Path.TheVariants as paths
 use Rattle.ohh_members.specs.Blinds.{blinds_said, fitting}
-use Rattle.ohh_members.specs.Front.{ids_of, stacks_of}
-use Rattle.ohh_members.specs.Values.{field, needed, number_said}
+use Rattle.ohh_members.specs.Header.{ids_of, stacks_of}
+use Rattle.ohh_members.specs.Values.{field, number_said, required}
 use Rattle.ohh_writing.specs.Actions.{big_blind_seat, small_blind_seat}
 use Rattle.ohh_writing.specs.Games.{is_spelled_game}
 use Rattle.ohh_writing.specs.Spelled.{big_blind, greatest_ante, has_no_ante, has_spelled_antes, has_spelled_blinds, has_spelled_sizes, has_spelled_straddles, has_two_blinds, is_covered_straddle, is_whole_ante}
 use Rattle.ohh_writing.specs.Tree.{whole}
-use Rattle.ohh_posts.specs.NamedBlinds.{PlainNamedBlinds}
-use Rattle.ohh_posts.proofs.Stacks.{seats_in}
+use Rattle.ohh_rounds.specs.NamedBlinds.{PlainNamedBlinds}
+use Rattle.ohh_rounds.proofs.Stacks.{seats_in}
 use Rattle.ohh_reading.specs.Sizes.{sizes_of}
 use Rattle.ohh_format.proofs.PostsAgain.{IsTableOf}
 use Rattle.ohh_format.proofs.SeatingAgain.{players_from}
 use Rattle.ohh_format.proofs.WinsAgain.{ids_written}
-use Rattle.list_laws.proofs.Entries.{at_taken}
-use Rattle.list_laws.proofs.NumbersOfRange.{all_at}
+use Rattle.card_set.proofs.Entries.{at_taken}
+use Rattle.card_set.proofs.NumbersOfRange.{all_at}
 use Rattle.chip_ledger.proofs.RowLists.{row_listed}
 
--- what holds of a setup that has a spelling
+-- what holds of a setup that can be written
 pub record IsSpelledSetup (setup : Setup) : Type 0 where
   pub game : is_spelled_game setup.code ≡ true
   pub sizes : has_spelled_sizes setup ≡ true
@@ -125,7 +125,7 @@ module _ (setup : Setup) (valid : IsValid setup) (is : IsSpelledSetup setup) whe
   -- the blinds
   pub blinds_again : (ohh : Data) → field paths.AnteAmount ohh ≡ Some (whole (greatest_ante setup)) → field paths.SmallBlindAmount ohh ≡ Some (whole (blinds_of setup).small) → field paths.BigBlindAmount ohh ≡ Some (whole (blinds_of setup).big)
       → blinds_said setup.code ohh ≡ Ok (blinds_of setup)
-  unfolding blinds_said needed number_said
+  unfolding blinds_said required number_said
   blinds_again ohh ante small big =
       let ante_few : greatest_ante setup ≤ MOST_CHIPS = greatest_few (amount_of setup.antes) MOST_CHIPS 1 count (λ seat. omega (arith, valid.antes seat, stack_few seat)) in
       rw (
@@ -157,7 +157,7 @@ module _ (setup : Setup) (valid : IsValid setup) (is : IsSpelledSetup setup) whe
           let big : setup.big_bet ≡ 0 = subst (λ (b : Bool). IsSizeWhere b setup.big_bet) e valid.big_bet in
           rw (e, no_bring_in, small, big, eqb-true setup.min_bet (big_blind setup) (sizes_fixed false e)) refl
 
-  -- the table with which the posts are compared
+  -- the table that the posts are checked against
   abbrev pub table_of : PlainNamedBlinds
   table_of = record { stacks = amounts_in setup.stacks; small_blind = (blinds_of setup).small; big_blind = (blinds_of setup).big }
 

@@ -6,7 +6,7 @@ use Rattle.std.proofs.lemmas.List.{length-map}
 use Rattle.std.proofs.lemmas.List.FromFn.{length-range_with_len}
 use Rattle.serde_json.specs.Data.{Data, object, string}
 use Rattle.chip_ledger.specs.Seat.{seats_of}
-use Rattle.canon_script.specs.CanonScript.{plain_moves, showdown_said}
+use Rattle.play_event.specs.CanonScript.{plain_moves, showdown_said}
 use Rattle.first_fault.specs.declared.limits.TheConstants.{MOST_FILE_MOVES, MOST_HANDS}
 use Rattle.hand_records.specs.AllowedNotes.{AreAllowed, AreSeatNumbers}
 use Rattle.hand_records.specs.TraceRows.{core_said}
@@ -19,25 +19,25 @@ use Rattle.play_event.specs.ValidSetup.{IsValid}
 use Rattle.play_event.specs.declared.setup.Setup.{Setup}
 use Rattle.ohh_members.specs.declared.dialect.Dialect.{Dialect}
 use Rattle.ohh_members.specs.declared.fault.Path.TheVariants as paths
-use Rattle.ohh_members.specs.Front.{PlainFront, front_said}
+use Rattle.ohh_members.specs.Header.{PlainFront, front_said}
 use Rattle.ohh_members.specs.Players.{PlainPlayer, seated_said}
-use Rattle.ohh_members.specs.Values.{field, list_said, needed}
+use Rattle.ohh_members.specs.Values.{field, list_said, required}
 use Rattle.hand_records.specs.declared.notes.Moment.{Moment}
 use Rattle.ohh_writing.specs.Moment.{moment_of}
 use Rattle.ohh_writing.specs.Rounds.{hand_rounds}
 use Rattle.ohh_writing.specs.Seating.{is_circular, number_among, numbers_spelled}
 use Rattle.ohh_writing.specs.Tree.{hand_members, round_trees, whole}
-use Rattle.ohh_posts.specs.AntesAndBlinds.{PlainAntesAndBlinds}
+use Rattle.ohh_rounds.specs.AntesAndBlinds.{PlainAntesAndBlinds}
 use Rattle.ohh_rounds.specs.Play.{rounds_said}
 use Rattle.ohh_rounds.specs.Rounds.{rounds_listed, steps_said}
-use Rattle.ohh_rounds.specs.Setting.{PlainSetting}
+use Rattle.ohh_rounds.specs.HandContext.{PlainHandContext}
 use Rattle.ohh_rounds.specs.Steps.{PlainStep, moves_in}
 use Rattle.ohh_reading.specs.Hand.{hand_said, setting_of}
 use Rattle.ohh_writing.specs.Actions.{posts}
 use Rattle.ohh_format.specs.Again.{hand_again, numbered_from, script_again}
 use Rattle.ohh_format.proofs.CardLists.{listed_again}
 use Rattle.ohh_format.proofs.Circle.{IsCircle, long, said_circle, usual_circle}
-use Rattle.ohh_format.proofs.DeedRounds.{round_of, rounds_are, rounds_of, rounds_read}
+use Rattle.ohh_format.proofs.EffectRounds.{round_of, rounds_are, rounds_of, rounds_read}
 use Rattle.ohh_format.proofs.FrontAgain.{IsSpelledSetup, blinds_again, blinds_of, ids_are, sizes_again, stacks_are, table_is}
 use Rattle.ohh_format.proofs.GameAgain.{game_again}
 use Rattle.ohh_format.proofs.NotesAgain.{HasNotes, date_written, notes_read}
@@ -51,7 +51,7 @@ use Rattle.chip_ledger.specs.SeatRow.{amounts_in}
 use Rattle.hand_records.specs.Plays.{moves_written}
 
 -- what the rounds of a hand are read with
-abbrev pub hand_setting : Dialect → ℕ → Setup → PlainSetting
+abbrev pub hand_setting : Dialect → ℕ → Setup → PlainHandContext
 hand_setting dialect file_moves setup =
     record {
       ids = ids_written setup.stacks.seats;
@@ -70,7 +70,7 @@ pub record IsReadable (play : Play) : Type 0 where
   pub can_be_played : (dialect : Dialect) (file_moves : ℕ) → file_moves + moves_written play ≤ MOST_FILE_MOVES → CanBePlayed (hand_setting dialect file_moves play.trace.setup) play.trace
   pub showdown : showdown_said play.trace.setup (core_said play.trace).places (plain_moves (core_said play.trace).moves) (core_said play.trace).shown ≡ flat_map (showing_events play.trace) (all_seats play.trace.setup)
 
--- numbers that are written go round, and are as many as the seats
+-- numbers that are written go round, and there are as many as seats
 pub circle_written : (count : ℕ) (notes : Notes) → 2 ≤ count → count ≤ 10 → AreAllowed count notes → IsCircle count (number_among (numbers_spelled count notes.seats))
 circle_written count notes some few are = by_said notes.seats are.seats
   where
@@ -153,7 +153,7 @@ module _ (dialect : Dialect) (place : ℕ) (play : Play) (is : IsReadable play) 
   setting_is file_moves = rw (ids_are seats setup.stacks notes numbers, stacks_are seats setup.stacks notes numbers refl) refl
 
   module _ (file_moves : ℕ) (few : file_moves + moves_written play ≤ MOST_FILE_MOVES) where
-    abbrev setting : PlainSetting
+    abbrev setting : PlainHandContext
     setting = hand_setting dialect file_moves setup
 
     abbrev pub can : CanBePlayed setting trace
@@ -163,7 +163,7 @@ module _ (dialect : Dialect) (place : ℕ) (play : Play) (is : IsReadable play) 
     hand_steps = steps setting trace can
 
     listed_rounds : rounds_listed ohh ≡ Ok (round_trees 1 (map round_of (rounds_of dialect trace)))
-    unfolding rounds_listed needed list_said
+    unfolding rounds_listed required list_said
     listed_rounds =
         let some : (eqb (length (round_trees 1 (map round_of (rounds_of dialect trace)))) 0) ≡ false = ne_eqb (length (round_trees 1 (map round_of (rounds_of dialect trace)))) 0 (λ none. omega (arith, none)) in
         rw (listed_again (round_trees 1 (hand_rounds dialect trace)), rounds_are dialect trace, some) refl
@@ -187,7 +187,7 @@ module _ (dialect : Dialect) (place : ℕ) (play : Play) (is : IsReadable play) 
           script_read setting trace can is.showdown (length (amounts_in setup.stacks)) table.count,
         ) refl
 
-    -- the hand
+    -- the hand reads back
     pub hand_read : place < MOST_HANDS → hand_said dialect file_moves place ohh ≡ Ok (hand_again dialect place play, file_moves + moves_in hand_steps)
     unfolding hand_said stakes
     hand_read within =

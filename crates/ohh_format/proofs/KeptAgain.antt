@@ -1,4 +1,4 @@
--- What is read again of notes is what has a spelling.
+-- What is read back from notes is what can be written.
 use Rattle.std.proofs.Common.{◌≡◌, ℕ, Bool, true, false, cond, bytes_eq, List, take, Option, Some, None, option_and_then, refl, sym, ap, ◌∙◌}
 use Rattle.std.specs.List.{range_with_len}
 use Rattle.hand_records.specs.declared.notes.Notes.{Notes}
@@ -8,7 +8,7 @@ use Rattle.hand_records.proofs.NoteLaws.{label_twice, names_along, notes_same, n
 use Rattle.ohh_format.specs.KeptNotes.{kept_in_ohh, numbers_round}
 use Rattle.hand_records.specs.SaidNotes.{KeepsNotes, SaidNotes, kept_label, name_said, numbers_said, plain_notes, said_notes}
 
--- numbers that are spelled, and are said
+-- numbers that are written, and are noted
 numbers_kept : (count : ℕ) (said : Option (List ℕ)) → numbers_said count (numbers_spelled count said) ≡ option_and_then numbers_round (numbers_said count said)
 numbers_kept count None = refl
 numbers_kept count (Some numbers) = by_tests (bytes_eq (take count numbers) (range_with_len 1 count)) (is_circular (take count numbers)) refl refl
@@ -20,7 +20,7 @@ numbers_kept count (Some numbers) = by_tests (bytes_eq (take count numbers) (ran
     by_tests false true is goes = ap (λ (b : Bool). cond b None (Some (take count numbers))) is ∙ sym (ap (λ (b : Bool). cond b (Some (take count numbers)) None) goes)
     by_tests false false is goes = sym (ap (λ (b : Bool). cond b (Some (take count numbers)) None) goes)
 
--- what is read again are the kept notes
+-- what is read back are the kept notes
 pub read_kept : (place count : ℕ) (notes : Notes) → notes_again place count notes ≡ kept_in_ohh (said_notes place count notes)
 read_kept place count notes =
     notes_same (notes_again place count notes) (kept_in_ohh (said_notes place count notes)) (record {
@@ -38,7 +38,7 @@ read_kept place count notes =
       zone = refl;
     })
 
--- notes that are read again are those that have a spelling
+-- notes that are read back are those that can be written
 pub keeps_said : (place count : ℕ) (notes again : Notes) → plain_notes count again ≡ notes_again place count notes
     → KeepsNotes kept_in_ohh place count notes again
 keeps_said place count notes again same =

@@ -1,4 +1,4 @@
--- What is written of plays reads back.
+-- What is written for plays reads back.
 pub mod SameNumbers
 pub mod CardLists
 pub mod Circle
@@ -6,11 +6,11 @@ pub mod SeatingAgain
 pub mod GameAgain
 pub mod PutsAgain
 pub mod PostsAgain
-pub mod Deeds
+pub mod Effects
 pub mod StepsAgain
-pub mod ToldDeeds
+pub mod ToldEffects
 pub mod RoundsAgain
-pub mod DeedRounds
+pub mod EffectRounds
 pub mod EventsAgain
 pub mod MovesAgain
 pub mod PlayAgain

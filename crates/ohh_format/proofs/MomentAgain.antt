@@ -13,8 +13,8 @@ use Rattle.ohh_facts.specs.MomentRanges.{IsMoment}
 use Rattle.ohh_facts.specs.Moments.{clock_said, day_said, digits_in_front, digits_said, fraction_of, fraction_said, moment_in, nine_of, parts_said, zoned}
 use Rattle.hand_records.specs.declared.notes.Moment.{Moment}
 use Rattle.ohh_writing.specs.Moment.{by_digits, moment_text}
-use Rattle.list_laws.proofs.Digits.{digit_good, digit_is, value_more}
-use Rattle.list_laws.proofs.Lists.{take_front}
+use Rattle.card_set.proofs.Digits.{digit_good, digit_is, value_more}
+use Rattle.card_set.proofs.Lists.{take_front}
 
 -- ---- digits
 
@@ -28,7 +28,7 @@ all_digits (suc count) n =
     list_all-append (λ sign. is_digit sign 10) (by_digits count (n / 10)) ((48 + n % 10) ∷ [])
     ∙ rw (all_digits count (n / 10), digit_good n) refl
 
--- the number that is written by so many digits
+-- the number that is written with this many digits
 value_again : (count n : ℕ) → n < 10 ^ count → digits_value 10 (by_digits count n) ≡ n
 value_again zero n small = omega (arith, small)
 value_again (suc count) n small =
@@ -56,7 +56,7 @@ in_front (digit ∷ digits) rest all =
     let parts = and_parts (is_digit digit 10) (list_all (λ sign. is_digit sign 10) digits) all in
     rw parts.0 (omega (arith, in_front digits rest parts.1))
 
--- ---- behind the seconds
+-- ---- after the seconds
 
 nine_again : (nano : ℕ) → nano ≤ 999999999 → fraction_of (digits_in_front (by_digits 9 nano ++ codes "Z")) (by_digits 9 nano ++ codes "Z") ≡ Ok nano
 unfolding fraction_of zoned

@@ -1,4 +1,4 @@
--- Which facts of a play Open Hand History does not spell is told by its trace and by what is said in its notes.
+-- Which facts of a play Open Hand History cannot write is determined by its trace and its notes.
 use Rattle.std.proofs.Common.{◌≡◌, ℕ, ◌↔◌, ◌||◌, Bool, true, false, cond, bytes_eq, codes, List, take, Option, Some, None, is_some, is_none, option_and_then, option_map, refl, sym, ap, ap₂, subst, ◌∙◌, true≢false}
 use Rattle.std.proofs.lemmas.Slice.Eq.{bytes_eq-Decides}
 use Rattle.hand_canon.specs.Sound.{IsSound}
@@ -11,7 +11,7 @@ use Rattle.hand_records.specs.declared.trace.Trace.{Trace}
 use Rattle.hand_records.specs.declared.writing.Keep.{Keep}
 use Rattle.hand_records.specs.declared.writing.Keep.TheVariants as keeps
 use Rattle.hand_records.specs.declared.writing.Unspelled.TheVariants as facts
-use Rattle.list_laws.proofs.Options.{from_none_some}
+use Rattle.card_set.proofs.Options.{from_none_some}
 use Rattle.ohh_format.proofs.SoundPlays.{fact_holds}
 use Rattle.ohh_writing.specs.Moment.{moment_of, moment_said}
 use Rattle.ohh_writing.specs.Seating.{is_circular, numbers_spelled}
@@ -26,7 +26,7 @@ use Rattle.hand_records.proofs.Refusals.{both_none, none_both}
 
 -- ---- notes that say the same
 
--- unusual numbers have a spelling where those that are said have
+-- unusual numbers can be written if those that are noted can
 abbrev said_round : Option (List ℕ) → Bool
 said_round None = true
 said_round (Some numbers) = is_circular numbers
@@ -50,7 +50,7 @@ facts_same place count a b are too same =
     let time : a.time ≡ b.time = ap (λ (n : SaidNotes). n.time) same in
     cc
 
--- plays that say the same have one first fact without a spelling
+-- plays that say the same have the same first fact that cannot be written
 pub one_fact : (keep : Keep) (place : ℕ) (play other : Play) → IsSound play → IsSound other → AreSameHand (λ notes. notes) place play other → unspelled keep play ≡ unspelled keep other
 unfolding unspelled
 one_fact keep place play other sound too same = by_keep keep
@@ -69,14 +69,14 @@ one_fact keep place play other sound too same = by_keep keep
     by_keep keeps.All = ap₂ (λ (trace : Trace) (tried : Tried). or_behind (first_unspelled (trace_facts trace)) (first_unspelled tried)) same.trace facts_are
     by_keep keeps.Spelled = ap (λ (trace : Trace). or_behind (first_unspelled (trace_facts trace)) None) same.trace
 
--- where only those notes are kept that are spelled, the trace alone tells it
+-- if only those notes are kept that can be written, the trace alone decides
 pub trace_fact : (play other : Play) → play.trace ≡ other.trace → unspelled keeps.Spelled play ≡ unspelled keeps.Spelled other
 unfolding unspelled
 trace_fact play other same = ap (λ (trace : Trace). or_behind (first_unspelled (trace_facts trace)) None) same
 
--- ---- notes that are all spelled
+-- ---- notes that can all be written
 
--- each note has a spelling
+-- each note can be written
 record AreSpelled (count : ℕ) (a : Notes) : Type 0 where
   seats : has_spelled_numbers count a ≡ true
   zone : is_spelled_date a a.zone ≡ true
@@ -111,7 +111,7 @@ kept_round (Some numbers) kept = by_test (is_circular numbers) kept
     by_test true is = refl
     by_test false is = from_none_some is
 
--- what is said of a moment
+-- the noted parts of a moment
 record HasParts (moment : Moment) (y m d : Option ℕ) (t : Option Clock) (z : Option (List ℕ)) : Type 0 where
   year : y ≡ Some moment.day.year
   month : m ≡ Some moment.day.month
@@ -134,13 +134,13 @@ moment_parts (Some y) (Some m) (Some d) (Some t) (Some z) moment same = by_test 
     by_test false is one = from_none_some one
 moment_parts y m d t z moment same = from_none_some same
 
--- a part that is said where the moment is, is kept
+-- a part that is noted if the moment is, is kept
 part_kept : {A : Type 0} (f : Moment → A) (said : Option A) (moment : Option Moment) → (is_none said || is_some moment) ≡ true → ((m : Moment) → moment ≡ Some m → said ≡ Some (f m)) → option_map f moment ≡ said
 part_kept f None None spelled part = refl
 part_kept f (Some x) None spelled part = absurd (true≢false (sym spelled))
 part_kept f said (Some m) spelled part = sym (part m refl)
 
--- and one that is kept is said where the moment is
+-- and one that is kept is noted if the moment is
 kept_part : {A : Type 0} (f : Moment → A) (said : Option A) (moment : Option Moment) → option_map f moment ≡ said → (is_none said || is_some moment) ≡ true
 kept_part f None moment kept = refl
 kept_part f (Some x) None kept = from_none_some kept
@@ -176,7 +176,7 @@ module _ (place count : ℕ) (a : Notes) (are_unusual : AreUnusual count a.seats
         time = kept_part (λ m. m.time) a.time (moment_of a) (ap (λ (n : SaidNotes). n.time) kept);
       }
 
--- all notes of a play are spelled where those that are kept are all that are said
+-- all notes of a play can be written if those that are kept are all that are noted
 pub all_spelled : (place : ℕ) (play : Play) → IsSound play
     → (unspelled keeps.All play ≡ None) ↔ ((unspelled keeps.Spelled play ≡ None) × (kept_in_ohh (notes_of place play) ≡ notes_of place play))
 unfolding unspelled

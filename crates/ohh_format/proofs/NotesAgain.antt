@@ -10,7 +10,7 @@ use Rattle.serde_json.specs.Data.{Data, string}
 use Rattle.chip_ledger.specs.declared.seat_row.SeatRow.{SeatRow}
 use Rattle.first_fault.specs.Reading.{read_if, or_none}
 use Rattle.first_fault.specs.declared.limits.TheConstants.{MOST_HANDS, MOST_TEXT_BYTES}
-use Rattle.hand_records.specs.AllowedNotes.{AreAllowed, IsDayOf, IsName, IsNoteText, IsSeatCount, IsTime, IsWithin, noted, unless_usual}
+use Rattle.hand_records.specs.AllowedNotes.{AreAllowed, IsDayOf, IsName, IsNoteText, IsSeatCount, IsTime, IsWithin, noted, non_default_seats}
 use Rattle.hand_records.specs.declared.notes.Clock.{Clock}
 use Rattle.hand_records.specs.declared.notes.Notes.{Notes}
 use Rattle.ohh_members.specs.declared.fault.MemberFault.{MemberFault}
@@ -28,9 +28,9 @@ use Rattle.ohh_writing.specs.Tree.{whole}
 use Rattle.ohh_format.specs.Again.{notes_again}
 use Rattle.ohh_format.proofs.MomentAgain.{moment_again}
 use Rattle.ohh_format.proofs.SeatingAgain.{players_from}
-use Rattle.list_laws.proofs.Bytes.{same_bytes}
-use Rattle.list_laws.proofs.Entries.{zero_taken_at}
-use Rattle.list_laws.proofs.Options.{from_none_some, none_anyway}
+use Rattle.card_set.proofs.Bytes.{same_bytes}
+use Rattle.card_set.proofs.Entries.{zero_taken_at}
+use Rattle.card_set.proofs.Options.{from_none_some, none_anyway}
 use Rattle.hand_records.proofs.NoteTexts.{not_empty, noted_again}
 use Rattle.chip_ledger.specs.SeatsSaid.{default_name}
 use Rattle.hand_records.specs.SaidNotes.{kept_label}
@@ -41,7 +41,7 @@ note_again : (default text : List ℕ) (path : Path) → IsNoteText text → byt
 unfolding note_said
 note_again default text path is other = rw (le-leb (length text) MOST_TEXT_BYTES is.1) (ap (λ (found : Option (List ℕ)). Ok found) (noted_again default text is other))
 
--- a text that equals its default is none
+-- a text that equals its default counts as none
 same_none : (default text : List ℕ) → bytes_eq text default ≡ true → noted default text ≡ None
 same_none default text same = ap (λ (b : Bool). cond ((length text == 0) || b) None (Some text)) same ∙ none_anyway (length text == 0) text
 
@@ -72,7 +72,7 @@ count_again count (Some number) some few is = rw (le-leb 1 number is.range.0, le
 
 -- ---- the moment
 
--- a moment that is said of allowed notes is one of the calendar
+-- a moment in allowed notes is one of the calendar
 moment_good : (year month day : Option ℕ) (time : Option Clock) (area : Option (List ℕ)) (moment : Moment) → moment_said year month day time area ≡ Some moment
     → IfSome year (IsWithin 1 9999) → IfSome month (IsWithin 1 12) → IfSome day (IsWithin 1 31) → IfSome year (λ year. IfSome month (λ month. IfSome day (IsDayOf year month))) → IfSome time IsTime → IsMoment moment
 moment_good None month day time area moment is a b c d e = from_none_some is
@@ -103,7 +103,7 @@ good_moment count notes are (Some moment) is = moment_good notes.year notes.mont
 
 -- ---- the hand
 
--- the members that say the notes, as they are written
+-- the members of the notes, as they are written
 pub record HasNotes (place : ℕ) (count : ℕ) (notes : Notes) (ohh : Data) : Type 0 where
   pub hand : field paths.GameNumber ohh ≡ Some (string (unwrap_or notes.hand (decimal place)))
   pub table : field paths.TableName ohh ≡ Some (string (unwrap_or notes.table []))
@@ -168,13 +168,13 @@ module _ (place count : ℕ) (stacks : SeatRow) (notes : Notes) (ohh : Data) (fe
       ap₂ (λ (y : ℕ) (ys : List ℕ). y ∷ ys) (ap (λ k. get_or all k 0) (omega arith) ∙ sym (each 0 (omega arith)))
       (said_numbers all (first + 1) many xs (omega arith) (omega (arith, long)) (λ k within. each (suc k) (omega (arith, within)) ∙ ap (λ j. get_or all j 0) (omega (arith, low))))
 
-  seats_again : (found : Option (List ℕ)) → IfSome found (λ all. count ≤ length all) → unless_usual count (map (λ (player : PlainPlayer). player.seat) (players_from count stacks notes found 1 count)) ≡ option_and_then (λ all. unless_usual count (take count all)) found
+  seats_again : (found : Option (List ℕ)) → IfSome found (λ all. count ≤ length all) → non_default_seats count (map (λ (player : PlainPlayer). player.seat) (players_from count stacks notes found 1 count)) ≡ option_and_then (λ all. non_default_seats count (take count all)) found
   seats_again None long =
       let usual : map (λ (player : PlainPlayer). player.seat) (players_from count stacks notes None 1 count) ≡ range_with_len 1 count = seats_from None 1 count ∙ same_numbers 1 count in
-      ap (unless_usual count) usual
+      ap (non_default_seats count) usual
       ∙ ap (λ (b : Bool). cond b None (Some (range_with_len 1 count))) (same_bytes (range_with_len 1 count))
   seats_again (Some all) long =
-      ap (unless_usual count) (seats_from (Some all) 1 count
+      ap (non_default_seats count) (seats_from (Some all) 1 count
       ∙ said_numbers all 1 count (take count all) (omega arith) (length-take-le count all long) (λ k within. zero_taken_at count all k within ∙ ap (λ j. get_or all j 0) (omega arith)))
 
   -- the notes

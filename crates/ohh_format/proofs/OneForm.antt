@@ -1,4 +1,5 @@
--- Hands that are the same are written as the same bytes, and what is written as the same bytes are the same hands.
+-- Hands that are the same are written as the same bytes, and what is written as the same bytes are
+-- the same hands.
 use Rattle.std.proofs.Common.{◌≡◌, ℕ, sum_by, ◌+◌, ◌-◌, ◌≤◌, Bool, true, false, cond, codes, decimal, List, [], ◌∷◌, ◌++◌, length, map, take, Option, Some, None, option_and_then, option_map, unwrap_or, Ok, refl, sym, ap, ap₂, subst, ◌∙◌, arith}
 use Rattle.std.specs.List.{AllByRecursion}
 use Rattle.std.proofs.lemmas.List.{get_or-take}
@@ -15,7 +16,7 @@ use Rattle.hand_records.specs.declared.notes.Notes.{Notes}
 use Rattle.hand_records.specs.declared.trace.Play.{Play}
 use Rattle.hand_records.specs.declared.trace.Trace.{Trace}
 use Rattle.hand_records.specs.declared.writing.Keep.{Keep}
-use Rattle.list_laws.proofs.NumbersOfRange.{map_agree}
+use Rattle.card_set.proofs.NumbersOfRange.{map_agree}
 use Rattle.ohh_format.proofs.ReadBack.{events_said, play_again}
 use Rattle.hand_canon.proofs.SamePlay.{setup_same}
 use Rattle.ohh_format.proofs.SoundPlays.{sound_again}
@@ -51,17 +52,17 @@ round_twice (Some numbers) = by_test (is_circular numbers) refl
     by_test true goes = ap (λ (b : Bool). cond b (Some numbers) None) goes
     by_test false goes = refl
 
--- a moment is told by its parts
+-- a moment is determined by its parts
 pub moment_again : (moment : Option Moment)
     → moment_said (option_map (λ m. m.day.year) moment) (option_map (λ m. m.day.month) moment) (option_map (λ m. m.day.day) moment) (option_map (λ m. m.time) moment) (option_map (λ m. codes "UTC") moment) ≡ moment
 moment_again None = refl
 moment_again (Some moment) = refl
 
--- the moment of notes is that of those that are kept
+-- the moment of notes is that of the kept notes
 pub moment_kept : (notes : SaidNotes) → moment_in_notes (kept_in_ohh notes) ≡ moment_in_notes notes
 moment_kept notes = moment_again (moment_in_notes notes)
 
--- what is kept of what is kept
+-- keeping notes twice is the same as once
 pub kept_again : (notes : SaidNotes) → kept_in_ohh (kept_in_ohh notes) ≡ kept_in_ohh notes
 kept_again notes =
     let moment = moment_kept notes in
@@ -172,7 +173,7 @@ one_spelling dialect plays others bytes too sound other_sound spell spell_too al
 
 -- ---- hands of one file
 
--- plays that are read as one hand are the same
+-- plays that read as one hand are the same
 hand_same : (dialect : Dialect) (keep : Keep) (place : ℕ) (play other : Play) → IsSound play → IsSound other → unspelled keep play ≡ None → unspelled keep other ≡ None
     → hand_again dialect place play ≡ hand_again dialect place other → AreSameHand kept_in_ohh place play other
 hand_same dialect keep place play other sound too none none_too same =

@@ -1,12 +1,13 @@
--- The posts that are written of a setup meet their conditions, and give its antes and blinds again.
+-- The posts that are written for a setup meet their conditions, and give its antes and blinds
+-- again.
 use Rattle.std.proofs.Common.{◌≡◌, ℕ, zero, suc, ◌+◌, ◌-◌, ◌<◌, ◌≤◌, ◌==◌, Bool, true, false, not, ◌&&◌, ◌||◌, nat_lt, cond, min, if◌then◌else◌, List, [], ◌∷◌, ◌++◌, length, map, Option, Some, None, is_some, Ok, refl, sym, ap, ◌∙◌, arith, true≢false}
 use Rattle.std.specs.List.{list_all, list_any, range_with_len}
 use Rattle.std.specs.Option.{option_map_or, option_or}
 use Rattle.std.proofs.lemmas.Bool.{and_parts, eq-eqb, eqb-true, le-ltb, lt-leb, lt-ltb, ltb-false, ltb-true, ne_eqb}
 use Rattle.std.proofs.lemmas.Bool.Decides.{nat_tests}
 use Rattle.std.proofs.lemmas.List.{length-append}
-use Rattle.list_laws.proofs.Finding.{any_agree}
-use Rattle.list_laws.proofs.NumbersOfRange.{map_agree, some_in_range, all_of, any_none}
+use Rattle.card_set.proofs.Finding.{any_agree}
+use Rattle.card_set.proofs.NumbersOfRange.{map_agree, some_in_range, all_of, any_none}
 use Rattle.chip_ledger.specs.Greatest.{greatest}
 use Rattle.chip_ledger.specs.Seat.{seats_of}
 use Rattle.chip_ledger.specs.SeatRow.{amount_of, amounts_in}
@@ -15,18 +16,18 @@ use Rattle.play_event.specs.Seats.{all_seats}
 use Rattle.play_event.specs.declared.setup.Setup.{Setup}
 use Rattle.ohh_writing.specs.Actions.{big_blind_seat, small_blind_seat}
 use Rattle.ohh_writing.specs.Spelled.{greatest_ante}
-use Rattle.ohh_posts.specs.declared.checking.Condition.{Condition}
-use Rattle.ohh_posts.specs.declared.checking.Condition.TheVariants as conditions
-use Rattle.ohh_posts.specs.declared.post.PostKind.{PostKind}
-use Rattle.ohh_posts.specs.declared.post.PostKind.TheVariants as kinds
-use Rattle.ohh_posts.specs.Conditions as conditions_of
-use Rattle.ohh_posts.specs.Conditions.{at_first, first_breaking, has_all_antes, holds, is_breaking, posts_checked}
-use Rattle.ohh_posts.specs.Posts.{PlainPost, ante_of, first_ante, first_straddle, has_big_blind, has_small_blind, is_ante, is_big_blind, is_small_blind, is_straddle}
-use Rattle.ohh_posts.specs.AntesAndBlinds.{antes_and_blinds_said, are_dead, held_ante, named_blind}
-use Rattle.ohh_posts.specs.NamedBlinds as tables
-use Rattle.ohh_posts.specs.NamedBlinds.{PlainNamedBlinds, seat_count, stack_of}
+use Rattle.ohh_rounds.specs.declared.checking.PostRule.{PostRule}
+use Rattle.ohh_rounds.specs.declared.checking.PostRule.TheVariants as conditions
+use Rattle.ohh_rounds.specs.declared.post.PostKind.{PostKind}
+use Rattle.ohh_rounds.specs.declared.post.PostKind.TheVariants as kinds
+use Rattle.ohh_rounds.specs.PostRules as conditions_of
+use Rattle.ohh_rounds.specs.PostRules.{at_first, first_breaking, has_all_antes, holds, is_breaking, posts_checked}
+use Rattle.ohh_rounds.specs.Posts.{PlainPost, ante_of, first_ante, first_straddle, has_big_blind, has_small_blind, is_ante, is_big_blind, is_small_blind, is_straddle}
+use Rattle.ohh_rounds.specs.AntesAndBlinds.{antes_and_blinds_said, are_dead, held_ante, named_blind}
+use Rattle.ohh_rounds.specs.NamedBlinds as tables
+use Rattle.ohh_rounds.specs.NamedBlinds.{PlainNamedBlinds, seat_count, stack_of}
 use Rattle.ohh_format.proofs.PutsAgain.{Put, first_both, first_is, first_put, has_both, has_is, has_no, has_put, no_kind, of_seat, other_put, post_at, posts_at, posts_both, puts_of}
-use Rattle.list_laws.proofs.Options.{or_nothing}
+use Rattle.card_set.proofs.Options.{or_nothing}
 use Rattle.chip_ledger.proofs.RowLists.{row_listed}
 
 -- a seat has an ante, and a straddle
@@ -53,7 +54,7 @@ puts setup =
     ∷ blind_put setup kinds.BigBlind (big_blind_seat setup)
     ∷ straddles_put setup (all_seats setup))
 
--- a table is that of a setup whose antes and blinds have a spelling
+-- a table is that of a setup whose antes and blinds can be written
 pub record IsTableOf (setup : Setup) (table : PlainNamedBlinds) : Type 0 where
   pub count : seat_count table ≡ setup.stacks.seats
   pub stacks : (seat : ℕ) → stack_of table seat ≡ amount_of setup.stacks seat
@@ -68,7 +69,7 @@ pub record IsTableOf (setup : Setup) (table : PlainNamedBlinds) : Type 0 where
   pub some_ante : setup.dead_antes ≡ true → list_any (posts_ante setup) (all_seats setup) ≡ true
   pub some_none : setup.dead_antes ≡ true → list_any (λ seat. amount_of setup.antes seat == 0) (all_seats setup) ≡ true
 
--- a list has a number of which a test fails
+-- a list has a number for which a test fails
 not_all : (p : ℕ → Bool) (first count number : ℕ) → first ≤ number → number < first + count → p number ≡ false → list_all p (range_with_len first count) ≡ false
 not_all p first zero number from within fails = absurd (omega (arith, from, within))
 not_all p first (suc count) number from within fails = by_first (p first) refl (first == number) refl (λ later. not_all p (first + 1) count number later (omega (arith, within)) fails)
@@ -210,7 +211,7 @@ module _ (setup : Setup) (table : PlainNamedBlinds) (is : IsTableOf setup table)
       and_no true = refl
       and_no false = refl
 
-  ante_fine : (condition : Condition) (before : List Put) (index seat amount : ℕ) → IsAnte before seat amount
+  ante_fine : (condition : PostRule) (before : List Put) (index seat amount : ℕ) → IsAnte before seat amount
       → is_breaking condition table posts (posts_at 0 before) (post_at index (record { kind = kinds.Ante; seat = seat; amount = amount })) ≡ false
   unfolding is_breaking
   ante_fine conditions.Early before index seat amount fine = refl
@@ -227,7 +228,7 @@ module _ (setup : Setup) (table : PlainNamedBlinds) (is : IsTableOf setup table)
       ) refl
   ante_fine conditions.EvenAntes before index seat amount fine = even before seat amount fine setup.dead_antes refl
 
-  small_fine : (condition : Condition) (before : List Put) (index seat amount : ℕ) → IsSmall before seat amount
+  small_fine : (condition : PostRule) (before : List Put) (index seat amount : ℕ) → IsSmall before seat amount
       → is_breaking condition table posts (posts_at 0 before) (post_at index (record { kind = kinds.SmallBlind; seat = seat; amount = amount })) ≡ false
   unfolding is_breaking
   small_fine conditions.Early before index seat amount fine = refl
@@ -243,7 +244,7 @@ module _ (setup : Setup) (table : PlainNamedBlinds) (is : IsTableOf setup table)
   small_fine conditions.Antes before index seat amount fine = refl
   small_fine conditions.EvenAntes before index seat amount fine = refl
 
-  big_fine : (condition : Condition) (before : List Put) (index seat amount : ℕ) → IsBig before seat amount
+  big_fine : (condition : PostRule) (before : List Put) (index seat amount : ℕ) → IsBig before seat amount
       → is_breaking condition table posts (posts_at 0 before) (post_at index (record { kind = kinds.BigBlind; seat = seat; amount = amount })) ≡ false
   unfolding is_breaking
   big_fine conditions.Early before index seat amount fine = refl
@@ -259,7 +260,7 @@ module _ (setup : Setup) (table : PlainNamedBlinds) (is : IsTableOf setup table)
   big_fine conditions.Antes before index seat amount fine = refl
   big_fine conditions.EvenAntes before index seat amount fine = refl
 
-  straddle_fine : (condition : Condition) (before : List Put) (index seat amount : ℕ) → IsStraddle before seat amount
+  straddle_fine : (condition : PostRule) (before : List Put) (index seat amount : ℕ) → IsStraddle before seat amount
       → is_breaking condition table posts (posts_at 0 before) (post_at index (record { kind = kinds.Straddle; seat = seat; amount = amount })) ≡ false
   unfolding is_breaking
   straddle_fine conditions.Early before index seat amount fine = refl
@@ -279,7 +280,7 @@ module _ (setup : Setup) (table : PlainNamedBlinds) (is : IsTableOf setup table)
   straddle_fine conditions.Antes before index seat amount fine = refl
   straddle_fine conditions.EvenAntes before index seat amount fine = refl
 
-  one_fine : (condition : Condition) (kind : PostKind) (before : List Put) (index seat amount : ℕ) → IsFine kind before seat amount
+  one_fine : (condition : PostRule) (kind : PostKind) (before : List Put) (index seat amount : ℕ) → IsFine kind before seat amount
       → is_breaking condition table posts (posts_at 0 before) (post_at index (record { kind = kind; seat = seat; amount = amount })) ≡ false
   one_fine condition kinds.Ante before index seat amount fine = ante_fine condition before index seat amount fine
   one_fine condition kinds.SmallBlind before index seat amount fine = small_fine condition before index seat amount fine
@@ -290,7 +291,7 @@ module _ (setup : Setup) (table : PlainNamedBlinds) (is : IsTableOf setup table)
   AreFine before [] = Unit {0}
   AreFine before (put ∷ rest) = IsFine put.kind before put.seat put.amount × AreFine (before ++ put ∷ []) rest
 
-  none_breaks : (condition : Condition) (before rest : List Put) (index : ℕ) → AreFine before rest → index ≡ length before → first_breaking condition table posts (posts_at 0 before) (posts_at index rest) ≡ None
+  none_breaks : (condition : PostRule) (before rest : List Put) (index : ℕ) → AreFine before rest → index ≡ length before → first_breaking condition table posts (posts_at 0 before) (posts_at index rest) ≡ None
   none_breaks condition before [] index fine at = refl
   none_breaks condition before (put ∷ rest) index fine at =
       let here : posts_at 0 before ++ post_at index put ∷ [] ≡ posts_at 0 (before ++ put ∷ []) = ap (λ n. posts_at 0 before ++ post_at n put ∷ []) (omega (arith, at)) ∙ sym (posts_both 0 before (put ∷ [])) in
@@ -364,7 +365,7 @@ module _ (setup : Setup) (table : PlainNamedBlinds) (is : IsTableOf setup table)
   all_fine : AreFine [] (puts setup)
   all_fine = antes_fine 1 count [] blinds_and_straddles (omega arith) (omega arith) (λ seat from. refl) (record { small = refl; big = refl; straddles = λ seat. refl }) blinds_fine
 
-  each_holds : (condition : Condition) → holds condition table posts ≡ Ok tt
+  each_holds : (condition : PostRule) → holds condition table posts ≡ Ok tt
   each_holds condition = ap at_first (none_breaks condition [] (puts setup) 0 all_fine refl)
 
   -- the posts meet their conditions

@@ -8,7 +8,7 @@ use Rattle.std.proofs.lemmas.List.Elements.{filter-append}
 use Rattle.std.proofs.lemmas.List.FromFn.{length-range_with_len}
 use Rattle.std.proofs.lemmas.List.Sums.{sum_by-append, sum_by-cons}
 use Rattle.serde_json.specs.Data.{Data}
-use Rattle.list_laws.proofs.NumbersOfRange.{map_agree}
+use Rattle.card_set.proofs.NumbersOfRange.{map_agree}
 use Rattle.chip_ledger.specs.Fillers.{no_amounts}
 use Rattle.chip_ledger.specs.PotRow.{pots_in}
 use Rattle.chip_ledger.specs.RakeRow.{rake_of}
@@ -22,7 +22,7 @@ use Rattle.hand_records.specs.declared.trace.Trace.{Trace}
 use Rattle.ohh_members.specs.declared.fault.MemberFault.{MemberFault}
 use Rattle.ohh_members.specs.declared.fault.Path.TheVariants as paths
 use Rattle.first_fault.specs.Reading.{added_from}
-use Rattle.ohh_members.specs.Values.{field, list_said, needed, number_said, object_said}
+use Rattle.ohh_members.specs.Values.{field, list_said, number_said, object_said, required}
 use Rattle.ohh_facts.specs.PotSums.{PlainListedPot, all_of, rake_at, rakes_said}
 use Rattle.ohh_facts.specs.Pots.{PlainPaid, PlainPots, amount_said, listed_paid, no_pots, none_paid, pot_added, pots_said, rake_said, summed, wins_said}
 use Rattle.ohh_facts.specs.Won.{PlainWin, won_by}
@@ -96,12 +96,12 @@ abbrev pub pots_plain : Trace → ℕ → List Pot → List PlainListedPot
 pots_plain trace place [] = []
 pots_plain trace place (pot ∷ rest) = pot_plain trace place pot ∷ pots_plain trace (place + 1) rest
 
--- what is read of the wins of pots, of which the first is at this place
+-- what is read of the wins of pots; the first is at this place
 abbrev pub won_plain : Trace → ℕ → List Pot → List PlainWin
 won_plain trace place [] = []
 won_plain trace place (pot ∷ rest) = wins_plain (share_at trace place) (seats_of trace.setup.stacks.seats) ++ won_plain trace (place + 1) rest
 
--- what a seat wins of pots, of which the first is at this place
+-- what a seat wins of pots; the first is at this place
 abbrev pub shares_from : Trace → ℕ → List Pot → ℕ → ℕ
 shares_from trace place [] seat = 0
 shares_from trace place (pot ∷ rest) seat = amount_of (share_at trace place) seat + shares_from trace (place + 1) rest seat
@@ -135,13 +135,13 @@ module _ (trace : Trace) where
       rw (le-leb 0 (rake_of trace.setup.rakes (place + 1)) (omega arith), le-leb (rake_of trace.setup.rakes (place + 1)) MOST_AMOUNT (rakes (place + 1)), lt-leb 11 place few) refl
 
   amount_again : (place : ℕ) (pot : Pot) (earlier : List PlainListedPot) → all_of earlier + pot.chips ≤ MOST_AMOUNT → amount_said earlier place (pot_tree trace place pot) ≡ Ok pot.chips
-  unfolding amount_said needed number_said summed
+  unfolding amount_said required number_said summed
   amount_again place pot earlier few =
       rw (le-leb 0 pot.chips (omega arith), le-leb pot.chips MOST_AMOUNT (omega (arith, few)), le-leb (all_of earlier + pot.chips) MOST_AMOUNT few) refl
 
   won_again : (place : ℕ) (pot : Pot) (earlier : List PlainWin) → ((seat : ℕ) → won_by seat earlier + amount_of (share_at trace place) seat ≤ MOST_AMOUNT)
       → wins_said ids place earlier (pot_tree trace place pot) ≡ Ok (earlier ++ wins_plain (share_at trace place) (seats_of count))
-  unfolding wins_said needed list_said
+  unfolding wins_said required list_said
   won_again place pot earlier few =
       rw (listed_again (flat_map (win_tree (share_at trace place)) (seats_of count)))
       (wins_again count place (share_at trace place) 1 count 0 earlier (omega arith) (omega arith) (λ seat from. few seat))

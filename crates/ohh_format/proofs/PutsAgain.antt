@@ -1,25 +1,26 @@
--- The posts that are written of a setup, without their places: the first of each seat, and what comes before each.
+-- The posts that are written for a setup, without their places: the first of each seat, and what
+-- comes before each.
 use Rattle.std.proofs.Common.{◌≡◌, ℕ, zero, suc, ◌+◌, ◌<◌, ◌≤◌, ◌==◌, Bool, true, false, ◌&&◌, ◌||◌, cond, if◌then◌else◌, List, [], ◌∷◌, ◌++◌, length, find, Option, Some, None, option_map, refl, sym, ap, subst, ◌∙◌, arith}
 use Rattle.std.specs.List.{flat_map, list_any, range_with_len}
 use Rattle.std.specs.Option.{option_or}
 use Rattle.std.proofs.lemmas.Bool.Decides.{nat_tests}
 use Rattle.std.proofs.lemmas.List.Folds.{find-append}
-use Rattle.list_laws.proofs.Tests.{and_false}
-use Rattle.ohh_posts.specs.declared.post.PostKind.{PostKind}
-use Rattle.ohh_posts.specs.Posts.{PlainPost, first_post}
-use Rattle.list_laws.proofs.Options.{or_nothing}
+use Rattle.card_set.proofs.Tests.{and_false}
+use Rattle.ohh_rounds.specs.declared.post.PostKind.{PostKind}
+use Rattle.ohh_rounds.specs.Posts.{PlainPost, first_post}
+use Rattle.card_set.proofs.Options.{or_nothing}
 
--- a post: what it is, its seat and its chips
+-- a post: its kind, its seat and its chips
 pub record Put : Type 0 where
   pub kind : PostKind
   pub seat : ℕ
   pub amount : ℕ
 
--- a post of the first round before any move, which stands at this index
+-- a post of the first round before any move, at this index
 abbrev pub post_at : ℕ → Put → PlainPost
 post_at index put = record { kind = put.kind; seat = put.seat; amount = put.amount; early = true; place = record { round = 0; action = index } }
 
--- posts, of which the first stands at this index
+-- posts; the first is at this index
 abbrev pub posts_at : ℕ → List Put → List PlainPost
 posts_at index [] = []
 posts_at index (put ∷ rest) = post_at index put ∷ posts_at (index + 1) rest
@@ -38,7 +39,7 @@ is_of is_kind seat put = is_kind put.kind && (put.seat == seat)
 abbrev pub first_put : (PostKind → Bool) → ℕ → List Put → Option ℕ
 first_put is_kind seat puts = option_map (λ put. put.amount) (find (is_of is_kind seat) puts)
 
--- a post of the kind is there
+-- there is a post of the kind
 abbrev pub has_put : (PostKind → Bool) → List Put → Bool
 has_put is_kind puts = list_any (λ put. is_kind put.kind) puts
 
@@ -56,7 +57,7 @@ pub has_is : (is_kind : PostKind → Bool) (index : ℕ) (puts : List Put) → l
 has_is is_kind index [] = refl
 has_is is_kind index (put ∷ rest) = ap (λ b. is_kind put.kind || b) (has_is is_kind (index + 1) rest)
 
--- the first of two, where there is one
+-- the first of two values, if it is there
 abbrev or_else : Option ℕ → Option ℕ → Option ℕ
 or_else one other = option_or one other
 
@@ -69,7 +70,7 @@ first_both is_kind seat some more =
     ap (option_map (λ (put : Put). put.amount)) (find-append (is_of is_kind seat) some more)
     ∙ amounts_or (find (is_of is_kind seat) some) (find (is_of is_kind seat) more)
 
--- one post more of another kind or another seat
+-- one more post of another kind or another seat
 pub other_put : (is_kind : PostKind → Bool) (seat : ℕ) (puts : List Put) (put : Put) → is_of is_kind seat put ≡ false → first_put is_kind seat (puts ++ put ∷ []) ≡ first_put is_kind seat puts
 other_put is_kind seat puts put other =
     first_both is_kind seat puts (put ∷ [])
@@ -94,7 +95,7 @@ module _ (kind : PostKind) (amount : ℕ → ℕ) (some : ℕ → Bool) where
   no_kind is_kind seat other [] = refl
   no_kind is_kind seat other (first ∷ rest) = put_other is_kind seat first (ap (λ b. b && (first == seat)) other) (some first) (puts_of rest) ∙ no_kind is_kind seat other rest
 
-  -- none is of a seat before the first
+  -- no post is of a seat before the first
   pub not_before : (is_kind : PostKind → Bool) (seat first count : ℕ) → seat < first → first_put is_kind seat (puts_of (range_with_len first count)) ≡ None
   not_before is_kind seat first zero before = refl
   not_before is_kind seat first (suc count) before =

@@ -1,16 +1,17 @@
--- The hands that are read again of sound plays are legal under the rules of hand histories, and have the traces of the plays.
+-- The hands that are read back from sound plays are legal under the rules of hand histories, and
+-- have the traces of the plays.
 use Rattle.std.proofs.Common.{◌≡◌, ℕ, ◌+◌, ◌≤◌, Bool, true, false, not, List, [], ◌∷◌, length, map, sum_by, None, Ok, if◌then◌else◌, refl, sym, ap, subst, ◌∙◌}
 use Rattle.std.specs.List.{AllByRecursion, list_any}
 use Rattle.std.proofs.lemmas.Bool.{not-true}
-use Rattle.list_laws.proofs.Any.{list_any-map}
+use Rattle.card_set.proofs.Any.{list_any-map}
 use Rattle.play_event.specs.HistoryRules.{history_rules}
 use Rattle.play_event.specs.Played.{move_said}
 use Rattle.play_event.specs.Said.{Numbered, Said}
 use Rattle.play_event.specs.Scripts.{past_at_end}
 use Rattle.play_event.specs.declared.setup.Rules.{Rules}
 use Rattle.play_event.specs.declared.setup.Setup.{Setup}
-use Rattle.canon_script.specs.PlayedScript.{IsPlayed}
-use Rattle.canon_script.specs.TraceCore.{TraceCore, core_after}
+use Rattle.play_event.specs.PlayedScript.{IsPlayed}
+use Rattle.play_event.specs.TraceCore.{TraceCore, core_after}
 use Rattle.canon_laws.specs.Confluence.{HasTraceOf}
 use Rattle.canon_laws.specs.OtherRules.{SuitsRules}
 use Rattle.canon_laws.proofs.SuitedMoves.{played_by}
@@ -47,7 +48,7 @@ use Rattle.hand_canon.proofs.SameTraces.{whole_same}
 use Rattle.hand_records.specs.PlainHands.{PlainHand, plain}
 use Rattle.hand_records.specs.SaidNotes.{KeepsNotes, plain_notes}
 
--- a play that the format spells has no closed raise
+-- a play that the format can write has no closed raise
 spelled_open : (keep : Keep) (play : Play) → unspelled keep play ≡ None → list_any (λ move. move.closed) (core_said play.trace).moves ≡ false
 unfolding unspelled
 spelled_open keep play none =
@@ -62,7 +63,7 @@ spelled_open keep play none =
 
 -- ---- the play
 
--- a spelled play, under the rules of hand histories, in words
+-- a play that can be written, under the rules of hand histories, in words
 pub play_again : (dialect : Dialect) (keep : Keep) (play : Play) → IsSound play → unspelled keep play ≡ None → HasTraceOf play.hand.setup history_rules (script_said play.hand) (script_again dialect play.trace)
 play_again dialect keep play sound none =
     let setup = play.hand.setup in
@@ -84,7 +85,7 @@ play_again dialect keep play sound none =
 
 -- ---- the hand
 
--- what numbered events say
+-- numbered events, without the numbers
 pub events_said : (n : ℕ) (script : List Said) → map (λ (event : Numbered). event.1) (numbered_from n script) ≡ script
 events_said n [] = refl
 events_said n (event ∷ rest) = by_action (is_told event) (events_said (n + 1) rest) (events_said n rest)
@@ -94,14 +95,14 @@ events_said n (event ∷ rest) = by_action (is_told event) (events_said (n + 1) 
     by_action true more same = ap (λ (l : List Said). event ∷ l) more
     by_action false more same = ap (λ (l : List Said). event ∷ l) same
 
--- the script of a record that is read again
+-- the script of a record that is read back
 script_is : (dialect : Dialect) (place : ℕ) (play : Play) (hand : Record) → plain hand ≡ hand_again dialect place play → script_said hand ≡ script_again dialect play.trace
 script_is dialect place play hand same =
     sym (said_numbered hand.script)
     ∙ ap (λ (read : PlainHand). map (λ (event : Numbered). event.1) read.script) same
     ∙ events_said _ (script_again dialect play.trace)
 
--- a hand that is read of a play is that of the play again
+-- a hand that is read from a play is that play again
 is_again : (dialect : Dialect) (keep : Keep) (place : ℕ) (play : Play) (hand : Record) → IsSound play → unspelled keep play ≡ None → plain hand ≡ hand_again dialect place play
     → IsAgain (KeepsNotes kept_in_ohh place play.trace.setup.stacks.seats) play hand
 is_again dialect keep place play hand sound none same =
@@ -150,7 +151,7 @@ are_again dialect keep number place (play ∷ plays) (hand ∷ hands) each none 
     let there : map plain hands ≡ hands_again dialect (place + 1) plays = cc in
     (is_again dialect keep place play hand each.0 parts.0 here, are_again dialect keep (number + 1) (place + 1) plays hands each.1 parts.1 there)
 
--- the hands that are read of bytes that spell sound plays
+-- the hands that are read from bytes that spell sound plays
 pub read_back : (dialect : Dialect) (keep : Keep) (plays : List Play) (bytes : List ℕ) → length plays ≤ MOST_HANDS → AllByRecursion IsSound plays → first_refusal (unspelled keep) plays ≡ None → sum_by moves_played plays ≤ MOST_FILE_MOVES → Spells dialect plays bytes
     → (hands : List Record) → reading dialect bytes ≡ Ok (map plain hands) → AreAgain (KeepsNotes kept_in_ohh) 0 plays hands
 read_back dialect keep plays bytes few each none moves spells hands reads =

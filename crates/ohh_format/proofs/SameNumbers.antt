@@ -1,4 +1,4 @@
--- Numbers are equal as integers exactly where they are equal.
+-- Numbers are equal as integers if and only if they are equal as natural numbers.
 use Rattle.std.proofs.Common.{◌≡◌, ◌≢◌, ℕ, Bool, true, false, ℤ, pos, negsuc, refl, ap}
 use Rattle.std.specs.Ordering.{int_eq}
 use Rattle.std.proofs.lemmas.Bool.Decides.{Decides-int_eq}

@@ -1,4 +1,5 @@
--- The players of a hand that was written sit in the order of their seats in the hand, whatever their numbers at the table are.
+-- The players of a hand that was written sit in the order of their seats in the hand, whatever
+-- their numbers at the table are.
 use Rattle.std.proofs.Common.{◌≡◌, ◌≢◌, ℕ, zero, suc, ◌+◌, ◌-◌, ◌<◌, ◌≤◌, ◌==◌, Bool, true, false, ◌||◌, nat_lt, cond, if◌then◌else◌, decimal, List, [], ◌∷◌, ◌++◌, length, map, fold, get_or, Option, Some, None, IfSome, unwrap_or, pos, Ok, inl, inr, refl, sym, ap, subst, ◌∙◌, arith, true≢false}
 use Rattle.std.specs.List.{range_with_len}
 use Rattle.std.proofs.lemmas.Bool.{cases_lt, eq-eqb, eqb-true, le-leb, le-ltb, lt-ltb, ltb-true, ne_eqb}
@@ -8,7 +9,7 @@ use Rattle.std.proofs.lemmas.List.{length-map, map-append}
 use Rattle.std.proofs.lemmas.List.FromFn.{length-range_with_len}
 use Rattle.serde_json.specs.Data.{Data}
 use Rattle.serde_json.specs.View.{items_of}
-use Rattle.list_laws.proofs.Ranges.{range_more}
+use Rattle.card_set.proofs.Ranges.{range_more}
 use Rattle.chip_ledger.specs.declared.numbers.TheConstants.{MOST_CHIPS}
 use Rattle.chip_ledger.specs.declared.seat_row.SeatRow.{SeatRow}
 use Rattle.chip_ledger.specs.Seat.{seats_of}
@@ -19,13 +20,13 @@ use Rattle.hand_records.specs.declared.notes.Notes.{Notes}
 use Rattle.ohh_members.specs.declared.fault.Path.TheVariants as paths
 use Rattle.ohh_members.specs.Players.{PlainPlayer, above, button_said, has_id, has_seat, id_said, lower, lowest, next_player, player_added, player_at, player_said, players_said, round_from, seat_said, seated, seated_said, short_text_said, stack_said}
 use Rattle.first_fault.specs.Reading.{added_from}
-use Rattle.ohh_members.specs.Values.{field, integer_said, list_said, listed, needed, number_said, object_said, text_said}
+use Rattle.ohh_members.specs.Values.{field, integer_said, list_said, listed, number_said, object_said, required, text_said}
 use Rattle.ohh_writing.specs.Seating.{number_among}
 use Rattle.ohh_writing.specs.Tree.{player_tree, players, whole}
 use Rattle.ohh_format.proofs.CardLists.{listed_again}
 use Rattle.ohh_format.proofs.SameNumbers.{other_number}
 use Rattle.ohh_format.proofs.Circle.{IsCircle, after_top, next_higher, one_seat, top_is}
-use Rattle.list_laws.proofs.Integers.{same_whole}
+use Rattle.card_set.proofs.Integers.{same_whole}
 use Rattle.chip_ledger.specs.SeatsSaid.{default_name}
 
 module _ (count : ℕ) (stacks : SeatRow) (notes : Notes) (numbers : Option (List ℕ)) where
@@ -42,7 +43,7 @@ module _ (count : ℕ) (stacks : SeatRow) (notes : Notes) (numbers : Option (Lis
   module _ (is : IsCircle count (number_among numbers)) where
     -- ---- the lowest of the players above a number
 
-    -- a player that was found has a higher number than another
+    -- a player that was found has a higher number at the table than this
     abbrev IsAbove : ℕ → Option PlainPlayer → Type 0
     IsAbove least None = Unit {0}
     IsAbove least (Some player) = least < player.seat
@@ -122,7 +123,7 @@ module _ (count : ℕ) (stacks : SeatRow) (notes : Notes) (numbers : Option (Lis
     after_in seat low high true e = (omega arith, omega (arith, low, high))
     after_in seat low high false e = (omega arith, grind (arith, nat_tests, high))
 
-    -- the player after another sits in the seat after its
+    -- the player after another sits in the seat after that one's
     next_is : (seat : ℕ) → 1 ≤ seat → seat ≤ count → (last : Bool) → (seat == count) ≡ last → (top : Bool) → (seat == is.top) ≡ top → next_player all_players (player_of seat) ≡ player_of (if last then 1 else seat + 1)
     next_is seat low high last e false f =
         let next : ℕ = if last then 1 else seat + 1 in
@@ -140,7 +141,7 @@ module _ (count : ℕ) (stacks : SeatRow) (notes : Notes) (numbers : Option (Lis
         ∙ ap (λ (found : Option PlainPlayer). unwrap_or found (player_of seat))
         (lowest_is 0 next within.0 within.1 (let one = is.each next within.0 within.1 in omega (arith, one.0)) (λ other from to some. least other from to))
 
-    -- so many players, going round
+    -- this many players, going round
     go_on : (seat many : ℕ) → 1 ≤ seat → seat + many ≤ count → round_from all_players (player_of seat) many ≡ players_from (seat + 1) many
     go_on seat zero low high = refl
     go_on seat (suc many) low high =
@@ -195,7 +196,7 @@ module _ (count : ℕ) (stacks : SeatRow) (notes : Notes) (numbers : Option (Lis
           by_name (Some name) is = is.text.1
 
       player_read : (k index : ℕ) → k + 1 ≤ count → player_added (players_from 1 k) index (player_tree stacks notes numbers (k + 1)) ≡ Ok (players_from 1 k ++ player_of (k + 1) ∷ [])
-      unfolding player_added player_said id_said seat_said short_text_said stack_said object_said needed text_said integer_said number_said
+      unfolding player_added player_said id_said seat_said short_text_said stack_said object_said required text_said integer_said number_said
       player_read k index high =
           let seat : ℕ = k + 1 in
           let within = is.each seat (omega arith) high in
@@ -230,7 +231,7 @@ module _ (count : ℕ) (stacks : SeatRow) (notes : Notes) (numbers : Option (Lis
       pub seated_read : (ohh : Data) → stacks.seats ≡ count → 2 ≤ count
           → field paths.Players ohh ≡ Some (players stacks notes numbers) → field paths.DealerSeat ohh ≡ Some (whole (number_among numbers count))
           → seated_said ohh ≡ Ok (players_from 1 count)
-      unfolding seated_said players_said button_said needed list_said integer_said
+      unfolding seated_said players_said button_said required list_said integer_said
       seated_read ohh seats some has_players has_dealer =
           let items : List Data = map (player_tree stacks notes numbers) (seats_of count) in
           let long : length items ≡ count = length-map (seats_of count) (player_tree stacks notes numbers) ∙ length-range_with_len 1 count in

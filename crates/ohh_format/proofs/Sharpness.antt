@@ -1,13 +1,14 @@
--- A fact of a play that the format does not spell is one that no legal hand has that bytes say, but for notes.
+-- If the format cannot write a fact of a play, other than a note, no legal hand that is read from
+-- bytes has it.
 use Rattle.std.proofs.Common.{◌≡◌, Bool, true, false, not, if◌then◌else◌, List, [], ◌∷◌, map, Option, Some, None, ℕ, Ok, refl, sym, ap, subst, ◌∙◌, true≢false}
 use Rattle.std.specs.List.{AllByRecursion, list_any}
 use Rattle.std.proofs.lemmas.Result.{IfOk-at_ok}
-use Rattle.list_laws.proofs.Any.{list_any-map}
+use Rattle.card_set.proofs.Any.{list_any-map}
 use Rattle.play_event.specs.HistoryRules.{history_rules}
 use Rattle.play_event.specs.Played.{move_said}
 use Rattle.play_event.specs.declared.setup.Setup.{Setup}
-use Rattle.canon_script.specs.TraceCore.{TraceCore}
-use Rattle.canon_ranges.proofs.SuitedRules.{suits_own}
+use Rattle.play_event.specs.TraceCore.{TraceCore}
+use Rattle.canon_laws.proofs.SuitedRules.{suits_own}
 use Rattle.hand_canon.specs.Judged.{IsTraceOfLegal}
 use Rattle.hand_records.specs.SoundRecord.{script_said}
 use Rattle.hand_records.specs.declared.record.Record.{Record}
@@ -36,12 +37,12 @@ none_closed trace hand ruled traced =
     ∙ ap (λ (core : TraceCore). list_any (λ move. move.closed) core.moves) traced.whole.core
     ∙ suits.no_closed_raise (ap (λ rules. rules.reopen) ruled)
 
--- a fact that has a spelling is passed over
+-- a fact that can be written is skipped
 spelled_over : (spelled : Bool) (fact : Unspelled) (rest : Option Unspelled) → spelled ≡ true → (if spelled then rest else Some fact) ≡ rest
 spelled_over true fact rest is = refl
 spelled_over false fact rest is = absurd (true≢false (sym is))
 
--- so each fact of the trace of a legal hand that is read has one
+-- so each fact of the trace of a legal hand that is read can be written
 none_unspelled : (trace : Trace) (hand : Record) → IsToldHand (plain hand) → IsTraceOfLegal hand trace → first_unspelled (trace_facts trace) ≡ None
 none_unspelled trace hand is traced =
     let there : hand.setup ≡ trace.setup = sym traced.whole.same_setup in
@@ -71,7 +72,7 @@ note_blunt keeps.Spelled play fact found = absurd (cc (found))
 
 -- ---- the hands
 
--- of the play of a legal hand that is read, no sharp fact is found
+-- in the play of a legal hand that is read, no sharp fact is found
 hand_blunt : (keep : Keep) (play : Play) (fact : Unspelled) (hand : Record) → IsToldHand (plain hand) → IsTraceOfLegal hand play.trace → unspelled keep play ≡ Some fact → is_sharp fact ≡ false
 unfolding unspelled
 hand_blunt keep play fact hand is traced found =
@@ -83,7 +84,7 @@ each_other keep play fact found sharp [] each = tt
 each_other keep play fact found sharp (hand ∷ hands) each =
     (λ traced. true≢false (sym sharp ∙ hand_blunt keep play fact hand each.0 traced found), each_other keep play fact found sharp hands each.1)
 
--- no legal hand that bytes say has the trace of a play with a sharp fact
+-- no legal hand that is read from bytes has the trace of a play with a sharp fact
 pub sharpness : (dialect : Dialect) (keep : Keep) (play : Play) (fact : Unspelled) → unspelled keep play ≡ Some fact → is_sharp fact ≡ true → (bytes : List ℕ) (hands : List Record) → reading dialect bytes ≡ Ok (map plain hands)
     → AllByRecursion (IsOther play) hands
 sharpness dialect keep play fact found sharp bytes hands reads =

@@ -1,15 +1,15 @@
--- Sound plays that the format spells read back when they were written.
+-- Sound plays that the format can write read back when they were written.
 use Rattle.std.proofs.Common.{◌≡◌, ℕ, zero, suc, ◌+◌, ◌-◌, ◌≤◌, Bool, true, false, ◌&&◌, ◌==◌, nat_lt, if◌then◌else◌, sum_by, List, [], ◌∷◌, ◌++◌, length, reverse, pos, Option, Some, None, Ok, refl, sym, ap, subst, ◌∙◌, arith, true≢false}
 use Rattle.std.specs.List.{AllByRecursion, flat_map, list_any, range_with_len}
 use Rattle.std.proofs.lemmas.List.Sums.{sum_by-cons}
 use Rattle.canon_laws.proofs.MoveCounts.{move_count, tidy_within}
-use Rattle.canon_ranges.proofs.MoveRanges.{moves_in_range}
+use Rattle.canon_laws.proofs.MoveRanges.{moves_in_range}
 use Rattle.card_set.specs.Known.{is_unknown}
-use Rattle.canon_script.specs.CanonScript.{dealt_slots, held_slots}
-use Rattle.canon_script.specs.PlayedScript.{IsPlayed, is_move}
-use Rattle.canon_script.specs.Tidy.{IsTidy}
-use Rattle.canon_script.specs.TraceCore.{TraceCore, core_of}
-use Rattle.canon_script.specs.declared.limits.TheConstants.{MOST_MOVES}
+use Rattle.play_event.specs.CanonScript.{dealt_slots, held_slots}
+use Rattle.play_event.specs.PlayedScript.{IsPlayed, is_move}
+use Rattle.play_event.specs.Tidy.{IsTidy}
+use Rattle.play_event.specs.TraceCore.{TraceCore, core_of}
+use Rattle.play_event.specs.declared.hand_limits.TheConstants.{MOST_MOVES}
 use Rattle.chip_ledger.specs.LiveRow.{flag_of}
 use Rattle.chip_ledger.specs.SeatRow.{amount_of}
 use Rattle.chip_ledger.specs.declared.numbers.TheConstants.{MOST_CHIPS}
@@ -23,7 +23,7 @@ use Rattle.hand_records.specs.declared.trace.Play.{Play}
 use Rattle.hand_records.specs.declared.trace.Trace.{Trace}
 use Rattle.hand_records.specs.declared.writing.Keep.{Keep}
 use Rattle.hand_records.specs.declared.writing.Unspelled.{Unspelled}
-use Rattle.list_laws.proofs.Reversed.{count_reversed}
+use Rattle.card_set.proofs.Reversed.{count_reversed}
 use Rattle.play_event.proofs.ChipLaws.{puts_within}
 use Rattle.play_event.specs.Chips.{blind_posted}
 use Rattle.play_event.specs.Due.{is_unfinished, turn}
@@ -45,12 +45,12 @@ use Rattle.ohh_writing.specs.Actions.{big_blind_seat, small_blind_seat}
 use Rattle.ohh_writing.specs.Games.{is_spelled_game}
 use Rattle.ohh_writing.specs.Lines.{Spells}
 use Rattle.ohh_writing.specs.Spelled.{first_unspelled, has_spelled_antes, has_spelled_blinds, has_spelled_sizes, kept_facts, trace_facts, unspelled}
-use Rattle.ohh_posts.proofs.Stacks.{seats_in}
-use Rattle.ohh_posts.specs.declared.post.PostKind.TheVariants as kinds
+use Rattle.ohh_rounds.proofs.Stacks.{seats_in}
+use Rattle.ohh_rounds.specs.declared.post.PostKind.TheVariants as kinds
 use Rattle.ohh_reading.specs.Reading.{reading}
-use Rattle.ohh_rounds.specs.Setting.{PlainSetting}
+use Rattle.ohh_rounds.specs.HandContext.{PlainHandContext}
 use Rattle.ohh_format.specs.Again.{hands_again}
-use Rattle.ohh_format.proofs.Deeds.{Deed, Posts, ante_deed, blind_deed, post_deeds, straddle_deed}
+use Rattle.ohh_format.proofs.Effects.{ActionEffect, Posts, ante_effect, blind_effect, post_effects, straddle_effect}
 use Rattle.ohh_format.proofs.FileAgain.{plays_again}
 use Rattle.ohh_format.proofs.FlopGames.{IsFlopGame, flop_game}
 use Rattle.ohh_format.proofs.FrontAgain as front
@@ -61,18 +61,18 @@ use Rattle.ohh_format.proofs.PlayAgain.{CanBePlayed}
 use Rattle.ohh_format.proofs.SoundMoves.{live_folds, no_moves_on, written_moves}
 use Rattle.ohh_format.proofs.SoundPots.{has_pots}
 use Rattle.ohh_format.proofs.SoundShows.{mucked_live, showdown_is}
-use Rattle.canon_ranges.proofs.StreetsPlayed.{HasStreet, board_known, came_before, first_holes, four_streets, is_passed, few_on_board}
-use Rattle.ohh_format.proofs.ToldDeeds.{IsGoodPost}
+use Rattle.canon_laws.proofs.StreetsPlayed.{HasStreet, board_known, came_before, first_holes, four_streets, is_passed, few_on_board}
+use Rattle.ohh_format.proofs.ToldEffects.{IsGoodPost}
 use Rattle.ohh_format.proofs.WinsAgain.{seat_again}
-use Rattle.list_laws.proofs.Lists.{none_from_length}
-use Rattle.list_laws.proofs.Options.{from_some_none}
+use Rattle.card_set.proofs.Lists.{none_from_length}
+use Rattle.card_set.proofs.Options.{from_some_none}
 use Rattle.hand_records.specs.Moves.{moves_played}
 use Rattle.hand_records.specs.WriteRefusals.{refusal_from, first_refusal}
 use Rattle.play_event.proofs.ScriptLaws.{at_end}
 use Rattle.hand_records.specs.Plays.{moves_written}
 use Rattle.play_event.proofs.TracedMoves.{as_many}
 
--- ---- the facts that are spelled
+-- ---- the facts that can be written
 
 pub fact_holds : (holds : Bool) (fact : Unspelled) (rest : Option Unspelled) → (if holds then rest else Some fact) ≡ None → (holds ≡ true) × (rest ≡ None)
 fact_holds true fact rest none = (refl, none)
@@ -91,30 +91,30 @@ spelled_setup keep play none =
 
 -- ---- posts
 
-module _ (setting : PlainSetting) (setup : Setup) (valid : IsValid setup) (few : (seat : ℕ) → amount_of setup.stacks seat ≤ MOST_CHIPS)
+module _ (setting : PlainHandContext) (setup : Setup) (valid : IsValid setup) (few : (seat : ℕ) → amount_of setup.stacks seat ≤ MOST_CHIPS)
     (players : (seat : ℕ) → 1 ≤ seat → seat ≤ setup.stacks.seats → seat_of setting.ids (pos seat) ≡ Some seat) where
-  all_both : (some more : List Deed) → AllByRecursion (IsGoodPost setting 0) some → AllByRecursion (IsGoodPost setting 0) more → AllByRecursion (IsGoodPost setting 0) (some ++ more)
+  all_both : (some more : List ActionEffect) → AllByRecursion (IsGoodPost setting 0) some → AllByRecursion (IsGoodPost setting 0) more → AllByRecursion (IsGoodPost setting 0) (some ++ more)
   all_both [] more one other = other
-  all_both (deed ∷ some) more one other = (one.0, all_both some more one.1 other)
+  all_both (effect ∷ some) more one other = (one.0, all_both some more one.1 other)
 
   blind_few : (seat : ℕ) → blind_posted setup seat ≤ MOST_CHIPS
   blind_few seat = omega (arith, few seat)
 
-  antes_good : (first many : ℕ) → 1 ≤ first → first + many ≤ setup.stacks.seats + 1 → AllByRecursion (IsGoodPost setting 0) (flat_map (ante_deed setup) (range_with_len first many))
+  antes_good : (first many : ℕ) → 1 ≤ first → first + many ≤ setup.stacks.seats + 1 → AllByRecursion (IsGoodPost setting 0) (flat_map (ante_effect setup) (range_with_len first many))
   antes_good first zero low high = tt
   antes_good first (suc many) low high = by_ante (nat_lt 0 (amount_of setup.antes first)) (antes_good (first + 1) many (omega (arith, low)) (omega (arith, high)))
     where
-      by_ante : (some : Bool) → AllByRecursion (IsGoodPost setting 0) (flat_map (ante_deed setup) (range_with_len (first + 1) many))
-          → AllByRecursion (IsGoodPost setting 0) ((if some then Posts kinds.Ante first (amount_of setup.antes first) (amount_of setup.stacks first - amount_of setup.antes first) ∷ [] else []) ++ flat_map (ante_deed setup) (range_with_len (first + 1) many))
+      by_ante : (some : Bool) → AllByRecursion (IsGoodPost setting 0) (flat_map (ante_effect setup) (range_with_len (first + 1) many))
+          → AllByRecursion (IsGoodPost setting 0) ((if some then Posts kinds.Ante first (amount_of setup.antes first) (amount_of setup.stacks first - amount_of setup.antes first) ∷ [] else []) ++ flat_map (ante_effect setup) (range_with_len (first + 1) many))
       by_ante true rest = ((players first low (omega (arith, high)), omega (arith, valid.antes first, few first)), rest)
       by_ante false rest = rest
 
-  straddles_good : (first many : ℕ) → 1 ≤ first → first + many ≤ setup.stacks.seats + 1 → AllByRecursion (IsGoodPost setting 0) (flat_map (straddle_deed setup) (range_with_len first many))
+  straddles_good : (first many : ℕ) → 1 ≤ first → first + many ≤ setup.stacks.seats + 1 → AllByRecursion (IsGoodPost setting 0) (flat_map (straddle_effect setup) (range_with_len first many))
   straddles_good first zero low high = tt
   straddles_good first (suc many) low high = by_blind (nat_lt 2 first && nat_lt 0 (amount_of setup.blinds first)) (straddles_good (first + 1) many (omega (arith, low)) (omega (arith, high)))
     where
-      by_blind : (some : Bool) → AllByRecursion (IsGoodPost setting 0) (flat_map (straddle_deed setup) (range_with_len (first + 1) many))
-          → AllByRecursion (IsGoodPost setting 0) ((if some then blind_deed setup kinds.Straddle first ∷ [] else []) ++ flat_map (straddle_deed setup) (range_with_len (first + 1) many))
+      by_blind : (some : Bool) → AllByRecursion (IsGoodPost setting 0) (flat_map (straddle_effect setup) (range_with_len (first + 1) many))
+          → AllByRecursion (IsGoodPost setting 0) ((if some then blind_effect setup kinds.Straddle first ∷ [] else []) ++ flat_map (straddle_effect setup) (range_with_len (first + 1) many))
       by_blind true rest = ((players first low (omega (arith, high)), blind_few first), rest)
       by_blind false rest = rest
 
@@ -126,11 +126,11 @@ module _ (setting : PlainSetting) (setup : Setup) (valid : IsValid setup) (few :
   big_in true = (omega arith, omega (arith, setup.stacks.least))
   big_in false = (omega arith, omega (arith, setup.stacks.least))
 
-  pub posts_good : AllByRecursion (IsGoodPost setting 0) (post_deeds setup)
+  pub posts_good : AllByRecursion (IsGoodPost setting 0) (post_effects setup)
   posts_good =
       let small = small_in (setup.stacks.seats == 2) in
       let big = big_in (setup.stacks.seats == 2) in
-      all_both (flat_map (ante_deed setup) (all_seats setup)) (blind_deed setup kinds.SmallBlind (small_blind_seat setup) ∷ blind_deed setup kinds.BigBlind (big_blind_seat setup) ∷ flat_map (straddle_deed setup) (all_seats setup))
+      all_both (flat_map (ante_effect setup) (all_seats setup)) (blind_effect setup kinds.SmallBlind (small_blind_seat setup) ∷ blind_effect setup kinds.BigBlind (big_blind_seat setup) ∷ flat_map (straddle_effect setup) (all_seats setup))
       (antes_good 1 setup.stacks.seats (omega arith) (omega arith))
       ((players (small_blind_seat setup) small.0 small.1, blind_few (small_blind_seat setup)), ((players (big_blind_seat setup) big.0 big.1, blind_few (big_blind_seat setup)), straddles_good 1 setup.stacks.seats (omega arith) (omega arith)))
 
@@ -145,8 +145,8 @@ record Reads (setup : Setup) (core : TraceCore) : Type 0 where
   known : (street : ℕ) → list_any is_unknown (dealt_slots core.places None street) ≡ false
   turn_follows : dealt_slots core.places None 2 ≡ [] → dealt_slots core.places None 3 ≡ []
   river_follows : dealt_slots core.places None 3 ≡ [] → dealt_slots core.places None 4 ≡ []
-  quiet : (setting : PlainSetting) (street : ℕ) → 2 ≤ street → street ≤ 4 → dealt_slots core.places None street ≡ [] → AllByRecursion (IsElsewhere setting setup street) core.moves
-  moves : (setting : PlainSetting) → ((seat : ℕ) → 1 ≤ seat → seat ≤ setup.stacks.seats → seat_of setting.ids (pos seat) ≡ Some seat) → AllByRecursion (CanBeWritten setting) core.moves
+  quiet : (setting : PlainHandContext) (street : ℕ) → 2 ≤ street → street ≤ 4 → dealt_slots core.places None street ≡ [] → AllByRecursion (IsElsewhere setting setup street) core.moves
+  moves : (setting : PlainHandContext) → ((seat : ℕ) → 1 ≤ seat → seat ≤ setup.stacks.seats → seat_of setting.ids (pos seat) ≡ Some seat) → AllByRecursion (CanBeWritten setting) core.moves
   few : length core.moves ≤ MOST_MOVES
   held_few : (seat : ℕ) → length (held_slots core.places seat) ≤ 7
   shown_known : (seat : ℕ) → list_any (λ other. other == seat) core.shown ≡ true → list_any is_unknown (held_slots core.places seat) ≡ false
@@ -159,13 +159,13 @@ board_some setup is (suc (suc (suc zero))) low high = omega (arith, is.turn)
 board_some setup is (suc (suc (suc (suc zero)))) low high = omega (arith, is.river)
 board_some setup is (suc (suc (suc (suc (suc more))))) low high = absurd (omega (arith, high))
 
--- a street without a board was not come to
+-- a street without a board was not reached
 passed_there : (setup : Setup) (events : List Said) (street : ℕ) → IsFlopGame setup.code → 2 ≤ street → street ≤ 4 → HasStreet setup events street → (passed : Bool) → is_passed setup (moves_of (past_of setup events)) street ≡ passed
     → dealt_slots (traced_places setup (past_of setup events)) None street ≡ [] → is_passed setup (moves_of (past_of setup events)) street ≡ true
 passed_there setup events street is low high has true e none = e
 passed_there setup events street is low high has false e none = absurd (omega (arith, has.board e, board_some setup is street low high, ap length none))
 
--- and then a later one was not come to either
+-- and then a later one was not reached either
 none_later : (setup : Setup) (events : List Said) (early late : ℕ) → early ≤ late → HasStreet setup events late → is_passed setup (moves_of (past_of setup events)) early ≡ true → (passed : Bool) → is_passed setup (moves_of (past_of setup events)) late ≡ passed
     → dealt_slots (traced_places setup (past_of setup events)) None late ≡ []
 none_later setup events early late order has over true e = none_from_length (dealt_slots (traced_places setup (past_of setup events)) None late) (omega (arith, has.no_board e))
@@ -232,7 +232,7 @@ module _ (keep : Keep) (play : Play) (sound : IsSound play) (spelled : unspelled
   stack_few : (seat : ℕ) → amount_of trace.setup.stacks seat ≤ MOST_CHIPS
   stack_few seat = front.stack_few trace.setup valid it seat
 
-  -- as many moves are written as were played
+  -- the same number of moves is written as was played
   pub same_count : moves_written play ≡ moves_played play
   same_count =
       ap (λ (core : TraceCore). length core.moves) sound.trace.core
@@ -240,7 +240,7 @@ module _ (keep : Keep) (play : Play) (sound : IsSound play) (spelled : unspelled
       ∙ move_count setup (reverse script)
       ∙ count_reversed is_move script
 
-  mucked_folds : (setting : PlainSetting) (seat : ℕ) → 1 ≤ seat → seat ≤ trace.setup.stacks.seats → flag_of trace.mucked seat ≡ true → AllByRecursion (HasNotFolded setting trace.setup seat) (core_said trace).moves
+  mucked_folds : (setting : PlainHandContext) (seat : ℕ) → 1 ≤ seat → seat ≤ trace.setup.stacks.seats → flag_of trace.mucked seat ≡ true → AllByRecursion (HasNotFolded setting trace.setup seat) (core_said trace).moves
   mucked_folds setting seat low high mucked =
       let within : seat ≤ setup.stacks.seats = subst (λ (s : Setup). seat ≤ s.stacks.seats) same high in
       let live = mucked_live setup past trace sound.trace seat low within mucked in
@@ -249,7 +249,7 @@ module _ (keep : Keep) (play : Play) (sound : IsSound play) (spelled : unspelled
 
   can_be_played : (dialect : Dialect) (file_moves : ℕ) → file_moves + moves_written play ≤ MOST_FILE_MOVES → CanBePlayed (hand_setting dialect file_moves trace.setup) trace
   can_be_played dialect file_moves few =
-      let setting : PlainSetting = hand_setting dialect file_moves trace.setup in
+      let setting : PlainHandContext = hand_setting dialect file_moves trace.setup in
       let count : ℕ = trace.setup.stacks.seats in
       let players : (seat : ℕ) → 1 ≤ seat → seat ≤ count → seat_of setting.ids (pos seat) ≡ Some seat = λ seat low high. seat_again seat count low high in
       let is : IsFlopGame trace.setup.code = flop_game trace.setup.code it.game in

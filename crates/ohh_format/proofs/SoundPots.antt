@@ -5,7 +5,7 @@ use Rattle.std.specs.Option.{option_map_or}
 use Rattle.std.proofs.lemmas.Bool.{cases_lt}
 use Rattle.std.proofs.lemmas.List.{length-map, length-take-le}
 use Rattle.std.proofs.lemmas.List.Sums.{sum-map, sum_by-cons}
-use Rattle.list_laws.proofs.NumbersOfRange.{one_of_sum}
+use Rattle.card_set.proofs.NumbersOfRange.{one_of_sum}
 use Rattle.chip_ledger.specs.Fillers.{no_amounts}
 use Rattle.chip_ledger.specs.PotRow.{plain, plain_pots, plain_shares, pots_in, shared_in, shares_in}
 use Rattle.chip_ledger.specs.Pots.{PlainPot}
@@ -17,13 +17,13 @@ use Rattle.chip_ledger.specs.declared.pots.Pot.{Pot}
 use Rattle.chip_ledger.specs.declared.rakes.RakeRow.{RakeRow}
 use Rattle.chip_ledger.specs.declared.seat_row.SeatRow.{SeatRow}
 use Rattle.chip_ledger.specs.declared.seat_row.TheConstants.{MOST_AMOUNT}
-use Rattle.canon_script.specs.TraceCore.{core_of}
+use Rattle.play_event.specs.TraceCore.{core_of}
 use Rattle.hand_canon.specs.LegalHand.{IsShareable, showdown_in}
 use Rattle.hand_canon.specs.WholeTrace.{IsTraceOf}
 use Rattle.hand_records.specs.declared.trace.Trace.{Trace}
 use Rattle.play_event.specs.Chips.{chips_put}
 use Rattle.play_event.specs.Past.{Past, moves_of}
-use Rattle.play_event.specs.Price.{all_chips_put}
+use Rattle.play_event.specs.CurrentBet.{all_chips_put}
 use Rattle.play_event.specs.Seats.{all_seats}
 use Rattle.play_event.specs.ValidSetup.{IsValid}
 use Rattle.play_event.specs.declared.code.Code.{Code}
@@ -33,7 +33,7 @@ use Rattle.trace_laws.proofs.TraceChips.{pots_and_returns}
 use Rattle.variant_table.specs.Shares.{AllShared, Showdown}
 use Rattle.ohh_writing.specs.Tree.{share_at}
 use Rattle.ohh_format.proofs.PotsAgain.{HasPots, SharesFit, chips_of}
-use Rattle.list_laws.proofs.Entries.{taken_at, there}
+use Rattle.card_set.proofs.Entries.{taken_at, there}
 use Rattle.chip_ledger.proofs.PlainPots.{no_chips_past}
 
 -- ---- the chips together
@@ -44,7 +44,7 @@ sum_few f first (suc many) few =
     let split = sum_by-cons f first (range_with_len (first + 1) many) in
     omega (arith, split, few first, sum_few f (first + 1) many few)
 
--- ---- as many shares as pots
+-- ---- the same number of shares as pots
 
 as_many : (code : Code) (showdown : Showdown) (pots : List PlainPot) (shares : List (ℕ → ℕ)) → AllShared code showdown pots shares → length pots ≡ length shares
 as_many code showdown [] [] all = refl

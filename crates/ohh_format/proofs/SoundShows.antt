@@ -1,12 +1,12 @@
 -- The showdown of a sound play is that of its shown and mucked seats.
 use Rattle.std.proofs.Common.{◌≡◌, ℕ, ◌≤◌, Bool, true, false, not, ◌&&◌, ◌==◌, if◌then◌else◌, List, [], ◌∷◌, map, filter, refl, sym, ap, ap₂, ◌∙◌, arith, true≢false}
 use Rattle.std.specs.List.{flat_map, list_any}
-use Rattle.list_laws.proofs.FlatMaps.{kept_flat}
-use Rattle.list_laws.proofs.NumbersOfRange.{flat_none, flat_same, is_in}
+use Rattle.card_set.proofs.FlatMaps.{kept_flat}
+use Rattle.card_set.proofs.NumbersOfRange.{flat_none, flat_same, is_in}
 use Rattle.card_set.specs.Known.{known_cards}
 use Rattle.canon_laws.proofs.SameCore.{plain_again}
-use Rattle.canon_script.specs.CanonScript.{held_slots, plain_moves, showdown_said, showing_said}
-use Rattle.canon_script.specs.TraceCore.{TraceCore}
+use Rattle.play_event.specs.CanonScript.{held_slots, plain_moves, showdown_said, showing_said}
+use Rattle.play_event.specs.TraceCore.{TraceCore}
 use Rattle.chip_ledger.specs.LiveRow.{flag_of, flagged}
 use Rattle.chip_ledger.specs.declared.live_row.LiveRow.{LiveRow}
 use Rattle.hand_canon.specs.WholeTrace.{IsTraceOf}

@@ -1,4 +1,5 @@
--- The wins and the total of the pots that are stated again are those of the trace, so nothing that is stated differs.
+-- The wins and the total of the pots that are read back are those of the trace, so nothing that is
+-- stated differs.
 use Rattle.std.proofs.Common.{◌≡◌, ℕ, zero, suc, ◌+◌, ◌-◌, ◌<◌, ◌≤◌, false, List, [], ◌++◌, map, find, get_or, length, if◌then◌else◌, Option, Some, None, option_map, refl, sym, ap, ◌∙◌, arith}
 use Rattle.std.specs.List.{range_with_len}
 use Rattle.std.proofs.lemmas.List.{get_or-take, length-map, length-take-le}
@@ -10,10 +11,10 @@ use Rattle.hand_records.specs.declared.record.NetRow.{NetRow}
 use Rattle.hand_records.specs.declared.record.Stated.{Stated}
 use Rattle.hand_records.specs.declared.trace.Trace.{Trace}
 use Rattle.hand_canon.specs.Agreement.{Comparison, finish_compared, first_difference, is_different, pot_total_of, pots_compared, row_compared, total_compared, value_compared, win_compared, win_of}
-use Rattle.list_laws.proofs.Integers.{not_different_whole}
-use Rattle.list_laws.proofs.NumbersOfRange.{mapped_at}
+use Rattle.card_set.proofs.Integers.{not_different_whole}
+use Rattle.card_set.proofs.NumbersOfRange.{mapped_at}
 
--- where no number differs nothing is found but behind
+-- if no number differs, nothing is found except later
 none_differ : (compared : ℕ → Comparison) (first count : ℕ) (rest : List Comparison) → ((seat : ℕ) → first ≤ seat → seat < first + count → is_different (compared seat) ≡ false)
     → find is_different (map compared (range_with_len first count) ++ rest) ≡ find is_different rest
 none_differ compared first zero rest same = refl
@@ -50,7 +51,7 @@ total_agrees : (trace : Trace) → find is_different (total_compared trace (Some
 total_agrees trace =
     ap (λ b. if b then Some (pots_compared trace (pot_total_of trace)) else None) (not_different_whole (pot_total_of trace) (pot_total_of trace) refl)
 
--- what is read of what is stated
+-- what is read of the stated facts
 some_wins : (trace : Trace) (wins : Option SeatRow) (rest : List Comparison) → option_map amounts_in wins ≡ Some (map (win_of trace) (all_seats trace.setup))
     → find is_different (row_compared trace win_compared wins ++ rest) ≡ find is_different rest
 some_wins trace None rest same = absurd (cc (same))
@@ -62,7 +63,7 @@ no_finish : (finish : Option SeatRow) → option_map amounts_in finish ≡ None 
 no_finish None none = refl
 no_finish (Some row) none = absurd (cc (none))
 
--- what states the wins and the total of a trace, and no more
+-- the wins and the total of a trace are stated, and no more
 pub record StatesWins (trace : Trace) (stated : Stated) : Type 0 where
   pub finish : option_map amounts_in stated.finish ≡ None
   pub wins : option_map amounts_in stated.wins ≡ Some (map (win_of trace) (all_seats trace.setup))

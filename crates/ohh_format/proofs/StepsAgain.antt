@@ -4,13 +4,13 @@ use Rattle.std.specs.List.{list_any}
 use Rattle.std.proofs.lemmas.Bool.{eq-eqb, le-leb, lt-leb, lt-ltb}
 use Rattle.std.proofs.lemmas.List.{append-nil, length-map}
 use Rattle.serde_json.specs.Data.{Data, string}
-use Rattle.list_laws.proofs.Counting.{count_by-push}
+use Rattle.card_set.proofs.Counting.{count_by-push}
 use Rattle.card_set.specs.Known.{is_unknown, known_cards}
 use Rattle.card_set.specs.Spelling.{slot_spelling}
 use Rattle.card_set.specs.declared.card.Slot.{Slot}
 use Rattle.chip_ledger.specs.declared.numbers.TheConstants.{MOST_CHIPS}
-use Rattle.canon_script.specs.PlayedScript.{is_move}
-use Rattle.canon_script.specs.declared.limits.TheConstants.{MOST_MOVES, MOST_OTHER_EVENTS}
+use Rattle.play_event.specs.PlayedScript.{is_move}
+use Rattle.play_event.specs.declared.hand_limits.TheConstants.{MOST_MOVES, MOST_OTHER_EVENTS}
 use Rattle.first_fault.specs.declared.limits.TheConstants.{MOST_FILE_MOVES}
 use Rattle.first_fault.specs.Reading.{◌>>=◌, added_from}
 use Rattle.play_event.specs.declared.event.Spelled.TheVariants as spelled
@@ -20,24 +20,24 @@ use Rattle.ohh_members.specs.declared.dialect.Dialect.{Dialect}
 use Rattle.ohh_members.specs.declared.fault.ActionMember.TheVariants as members
 use Rattle.ohh_members.specs.declared.fault.MemberFault.{MemberFault}
 use Rattle.ohh_members.specs.declared.fault.Path.{Path}
-use Rattle.ohh_members.specs.Values.{integer_said, needed, number_said, object_said, player_said, seat_of, text_said}
+use Rattle.ohh_members.specs.Values.{integer_said, number_said, object_said, player_said, required, seat_of, text_said}
 use Rattle.ohh_writing.specs.Actions.{PlainAction}
 use Rattle.ohh_writing.specs.Tree.{action_tree, action_trees}
-use Rattle.ohh_posts.specs.declared.post.ActionPlace.{ActionPlace}
-use Rattle.ohh_posts.specs.declared.post.PostKind.{PostKind}
-use Rattle.ohh_posts.specs.declared.post.PostKind.TheVariants as kinds
-use Rattle.ohh_posts.specs.NamedBlinds.{seat_count}
-use Rattle.ohh_rounds.specs.Actions.{at_action, called, chips_said, dealt_cards, deed_said, event_counted, listed_cards, members_said, posted, raise_by, raised, seat_said, shown, step_said, word_said}
+use Rattle.ohh_rounds.specs.declared.post.ActionPlace.{ActionPlace}
+use Rattle.ohh_rounds.specs.declared.post.PostKind.{PostKind}
+use Rattle.ohh_rounds.specs.declared.post.PostKind.TheVariants as kinds
+use Rattle.ohh_rounds.specs.NamedBlinds.{seat_count}
+use Rattle.ohh_rounds.specs.Actions.{at_action, called, chips_said, dealt_cards, effect_said, event_counted, listed_cards, members_said, posted, raise_by, raised, seat_said, shown, step_said, word_said}
 use Rattle.ohh_rounds.specs.Rounds.{action_added}
-use Rattle.ohh_rounds.specs.Setting.{PlainSetting}
-use Rattle.ohh_rounds.specs.Steps.{PlainDeed, PlainStep, Posted, Dealt, Happened, dealt_to, has_folded, is_action, moves_in, next_number, others_in}
+use Rattle.ohh_rounds.specs.HandContext.{PlainHandContext}
+use Rattle.ohh_rounds.specs.Steps.{PlainActionEffect, PlainStep, Posted, Dealt, Happened, dealt_to, has_folded, is_action, moves_in, next_number, others_in}
 use Rattle.ohh_members.specs.Words.{word_named}
 use Rattle.ohh_format.proofs.CardLists.{card_texts, cards_again, few_again, slots_again}
-use Rattle.ohh_format.proofs.Deeds.{Deed, Bets, Calls, Checks, Deals, Folds, Mucks, Posts, Raises, Shows, action_of}
+use Rattle.ohh_format.proofs.Effects.{ActionEffect, Bets, Calls, Checks, Deals, Folds, Mucks, Posts, Raises, Shows, action_of}
 use Rattle.first_fault.specs.Numbers.{kept_number}
 
--- what a step tells of what was done, at its place
-abbrev pub told : Dialect → ActionPlace → Deed → PlainDeed
+-- what a step says of what was done, at its place
+abbrev pub told : Dialect → ActionPlace → ActionEffect → PlainActionEffect
 told dialect place (Posts kind seat amount left) = Posted (record { kind = kind; seat = seat; amount = amount; early = true; place = place })
 told dialect place (Deals seat cards) = Dealt seat cards
 told dialect place (Folds seat) = Happened (said.Fold (Some seat))
@@ -49,15 +49,15 @@ told dialect place (Shows seat cards) = Happened (said.Show seat (known_cards ca
 told dialect place (Mucks seat) = Happened (said.Muck seat)
 
 -- the step of what was done, by the number of its action, its round and its index there
-abbrev pub step_of : Dialect → ℕ → ℕ → ℕ → Deed → PlainStep
-step_of dialect n round index deed = record { number = kept_number n; deed = told dialect (record { round = round; action = index }) deed }
+abbrev pub step_of : Dialect → ℕ → ℕ → ℕ → ActionEffect → PlainStep
+step_of dialect n round index effect = record { number = kept_number n; effect = told dialect (record { round = round; action = index }) effect }
 
--- the steps of what was done in a round, of which the first has this number and this index
-abbrev pub steps_of : Dialect → ℕ → ℕ → ℕ → List Deed → List PlainStep
+-- the steps of what was done in a round; the first has this number and this index
+abbrev pub steps_of : Dialect → ℕ → ℕ → ℕ → List ActionEffect → List PlainStep
 steps_of dialect n round index [] = []
-steps_of dialect n round index (deed ∷ rest) = step_of dialect n round index deed ∷ steps_of dialect (n + 1) round (index + 1) rest
+steps_of dialect n round index (effect ∷ rest) = step_of dialect n round index effect ∷ steps_of dialect (n + 1) round (index + 1) rest
 
-module _ (setting : PlainSetting) (round : ℕ) where
+module _ (setting : PlainHandContext) (round : ℕ) where
   -- a player is one of the hand
   abbrev IsPlayer : ℕ → Type 0
   IsPlayer seat = seat_of setting.ids (pos seat) ≡ Some seat
@@ -96,8 +96,8 @@ module _ (setting : PlainSetting) (round : ℕ) where
     pub other : HasOther earlier seat
     pub live : has_folded seat earlier ≡ false
 
-  -- what was done reads after these steps
-  abbrev pub CanBeTold : List PlainStep → Deed → Type 0
+  -- what was done can be read after these steps
+  abbrev pub CanBeTold : List PlainStep → ActionEffect → Type 0
   CanBeTold earlier (Posts kind seat amount left) = HasPost earlier seat amount
   CanBeTold earlier (Deals seat cards) = HasDeal earlier seat cards
   CanBeTold earlier (Folds seat) = HasMove earlier seat
@@ -109,20 +109,20 @@ module _ (setting : PlainSetting) (round : ℕ) where
   CanBeTold earlier (Mucks seat) = HasMuck earlier seat
 
   -- the step that is read
-  abbrev Read : List PlainStep → ℕ → ℕ → Deed → Type 0
-  Read earlier index m deed =
-      step_said setting earlier (record { round = round; action = index }) (action_tree m (action_of deed))
-      ≡ Ok (record { number = next_number earlier; deed = told setting.dialect (record { round = round; action = index }) deed })
+  abbrev Read : List PlainStep → ℕ → ℕ → ActionEffect → Type 0
+  Read earlier index m effect =
+      step_said setting earlier (record { round = round; action = index }) (action_tree m (action_of effect))
+      ≡ Ok (record { number = next_number earlier; effect = told setting.dialect (record { round = round; action = index }) effect })
 
   post_read : (earlier : List PlainStep) (index m : ℕ) (kind : PostKind) (seat amount left : ℕ) → HasPost earlier seat amount → Read earlier index m (Posts kind seat amount left)
-  unfolding step_said members_said word_said word_named seat_said deed_said posted chips_said object_said needed text_said player_said integer_said number_said
+  unfolding step_said members_said word_said word_named seat_said effect_said posted chips_said object_said required text_said player_said integer_said number_said
   post_read earlier index m kinds.Ante seat amount left has = rw (has.player, le-leb 0 amount (omega arith), le-leb amount MOST_CHIPS has.few, eq-eqb round 0 has.first, eq-eqb (moves_in earlier) 0 has.early) refl
   post_read earlier index m kinds.SmallBlind seat amount left has = rw (has.player, le-leb 0 amount (omega arith), le-leb amount MOST_CHIPS has.few, eq-eqb round 0 has.first, eq-eqb (moves_in earlier) 0 has.early) refl
   post_read earlier index m kinds.BigBlind seat amount left has = rw (has.player, le-leb 0 amount (omega arith), le-leb amount MOST_CHIPS has.few, eq-eqb round 0 has.first, eq-eqb (moves_in earlier) 0 has.early) refl
   post_read earlier index m kinds.Straddle seat amount left has = rw (has.player, le-leb 0 amount (omega arith), le-leb amount MOST_CHIPS has.few, eq-eqb round 0 has.first, eq-eqb (moves_in earlier) 0 has.early) refl
 
   deal_read : (earlier : List PlainStep) (index m seat : ℕ) (cards : List Slot) → HasDeal earlier seat cards → Read earlier index m (Deals seat cards)
-  unfolding step_said members_said word_said word_named seat_said deed_said dealt_cards listed_cards object_said needed text_said player_said integer_said
+  unfolding step_said members_said word_said word_named seat_said effect_said dealt_cards listed_cards object_said required text_said player_said integer_said
   deal_read earlier index m seat cards has =
       let path = at_action (record { round = round; action = index }) members.Cards in
       let short : length cards ≤ 7 = omega (arith, has.few) in
@@ -148,39 +148,39 @@ module _ (setting : PlainSetting) (round : ℕ) where
   here index = at_action (record { round = round; action = index }) members.Itself
 
   fold_read : (earlier : List PlainStep) (index m seat : ℕ) → HasMove earlier seat → Read earlier index m (Folds seat)
-  unfolding step_said members_said word_said word_named seat_said deed_said object_said needed text_said player_said integer_said here
+  unfolding step_said members_said word_said word_named seat_said effect_said object_said required text_said player_said integer_said here
   fold_read earlier index m seat has = rw (has.player, move_fits earlier seat (here index) (said.Fold (Some seat)) has refl) refl
 
   check_read : (earlier : List PlainStep) (index m seat : ℕ) → HasMove earlier seat → Read earlier index m (Checks seat)
-  unfolding step_said members_said word_said word_named seat_said deed_said object_said needed text_said player_said integer_said here
+  unfolding step_said members_said word_said word_named seat_said effect_said object_said required text_said player_said integer_said here
   check_read earlier index m seat has = rw (has.player, move_fits earlier seat (here index) (said.Call (Some seat) (Some 0)) has refl) refl
 
   call_read : (earlier : List PlainStep) (index m seat amount left : ℕ) → HasChips earlier seat amount → Read earlier index m (Calls seat amount left)
-  unfolding step_said members_said word_said word_named seat_said deed_said called chips_said object_said needed text_said player_said integer_said number_said here
+  unfolding step_said members_said word_said word_named seat_said effect_said called chips_said object_said required text_said player_said integer_said number_said here
   call_read earlier index m seat amount left has =
       rw (has.move.player, le-leb 0 amount (omega arith), le-leb amount MOST_CHIPS has.few, move_fits earlier seat (here index) (said.Call (Some seat) (Some amount)) has.move refl) refl
 
   bet_read : (earlier : List PlainStep) (index m seat amount left : ℕ) → HasChips earlier seat amount → Read earlier index m (Bets seat amount left)
-  unfolding step_said members_said word_said word_named seat_said deed_said raised chips_said object_said needed text_said player_said integer_said number_said here
+  unfolding step_said members_said word_said word_named seat_said effect_said raised chips_said object_said required text_said player_said integer_said number_said here
   bet_read earlier index m seat amount left has =
       rw (has.move.player, le-leb 0 amount (omega arith), le-leb amount MOST_CHIPS has.few, move_fits earlier seat (here index) (said.Raise (Some seat) (spelled.Added amount)) has.move refl) refl
 
   raise_read : (earlier : List PlainStep) (index m seat amount left : ℕ) → HasChips earlier seat amount → Read earlier index m (Raises seat amount left)
-  unfolding step_said members_said word_said word_named seat_said deed_said raised chips_said object_said needed text_said player_said integer_said number_said here
+  unfolding step_said members_said word_said word_named seat_said effect_said raised chips_said object_said required text_said player_said integer_said number_said here
   raise_read earlier index m seat amount left has =
       rw (has.move.player, le-leb 0 amount (omega arith), le-leb amount MOST_CHIPS has.few, move_fits earlier seat (here index) (said.Raise (Some seat) (raise_by setting.dialect amount)) has.move refl) refl
 
   show_read : (earlier : List PlainStep) (index m seat : ℕ) (cards : List Slot) → HasShow earlier seat cards → Read earlier index m (Shows seat cards)
-  unfolding step_said members_said word_said word_named seat_said deed_said shown object_said needed text_said player_said integer_said here
+  unfolding step_said members_said word_said word_named seat_said effect_said shown object_said required text_said player_said integer_said here
   show_read earlier index m seat cards has =
       let path = at_action (record { round = round; action = index }) members.Cards in
       rw (has.other.player, cards_again path cards has.few has.known, other_fits earlier seat (here index) (said.Show seat (known_cards cards)) has.other refl) refl
 
   muck_read : (earlier : List PlainStep) (index m seat : ℕ) → HasMuck earlier seat → Read earlier index m (Mucks seat)
-  unfolding step_said members_said word_said word_named seat_said deed_said object_said needed text_said player_said integer_said here
+  unfolding step_said members_said word_said word_named seat_said effect_said object_said required text_said player_said integer_said here
   muck_read earlier index m seat has = rw (has.other.player, has.live, other_fits earlier seat (here index) (said.Muck seat) has.other refl) refl
 
-  one_read : (earlier : List PlainStep) (index m : ℕ) (deed : Deed) → CanBeTold earlier deed → Read earlier index m deed
+  one_read : (earlier : List PlainStep) (index m : ℕ) (effect : ActionEffect) → CanBeTold earlier effect → Read earlier index m effect
   one_read earlier index m (Posts kind seat amount left) has = post_read earlier index m kind seat amount left has
   one_read earlier index m (Deals seat cards) has = deal_read earlier index m seat cards has
   one_read earlier index m (Folds seat) has = fold_read earlier index m seat has
@@ -192,27 +192,27 @@ module _ (setting : PlainSetting) (round : ℕ) where
   one_read earlier index m (Mucks seat) has = muck_read earlier index m seat has
 
   -- what was done, each after the steps before it
-  abbrev pub AllTold : ℕ → ℕ → List PlainStep → List Deed → Type 0
+  abbrev pub AllTold : ℕ → ℕ → List PlainStep → List ActionEffect → Type 0
   AllTold n index earlier [] = Unit {0}
-  AllTold n index earlier (deed ∷ rest) =
-      CanBeTold earlier deed × AllTold (n + 1) (index + 1) (earlier ++ step_of setting.dialect n round index deed ∷ []) rest
+  AllTold n index earlier (effect ∷ rest) =
+      CanBeTold earlier effect × AllTold (n + 1) (index + 1) (earlier ++ step_of setting.dialect n round index effect ∷ []) rest
 
-  counted_action : (earlier : List PlainStep) (n : ℕ) (deed : PlainDeed) → count_by is_action earlier + 1 ≡ n → count_by is_action (earlier ++ record { number = kept_number n; deed = deed } ∷ []) + 1 ≡ n + 1
-  counted_action earlier n deed at =
-      let step : PlainStep = record { number = kept_number n; deed = deed } in
+  counted_action : (earlier : List PlainStep) (n : ℕ) (effect : PlainActionEffect) → count_by is_action earlier + 1 ≡ n → count_by is_action (earlier ++ record { number = kept_number n; effect = effect } ∷ []) + 1 ≡ n + 1
+  counted_action earlier n effect at =
+      let step : PlainStep = record { number = kept_number n; effect = effect } in
       let some : nat_lt 0 (kept_number n) ≡ true = lt-ltb 0 (kept_number n) (omega (arith, at)) in
       omega (arith, at, count_by-push is_action earlier step, ap {B = ℕ} (λ b. cond b 1 0) some)
 
   -- the actions of a round
-  pub actions_read : (earlier : List PlainStep) (n index m : ℕ) (deeds : List Deed) → count_by is_action earlier + 1 ≡ n → AllTold n index earlier deeds
-      → added_from (action_added setting round) earlier index (action_trees m (map action_of deeds)) ≡ Ok (earlier ++ steps_of setting.dialect n round index deeds)
+  pub actions_read : (earlier : List PlainStep) (n index m : ℕ) (effects : List ActionEffect) → count_by is_action earlier + 1 ≡ n → AllTold n index earlier effects
+      → added_from (action_added setting round) earlier index (action_trees m (map action_of effects)) ≡ Ok (earlier ++ steps_of setting.dialect n round index effects)
   unfolding added_from
   actions_read earlier n index m [] at all = ap Ok (sym (append-nil earlier))
-  actions_read earlier n index m (deed ∷ rest) at all =
-      let step : PlainStep = step_of setting.dialect n round index deed in
+  actions_read earlier n index m (effect ∷ rest) at all =
+      let step : PlainStep = step_of setting.dialect n round index effect in
       let number : next_number earlier ≡ kept_number n = ap kept_number at in
-      rw (one_read earlier index m deed all.0, number)
-      (actions_read (earlier ++ step ∷ []) (n + 1) (index + 1) (m + 1) rest (counted_action earlier n step.deed at) all.1
+      rw (one_read earlier index m effect all.0, number)
+      (actions_read (earlier ++ step ∷ []) (n + 1) (index + 1) (m + 1) rest (counted_action earlier n step.effect at) all.1
       ∙ ap Ok (append_assoc earlier (step ∷ []) (steps_of setting.dialect (n + 1) round (index + 1) rest)))
 
   first_behind : (index : ℕ) (x : Data) (xs ys : List Data) (found : Result (List PlainStep) MemberFault)
@@ -226,14 +226,14 @@ module _ (setting : PlainSetting) (round : ℕ) where
   behind earlier index [] ys = ap (λ n. added_from (action_added setting round) earlier n ys) (omega arith)
   behind earlier index (x ∷ xs) ys = first_behind index x xs ys (action_added setting round earlier index x) (λ after. behind after (index + 1) xs ys)
 
-  -- items behind others
+  -- items after others
   pub added_both : (earlier middle after : List PlainStep) (index : ℕ) (xs ys : List Data) → added_from (action_added setting round) earlier index xs ≡ Ok middle
       → added_from (action_added setting round) middle (index + length xs) ys ≡ Ok after
       → added_from (action_added setting round) earlier index (xs ++ ys) ≡ Ok after
   added_both earlier middle after index xs ys one two =
       behind earlier index xs ys ∙ ap (λ (found : Result (List PlainStep) MemberFault). found >>= λ mid. added_from (action_added setting round) mid (index + length xs) ys) one ∙ two
 
--- the trees of actions behind others
+-- the trees of actions after others
 pub trees_both : (m : ℕ) (some more : List PlainAction) → action_trees m (some ++ more) ≡ action_trees m some ++ action_trees (m + length some) more
 trees_both m [] more = ap (λ n. action_trees n more) (omega arith)
 trees_both m (action ∷ some) more =
@@ -243,10 +243,10 @@ pub trees_count : (m : ℕ) (actions : List PlainAction) → length (action_tree
 trees_count m [] = refl
 trees_count m (action ∷ rest) = ap suc (trees_count (m + 1) rest)
 
--- steps behind others
-pub steps_both : (dialect : Dialect) (n round index : ℕ) (some more : List Deed) → steps_of dialect n round index (some ++ more) ≡ steps_of dialect n round index some ++ steps_of dialect (n + length some) round (index + length some) more
+-- steps after others
+pub steps_both : (dialect : Dialect) (n round index : ℕ) (some more : List ActionEffect) → steps_of dialect n round index (some ++ more) ≡ steps_of dialect n round index some ++ steps_of dialect (n + length some) round (index + length some) more
 steps_both dialect n round index [] more = ap₂ (λ (n index : ℕ). steps_of dialect n round index more) (omega arith) (omega arith)
-steps_both dialect n round index (deed ∷ some) more =
-    ap (λ (l : List PlainStep). step_of dialect n round index deed ∷ l)
+steps_both dialect n round index (effect ∷ some) more =
+    ap (λ (l : List PlainStep). step_of dialect n round index effect ∷ l)
     (steps_both dialect (n + 1) round (index + 1) some more
     ∙ ap₂ (λ (k i : ℕ). steps_of dialect (n + 1) round (index + 1) some ++ steps_of dialect k round i more) (omega arith) (omega arith))

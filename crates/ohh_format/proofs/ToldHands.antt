@@ -1,5 +1,5 @@
--- What each hand has that bytes say: rules of hand histories, a game that is spelled, sizes of bets by the big blind, and antes and
--- blinds of posts that meet their conditions.
+-- What holds of each hand that is read from bytes: rules of hand histories, a game that can be
+-- written, bet sizes by the big blind, and antes and blinds of posts that meet their conditions.
 use Rattle.std.proofs.Common.{◌≡◌, ℕ, ◌+◌, ◌-◌, ◌*◌, ◌≤◌, Bool, true, false, ◌&&◌, nat_le, nat_lt, if◌then◌else◌, List, [], ◌∷◌, ◌++◌, Option, Some, None, Result, Ok, Err, IfOk, bytes_eq, codes, refl}
 use Rattle.std.specs.Bool.{⊤}
 use Rattle.std.specs.List.{AllByRecursion}
@@ -13,13 +13,13 @@ use Rattle.play_event.specs.HistoryRules.{history_rules}
 use Rattle.play_event.specs.declared.code.Code.{Code}
 use Rattle.play_event.specs.declared.code.Code.TheVariants as games
 use Rattle.ohh_members.specs.Blinds.{blinds_said, fitting, is_fixed_game}
-use Rattle.ohh_members.specs.Front.{PlainFront, front_said, ids_of, stacks_of}
+use Rattle.ohh_members.specs.Header.{PlainFront, front_said, ids_of, stacks_of}
 use Rattle.ohh_members.specs.Game.{game_said}
 use Rattle.ohh_members.specs.Players.{seated_said}
 use Rattle.ohh_facts.specs.Notes.{notes_said}
 use Rattle.ohh_facts.specs.Pots.{pots_said}
 use Rattle.ohh_rounds.specs.Rounds.{steps_said}
-use Rattle.ohh_members.specs.Values.{field, needed, number_said, object_said, or_wrong, text_said, wrong}
+use Rattle.ohh_members.specs.Values.{field, number_said, object_said, or_wrong, required, text_said, wrong}
 use Rattle.ohh_members.specs.declared.blinds.Blinds.{Blinds}
 use Rattle.ohh_members.specs.declared.dialect.Dialect.{Dialect}
 use Rattle.ohh_members.specs.declared.fault.MemberFault.{MemberFault}
@@ -28,14 +28,14 @@ use Rattle.ohh_members.specs.declared.fault.Path.TheVariants as paths
 use Rattle.ohh_members.specs.declared.fault.MemberFaultKind.{MemberFaultKind}
 use Rattle.ohh_members.specs.declared.fault.MemberFaultKind.TheVariants as whats
 use Rattle.ohh_writing.specs.Games.{is_spelled_game}
-use Rattle.ohh_posts.specs.Conditions.{posts_checked}
-use Rattle.ohh_posts.specs.Posts.{PlainPost}
-use Rattle.ohh_posts.specs.AntesAndBlinds.{PlainAntesAndBlinds, antes_and_blinds_said}
-use Rattle.ohh_posts.specs.NamedBlinds.{PlainNamedBlinds, seat_count}
-use Rattle.ohh_posts.specs.declared.post.PostFault.{PostFault}
-use Rattle.ohh_posts.specs.declared.post.PostFault.TheVariants as post_faults
+use Rattle.ohh_rounds.specs.PostRules.{posts_checked}
+use Rattle.ohh_rounds.specs.Posts.{PlainPost}
+use Rattle.ohh_rounds.specs.AntesAndBlinds.{PlainAntesAndBlinds, antes_and_blinds_said}
+use Rattle.ohh_rounds.specs.NamedBlinds.{PlainNamedBlinds, seat_count}
+use Rattle.ohh_rounds.specs.declared.post.PostFault.{PostFault}
+use Rattle.ohh_rounds.specs.declared.post.PostFault.TheVariants as post_faults
 use Rattle.ohh_rounds.specs.Play.{PlainPlay, at_posts, posts_in, rounds_said, script_said}
-use Rattle.ohh_rounds.specs.Setting.{PlainSetting}
+use Rattle.ohh_rounds.specs.HandContext.{PlainHandContext}
 use Rattle.ohh_rounds.specs.Steps.{PlainStep, moves_in}
 use Rattle.ohh_reading.specs.Blocks.{blocks_of}
 use Rattle.ohh_reading.specs.Hand.{hand_said, setting_of}
@@ -46,12 +46,12 @@ use Rattle.ohh_reading.specs.declared.fault.HandFaultKind.TheVariants as wrongne
 use Rattle.first_fault.proofs.Thread.{bound}
 use Rattle.hand_records.specs.PlainHands.{PlainHand, PlainSetup}
 
--- the same, by what holds of what comes first
+-- the same, by what holds of the first part
 bound_by : {A B F : Type 0} (P : A → Type 0) (Q : B → Type 0) (first : Result A F) (next : A → Result B F) → IfOk first P → ((a : A) → P a → IfOk (next a) Q) → IfOk (first >>= next) Q
 bound_by P Q (Ok a) next is each = each a is
 bound_by P Q (Err fault) next is each = tt
 
--- ---- the front
+-- ---- what comes before the rounds
 
 named_told : (what : MemberFaultKind) (path : Path) (first second third fourth : Bool)
     → IfOk (or_wrong what path (if first then Some games.FT else if second then Some games.NT else if third then Some games.PO else if fourth then Some games.FO8 else None)) (λ code. is_spelled_game code ≡ true)
@@ -61,16 +61,16 @@ named_told what path false false true fourth = refl
 named_told what path false false false true = refl
 named_told what path false false false false = tt
 
--- the game is one that is spelled
+-- the game is one that can be written
 abbrev IsOfSpelled : Code → Type 0
 IsOfSpelled code = is_spelled_game code ≡ true
 
 game_told : (ohh : Data) → IfOk (game_said ohh) IsOfSpelled
 unfolding game_said
 game_told ohh =
-    bound IsOfSpelled (needed paths.GameType ohh >>= text_said paths.GameType) _ (λ game.
-    bound IsOfSpelled (needed paths.BetLimit ohh >>= object_said paths.BetLimit) _ (λ limits.
-    bound IsOfSpelled (needed paths.BetType limits >>= text_said paths.BetType) _ (λ limit.
+    bound IsOfSpelled (required paths.GameType ohh >>= text_said paths.GameType) _ (λ game.
+    bound IsOfSpelled (required paths.BetLimit ohh >>= object_said paths.BetLimit) _ (λ limits.
+    bound IsOfSpelled (required paths.BetType limits >>= text_said paths.BetType) _ (λ limit.
     named_told whats.UnsupportedGame paths.GameType (bytes_eq game (codes "Holdem") && bytes_eq limit (codes "FL")) (bytes_eq game (codes "Holdem") && bytes_eq limit (codes "NL")) (bytes_eq game (codes "Omaha") && bytes_eq limit (codes "PL")) (bytes_eq game (codes "OmahaHiLo") && bytes_eq limit (codes "FL")))))
 
 number_told : (least most : ℕ) (path : Path) (value : Data) → IfOk (number_said least most path value) (λ n. least ≤ n)
@@ -89,7 +89,7 @@ number_told least most path (trees.string text) = tt
 number_told least most path (trees.array items) = tt
 number_told least most path (trees.object _) = tt
 
--- the small blind is a chip at least, and the big blind no less
+-- the small blind is at least one chip, and the big blind no less
 record AreInOrder (blinds : Blinds) : Type 0 where
   small : 1 ≤ blinds.small
   order : blinds.small ≤ blinds.big
@@ -111,9 +111,9 @@ blinds_told : (code : Code) (ohh : Data) → IfOk (blinds_said code ohh) AreInOr
 unfolding blinds_said
 blinds_told code ohh =
     bound AreInOrder (read_if (number_said 0 MOST_CHIPS paths.AnteAmount) (field paths.AnteAmount ohh)) _ (λ ante.
-    bound_by (λ n. 1 ≤ n) AreInOrder (needed paths.SmallBlindAmount ohh >>= number_said 1 MOST_CHIPS paths.SmallBlindAmount) _
-    (bound (λ n. 1 ≤ n) (needed paths.SmallBlindAmount ohh) (number_said 1 MOST_CHIPS paths.SmallBlindAmount) (λ value. number_told 1 MOST_CHIPS paths.SmallBlindAmount value)) (λ small least.
-    bound AreInOrder (needed paths.BigBlindAmount ohh >>= number_said 1 MOST_CHIPS paths.BigBlindAmount) _ (λ big. fit_told code small big least)))
+    bound_by (λ n. 1 ≤ n) AreInOrder (required paths.SmallBlindAmount ohh >>= number_said 1 MOST_CHIPS paths.SmallBlindAmount) _
+    (bound (λ n. 1 ≤ n) (required paths.SmallBlindAmount ohh) (number_said 1 MOST_CHIPS paths.SmallBlindAmount) (λ value. number_told 1 MOST_CHIPS paths.SmallBlindAmount value)) (λ small least.
+    bound AreInOrder (required paths.BigBlindAmount ohh >>= number_said 1 MOST_CHIPS paths.BigBlindAmount) _ (λ big. fit_told code small big least)))
 
 record IsToldFront (front : PlainFront) : Type 0 where
   game : is_spelled_game front.code ≡ true
@@ -134,13 +134,13 @@ pub record HasPosts (table : PlainNamedBlinds) (stakes : PlainAntesAndBlinds) : 
   pub are : stakes ≡ antes_and_blinds_said table posts
   pub checked : posts_checked table posts ≡ Ok tt
 
-checked_told : (setting : PlainSetting) (steps : List PlainStep) (checked : Result ⊤ PostFault) → posts_checked setting.table (posts_in steps) ≡ checked
+checked_told : (setting : PlainHandContext) (steps : List PlainStep) (checked : Result ⊤ PostFault) → posts_checked setting.table (posts_in steps) ≡ checked
     → IfOk (at_posts checked >>= λ met. Ok (record { stakes = antes_and_blinds_said setting.table (posts_in steps); script = script_said (seat_count setting.table) setting.hole_cards steps; file_moves = setting.file_moves + moves_in steps })) (λ (play : PlainPlay). HasPosts setting.table play.stakes)
 checked_told setting steps (Ok met) is = record { posts = posts_in steps; are = refl; checked = is }
 checked_told setting steps (Err post_faults.MissingBlind) is = tt
 checked_told setting steps (Err (post_faults.At place)) is = tt
 
-play_told : (setting : PlainSetting) (ohh : Data) → IfOk (rounds_said setting ohh) (λ play. HasPosts setting.table play.stakes)
+play_told : (setting : PlainHandContext) (ohh : Data) → IfOk (rounds_said setting ohh) (λ play. HasPosts setting.table play.stakes)
 unfolding rounds_said
 play_told setting ohh = bound (λ (play : PlainPlay). HasPosts setting.table play.stakes) (steps_said setting ohh) _ (λ steps. checked_told setting steps (posts_checked setting.table (posts_in steps)) refl)
 
@@ -150,7 +150,7 @@ play_told setting ohh = bound (λ (play : PlainPlay). HasPosts setting.table pla
 abbrev pub stakes_in : PlainSetup → PlainAntesAndBlinds
 stakes_in setup = record { antes = setup.antes; dead_antes = setup.dead_antes; blinds = setup.blinds }
 
--- a setup is told by blinds as they are named, and by posts
+-- a setup is determined by named blinds and by posts
 pub record IsToldSetup (setup : PlainSetup) : Type 0 where
   pub table : PlainNamedBlinds
   pub game : is_spelled_game setup.code ≡ true
@@ -164,7 +164,7 @@ pub record IsToldHand (hand : PlainHand) : Type 0 where
   pub rules : hand.rules ≡ history_rules
   pub setup : IsToldSetup hand.setup
 
--- what is found of a hand
+-- what holds of a hand that is read
 abbrev IsFoundTold : PlainHand × ℕ → Type 0
 IsFoundTold found = IsToldHand found.0
 
@@ -234,7 +234,7 @@ all_told : (found : Result (List PlainHand × ℕ) OhhHandFault) → IfOk found 
 all_told (Ok found) is = is
 all_told (Err fault) is = tt
 
--- each hand that bytes say
+-- each hand that is read from bytes
 pub reading_told : (dialect : Dialect) (bytes : List ℕ) → IfOk (reading dialect bytes) (AllByRecursion IsToldHand)
 unfolding reading
 reading_told dialect bytes = all_told (hands_said dialect (blocks_of bytes)) (threaded dialect 0 1 (blocks_of bytes))

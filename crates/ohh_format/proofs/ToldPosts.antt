@@ -1,19 +1,20 @@
--- Posts that meet their conditions: antes are within the stacks and even where all post them, and straddles are covered.
+-- Posts that meet their conditions: antes are within the stacks, and even if all seats post them,
+-- and straddles are covered.
 use Rattle.std.proofs.Common.{◌≡◌, ℕ, ◌≤◌, Bool, true, false, not, ◌&&◌, ◌||◌, ◌==◌, nat_le, nat_lt, min, if◌then◌else◌, List, [], ◌∷◌, ◌++◌, find, Option, Some, None, is_some, option_map, Result, Ok, Err, refl, sym, subst, arith, true≢false}
 use Rattle.std.specs.Bool.{⊤}
 use Rattle.std.specs.List.{AllByRecursion}
 use Rattle.std.specs.Option.{option_map_or}
 use Rattle.std.proofs.lemmas.Bool.{and_parts, eqb-true, ltb-false, not-false}
 use Rattle.first_fault.specs.Reading.{◌>>=◌}
-use Rattle.ohh_posts.specs.Conditions.{at_first, first_breaking, greatest_ante, has_all_antes, has_blinds, holds, is_breaking, left_of, posts_checked}
-use Rattle.ohh_posts.specs.Posts.{PlainPost, ante_of, first_ante, first_post, first_straddle, is_ante, is_straddle}
-use Rattle.ohh_posts.specs.NamedBlinds.{PlainNamedBlinds, stack_of}
-use Rattle.ohh_posts.specs.declared.checking.Condition.{Condition}
-use Rattle.ohh_posts.specs.declared.checking.Condition.TheVariants as conditions
-use Rattle.ohh_posts.specs.declared.post.ActionPlace.{ActionPlace}
-use Rattle.ohh_posts.specs.declared.post.PostKind.{PostKind}
+use Rattle.ohh_rounds.specs.PostRules.{at_first, first_breaking, greatest_ante, has_all_antes, has_blinds, holds, is_breaking, left_of, posts_checked}
+use Rattle.ohh_rounds.specs.Posts.{PlainPost, ante_of, first_ante, first_post, first_straddle, is_ante, is_straddle}
+use Rattle.ohh_rounds.specs.NamedBlinds.{PlainNamedBlinds, stack_of}
+use Rattle.ohh_rounds.specs.declared.checking.PostRule.{PostRule}
+use Rattle.ohh_rounds.specs.declared.checking.PostRule.TheVariants as conditions
+use Rattle.ohh_rounds.specs.declared.post.ActionPlace.{ActionPlace}
+use Rattle.ohh_rounds.specs.declared.post.PostKind.{PostKind}
 
--- what came first where all was read
+-- the first result, if all was read
 then_ok : {A B F : Type 0} (first : Result A F) (next : A → Result B F) (b : B) → (first >>= next) ≡ Ok b → (a : A) × ((first ≡ Ok a) × (next a ≡ Ok b))
 then_ok (Ok a) next b is = (a, (refl, is))
 then_ok (Err fault) next b is = absurd (cc (is))
@@ -57,7 +58,7 @@ first_is is_kind Q (post ∷ rest) each seat amount found = by_test (is_kind pos
 
 module _ (table : PlainNamedBlinds) (posts : List PlainPost) (checked : posts_checked table posts ≡ Ok tt) where
   -- what holds of each post that does not break a condition
-  kept : (condition : Condition) (P : PlainPost → Type 0) → ((before : List PlainPost) (post : PlainPost) → is_breaking condition table posts before post ≡ false → P post)
+  kept : (condition : PostRule) (P : PlainPost → Type 0) → ((before : List PlainPost) (post : PlainPost) → is_breaking condition table posts before post ≡ false → P post)
       → (before rest : List PlainPost) → first_breaking condition table posts before rest ≡ None → AllByRecursion P rest
   kept condition P each before [] none = tt
   kept condition P each before (post ∷ rest) none = by_break (is_breaking condition table posts before post) refl none (kept condition P each (before ++ post ∷ []) rest)
@@ -102,7 +103,7 @@ module _ (table : PlainNamedBlinds) (posts : List PlainPost) (checked : posts_ch
       ltb-false (stack_of table post.seat) post.amount
       (first_of (is_ante post.kind) (nat_lt (stack_of table post.seat) post.amount) ((post.amount == 0) || is_some (first_ante post.seat before)) is fits)) [] posts met.1.0)
 
-  -- where all post antes each is the greatest, as far as the stack goes
+  -- if all post antes, each is the greatest, or all of a smaller stack
   pub ante_even : has_all_antes table posts ≡ true → (seat amount : ℕ) → first_ante seat posts ≡ Some amount → amount ≡ min (greatest_ante table posts) (stack_of table seat)
   unfolding is_breaking
   ante_even all =

@@ -1,9 +1,9 @@
--- A setup that is told by posts has a spelling: its game, sizes of bets, antes and blinds.
+-- A setup that is determined by posts can be written: its game, bet sizes, antes and blinds.
 use Rattle.std.proofs.Common.{◌≡◌, ℕ, zero, suc, ◌+◌, ◌-◌, ◌*◌, ◌<◌, ◌≤◌, Bool, true, false, not, ◌&&◌, ◌||◌, ◌==◌, nat_le, nat_lt, min, if◌then◌else◌, List, length, map, slice_index, Option, Some, None, is_some, refl, sym, ap, ◌∙◌, arith, true≢false}
 use Rattle.std.specs.List.{list_all, list_any, range_with_len}
 use Rattle.std.specs.Option.{option_map_or}
 use Rattle.std.proofs.lemmas.Bool.{and_from, eq-eqb, le-leb, leb-false, lt-ltb, ltb-false, ne_eqb}
-use Rattle.list_laws.proofs.NumbersOfRange.{at_range, map_agree, all_at, all_of, some_other, mapped_at}
+use Rattle.card_set.proofs.NumbersOfRange.{at_range, map_agree, all_at, all_of, some_other, mapped_at}
 use Rattle.chip_ledger.specs.Greatest.{greatest}
 use Rattle.chip_ledger.specs.Seat.{seats_of}
 use Rattle.chip_ledger.specs.SeatRow.{amount_of, amounts_in}
@@ -13,16 +13,16 @@ use Rattle.play_event.specs.Streets.{limit_of}
 use Rattle.play_event.specs.ValidSetup.{is_fixed}
 use Rattle.play_event.specs.declared.setup.Setup.{Setup}
 use Rattle.ohh_writing.specs.Spelled.{big_blind, greatest_ante, has_no_ante, has_spelled_antes, has_spelled_blinds, has_spelled_sizes, has_spelled_straddles, has_two_blinds, is_covered_straddle, is_whole_ante}
-use Rattle.ohh_posts.proofs.Stacks.{seats_in}
-use Rattle.ohh_posts.specs.Conditions as conditions_of
-use Rattle.ohh_posts.specs.Conditions.{has_all_antes}
-use Rattle.ohh_posts.specs.Posts.{PlainPost, ante_of, first_ante, first_straddle}
-use Rattle.ohh_posts.specs.AntesAndBlinds.{PlainAntesAndBlinds, antes_and_blinds_said, are_dead, held_ante, named_blind}
-use Rattle.ohh_posts.specs.NamedBlinds.{PlainNamedBlinds, seat_count, stack_of}
+use Rattle.ohh_rounds.proofs.Stacks.{seats_in}
+use Rattle.ohh_rounds.specs.PostRules as conditions_of
+use Rattle.ohh_rounds.specs.PostRules.{has_all_antes}
+use Rattle.ohh_rounds.specs.Posts.{PlainPost, ante_of, first_ante, first_straddle}
+use Rattle.ohh_rounds.specs.AntesAndBlinds.{PlainAntesAndBlinds, antes_and_blinds_said, are_dead, held_ante, named_blind}
+use Rattle.ohh_rounds.specs.NamedBlinds.{PlainNamedBlinds, seat_count, stack_of}
 use Rattle.hand_records.specs.declared.sizes.Sizes.{Sizes}
 use Rattle.ohh_format.proofs.ToldHands.{IsToldSetup}
 use Rattle.ohh_format.proofs.ToldPosts.{ante_even, ante_within, straddle_few}
-use Rattle.list_laws.proofs.Entries.{at_taken}
+use Rattle.card_set.proofs.Entries.{at_taken}
 use Rattle.hand_records.specs.PlainHands.{plain_setup}
 
 -- ---- ranges
@@ -42,7 +42,7 @@ greatest_none f first zero each = refl
 greatest_none f first (suc count) each =
     omega (arith, each first (omega arith) (omega arith), greatest_none f (first + 1) count (λ number low high. each number (omega (arith, low)) (omega (arith, high))))
 
--- the sizes of bets by whether the limit is fixed
+-- the bet sizes by whether the limit is fixed
 abbrev sizes_by : ℕ → Bool → Sizes
 sizes_by big fixed =
     if fixed then record { bring_in = 0; small_bet = big; big_bet = 2 * big; min_bet = 0 }
@@ -202,7 +202,7 @@ module _ (setup : Setup) (is : IsToldSetup (plain_setup setup)) where
       eq-eqb (amount_of setup.antes seat) (min (amount_of setup.stacks seat) (greatest_ante setup))
       (omega (arith, ante_is seat low (omega (arith, high)), even_ante all seat low high, greatest_is, stack_is seat))
 
-  -- or none posts an ante
+  -- or no seat posts an ante
   none_ante : list_any (λ seat. nat_lt 0 (held_ante table posts seat)) (seats_of (seat_count table)) ≡ false → (seat : ℕ) → 1 ≤ seat → seat < 1 + count → amount_of setup.antes seat ≡ 0
   none_ante none seat low high =
       let here = at_range (λ n. nat_lt 0 (held_ante table posts n)) 1 count seat (sym (ap (λ n. list_any (λ seat. nat_lt 0 (held_ante table posts seat)) (seats_of n)) count_is) ∙ none) low high in

@@ -11,12 +11,12 @@ use Rattle.chip_ledger.specs.declared.seat_row.TheConstants.{MOST_AMOUNT}
 use Rattle.chip_ledger.specs.Seat.{seats_of}
 use Rattle.chip_ledger.specs.SeatRow.{amount_of}
 use Rattle.first_fault.specs.Reading.{added_from}
-use Rattle.ohh_members.specs.Values.{needed, number_said, integer_said, object_said, player_said, seat_from, seat_of}
+use Rattle.ohh_members.specs.Values.{required, number_said, integer_said, object_said, player_said, seat_from, seat_of}
 use Rattle.ohh_facts.specs.Pots.{summed, win_added, win_said}
 use Rattle.ohh_facts.specs.Won.{PlainWin, won_by}
 use Rattle.ohh_format.proofs.SameNumbers.{other_number}
 use Rattle.ohh_writing.specs.Tree.{win_object, win_tree}
-use Rattle.list_laws.proofs.Integers.{same_whole}
+use Rattle.card_set.proofs.Integers.{same_whole}
 
 -- the ids that are written: 1, 2 and so on
 abbrev pub ids_written : ℕ → List ℤ
@@ -33,7 +33,7 @@ seat_again_from seat first (suc count) false is from below =
 pub seat_again : (seat count : ℕ) → 1 ≤ seat → seat ≤ count → seat_of (ids_written count) (pos seat) ≡ Some seat
 seat_again seat count first last = seat_again_from seat 1 count (seat == 1) refl first (omega (arith, last))
 
--- what a seat wins of a pot, where it wins something
+-- what a seat wins of a pot, if it wins something
 abbrev pub win_plain : SeatRow → ℕ → List PlainWin
 win_plain share seat = cond (nat_lt 0 (amount_of share seat)) (record { seat = seat; chips = amount_of share seat } ∷ []) []
 
@@ -44,7 +44,7 @@ wins_plain share seats = flat_map (win_plain share) seats
 module _ (count : ℕ) (pot : ℕ) where
   pub win_again : (earlier : List PlainWin) (index seat amount : ℕ) → 1 ≤ seat → seat ≤ count → won_by seat earlier + amount ≤ MOST_AMOUNT
       → win_added (ids_written count) pot earlier index (win_object seat amount) ≡ Ok (earlier ++ record { seat = seat; chips = amount } ∷ [])
-  unfolding win_added win_said object_said needed player_said integer_said number_said summed
+  unfolding win_added win_said object_said required player_said integer_said number_said summed
   win_again earlier index seat amount first last few =
       rw (seat_again seat count first last, le-leb 0 amount (omega arith), le-leb amount MOST_AMOUNT (omega (arith, few)), le-leb (won_by seat earlier + amount) MOST_AMOUNT few) refl
 
@@ -59,7 +59,7 @@ module _ (count : ℕ) (pot : ℕ) (share : SeatRow) where
   abbrev Few : ℕ → List PlainWin → Type 0
   Few first earlier = (seat : ℕ) → first ≤ seat → won_by seat earlier + amount_of share seat ≤ MOST_AMOUNT
 
-  -- of these seats, one more is told
+  -- one more of these seats is read
   wins_step : (earlier : List PlainWin) (index seat : ℕ) (rest : List Data) (found : List PlainWin) (wins : Bool)
       → nat_lt 0 (amount_of share seat) ≡ wins → 1 ≤ seat → seat ≤ count → Few seat earlier
       → ((next : ℕ) (so_far : List PlainWin) → Few (seat + 1) so_far → added_from (win_added (ids_written count) pot) so_far next rest ≡ Ok (so_far ++ found))

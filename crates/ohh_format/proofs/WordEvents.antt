@@ -1,10 +1,11 @@
--- Events in the words of the format are as legal as those of the canonical script, and leave their past: a call states the chips that
--- it adds, and a raise is spelled by these or by the chips of the street to which it goes.
+-- Events in the words of the format are as legal as those of the canonical script, and lead to the
+-- same past: a call states the chips that it adds, and a raise is given by these or by the bet on
+-- the street that it raises to.
 use Rattle.std.proofs.Common.{◌≡◌, ℕ, ◌-◌, ◌≤◌, Bool, true, false, ◌&&◌, ◌||◌, ◌==◌, not, if◌then◌else◌, List, [], ◌∷◌, ◌++◌, Option, Some, None, refl, sym, ap, ◌∙◌, arith, true≢false}
 use Rattle.std.specs.List.{AllByRecursion}
 use Rattle.std.proofs.lemmas.Bool.{eq-eqb, not_from_true}
-use Rattle.canon_script.specs.CanonScript.{act_named, move_named, plain_move}
-use Rattle.canon_script.specs.PlayedScript.{is_move}
+use Rattle.play_event.specs.CanonScript.{act_named, move_named, plain_move}
+use Rattle.play_event.specs.PlayedScript.{is_move}
 use Rattle.play_event.specs.Amounts.{call_target, raise_target}
 use Rattle.play_event.specs.Chips.{street_chips}
 use Rattle.play_event.specs.Due.{turn}
@@ -32,22 +33,23 @@ use Rattle.play_laws.proofs.OneSpelling.{equal_past, equal_reason}
 use Rattle.ohh_members.specs.declared.dialect.Dialect.{Dialect}
 use Rattle.ohh_members.specs.declared.dialect.Dialect.TheVariants as dialects
 use Rattle.ohh_format.specs.Again.{move_again, raise_again, raise_by_dialect}
-use Rattle.canon_ranges.proofs.RaiseUp.{raise_up}
-use Rattle.canon_ranges.proofs.SameEvents.{AreSame, IsNewest, IsSame, newest, one_more, same_moves}
+use Rattle.canon_laws.proofs.RaiseUp.{raise_up}
+use Rattle.canon_laws.proofs.SameEvents.{AreSame, IsNewest, IsSame, newest, one_more, same_moves}
 
--- The events of a canonical script, the newest first, with its moves, and the same events in words: an event that is no move stays,
--- and a move has its word.
+-- The events of a canonical script, the newest first, with its moves, and the same events in words:
+-- an event that is not a move stays, and a move has its word.
 pub data InWords (dialect : Dialect) : List Said → List Move → List Said → Type 0 where
   nothing : InWords dialect [] [] []
   stays : (event : Said) (events : List Said) (moves : List Move) (words : List Said) → is_move event ≡ false → InWords dialect events moves words → InWords dialect (event ∷ events) moves (event ∷ words)
   word : (move : TracedMove) (events : List Said) (moves : List Move) (words : List Said) → InWords dialect events moves words
       → InWords dialect (move_named (plain_move move) ∷ events) (plain_move move ∷ moves) (move_again dialect move.act move ++ words)
 
--- a move that has a word: no bring-in
+-- a move that has a word: not a bring-in
 abbrev pub HasWord : Move → Type 0
 HasWord move = is_bring_in move.act ≡ false
 
--- why a call is illegal, by whether its kind may come and whether it states other chips than it adds
+-- why a call is illegal, by whether its kind may come and whether it states other chips than it
+-- adds
 abbrev call_refused : Setup → Rules → List Move → ℕ × Due → InTurn → ℕ → ℕ → Bool → Bool → Option Illegal
 call_refused setup rules moves now in_turn seat stated comes differs =
     first_reason (
@@ -85,7 +87,7 @@ call_same setup rules past seat stated adds legal =
       past = refl;
     }
 
--- a raise to the same chips of the street is as legal
+-- a raise to the same bet on the street is as legal
 raise_same : (setup : Setup) (rules : Rules) (past : Past) (seat target : ℕ) (amount : Spelled) → raise_target setup (moves_of past) (turn setup past).0 seat amount ≡ target
     → why setup rules past (said.Raise (Some seat) (spelled.To target)) ≡ None → IsSame setup rules past (said.Raise (Some seat) (spelled.To target)) (said.Raise (Some seat) amount)
 raise_same setup rules past seat target amount goes legal =
@@ -104,15 +106,15 @@ call_goes : (setup : Setup) (past : Past) (move : Move) (older : List Move) → 
 unfolding with_event
 call_goes setup past move older same = sym (goes_to _ move (moves_of past) older same)
 
--- where a raise goes, as its word says it
+-- where a raise goes, as its word gives it
 raise_goes : (dialect : Dialect) (setup : Setup) (moves : List Move) (street : ℕ) (move : TracedMove) → move.from ≡ street_chips setup moves street move.seat → move.from ≤ move.to
     → raise_target setup moves street move.seat (raise_again dialect move) ≡ move.to
-raise_goes dialect setup moves street move from up = by_price (move.price == 0) dialect
+raise_goes dialect setup moves street move from up = by_current_bet (move.price == 0) dialect
   where
-    by_price : (bet : Bool) (dialect : Dialect) → raise_target setup moves street move.seat (if bet then spelled.Added (move.to - move.from) else raise_by_dialect dialect move) ≡ move.to
-    by_price true dialect = omega (arith, from, up)
-    by_price false dialects.Added = omega (arith, from, up)
-    by_price false dialects.To = refl
+    by_current_bet : (bet : Bool) (dialect : Dialect) → raise_target setup moves street move.seat (if bet then spelled.Added (move.to - move.from) else raise_by_dialect dialect move) ≡ move.to
+    by_current_bet true dialect = omega (arith, from, up)
+    by_current_bet false dialects.Added = omega (arith, from, up)
+    by_current_bet false dialects.To = refl
 
 -- the word of a move
 word_more : (dialect : Dialect) (setup : Setup) (rules : Rules) (events words : List Said) (move : TracedMove) (older : List Move) → IsValid setup → AreLegal setup rules events
@@ -135,7 +137,7 @@ word_more dialect setup rules events words move older valid before same has plac
 word_more dialect setup rules events words move older valid before same has placed BroughtIn is newest legal =
     absurd (true≢false (sym (ap is_bring_in is) ∙ has))
 
--- events in words are legal, and leave the past
+-- events in words are legal, and lead to the same past
 pub words_same : (dialect : Dialect) (setup : Setup) (rules : Rules) (events : List Said) (moves : List Move) (words : List Said) → IsValid setup
     → InWords dialect events moves words → AreLegal setup rules events → moves_of (past_of setup events) ≡ moves → AllByRecursion HasWord moves → AreSame setup rules events words
 words_same dialect setup rules _ _ _ valid nothing legal same have = record { legal = tt; past = refl }

@@ -1,15 +1,16 @@
--- The canonical script of a play in the words of the format is played to its end, and leaves the trace of the play.
+-- The canonical script of a play in the words of the format is played to its end, and leads to the
+-- trace of the play.
 use Rattle.std.proofs.Common.{◌≡◌, false, List, [], ◌∷◌, ◌++◌, map, reverse, refl, sym, ap, subst, ◌∙◌}
 use Rattle.std.specs.List.{AllByRecursion, flat_map, range_with_len}
 use Rattle.std.proofs.lemmas.List.{map-append, reverse-append, reverse-reverse}
-use Rattle.canon_blocks.proofs.StreetMoves.{AreFalling, legal_falling}
+use Rattle.canon_laws.proofs.StreetMoves.{AreFalling, legal_falling}
 use Rattle.canon_laws.proofs.AllStreets.{legal_since, none_first}
 use Rattle.canon_laws.proofs.Confluent.{confluent}
 use Rattle.canon_laws.proofs.SameCore.{plain_again, moves_kept}
 use Rattle.canon_laws.specs.Confluence.{HasTraceOf}
-use Rattle.canon_script.specs.CanonScript.{canon_of, canonical_script, plain_move, plain_moves, script_of, showdown_said, street_said}
-use Rattle.canon_script.specs.PlayedScript.{IsPlayed}
-use Rattle.canon_script.specs.TraceCore.{TraceCore, core_after, core_of}
+use Rattle.play_event.specs.CanonScript.{canon_of, canonical_script, plain_move, plain_moves, script_of, showdown_said, street_said}
+use Rattle.play_event.specs.PlayedScript.{IsPlayed}
+use Rattle.play_event.specs.TraceCore.{TraceCore, core_after, core_of}
 use Rattle.play_event.specs.Due.{is_unfinished, turn}
 use Rattle.play_event.specs.Laws.{AreLegal}
 use Rattle.play_event.specs.Past.{Move, Past, moves_before, moves_of}
@@ -56,7 +57,7 @@ abbrev pub words_of : Dialect → Setup → TraceCore → List Said
 words_of dialect setup core =
     flat_map (street_again dialect setup core.places core.moves) (range_with_len 1 4) ++ showdown_said setup core.places (plain_moves core.moves) core.shown
 
--- words that leave the past of other events
+-- words that lead to the past of other events
 in_words : (setup : Setup) (rules : Rules) (script events words : List Said) → HasTraceOf setup rules script events
     → past_of setup (reverse words) ≡ past_of setup (reverse events) → AreLegal setup rules (reverse words) → HasTraceOf setup rules script words
 in_words setup rules script events words has same legal =
@@ -110,7 +111,7 @@ module _ (dialect : Dialect) (setup : Setup) (rules : Rules) (script : List Said
       (ap (moves_before 1) plain_is ∙ none_first (moves_of past) (legal_since setup rules (reverse script) played.legal))
       (ap (moves_before 5) plain_is ∙ before_fifth setup rules (reverse script) played.legal is.streets ∙ sym plain_is)
 
-  -- the script in words is played to its end, and leaves the trace
+  -- the script in words is played to its end, and leads to the trace
   pub words_played : HasTraceOf setup rules script (words_of dialect setup core)
   words_played =
       let moves : moves_of (past_of setup (reverse events)) ≡ plain = moves_kept setup past (past_of setup (reverse events)) canonical.same ∙ sym plain_is in

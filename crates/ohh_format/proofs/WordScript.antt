@@ -4,8 +4,8 @@ use Rattle.std.specs.List.{flat_map, list_any, range_with_len}
 use Rattle.std.proofs.lemmas.Bool.{eqb-true, ltb-true, ne_eqb}
 use Rattle.std.proofs.lemmas.List.{append-nil, flat_map_more, reverse-append}
 use Rattle.card_set.specs.Known.{known_cards}
-use Rattle.canon_script.specs.CanonScript.{held_slots, move_named, plain_move, showdown_said, showing_said, street_said}
-use Rattle.canon_script.specs.PlayedScript.{is_move}
+use Rattle.play_event.specs.CanonScript.{held_slots, move_named, plain_move, showdown_said, showing_said, street_said}
+use Rattle.play_event.specs.PlayedScript.{is_move}
 use Rattle.play_event.specs.Past.{Act, BroughtIn, Called, Folded, Move, Raised, moves_before}
 use Rattle.play_event.specs.Said.{Muck, Said, Show}
 use Rattle.play_event.specs.Seats.{all_seats, is_live, live_count}
@@ -13,8 +13,8 @@ use Rattle.play_event.specs.Streets.{has_draw}
 use Rattle.play_event.specs.Trace.{TracedMove, TracedPlace}
 use Rattle.play_event.specs.declared.setup.Setup.{Setup}
 use Rattle.play_laws.specs.PastLaws.{AreReached}
-use Rattle.canon_blocks.proofs.StreetMoves.{AreFalling, own_moves, none_own}
-use Rattle.canon_ranges.proofs.OtherWords.{NoMoves, all_streets, behind_both, quiet_stay}
+use Rattle.canon_laws.proofs.StreetMoves.{AreFalling, own_moves, none_own}
+use Rattle.canon_laws.proofs.OtherWords.{NoMoves, all_streets, behind_both, quiet_stay}
 use Rattle.ohh_members.specs.declared.dialect.Dialect.{Dialect}
 use Rattle.ohh_format.specs.Again.{move_again, move_on, moves_again, street_again}
 use Rattle.ohh_format.proofs.WordEvents.{InWords, nothing, stays, word}
@@ -35,7 +35,7 @@ showdown_no setup placed list shown = by_contest (nat_le 2 (live_count setup lis
     by_contest true = showing_no placed shown (filter (is_live list) (all_seats setup))
     by_contest false = tt
 
--- the words of the moves of a street, where the moves are the newest first
+-- the words of the moves of a street; the moves are the newest first
 words_on : Dialect → ℕ → List TracedMove → List Said
 words_on dialect street [] = []
 words_on dialect street (first ∷ older) = words_on dialect street older ++ move_on dialect street first
@@ -48,7 +48,7 @@ words_are dialect street (first ∷ older) =
     ∙ sym (flat_map_more (move_on dialect street) [] (reverse older) first)
     ∙ ap (λ (l : List Said). l ++ move_on dialect street first) (words_are dialect street older)
 
--- no move of a street has a word where all moves are of earlier ones
+-- no move of a street has a word if all moves are of earlier ones
 none_again : (dialect : Dialect) (newest street : ℕ) (list : List TracedMove) → AreReached newest (map plain_move list) → newest < street → words_on dialect street list ≡ []
 unfolding words_on
 none_again dialect newest street [] all less = refl
@@ -57,7 +57,7 @@ none_again dialect newest street (first ∷ rest) all less =
     ∙ append-nil (words_on dialect street rest)
     ∙ none_again dialect newest street rest all.1 less
 
--- a word is one event, or none
+-- a word is one event, or no event
 again_once : (dialect : Dialect) (act : Act) (move : TracedMove) → reverse (move_again dialect act move) ≡ move_again dialect act move
 again_once dialect Folded move = refl
 again_once dialect Called move = refl

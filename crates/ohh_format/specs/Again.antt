@@ -1,4 +1,4 @@
--- The hands that are read again of plays that were written: the same setups and rakes, the
+-- The hands that are read back from plays that were written: the same setups and rakes, the
 -- canonical scripts in the words of the format, what each seat won and the total of the pots, and
 -- the kept notes.
 use Rattle.std.specs.Prelude.{ℕ, ◌+◌, ◌-◌, ◌==◌, Bool, true, false, if◌then◌else◌, List, [], ◌∷◌, ◌++◌, length, map, slice_index_or, take, Some, None, option_and_then, option_map, codes}
@@ -13,7 +13,7 @@ use Rattle.play_event.specs.Said as said
 use Rattle.play_event.specs.Said.{Numbered, Said}
 use Rattle.play_event.specs.Seats.{all_seats}
 use Rattle.play_event.specs.Trace.{TracedMove, TracedPlace}
-use Rattle.canon_script.specs.CanonScript.{deals_said, plain_moves, showdown_said}
+use Rattle.play_event.specs.CanonScript.{deals_said, plain_moves, showdown_said}
 use Rattle.hand_canon.specs.Agreement.{pot_total_of, win_of}
 use Rattle.hand_records.specs.TraceRows.{core_said}
 use Rattle.hand_records.specs.declared.notes.Notes.{Notes}
@@ -25,31 +25,31 @@ use Rattle.ohh_writing.specs.Actions.{has_known, posts}
 use Rattle.ohh_writing.specs.Moment.{moment_of}
 use Rattle.ohh_writing.specs.Seating.{numbers_spelled}
 use Rattle.first_fault.specs.Numbers.{kept_number}
-use Rattle.hand_records.specs.AllowedNotes.{unless_usual}
+use Rattle.hand_records.specs.AllowedNotes.{non_default_seats}
 use Rattle.hand_records.specs.PlainHands.{PlainHand, plain_setup}
 use Rattle.hand_records.specs.SaidNotes.{SaidNotes, kept_label}
 
 -- ---- moves
 
--- a raise in a dialect: by the chips that it adds, or by the chips of the street to which it goes
+-- a raise in a dialect: by the chips that it adds, or by the bet on the street that it raises to
 abbrev pub raise_by_dialect : Dialect → TracedMove → Spelled
 raise_by_dialect dialects.Added move = spelled.Added (move.to - move.from)
 raise_by_dialect dialects.To move = spelled.To move.to
 
--- a bet by the chips that it adds where nobody had put any on the street, else a raise
+-- a bet by the chips that it adds, if nobody had put in chips on the street, else a raise
 abbrev pub raise_again : Dialect → TracedMove → Spelled
 raise_again dialect move =
     if move.price == 0 then spelled.Added (move.to - move.from) else raise_by_dialect dialect move
 
--- A move by its act, as its word says it: a call states the chips that it adds. A bring-in has no
--- word, and no game that is written has one.
+-- A move by its act, as the format writes it: a call states the chips that it adds. A bring-in has
+-- no word, and no game that can be written has one.
 abbrev pub move_again : Dialect → Act → TracedMove → List Said
 move_again dialect Folded move = said.Fold (Some move.seat) ∷ []
 move_again dialect Called move = said.Call (Some move.seat) (Some (move.to - move.from)) ∷ []
 move_again dialect Raised move = said.Raise (Some move.seat) (raise_again dialect move) ∷ []
 move_again dialect BroughtIn move = []
 
--- a move, where it is one of a street
+-- a move, if it is on the street
 abbrev pub move_on : Dialect → ℕ → TracedMove → List Said
 move_on dialect street move = if move.street == street then move_again dialect move.act move else []
 
@@ -59,12 +59,13 @@ moves_again dialect moves street = flat_map (move_on dialect street) moves
 
 -- ---- the script
 
--- one street of the canonical script: its deals, and its moves as their words say them
+-- one street of the canonical script: its deals, and its moves as the format writes them
 abbrev pub street_again : Dialect → Setup → List TracedPlace → List TracedMove → ℕ → List Said
 street_again dialect setup placed moves street =
     deals_said setup placed street ++ moves_again dialect moves street
 
--- the canonical script of a game of four streets without draws, the moves as their words say them
+-- the canonical script of a game of four streets without draws, with the moves as the format writes
+-- them
 abbrev pub script_again : Dialect → Trace → List Said
 script_again dialect trace =
     flat_map (street_again dialect trace.setup (core_said trace).places (core_said trace).moves)
@@ -72,8 +73,8 @@ script_again dialect trace =
     ++ showdown_said trace.setup (core_said trace).places (plain_moves (core_said trace).moves)
     (core_said trace).shown
 
--- an action says the event: the board is dealt by a round, and hole cards of which none is known
--- are not told
+-- an action of the format has the event: the board is dealt by a round instead, and hole cards that
+-- are all unknown are left out
 abbrev pub is_told : Said → Bool
 is_told (said.Hole seat slots) = has_known slots
 is_told (said.Board cards) = false
@@ -85,8 +86,8 @@ is_told (said.Discard seat slots) = true
 is_told (said.Show seat cards) = true
 is_told (said.Muck seat) = true
 
--- events with the numbers of their actions, of which the first has this number; what no action says
--- has 0
+-- events with the numbers of their actions; the first has this number, and an event without an
+-- action has 0
 abbrev pub numbered_from : ℕ → List Said → List Numbered
 numbered_from n [] = []
 numbered_from n (event ∷ rest) =
@@ -96,14 +97,14 @@ numbered_from n (event ∷ rest) =
 
 -- ---- notes
 
--- The kept notes of so many seats, at a place of the file: numbers of seats that go round the
--- table, and a moment of which all is said, in the zone UTC.
+-- The kept notes of a hand with this number of seats, at a place of the file: numbers of seats that
+-- go round the table once, and a complete moment in the zone UTC.
 abbrev pub notes_again : ℕ → ℕ → Notes → SaidNotes
 notes_again place count notes =
     record {
       names = map (λ seat. slice_index_or notes.names (seat - 1) None) (seats_of count);
       seats =
-          option_and_then (λ numbers. unless_usual count (take count numbers))
+          option_and_then (λ numbers. non_default_seats count (take count numbers))
           (numbers_spelled count notes.seats);
       seat_count = notes.seat_count;
       hand = kept_label place notes.hand;
@@ -119,8 +120,8 @@ notes_again place count notes =
 
 -- ---- the hands
 
--- the hand that is read again of the play at a place of its file, from 0; its posts are the first
--- actions
+-- the hand that is read back from the play at this place of its file, from 0; its posts are the
+-- first actions
 abbrev pub hand_again : Dialect → ℕ → Play → PlainHand
 hand_again dialect place play =
     record {
@@ -138,7 +139,7 @@ hand_again dialect place play =
       notes = notes_again place play.trace.setup.stacks.seats play.hand.notes;
     }
 
--- the hands that are read again of plays, of which the first is at this place
+-- the hands that are read back from plays; the first is at this place
 abbrev pub hands_again : Dialect → ℕ → List Play → List PlainHand
 hands_again dialect place [] = []
 hands_again dialect place (play ∷ rest) =

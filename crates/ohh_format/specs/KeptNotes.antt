@@ -1,4 +1,4 @@
--- Which notes the format keeps: numbers of seats that go round the table, a whole moment,
+-- Which notes the format keeps: numbers of seats that go round the table once, a complete moment,
 -- and all other notes.
 use Rattle.std.specs.Prelude.{ℕ, List, if◌then◌else◌, Option, Some, None, option_and_then, option_map, codes}
 use Rattle.ohh_writing.specs.Moment.{moment_said}
@@ -10,11 +10,11 @@ use Rattle.hand_records.specs.SaidNotes.{SaidNotes}
 abbrev pub numbers_round : List ℕ → Option (List ℕ)
 numbers_round numbers = if is_circular numbers then Some numbers else None
 
--- the moment of notes, where all of it is said, in the zone UTC
+-- the moment of the notes, if it is complete and in the zone UTC
 abbrev pub moment_in_notes : SaidNotes → Option Moment
 moment_in_notes notes = moment_said notes.year notes.month notes.day notes.time notes.zone
 
--- the notes that have a spelling
+-- the notes that the format can write
 abbrev pub kept_in_ohh : SaidNotes → SaidNotes
 kept_in_ohh notes =
     record {

@@ -1,4 +1,4 @@
-//! What was written of plays reads back, proved over the definitions.
+//! What was written for plays reads back as these plays, proved over the definitions.
 ghost use Rattle.std.specs.Prelude.{◌≡◌, ℕ, ◌≤◌, true, List, None, Ok, Some, length, map, sum_by};
 ghost use Rattle.std.specs.List.{AllByRecursion};
 ghost use Rattle.first_fault.specs.declared.limits.TheConstants.{MOST_FILE_MOVES, MOST_HANDS};
@@ -21,10 +21,11 @@ ghost use Rattle.hand_canon.specs.Sharp.{IsOther};
 ghost use Rattle.hand_records.specs.WriteRefusals.{first_refusal};
 ghost use Rattle.hand_records.specs.PlainHands.{plain};
 
-/// Bytes that spell sound plays in a dialect, no more of them and of their moves than a file may
-/// have, each of which the format spells, read in the same dialect as the hands of these plays:
-/// with their setups and rakes, their canonical scripts in the words of the format, their wins and
-/// the total of their pots, and their kept notes. The function does nothing: its contract is a law.
+/// Take bytes that spell sound plays in a dialect, where plays and moves are within the limits of a
+/// file and the format can write each play. Read in the same dialect, they are the hands of these
+/// plays: with their setups and rakes, their canonical scripts in the words of the format, their
+/// wins and the total of their pots, and their kept notes. The function does nothing: its contract
+/// is a law.
 pub fn law_of_reading_again()
     ensures { (dialect : Dialect) (keep : Keep) (plays : List Play) (bytes : List ℕ)
         → length plays ≤ MOST_HANDS → AllByRecursion IsSound plays
@@ -32,11 +33,11 @@ pub fn law_of_reading_again()
         → Spells dialect plays bytes → reading dialect bytes ≡ Ok (hands_again dialect 0 plays) }
 {}
 
-/// What bytes say, read in a dialect, that spell sound plays in it, no more of them and of their
-/// moves than a file may have, each of which the format spells: as many hands, one by one, which
-/// are legal under the rules of hand histories, have the setups and the whole traces of the plays,
-/// state nothing that differs, and have the kept notes. The function does nothing: its contract is
-/// a law.
+/// Take bytes that spell sound plays in a dialect, where plays and moves are within the limits of a
+/// file and the format can write each play. Read in that dialect, they are the same number of
+/// hands. One by one these are legal under the rules of hand histories, have the setups and the
+/// whole traces of the plays, state nothing that differs, and have the kept notes. The function
+/// does nothing: its contract is a law.
 pub fn law_of_reading_back()
     ensures { (dialect : Dialect) (keep : Keep) (plays : List Play) (bytes : List ℕ)
         → length plays ≤ MOST_HANDS → AllByRecursion IsSound plays
@@ -46,9 +47,9 @@ pub fn law_of_reading_back()
         → AreAgain (KeepsNotes kept_in_ohh) 0 plays hands }
 {}
 
-/// Whatever bytes say records in a dialect, none of these is a legal hand with the trace of a play
-/// of which the format does not spell a fact, unless the fact is a note: a hand that is read may
-/// well have that trace. The function does nothing: its contract is a law.
+/// If the format cannot write a fact of a play, other than a note, then no bytes are read, in a
+/// dialect, as a legal hand with the trace of this play. (With a note that cannot be written, a
+/// hand may still have that trace.) The function does nothing: its contract is a law.
 pub fn law_of_sharpness()
     ensures { (dialect : Dialect) (keep : Keep) (play : Play) (fact : Unspelled)
         → unspelled keep play ≡ Some fact → is_sharp fact ≡ true

@@ -1,5 +1,5 @@
-//! Open Hand History, in both dialects: bytes are read as records, and plays are written as lines
-//! that read as their hands again.
+//! Open Hand History, in both dialects: reads bytes as records, and writes plays as lines that read
+//! back as the same hands.
 #![tactic(auto)]
 
 mod laws;

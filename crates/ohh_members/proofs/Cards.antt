@@ -1,4 +1,4 @@
--- A text spells one slot where it is the spelling of a list of one slot.
+-- A text means one card, known or unknown, if and only if it is the letters of a list of one card.
 use Rattle.std.proofs.Common.{◌≡◌, ℕ, List, [], ◌∷◌, ◌++◌, Option, Some, None, refl, sym, ap, ◌∙◌, arith}
 use Rattle.card_set.specs.declared.card.Slot.{Slot}
 use Rattle.card_set.specs.declared.card.Slot.TheVariants as slots
@@ -16,7 +16,7 @@ spelled_one (slots.Unknown ∷ slots.Known card ∷ rest) = refl
 spelled_one (slots.Known card ∷ slots.Unknown ∷ rest) = refl
 spelled_one (slots.Known card ∷ slots.Known other ∷ rest) = refl
 
--- what a spelling of slots says
+-- the card of these letters
 pub slot_read : (text : List ℕ) (cards : List Slot) → text ≡ spelling cards → slot_in text ≡ one_slot cards
 slot_read text cards is = ap slot_in is ∙ spelled_one cards
 
@@ -25,7 +25,7 @@ found_none first second fault None is has = refl
 found_none first second fault (Some slot) is has =
     absurd (fault_spells_nothing (first ∷ second ∷ []) fault has (slot ∷ []) (omega arith) (sym (ap (λ word. word ++ []) (slot_spelling-slot_spelled first second slot is))))
 
--- letters with a fault spell no slot
+-- letters with a fault mean no card
 pub bad_slot : (text : List ℕ) (fault : CardFault) → HasFault text fault → slot_in text ≡ None
 bad_slot [] fault has = refl
 bad_slot (first ∷ []) fault has = refl

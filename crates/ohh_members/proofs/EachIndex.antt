@@ -1,9 +1,9 @@
--- Items that are read one after the other, each told its index from 0, as a loop does.
+-- Items that are read one after the other, each with its index from 0, as a loop does.
 use Rattle.std.proofs.Common.{◌≡◌, ℕ, ◌+◌, ◌-◌, ◌<◌, ◌≤◌, List, [], ◌∷◌, ◌++◌, length, map, drop, get_or, Result, Ok}
-use Rattle.first_fault.specs.declared.stop.Stop.{Stop}
+use Rattle.first_fault.specs.declared.stop.ReadError.{ReadError}
 use Rattle.first_fault.specs.Reading.{Fails, each_from}
 use Rattle.first_fault.proofs.EachItem.{with_front, goes_on, ends, is_done}
-use Rattle.list_laws.proofs.Numbers.{plus_one_less_one}
+use Rattle.card_set.proofs.Numbers.{plus_one_less_one}
 use Rattle.ohh_members.specs.declared.fault.MemberFault.{MemberFault}
 
 -- the items from an index on
@@ -20,7 +20,7 @@ module _ {V D A : Type 0} (seen : V → D) (form : ℕ → D → Result A Member
       goes_on seen (λ n. form (n - 1)) front values index value x whole within at (rw (plus_one_less_one index) is) so_far
 
   -- an item was refused
-  pub item_refused : (stop : Stop MemberFault) (front : List A) (values : List V) (index : ℕ) (value : V) (whole : Result (List A) MemberFault)
+  pub item_refused : (stop : ReadError MemberFault) (front : List A) (values : List V) (index : ℕ) (value : V) (whole : Result (List A) MemberFault)
       → index < length values → get_or values index value ≡ value → Fails stop (form index (seen value))
       → with_front front (items_left seen form index values) ≡ whole
       → Fails stop whole

@@ -1,4 +1,4 @@
--- Laws of what the members of a hand say.
+-- Laws of the members of a hand.
 pub mod Lists
 pub mod Cards
 pub mod EachIndex

@@ -1,4 +1,4 @@
--- The blinds of a hand, and the antes as far as they are said beside the posts.
+-- The blinds of a hand, and the antes as far as they are stated beside the posts.
 use Rattle.std.specs.Prelude.{ℕ, ◌*◌, Bool, ◌&&◌, nat_lt, if◌then◌else◌, Result, Ok}
 use Rattle.serde_json.specs.Data.{Data}
 use Rattle.chip_ledger.specs.declared.numbers.TheConstants.{MOST_CHIPS}
@@ -11,14 +11,14 @@ use Rattle.ohh_members.specs.declared.fault.MemberFaultKind.TheVariants as whats
 use Rattle.ohh_members.specs.declared.fault.Path.{Path}
 use Rattle.ohh_members.specs.declared.fault.Path.TheVariants as paths
 use Rattle.ohh_members.specs.declared.fault.MemberFault.{MemberFault}
-use Rattle.ohh_members.specs.Values.{wrong, field, needed, number_said}
+use Rattle.ohh_members.specs.Values.{wrong, field, required, number_said}
 
--- the limit of the game is fixed
+-- the game is played in fixed limit
 abbrev pub is_fixed_game : Code → Bool
 is_fixed_game code = is_fixed (limit_of code)
 
 -- the small blind is at most the big one, and in fixed limit the big bet, twice the big blind, is
--- an amount
+-- within the limit of amounts
 unfoldable pub fitting : Code → ℕ → ℕ → Result Blinds MemberFault
 fitting code small big =
     if nat_lt big small then wrong whats.BadPost paths.SmallBlindAmount
@@ -28,9 +28,9 @@ fitting code small big =
 
 -- a blind of at least 1
 abbrev pub blind_said : Path → Data → Result ℕ MemberFault
-blind_said path ohh = needed path ohh >>= number_said 1 MOST_CHIPS path
+blind_said path ohh = required path ohh >>= number_said 1 MOST_CHIPS path
 
--- the blinds; the ante is examined for its form alone
+-- the blinds; the ante is only checked for its form
 unfoldable pub blinds_said : Code → Data → Result Blinds MemberFault
 blinds_said code ohh = do
   ante ← read_if (number_said 0 MOST_CHIPS paths.AnteAmount) (field paths.AnteAmount ohh)

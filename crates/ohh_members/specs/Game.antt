@@ -10,9 +10,9 @@ use Rattle.ohh_members.specs.declared.fault.MemberFaultKind.TheVariants as whats
 use Rattle.ohh_members.specs.declared.fault.Path.{Path}
 use Rattle.ohh_members.specs.declared.fault.Path.TheVariants as paths
 use Rattle.ohh_members.specs.declared.fault.MemberFault.{MemberFault}
-use Rattle.ohh_members.specs.Values.{or_wrong, needed, text_said, object_said}
+use Rattle.ohh_members.specs.Values.{or_wrong, required, text_said, object_said}
 
--- the four games that are read: a type and a limit
+-- the four supported games: a type and a limit
 abbrev pub game_named : List ℕ → List ℕ → Option Code
 game_named game limit =
     if bytes_eq game (codes "Holdem") && bytes_eq limit (codes "FL") then Some games.FT
@@ -21,18 +21,18 @@ game_named game limit =
     else if bytes_eq game (codes "OmahaHiLo") && bytes_eq limit (codes "FL") then Some games.FO8
     else None
 
--- a game that is read is played by up to ten seats, and has blinds
+-- a supported game is played by up to ten seats, and has blinds
 pub record IsReadGame (code : Code) : Type 0 where
   pub seats : (game_of code).seats ≡ 10
   pub blinds : is_stud code ≡ false
 
--- the text of a member that is needed
+-- the text of a required member
 abbrev pub word_said : Path → Data → Result (List ℕ) MemberFault
-word_said path value = needed path value >>= text_said path
+word_said path value = required path value >>= text_said path
 
--- the object that says the limit
+-- the object with the limit
 abbrev pub limits_said : Data → Result Data MemberFault
-limits_said ohh = needed paths.BetLimit ohh >>= object_said paths.BetLimit
+limits_said ohh = required paths.BetLimit ohh >>= object_said paths.BetLimit
 
 -- the game
 unfoldable pub game_said : Data → Result Code MemberFault

@@ -1,9 +1,9 @@
--- What the members of a hand say.
+-- The members of a hand in Open Hand History.
 pub mod Paths
 pub mod Values
 pub mod Game
 pub mod Players
 pub mod Blinds
-pub mod Front
+pub mod Header
 pub mod Streets
 pub mod Words

@@ -1,4 +1,4 @@
--- The ways to the members of a hand, and how they are spelled.
+-- The paths to the members of a hand, and how they are written.
 use Rattle.std.specs.Prelude.{ℕ, List, [], ◌∷◌, ◌++◌, codes}
 use Rattle.std.specs.Fmt.{decimal}
 use Rattle.ohh_members.specs.declared.fault.PlayerMember.{PlayerMember}
@@ -78,30 +78,30 @@ member_name paths.StartDate = codes "start_date_utc"
 member_name paths.Currency = codes "currency"
 member_name paths.SiteName = codes "site_name"
 
--- a name behind a point, and nothing where there is no name
+-- a name after a point, or nothing if there is no name
 abbrev pub with_point : List ℕ → List ℕ
 with_point [] = []
 with_point (sign ∷ signs) = codes "." ++ sign ∷ signs
 
--- how a member is spelled behind its action
+-- a member, written after its action
 abbrev pub action_text : ActionMember → List ℕ
 action_text (actions.Card index) = codes ".cards[" ++ (decimal index ++ codes "]")
 action_text part = with_point (action_name part)
 
--- how a member is spelled behind its round
+-- a member, written after its round
 abbrev pub round_text : RoundMember → List ℕ
 round_text (rounds.Card index) = codes ".cards[" ++ (decimal index ++ codes "]")
 round_text (rounds.Action index part) =
     codes ".actions[" ++ (decimal index ++ (codes "]" ++ action_text part))
 round_text part = with_point (round_name part)
 
--- how a member is spelled behind its pot
+-- a member, written after its pot
 abbrev pub pot_text : PotMember → List ℕ
 pot_text (pots.Win index part) =
     codes ".player_wins[" ++ (decimal index ++ (codes "]" ++ with_point (win_name part)))
 pot_text part = with_point (pot_name part)
 
--- how a path is spelled, as ohh.rounds[0].actions[4].amount
+-- a path as text, as ohh.rounds[0].actions[4].amount
 abbrev pub path_text : Path → List ℕ
 path_text paths.Ohh = codes "ohh"
 path_text paths.BetType = codes "ohh.bet_limit.bet_type"

@@ -15,16 +15,16 @@ use Rattle.ohh_members.specs.declared.fault.Path.{Path}
 use Rattle.ohh_members.specs.declared.fault.Path.TheVariants as paths
 use Rattle.ohh_members.specs.declared.fault.MemberFault.{MemberFault}
 use Rattle.ohh_members.specs.declared.player.Player.{Player}
-use Rattle.ohh_members.specs.Values.{fault_at, wrong, or_wrong, field, needed, text_said, object_said, list_said, number_said, integer_said}
+use Rattle.ohh_members.specs.Values.{fault_at, wrong, or_wrong, field, required, text_said, object_said, list_said, number_said, integer_said}
 
--- a player: who it is, its seat at the table, its name if it has one, and its starting stack
+-- a player: the id, the seat at the table, the name if there is one, and the starting stack
 pub record PlainPlayer : Type 0 where
   pub id : ℤ
   pub seat : ℕ
   pub name : Option (List ℕ)
   pub stack : ℕ
 
--- what a player says
+-- a player, as the definitions see it
 abbrev pub plain_player : Player → PlainPlayer
 plain_player player =
     record {
@@ -46,16 +46,16 @@ has_id id players = list_any (λ player. int_eq id player.id) players
 abbrev pub has_seat : ℕ → List PlainPlayer → Bool
 has_seat seat players = list_any (λ player. seat == player.seat) players
 
--- the id of a player, which no player before it has
+-- the id of a player, different from those before it
 unfoldable pub id_said : List PlainPlayer → ℕ → Data → Result ℤ MemberFault
 id_said earlier index player = do
-  id ← needed (of_player index members.Id) player >>= integer_said (of_player index members.Id)
+  id ← required (of_player index members.Id) player >>= integer_said (of_player index members.Id)
   if has_id id earlier then wrong whats.BadPlayer (of_player index members.Id) else Ok id
 
--- the seat of a player, which no player before it has
+-- the seat of a player at the table, different from those before it
 unfoldable pub seat_said : List PlainPlayer → ℕ → Data → Result ℕ MemberFault
 seat_said earlier index player = do
-  seat ← needed (of_player index members.Seat) player
+  seat ← required (of_player index members.Seat) player
       >>= number_said 1 255 (of_player index members.Seat)
   if has_seat seat earlier then wrong whats.BadPlayer (of_player index members.Seat) else Ok seat
 
@@ -74,10 +74,10 @@ name_said index player =
 -- the starting stack of a player
 unfoldable pub stack_said : ℕ → Data → Result ℕ MemberFault
 stack_said index player =
-    needed (of_player index members.StartingStack) player
+    required (of_player index members.StartingStack) player
     >>= number_said 1 MOST_CHIPS (of_player index members.StartingStack)
 
--- a player, after those before it
+-- a player, checked against those before it
 unfoldable pub player_said : List PlainPlayer → ℕ → Data → Result PlainPlayer MemberFault
 player_said earlier index value = do
   player ← object_said (of_player index members.Itself) value
@@ -92,10 +92,10 @@ unfoldable pub player_added : List PlainPlayer → ℕ → Data → Result (List
 player_added earlier index value =
     player_said earlier index value >>= λ player. Ok (earlier ++ player ∷ [])
 
--- the players in the order in which they are listed: two to ten of them
+-- two to ten players in the order in which they are listed
 unfoldable pub players_said : Data → Result (List PlainPlayer) MemberFault
 players_said ohh = do
-  items ← needed paths.Players ohh >>= list_said paths.Players
+  items ← required paths.Players ohh >>= list_said paths.Players
   if nat_le 2 (length items) && nat_le (length items) 10
       then added_from player_added [] 0 items
       else wrong whats.BadPlayer paths.Players
@@ -107,39 +107,40 @@ player_at seat players = find (λ player. int_eq (pos player.seat) seat) players
 -- the player on the button
 unfoldable pub button_said : List PlainPlayer → Data → Result PlainPlayer MemberFault
 button_said players ohh = do
-  seat ← needed paths.DealerSeat ohh >>= integer_said paths.DealerSeat
+  seat ← required paths.DealerSeat ohh >>= integer_said paths.DealerSeat
   or_wrong whats.BadPlayer paths.DealerSeat (player_at seat players)
 
--- of two players, the one of the lower seat
+-- of two players, the one in the lower seat
 abbrev pub lower : Option PlainPlayer → PlainPlayer → Option PlainPlayer
 lower None player = Some player
 lower (Some other) player = if nat_lt player.seat other.seat then Some player else Some other
 
--- the player of the lowest seat
+-- the player in the lowest seat
 abbrev pub lowest : List PlainPlayer → Option PlainPlayer
 lowest players = fold lower None players
 
--- the players of higher seats
+-- the players in higher seats
 abbrev pub above : ℕ → List PlainPlayer → List PlainPlayer
 above seat players = filter (λ player. nat_lt seat player.seat) players
 
--- the player of the next higher seat, and after the highest seat that of the lowest; where there
--- are no players, this one
+-- the player in the next higher seat, or after the highest seat the one in the lowest; if there are
+-- no players, this one
 abbrev pub next_player : List PlainPlayer → PlainPlayer → PlainPlayer
 next_player players player =
     unwrap_or (lowest (above player.seat players)) (unwrap_or (lowest (above 0 players)) player)
 
--- so many players, going round from the one after this player
+-- this number of players, going round from the one after this player
 abbrev pub round_from : List PlainPlayer → PlainPlayer → ℕ → List PlainPlayer
 round_from players player zero = []
 round_from players player (suc count) =
     next_player players player ∷ round_from players (next_player players player) count
 
--- the players by their seats in the hand: the first sits after the button, the last is on it
+-- the players in the order of their seats in the hand: the first sits after the button, the last is
+-- on it
 abbrev pub seated : List PlainPlayer → PlainPlayer → List PlainPlayer
 seated players button = round_from players button (length players)
 
--- the players by their seats in the hand, as they are read
+-- the players in the order of their seats in the hand, as they are read
 unfoldable pub seated_said : Data → Result (List PlainPlayer) MemberFault
 seated_said ohh = do
   players ← players_said ohh

@@ -31,9 +31,9 @@ or_wrong what path found = or_fault (fault_at what path) found
 abbrev pub field : Path → Data → Option Data
 field path value = get (member_name path) value
 
--- the value of a member that is needed
-unfoldable pub needed : Path → Data → Result Data MemberFault
-needed path value = or_wrong whats.MissingMember path (field path value)
+-- the value of a required member
+unfoldable pub required : Path → Data → Result Data MemberFault
+required path value = or_wrong whats.MissingMember path (field path value)
 
 -- the text that a value is
 abbrev pub text_of : Data → Option (List ℕ)
@@ -92,33 +92,33 @@ number_said least most path value =
 unfoldable pub integer_said : Path → Data → Result ℤ MemberFault
 integer_said path value = whole (number_faults path) (numeral_of value)
 
--- the seat of the player with this id, where the first of the ids is that of this seat, and the
--- next one's seat follows
+-- the seat of the player with this id; the first of the ids is that of this seat, and the next ones
+-- follow
 abbrev pub seat_from : ℕ → ℤ → List ℤ → Option ℕ
 seat_from seat id [] = None
 seat_from seat id (other ∷ rest) =
     if int_eq id other then Some seat else seat_from (seat + 1) id rest
 
--- the seat of the player with this id, where the ids are those of seat 1, seat 2 and so on
+-- the seat of the player with this id; the ids are those of seat 1, seat 2 and so on
 abbrev pub seat_of : List ℤ → ℤ → Option ℕ
 seat_of ids id = seat_from 1 id ids
 
--- the seat of a player who is named by the id
+-- the seat of the player with this id
 unfoldable pub player_said : List ℤ → Path → Data → Result ℕ MemberFault
 player_said ids path value =
     integer_said path value >>= λ id. or_wrong whats.BadPlayer path (seat_of ids id)
 
--- the slot that a text of two letters spells
+-- the card, known or unknown, that a text of two letters means
 abbrev pub slot_in : List ℕ → Option Slot
 slot_in (first ∷ second ∷ []) = slot_spelled first second
 slot_in _ = None
 
--- the slot of a list of one slot
+-- the card of a list of one card
 abbrev pub one_slot : List Slot → Option Slot
 one_slot (slot ∷ []) = Some slot
 one_slot _ = None
 
--- a slot that is known
+-- the card, if it is known
 abbrev pub known_in : Slot → Option Card
 known_in (slots.Known card) = Some card
 known_in slots.Unknown = None
@@ -136,7 +136,7 @@ card_said path value =
 unfoldable pub few_said : Path → Data → Result (List Data) MemberFault
 few_said path value = list_said path value >>= few 7 (fault_at whats.WrongType path)
 
--- items one after the other, each read in a form that is told its index in the list, from 0
+-- items one after the other, each read with its index in the list, from 0
 abbrev pub each_item : {D A : Type 0} → (ℕ → D → Result A MemberFault) → List D
     → Result (List A) MemberFault
 each_item form items = each_from (λ n. form (n - 1)) 1 items

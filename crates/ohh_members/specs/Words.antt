@@ -1,9 +1,9 @@
--- The words that say what a player did.
+-- The words for what a player did.
 use Rattle.std.specs.Prelude.{ℕ, Bool, true, false, bytes_eq, if◌then◌else◌, List, codes, Option, Some, None}
 use Rattle.ohh_members.specs.declared.words.Word.{Word}
 use Rattle.ohh_members.specs.declared.words.Word.TheVariants as words
 
--- how the words are spelled
+-- how the words are written
 abbrev pub word_text : Word → List ℕ
 word_text words.PostAnte = codes "Post Ante"
 word_text words.PostSmallBlind = codes "Post SB"
@@ -20,7 +20,7 @@ word_text words.MucksCards = codes "Mucks Cards"
 word_text words.SitsDown = codes "Sits Down"
 word_text words.StandsUp = codes "Stands Up"
 
--- the word that a text is
+-- the word that a text is, if it is one
 unfoldable pub word_named : List ℕ → Option Word
 word_named text =
     if bytes_eq text (codes "Post Ante") then Some words.PostAnte

@@ -1,4 +1,4 @@
-//! The blinds of a hand are read.
+//! Reads the blinds of a hand.
 ghost use Rattle.std.specs.Prelude.{◌≡◌, ◌≤◌, ◌*◌, true, IfOk};
 ghost use Rattle.serde_json.specs.View.{view};
 ghost use Rattle.chip_ledger.specs.declared.numbers.TheConstants.{MOST_CHIPS};
@@ -8,9 +8,9 @@ ghost use Rattle.ohh_members.specs.Blinds.{blind_said, blinds_said, is_fixed_gam
 ghost use Rattle.ohh_members.specs.Values.{field as field_said, number_said};
 
 use crate::fault::{MemberFault, MemberFaultKind, Path};
-use crate::values::{field, needed, read_number, wrong};
+use crate::values::{fault_at, field, read_number, required};
 use chip_ledger::MOST_CHIPS;
-use first_fault::Stop;
+use first_fault::ReadError;
 use play_event::Code;
 use serde_json::Value;
 
@@ -21,9 +21,9 @@ pub struct Blinds {
     pub big: u64,
 }
 
-/// The blinds of a hand. The ante is examined for its form alone: what is posted counts.
+/// The blinds of a hand. The ante is only checked for its form: the posts are what counts.
 #[tactic(auto, unfolding(crate::specs::Blinds::blinds_said, crate::specs::Blinds::fitting))]
-pub fn read_blinds(ohh: &Value, code: Code) -> Result<Blinds, Stop<MemberFault>>
+pub fn read_blinds(ohh: &Value, code: Code) -> Result<Blinds, ReadError<MemberFault>>
     ensures said { Gives (λ blinds. blinds) result (blinds_said code (view ohh.now)) }
     ensures least { IfOk result (λ blinds. 1 ≤ blinds.small) }
     ensures order { IfOk result (λ blinds. blinds.small ≤ blinds.big) }
@@ -35,16 +35,16 @@ pub fn read_blinds(ohh: &Value, code: Code) -> Result<Blinds, Stop<MemberFault>>
     let small = read_blind(ohh, Path::SmallBlindAmount)?;
     let big = read_blind(ohh, Path::BigBlindAmount)?;
     if small > big {
-        return Err(wrong(MemberFaultKind::BadPost, Path::SmallBlindAmount));
+        return Err(fault_at(MemberFaultKind::BadPost, Path::SmallBlindAmount));
     }
     if code.is_fixed() && 2 * big > MOST_CHIPS {
-        return Err(wrong(MemberFaultKind::AmountLimit, Path::BigBlindAmount));
+        return Err(fault_at(MemberFaultKind::AmountLimit, Path::BigBlindAmount));
     }
     Ok(Blinds { small, big })
 }
 
-// The ante, if it is said.
-fn read_ante(ohh: &Value) -> Result<Option<u64>, Stop<MemberFault>>
+// The ante, if it is there.
+fn read_ante(ohh: &Value) -> Result<Option<u64>, ReadError<MemberFault>>
     ensures { Gives (λ ante. ante) result
         (read_if (number_said 0 MOST_CHIPS paths.AnteAmount)
         (field_said paths.AnteAmount (view ohh.now))) }
@@ -56,9 +56,9 @@ fn read_ante(ohh: &Value) -> Result<Option<u64>, Stop<MemberFault>>
 }
 
 // A blind, of at least 1.
-fn read_blind(ohh: &Value, path: Path) -> Result<u64, Stop<MemberFault>>
+fn read_blind(ohh: &Value, path: Path) -> Result<u64, ReadError<MemberFault>>
     ensures said { Gives (λ blind. blind) result (blind_said path (view ohh.now)) }
     ensures within { IfOk result (λ blind. (1 ≤ blind) × (blind ≤ MOST_CHIPS)) }
 {
-    read_number(needed(ohh, path)?, 1, MOST_CHIPS, path)
+    read_number(required(ohh, path)?, 1, MOST_CHIPS, path)
 }

@@ -1,5 +1,5 @@
-//! What is wrong with a hand, and at which member: the first fault in the order in which its
-//! members are examined.
+//! What is wrong with a hand, and at which member: the first fault in the order in which members
+//! are examined.
 ghost use Rattle.std.specs.Prelude.{◌≡◌, ◌++◌, IfOk, codes, string_bytes};
 ghost use Rattle.std.specs.Fmt.{decimal};
 ghost use Rattle.ohh_members.specs.Paths.{action_name, action_text, card_path, member_name, path_text, player_name, pot_name, pot_text, round_name, round_text, win_name, with_point};
@@ -11,27 +11,27 @@ use std::alloc::Global;
 /// What is wrong.
 #[derive(Clone, Copy, Debug, PartialEq, Eq)]
 pub enum MemberFaultKind {
-    /// A member that is needed lacks.
+    /// A required member is missing.
     MissingMember,
-    /// A member is of another kind, or a text says no card or no date.
+    /// A member has the wrong kind, or a text is no card or no date.
     WrongType,
     /// A number is not whole.
     AmountNotWhole,
     /// A number is out of its range.
     AmountLimit,
-    /// The game and its limit are no pair that is read.
+    /// The game and its limit are not a supported pair.
     UnsupportedGame,
-    /// A player is no player of the hand, or is there twice, or there are too few or too many.
+    /// A player is not in the hand, or is listed twice, or there are too few or too many players.
     BadPlayer,
-    /// An action has a word that is not read.
+    /// An action has an unsupported word.
     UnsupportedAction,
-    /// A round or its cards do not come here.
+    /// A round or its cards are out of order.
     BadStreet,
-    /// A blind, a straddle or an ante is not as it must be.
+    /// A blind, a straddle or an ante breaks a condition of posts.
     BadPost,
-    /// A rake is taken from a pot that no hand has.
+    /// A rake is taken from a pot past the last that a hand can have.
     RakePlace,
-    /// There is more than the limit allows.
+    /// There is more than the limit of the quantity allows.
     TooMany { quantity: Quantity },
 }
 
@@ -49,7 +49,7 @@ pub enum PlayerMember {
 #[derive(Clone, Copy, Debug, PartialEq, Eq)]
 pub enum ActionMember {
     Itself,
-    /// The word that says what was done.
+    /// The word for what was done.
     Word,
     PlayerId,
     Amount,
@@ -90,7 +90,7 @@ pub enum PotMember {
     Win { index: u64, member: WinMember },
 }
 
-/// The way from the object of a block to a member. Items of lists are counted from 0.
+/// The path from the object of a block to a member. Items of lists are counted from 0.
 #[derive(Clone, Copy, Debug, PartialEq, Eq)]
 pub enum Path {
     /// The hand itself.
@@ -139,7 +139,7 @@ impl PlayerMember {
 }
 
 impl ActionMember {
-    // How the member is spelled behind its action.
+    // The member, written after its action.
     fn text(self, alloc: Global) -> Result<String, Memory>
         ensures { IfOk result (λ text. string_bytes text ≡ action_text self) }
     {
@@ -165,7 +165,7 @@ impl ActionMember {
 }
 
 impl RoundMember {
-    // How the member is spelled behind its round.
+    // The member, written after its round.
     fn text(self, alloc: Global) -> Result<String, Memory>
         ensures { IfOk result (λ text. string_bytes text ≡ round_text self) }
     {
@@ -207,7 +207,7 @@ impl WinMember {
 }
 
 impl PotMember {
-    // How the member is spelled behind its pot.
+    // The member, written after its pot.
     fn text(self, alloc: Global) -> Result<String, Memory>
         ensures { IfOk result (λ text. string_bytes text ≡ pot_text self) }
     {
@@ -235,7 +235,7 @@ impl PotMember {
 }
 
 impl Path {
-    /// The path of one of the cards, from 0, where this is the path of a list of cards.
+    /// The path of one of the cards, from 0, if this is the path of a list of cards.
     pub fn card(self, index: u64) -> Path
         ensures { result ≡ card_path self index }
     {
@@ -292,7 +292,7 @@ impl Path {
         }
     }
 
-    // How the path is spelled.
+    // The path as text.
     fn string(self, alloc: Global) -> Result<String, Memory>
         ensures { IfOk result (λ text. string_bytes text ≡ path_text self) }
     {
@@ -316,7 +316,7 @@ impl Path {
         }
     }
 
-    /// How the path is spelled, as `ohh.rounds[0].actions[4].amount`.
+    /// The path as text, as `ohh.rounds[0].actions[4].amount`.
     pub fn text(self, alloc: Global) -> Result<Text, Memory>
         ensures { IfOk result (λ text. text ≡ path_text self) }
     {
@@ -325,7 +325,7 @@ impl Path {
     }
 }
 
-// A name behind a point, and nothing where there is no name.
+// A name after a point, or nothing if there is no name.
 fn behind_point(alloc: Global, name: &str) -> Result<String, Memory>
     ensures { IfOk result (λ text. string_bytes text ≡ with_point name.now) }
 {
@@ -336,7 +336,7 @@ fn behind_point(alloc: Global, name: &str) -> Result<String, Memory>
     }
 }
 
-// A text behind an item of a list: it owns the text, so that no caller has one to drop.
+// A text after an item of a list: it owns the text, so that no caller has one to drop.
 fn item_text(alloc: Global, list: &str, index: u64, text: String) -> Result<String, Memory>
     ensures { IfOk result (λ item. string_bytes item
         ≡ list.now ++ (decimal index ++ (codes "]" ++ string_bytes text))) }

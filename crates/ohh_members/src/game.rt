@@ -1,19 +1,19 @@
-//! The game of a hand is read from its type and its limit.
+//! Reads the game of a hand from its type and its limit.
 ghost use Rattle.std.specs.Prelude.{◌≡◌, ◌&&◌, bytes_eq, IfOk, IfSome};
 ghost use Rattle.serde_json.specs.View.{view};
 ghost use Rattle.first_fault.specs.Reading.{Gives};
 ghost use Rattle.ohh_members.specs.Game.{IsReadGame, game_named as game_named_said, game_said, limits_said, word_said};
 
 use crate::fault::{MemberFault, MemberFaultKind, Path};
-use crate::values::{needed, read_object, read_text, wrong};
-use first_fault::Stop;
+use crate::values::{fault_at, read_object, read_text, required};
+use first_fault::ReadError;
 use play_event::Code;
 use serde_json::Value;
 
 /// The game of a hand: hold'em in fixed limit or no limit, Omaha in pot limit, or Omaha
 /// eight-or-better in fixed limit.
 #[tactic(auto, unfolding(crate::specs::Game::game_said))]
-pub fn read_game(ohh: &Value) -> Result<Code, Stop<MemberFault>>
+pub fn read_game(ohh: &Value) -> Result<Code, ReadError<MemberFault>>
     ensures said { Gives (λ code. code) result (game_said (view ohh.now)) }
     ensures read { IfOk result IsReadGame }
 {
@@ -22,22 +22,22 @@ pub fn read_game(ohh: &Value) -> Result<Code, Stop<MemberFault>>
     let limit = read_word(limits, Path::BetType)?;
     match game_named(game, limit) {
         Some(code) => Ok(code),
-        None => Err(wrong(MemberFaultKind::UnsupportedGame, Path::GameType)),
+        None => Err(fault_at(MemberFaultKind::UnsupportedGame, Path::GameType)),
     }
 }
 
-// The object that says the limit.
-fn read_limits(ohh: &Value) -> Result<&Value, Stop<MemberFault>>
+// The object with the limit.
+fn read_limits(ohh: &Value) -> Result<&Value, ReadError<MemberFault>>
     ensures { Gives (λ found. view found.now) result (limits_said (view ohh.now)) }
 {
-    read_object(needed(ohh, Path::BetLimit)?, Path::BetLimit)
+    read_object(required(ohh, Path::BetLimit)?, Path::BetLimit)
 }
 
-// The text of a member that is needed.
-fn read_word(value: &Value, path: Path) -> Result<&str, Stop<MemberFault>>
+// The text of a required member.
+fn read_word(value: &Value, path: Path) -> Result<&str, ReadError<MemberFault>>
     ensures { Gives (λ text. text.now) result (word_said path (view value.now)) }
 {
-    read_text(needed(value, path)?, path)
+    read_text(required(value, path)?, path)
 }
 
 // The game of a type and a limit.
@@ -58,7 +58,7 @@ fn game_named(game: &str, limit: &str) -> Option<Code>
     }
 }
 
-// Whether the game and the limit are spelled so.
+// Whether the game and the limit are written so.
 fn are_words(game: &str, game_word: &str, limit: &str, limit_word: &str) -> bool
     ensures { result ≡ (bytes_eq game.now game_word.now && bytes_eq limit.now limit_word.now) }
 {

@@ -1,12 +1,12 @@
-//! The faults of a hand in Open Hand History, the forms of its members, and what stands in front of
-//! its rounds.
+//! The faults of a hand in Open Hand History, the forms of its members, and what comes before its
+//! rounds.
 #![tactic(auto)]
 
 pub mod blinds;
 pub mod dialect;
 pub mod fault;
-pub mod front;
 pub mod game;
+pub mod header;
 pub mod player;
 pub mod players;
 pub mod rows;

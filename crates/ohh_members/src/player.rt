@@ -7,7 +7,7 @@ ghost use Rattle.first_fault.specs.declared.limits.TheConstants.{MOST_TEXT_BYTES
 /// A player of a hand.
 #[derive(Clone, Copy)]
 pub struct Player<'a> {
-    /// Who it is: any whole number that no other player of the hand has.
+    /// The player's id: any whole number that no other player of the hand has.
     pub id: i128,
     /// The number of the seat at the table, from 1.
     pub seat: u8,

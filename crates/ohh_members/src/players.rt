@@ -1,4 +1,4 @@
-//! The players of a hand are read in the order in which they are listed.
+//! Reads the players of a hand in the order in which they are listed.
 ghost use Rattle.std.specs.Prelude.{◌≡◌, ◌≤◌, ◌+◌, [], length, map, IfOk, option_map};
 ghost use Rattle.std.specs.Option.{ForSome};
 ghost use Rattle.serde_json.specs.View.{view};
@@ -10,30 +10,36 @@ ghost use Rattle.ohh_members.specs.Players.{has_id as has_id_said, has_seat as h
 use crate::fault::{MemberFault, MemberFaultKind, Path, PlayerMember};
 use crate::player::Player;
 use crate::values::{
-    field, needed, read_integer, read_list, read_number, read_object, read_text, wrong,
+    fault_at, field, read_integer, read_list, read_number, read_object, read_text, required,
 };
 use chip_ledger::MOST_CHIPS;
-use first_fault::{MOST_TEXT_BYTES, Quantity, Stop, has_count};
+use first_fault::{MOST_TEXT_BYTES, Quantity, ReadError, has_count};
 use serde_json::Value;
 use std::alloc::Global;
 
 /// Two to ten players, in the order in which they are listed.
 #[tactic(auto, unfolding(crate::specs::Players::players_said))]
-pub fn list_players<'a>(alloc: Global, ohh: &'a Value) -> Result<Vec<Player<'a>>, Stop<MemberFault>>
+pub fn list_players<'a>(
+    alloc: Global,
+    ohh: &'a Value,
+) -> Result<Vec<Player<'a>>, ReadError<MemberFault>>
     ensures said { Gives (λ found. map plain_player found.items) result
         (players_said (view ohh.now)) }
     ensures some { IfOk result (λ found. 2 ≤ length found.items) }
     ensures few { IfOk result (λ found. length found.items ≤ 10) }
 {
-    let values = read_list(needed(ohh, Path::Players)?, Path::Players)?;
+    let values = read_list(required(ohh, Path::Players)?, Path::Players)?;
     if !has_count(values, 2, 10) {
-        return Err(wrong(MemberFaultKind::BadPlayer, Path::Players));
+        return Err(fault_at(MemberFaultKind::BadPlayer, Path::Players));
     }
     add_players(alloc, values)
 }
 
 // The players of a list.
-fn add_players<'a>(alloc: Global, values: &'a [Value]) -> Result<Vec<Player<'a>>, Stop<MemberFault>>
+fn add_players<'a>(
+    alloc: Global,
+    values: &'a [Value],
+) -> Result<Vec<Player<'a>>, ReadError<MemberFault>>
     ensures said { Gives (λ found. map plain_player found.items) result
         (added_from player_added [] 0 (map view values.now)) }
     ensures count { IfOk result (λ found. length found.items ≡ length values.now) }
@@ -51,7 +57,7 @@ fn add_player<'a>(
     players: &mut Vec<Player<'a>>,
     index: u64,
     value: &'a Value,
-) -> Result<(), Stop<MemberFault>>
+) -> Result<(), ReadError<MemberFault>>
     ensures said { Gives (λ x. map plain_player players.new.items) result
         (player_added (map plain_player players.old.items) index (view value.now)) }
     ensures count { IfOk result (λ x. length players.new.items ≡ length players.old.items + 1) }
@@ -61,13 +67,13 @@ fn add_player<'a>(
     Ok(())
 }
 
-// A player, after those before it.
+// A player, checked against those before it.
 #[tactic(auto, unfolding(crate::specs::Players::player_said))]
 fn read_player<'a>(
     earlier: &[Player],
     index: u64,
     value: &'a Value,
-) -> Result<Player<'a>, Stop<MemberFault>>
+) -> Result<Player<'a>, ReadError<MemberFault>>
     ensures { Gives plain_player result
         (player_said (map plain_player earlier.now) index (view value.now)) }
 {
@@ -88,9 +94,9 @@ fn read_player<'a>(
     })
 }
 
-// The id of a player, which no player before it has.
+// The id of a player, different from those before it.
 #[tactic(auto, unfolding(crate::specs::Players::id_said))]
-fn read_id(earlier: &[Player], index: u64, player: &Value) -> Result<i128, Stop<MemberFault>>
+fn read_id(earlier: &[Player], index: u64, player: &Value) -> Result<i128, ReadError<MemberFault>>
     ensures { Gives (λ id. id) result
         (id_said (map plain_player earlier.now) index (view player.now)) }
 {
@@ -98,9 +104,9 @@ fn read_id(earlier: &[Player], index: u64, player: &Value) -> Result<i128, Stop<
         index,
         member: PlayerMember::Id,
     };
-    let id = read_integer(needed(player, path)?, path)?;
+    let id = read_integer(required(player, path)?, path)?;
     if has_id(id, earlier) {
-        return Err(wrong(MemberFaultKind::BadPlayer, path));
+        return Err(fault_at(MemberFaultKind::BadPlayer, path));
     }
     Ok(id)
 }
@@ -117,9 +123,9 @@ fn has_id(id: i128, players: &[Player]) -> bool
     false
 }
 
-// The seat of a player, which no player before it has.
+// The seat of a player at the table, different from those before it.
 #[tactic(auto, unfolding(crate::specs::Players::seat_said))]
-fn read_seat(earlier: &[Player], index: u64, player: &Value) -> Result<u8, Stop<MemberFault>>
+fn read_seat(earlier: &[Player], index: u64, player: &Value) -> Result<u8, ReadError<MemberFault>>
     ensures said { Gives (λ seat. seat) result
         (seat_said (map plain_player earlier.now) index (view player.now)) }
     ensures first { IfOk result (λ seat. 1 ≤ seat) }
@@ -128,9 +134,9 @@ fn read_seat(earlier: &[Player], index: u64, player: &Value) -> Result<u8, Stop<
         index,
         member: PlayerMember::Seat,
     };
-    let seat = read_number(needed(player, path)?, 1, 255, path)? as u8;
+    let seat = read_number(required(player, path)?, 1, 255, path)? as u8;
     if has_seat(seat, earlier) {
-        return Err(wrong(MemberFaultKind::BadPlayer, path));
+        return Err(fault_at(MemberFaultKind::BadPlayer, path));
     }
     Ok(seat)
 }
@@ -148,7 +154,7 @@ fn has_seat(seat: u8, players: &[Player]) -> bool
 }
 
 // The name of a player, if it has one.
-fn read_name(index: u64, player: &Value) -> Result<Option<&str>, Stop<MemberFault>>
+fn read_name(index: u64, player: &Value) -> Result<Option<&str>, ReadError<MemberFault>>
     ensures said { Gives (option_map (λ name. name.now)) result
         (name_said index (view player.now)) }
     ensures short { IfOk result (λ name. ForSome name (λ text.
@@ -169,21 +175,21 @@ fn read_name(index: u64, player: &Value) -> Result<Option<&str>, Stop<MemberFaul
 
 /// A text of at most 255 bytes.
 #[tactic(auto, unfolding(crate::specs::Players::short_text_said))]
-pub fn read_short_text(value: &Value, path: Path) -> Result<&str, Stop<MemberFault>>
+pub fn read_short_text(value: &Value, path: Path) -> Result<&str, ReadError<MemberFault>>
     ensures said { Gives (λ text. text.now) result (short_text_said path (view value.now)) }
     ensures short { IfOk result (λ text. length text.now ≤ MOST_TEXT_BYTES) }
 {
     let text = read_text(value, path)?;
     if text.len() > MOST_TEXT_BYTES {
         let quantity = Quantity::TextBytes;
-        return Err(wrong(MemberFaultKind::TooMany { quantity }, path));
+        return Err(fault_at(MemberFaultKind::TooMany { quantity }, path));
     }
     Ok(text)
 }
 
 // The starting stack of a player.
 #[tactic(auto, unfolding(crate::specs::Players::stack_said))]
-fn read_stack(index: u64, player: &Value) -> Result<u64, Stop<MemberFault>>
+fn read_stack(index: u64, player: &Value) -> Result<u64, ReadError<MemberFault>>
     ensures said { Gives (λ stack. stack) result (stack_said index (view player.now)) }
     ensures within { IfOk result (λ stack. (1 ≤ stack) × (stack ≤ MOST_CHIPS)) }
 {
@@ -191,5 +197,5 @@ fn read_stack(index: u64, player: &Value) -> Result<u64, Stop<MemberFault>>
         index,
         member: PlayerMember::StartingStack,
     };
-    read_number(needed(player, path)?, 1, MOST_CHIPS, path)
+    read_number(required(player, path)?, 1, MOST_CHIPS, path)
 }

@@ -1,7 +1,7 @@
-//! The ids and the stacks of the players of a hand, by their seats in it.
+//! The ids and the stacks of the players of a hand, in the order of their seats.
 ghost use Rattle.std.specs.Prelude.{◌≡◌, ◌≤◌, ◌<◌, ℕ, length, map, slice_index, IfOk};
 ghost use Rattle.play_event.specs.ValidSetup.{IsSize};
-ghost use Rattle.ohh_members.specs.Front.{ids_of as ids_of_said, stacks_of};
+ghost use Rattle.ohh_members.specs.Header.{ids_of as ids_of_said, stacks_of};
 ghost use Rattle.chip_ledger.specs.SeatRow.{amounts_in};
 ghost use Rattle.ohh_members.specs.Players.{plain_player};
 

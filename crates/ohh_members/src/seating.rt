@@ -1,4 +1,4 @@
-//! The players of a hand take their seats in it, from the button on.
+//! Seats the players of a hand, from the button on.
 ghost use Rattle.std.specs.Prelude.{◌≡◌, ◌≤◌, ◌∷◌, List, fold, length, map, IfOk, option_map};
 ghost use Rattle.serde_json.specs.View.{view};
 ghost use Rattle.first_fault.specs.Reading.{Gives};
@@ -7,16 +7,19 @@ ghost use Rattle.ohh_members.specs.Players.{PlainPlayer, above, button_said, low
 use crate::fault::{MemberFault, MemberFaultKind, Path};
 use crate::player::Player;
 use crate::players::list_players;
-use crate::values::{needed, read_integer, wrong};
+use crate::values::{fault_at, read_integer, required};
 use card_set::Memory;
-use first_fault::Stop;
+use first_fault::ReadError;
 use serde_json::Value;
 use std::alloc::Global;
 
-/// The players of a hand by their seats in it: the first sits after the button, and the last is on
-/// it.
+/// The players in the order of their seats in the hand: the first sits after the button, and the
+/// last is on it.
 #[tactic(auto, unfolding(crate::specs::Players::seated_said))]
-pub fn read_players<'a>(alloc: Global, ohh: &'a Value) -> Result<Vec<Player<'a>>, Stop<MemberFault>>
+pub fn read_players<'a>(
+    alloc: Global,
+    ohh: &'a Value,
+) -> Result<Vec<Player<'a>>, ReadError<MemberFault>>
     ensures said { Gives (λ found. map plain_player found.items) result
         (seated_said (view ohh.now)) }
     ensures some { IfOk result (λ found. 2 ≤ length found.items) }
@@ -30,14 +33,17 @@ pub fn read_players<'a>(alloc: Global, ohh: &'a Value) -> Result<Vec<Player<'a>>
 
 // The player on the button.
 #[tactic(auto, unfolding(crate::specs::Players::button_said))]
-fn read_button<'a>(players: &[Player<'a>], ohh: &Value) -> Result<Player<'a>, Stop<MemberFault>>
+fn read_button<'a>(
+    players: &[Player<'a>],
+    ohh: &Value,
+) -> Result<Player<'a>, ReadError<MemberFault>>
     ensures { Gives plain_player result
         (button_said (map plain_player players.now) (view ohh.now)) }
 {
-    let seat = read_integer(needed(ohh, Path::DealerSeat)?, Path::DealerSeat)?;
+    let seat = read_integer(required(ohh, Path::DealerSeat)?, Path::DealerSeat)?;
     match player_at(seat, players) {
         Some(player) => Ok(player),
-        None => Err(wrong(MemberFaultKind::BadPlayer, Path::DealerSeat)),
+        None => Err(fault_at(MemberFaultKind::BadPlayer, Path::DealerSeat)),
     }
 }
 
@@ -54,7 +60,7 @@ fn player_at<'a>(seat: i128, players: &[Player<'a>]) -> Option<Player<'a>>
     None
 }
 
-// The players by their seats in the hand, the first after the button.
+// The players in the order of their seats in the hand, the first after the button.
 fn sit<'a>(
     alloc: Global,
     players: &[Player<'a>],
@@ -73,7 +79,7 @@ fn sit<'a>(
     Ok(found)
 }
 
-// The player of the next higher seat, going round.
+// The player in the next higher seat, going round.
 fn next_player<'a>(players: &[Player<'a>], player: Player<'a>) -> Player<'a>
     ensures { plain_player result
         ≡ next_player_said (map plain_player players.now) (plain_player player.entry) }
@@ -87,7 +93,7 @@ fn next_player<'a>(players: &[Player<'a>], player: Player<'a>) -> Player<'a>
     }
 }
 
-// The player of the lowest seat that is higher than this one.
+// The player in the lowest seat that is higher than this one.
 fn lowest_above<'a>(players: &[Player<'a>], seat: u8) -> Option<Player<'a>>
     ensures { option_map plain_player result
         ≡ lowest (above seat (map plain_player players.now)) }
@@ -99,7 +105,7 @@ fn lowest_above<'a>(players: &[Player<'a>], seat: u8) -> Option<Player<'a>>
     found
 }
 
-// The same, where a player counts whose seat is higher than this one.
+// The lower of `found` and this player, if the player's seat is higher than this one.
 fn lower_above<'a>(found: Option<Player<'a>>, player: Player<'a>, seat: u8) -> Option<Player<'a>>
     ensures { (rest : List PlainPlayer)
         → fold lower_said (option_map plain_player result) (above seat rest)
@@ -113,7 +119,7 @@ fn lower_above<'a>(found: Option<Player<'a>>, player: Player<'a>, seat: u8) -> O
     }
 }
 
-// Of two players, the one of the lower seat.
+// Of two players, the one in the lower seat.
 fn lower<'a>(found: Option<Player<'a>>, player: Player<'a>) -> Option<Player<'a>>
     ensures { option_map plain_player result
         ≡ lower_said (option_map plain_player found.entry) (plain_player player.entry) }

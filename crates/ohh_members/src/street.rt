@@ -1,4 +1,4 @@
-//! The streets of a hand have names.
+//! The names of the streets of a hand.
 ghost use Rattle.std.specs.Prelude.{◌≡◌};
 ghost use Rattle.ohh_members.specs.Streets.{street_name};
 

@@ -1,25 +1,25 @@
-//! The values of members are read, each in its form.
+//! Reads the values of members, each in its form.
 ghost use Rattle.std.specs.Prelude.{◌≡◌, ◌≤◌, map, length, IfOk, IfSome, option_map};
 ghost use Rattle.serde_json.specs.Find.{get};
 ghost use Rattle.serde_json.specs.View.{items_view, view};
 ghost use Rattle.card_set.specs.Row.{cards_of, slots_of};
 ghost use Rattle.first_fault.specs.Reading.{Gives};
-ghost use Rattle.ohh_members.specs.Values.{cards_said, card_said, few_said, field as field_said, integer_said, known_in as known_in_said, listed, list_said, needed as needed_said, number_said, object_said, one_slot, player_said, seat_of as seat_of_said, slot_in as slot_in_said, slot_said, slots_said, text_said};
+ghost use Rattle.ohh_members.specs.Values.{cards_said, card_said, few_said, field as field_said, integer_said, known_in as known_in_said, listed, list_said, required as required_said, number_said, object_said, one_slot, player_said, seat_of as seat_of_said, slot_in as slot_in_said, slot_said, slots_said, text_said};
 
 use crate::fault::{MemberFault, MemberFaultKind, Path};
 use card_set::{Card, CardRow, Slot, SlotRow};
 use chip_ledger::Seat;
-use first_fault::{Stop, keep_within};
+use first_fault::{ReadError, in_range};
 use serde_json::Value;
 
-/// The value of a member that is needed.
-#[tactic(auto, unfolding(crate::specs::Values::needed))]
-pub fn needed<'a>(value: &'a Value, path: Path) -> Result<&'a Value, Stop<MemberFault>>
+/// The value of a required member.
+#[tactic(auto, unfolding(crate::specs::Values::required))]
+pub fn required<'a>(value: &'a Value, path: Path) -> Result<&'a Value, ReadError<MemberFault>>
     ensures { Gives (λ found. view found.now) result (needed_said path (view value.now)) }
 {
     match field(value, path) {
         Some(found) => Ok(found),
-        None => Err(wrong(MemberFaultKind::MissingMember, path)),
+        None => Err(fault_at(MemberFaultKind::MissingMember, path)),
     }
 }
 
@@ -39,12 +39,12 @@ fn find_member<'a>(value: &'a Value, name: &str) -> Option<&'a Value>
 
 /// An object.
 #[tactic(auto, unfolding(crate::specs::Values::object_said))]
-pub fn read_object(value: &Value, path: Path) -> Result<&Value, Stop<MemberFault>>
+pub fn read_object(value: &Value, path: Path) -> Result<&Value, ReadError<MemberFault>>
     ensures { Gives (λ found. view found.now) result (object_said path (view value.now)) }
 {
     match value {
         Value::Object(_) => Ok(value),
-        _ => Err(wrong(MemberFaultKind::WrongType, path)),
+        _ => Err(fault_at(MemberFaultKind::WrongType, path)),
     }
 }
 
@@ -55,7 +55,7 @@ pub fn read_number(
     least: u64,
     most: u64,
     path: Path,
-) -> Result<u64, Stop<MemberFault>>
+) -> Result<u64, ReadError<MemberFault>>
     ensures within { IfOk result (λ number. (least ≤ number) × (number ≤ most)) }
     ensures said { Gives (λ number. number) result
         (number_said least most path (view value.now)) }
@@ -64,20 +64,20 @@ pub fn read_number(
         Value::Number(number) => {
             if let Some(number) = number.as_u64() {
                 let what = MemberFaultKind::AmountLimit;
-                return keep_within(number, least, most, MemberFault { what, path });
+                return in_range(number, least, most, MemberFault { what, path });
             }
             if number.is_f64() {
-                return Err(wrong(MemberFaultKind::AmountNotWhole, path));
+                return Err(fault_at(MemberFaultKind::AmountNotWhole, path));
             }
-            Err(wrong(MemberFaultKind::AmountLimit, path))
+            Err(fault_at(MemberFaultKind::AmountLimit, path))
         }
-        _ => Err(wrong(MemberFaultKind::WrongType, path)),
+        _ => Err(fault_at(MemberFaultKind::WrongType, path)),
     }
 }
 
-/// The seat of a player who is named by the id.
+/// The seat of the player with this id.
 #[tactic(auto, unfolding(crate::specs::Values::player_said))]
-pub fn read_player(value: &Value, ids: &[i128], path: Path) -> Result<Seat, Stop<MemberFault>>
+pub fn read_player(value: &Value, ids: &[i128], path: Path) -> Result<Seat, ReadError<MemberFault>>
     requires { length ids.now ≤ 10 }
     ensures said { Gives (λ seat. seat.number) result
         (player_said ids.now path (view value.now)) }
@@ -89,11 +89,11 @@ pub fn read_player(value: &Value, ids: &[i128], path: Path) -> Result<Seat, Stop
             return Ok(seat);
         }
     }
-    Err(wrong(MemberFaultKind::BadPlayer, path))
+    Err(fault_at(MemberFaultKind::BadPlayer, path))
 }
 
-// The number of the seat of the player with this id, where the ids are those of the players in the
-// order of their seats.
+// The index of the seat of the player with this id; `ids` are those of the players in the order of
+// their seats.
 fn seat_of(ids: &[i128], id: i128) -> Option<usize>
     ensures said { result ≡ seat_of_said ids.now id }
     ensures seated { IfSome result (λ seat. (1 ≤ seat) × (seat ≤ length ids.now)) }
@@ -106,9 +106,9 @@ fn seat_of(ids: &[i128], id: i128) -> Option<usize>
     None
 }
 
-/// Any whole number that a tree holds.
+/// Any whole number that fits a JSON tree.
 #[tactic(auto, unfolding(crate::specs::Values::integer_said))]
-pub fn read_integer(value: &Value, path: Path) -> Result<i128, Stop<MemberFault>>
+pub fn read_integer(value: &Value, path: Path) -> Result<i128, ReadError<MemberFault>>
     ensures { Gives (λ number. number) result (integer_said path (view value.now)) }
 {
     match value {
@@ -119,15 +119,15 @@ pub fn read_integer(value: &Value, path: Path) -> Result<i128, Stop<MemberFault>
             if let Some(number) = number.as_i64() {
                 return Ok(number as i128);
             }
-            Err(wrong(MemberFaultKind::AmountNotWhole, path))
+            Err(fault_at(MemberFaultKind::AmountNotWhole, path))
         }
-        _ => Err(wrong(MemberFaultKind::WrongType, path)),
+        _ => Err(fault_at(MemberFaultKind::WrongType, path)),
     }
 }
 
 /// At most seven known cards.
 #[tactic(auto, unfolding(crate::specs::Values::cards_said))]
-pub fn read_cards(value: &Value, path: Path) -> Result<CardRow, Stop<MemberFault>>
+pub fn read_cards(value: &Value, path: Path) -> Result<CardRow, ReadError<MemberFault>>
     ensures { Gives cards_of result (cards_said path (view value.now)) }
 {
     let values = read_few(value, path)?;
@@ -141,16 +141,16 @@ pub fn read_cards(value: &Value, path: Path) -> Result<CardRow, Stop<MemberFault
 
 /// A known card.
 #[tactic(auto, unfolding(crate::specs::Values::card_said))]
-pub fn read_card(value: &Value, path: Path) -> Result<Card, Stop<MemberFault>>
+pub fn read_card(value: &Value, path: Path) -> Result<Card, ReadError<MemberFault>>
     ensures { Gives (λ card. card) result (card_said path (view value.now)) }
 {
     match known_in(read_slot(value, path)?) {
         Some(card) => Ok(card),
-        None => Err(wrong(MemberFaultKind::WrongType, path)),
+        None => Err(fault_at(MemberFaultKind::WrongType, path)),
     }
 }
 
-// A slot that is known.
+// The card, if it is known.
 fn known_in(slot: Slot) -> Option<Card>
     ensures { result ≡ known_in_said slot }
 {
@@ -162,7 +162,7 @@ fn known_in(slot: Slot) -> Option<Card>
 
 /// At most seven cards, each known or unknown.
 #[tactic(auto, unfolding(crate::specs::Values::slots_said))]
-pub fn read_slots(value: &Value, path: Path) -> Result<SlotRow, Stop<MemberFault>>
+pub fn read_slots(value: &Value, path: Path) -> Result<SlotRow, ReadError<MemberFault>>
     ensures { Gives slots_of result (slots_said path (view value.now)) }
 {
     let values = read_few(value, path)?;
@@ -176,16 +176,16 @@ pub fn read_slots(value: &Value, path: Path) -> Result<SlotRow, Stop<MemberFault
 
 /// A card, or two question marks for an unknown one.
 #[tactic(auto, unfolding(crate::specs::Values::slot_said))]
-pub fn read_slot(value: &Value, path: Path) -> Result<Slot, Stop<MemberFault>>
+pub fn read_slot(value: &Value, path: Path) -> Result<Slot, ReadError<MemberFault>>
     ensures { Gives (λ slot. slot) result (slot_said path (view value.now)) }
 {
     match slot_in(read_text(value, path)?) {
         Some(slot) => Ok(slot),
-        None => Err(wrong(MemberFaultKind::WrongType, path)),
+        None => Err(fault_at(MemberFaultKind::WrongType, path)),
     }
 }
 
-// The slot that a text of two letters spells.
+// The card, known or unknown, that a text of two letters means.
 fn slot_in(text: &str) -> Option<Slot>
     ensures { result ≡ slot_in_said text.now }
 {
@@ -195,7 +195,7 @@ fn slot_in(text: &str) -> Option<Slot>
     }
 }
 
-// The slot of a list of one slot.
+// The card of a list of one card.
 fn only(slots: &[Slot]) -> Option<Slot>
     ensures { result ≡ one_slot slots.now }
 {
@@ -207,20 +207,20 @@ fn only(slots: &[Slot]) -> Option<Slot>
 
 /// The values of a list of at most seven cards.
 #[tactic(auto, unfolding(crate::specs::Values::few_said))]
-pub fn read_few(value: &Value, path: Path) -> Result<&[Value], Stop<MemberFault>>
+pub fn read_few(value: &Value, path: Path) -> Result<&[Value], ReadError<MemberFault>>
     ensures said { Gives (λ values. map view values.now) result (few_said path (view value.now)) }
     ensures few { IfOk result (λ values. length values.now ≤ 7) }
 {
     let values = read_list(value, path)?;
     if values.len() > 7 {
-        return Err(wrong(MemberFaultKind::WrongType, path));
+        return Err(fault_at(MemberFaultKind::WrongType, path));
     }
     Ok(values)
 }
 
 /// The values of a list.
 #[tactic(auto, using(crate::proofs::Lists::listed_view))]
-pub fn read_list(value: &Value, path: Path) -> Result<&[Value], Stop<MemberFault>>
+pub fn read_list(value: &Value, path: Path) -> Result<&[Value], ReadError<MemberFault>>
     ensures { Gives (λ values. map view values.now) result (list_said path (view value.now)) }
 {
     let values = read_array(value, path)?;
@@ -229,30 +229,30 @@ pub fn read_list(value: &Value, path: Path) -> Result<&[Value], Stop<MemberFault
 
 // A list.
 #[tactic(auto, unfolding(crate::specs::Values::list_said))]
-fn read_array(value: &Value, path: Path) -> Result<&[Value], Stop<MemberFault>>
+fn read_array(value: &Value, path: Path) -> Result<&[Value], ReadError<MemberFault>>
     ensures { Gives (λ values. listed (items_view values.now)) result
         (list_said path (view value.now)) }
 {
     match value {
         Value::Array(values) => Ok(values.as_slice()),
-        _ => Err(wrong(MemberFaultKind::WrongType, path)),
+        _ => Err(fault_at(MemberFaultKind::WrongType, path)),
     }
 }
 
 /// A text.
 #[tactic(auto, unfolding(crate::specs::Values::text_said))]
-pub fn read_text(value: &Value, path: Path) -> Result<&str, Stop<MemberFault>>
+pub fn read_text(value: &Value, path: Path) -> Result<&str, ReadError<MemberFault>>
     ensures { Gives (λ text. text.now) result (text_said path (view value.now)) }
 {
     match value {
         Value::String(text) => Ok(text.as_str()),
-        _ => Err(wrong(MemberFaultKind::WrongType, path)),
+        _ => Err(fault_at(MemberFaultKind::WrongType, path)),
     }
 }
 
 /// A fault at the path.
-pub fn wrong(what: MemberFaultKind, path: Path) -> Stop<MemberFault>
-    ensures { result ≡ Stop.At (record { what = what; path = path }) }
+pub fn fault_at(what: MemberFaultKind, path: Path) -> ReadError<MemberFault>
+    ensures { result ≡ ReadError.Fault (record { what = what; path = path }) }
 {
-    Stop::At(MemberFault { what, path })
+    ReadError::Fault(MemberFault { what, path })
 }

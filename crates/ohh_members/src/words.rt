@@ -1,8 +1,8 @@
-//! The words that say what a player did.
+//! The words for what a player did.
 ghost use Rattle.std.specs.Prelude.{◌≡◌};
 ghost use Rattle.ohh_members.specs.Words.{is_deal as is_deal_said, word_named as word_said, word_text};
 
-/// What a player did, by its word.
+/// What a player did, as a word of the format.
 #[derive(Clone, Copy, Debug, PartialEq, Eq)]
 pub enum Word {
     PostAnte,
@@ -22,7 +22,7 @@ pub enum Word {
 }
 
 impl Word {
-    /// The word as it is spelled.
+    /// The word as it is written in the format.
     pub fn text(self) -> &'static str
         ensures { result.now ≡ word_text self }
     {

@@ -1,4 +1,4 @@
--- Whether a block is a tree is told by whether it is text, and by what the text reads as.
+-- Whether a block is JSON depends on whether it is text, and on what the text reads as.
 use Rattle.std.proofs.Common.{◌≡◌, ℕ, true, false, List, Some, None, ◌∙◌, ap, if◌then◌else◌, ⊎_elim}
 use Rattle.std.specs.Str.{IsUtf8, is_utf8}
 use Rattle.std.proofs.lemmas.Bool.{cases_Bool}
@@ -11,7 +11,7 @@ use Rattle.ohh_reading.specs.Reading.{tree_of}
 pub tree_is : (block : List ℕ) (tree : Data) → IsUtf8 block → read block ≡ Some tree → tree_of block ≡ Some tree
 tree_is block tree text is = ap (λ b. if b then read block else None) (is_utf8-from_IsUtf8 block text) ∙ is
 
--- what is no text, or reads as no tree, is none
+-- a block that is not text, or does not read as a tree, has no tree
 pub no_tree : (block : List ℕ) → (IsUtf8 block → read block ≡ None) → tree_of block ≡ None
 no_tree block unread =
     ⊎_elim

@@ -1,4 +1,4 @@
--- A hand: its members are examined in this order.
+-- A hand: its members are read in this order.
 use Rattle.std.specs.Prelude.{ℕ, None, Result, Ok}
 use Rattle.serde_json.specs.Data.{Data}
 use Rattle.hand_records.specs.PlainHands.{PlainHand}
@@ -8,15 +8,15 @@ use Rattle.play_event.specs.Games.{game_of}
 use Rattle.first_fault.specs.Reading.{◌>>=◌}
 use Rattle.ohh_members.specs.declared.dialect.Dialect.{Dialect}
 use Rattle.ohh_members.specs.declared.fault.MemberFault.{MemberFault}
-use Rattle.ohh_members.specs.Front.{PlainFront, front_said, ids_of, stacks_of}
+use Rattle.ohh_members.specs.Header.{PlainFront, front_said, ids_of, stacks_of}
 use Rattle.ohh_facts.specs.Notes.{notes_said}
 use Rattle.ohh_facts.specs.Pots.{PlainPaid, pots_said}
 use Rattle.ohh_rounds.specs.Play.{PlainPlay, rounds_said}
-use Rattle.ohh_rounds.specs.Setting.{PlainSetting}
+use Rattle.ohh_rounds.specs.HandContext.{PlainHandContext}
 use Rattle.ohh_reading.specs.Sizes.{sizes_of}
 
--- what the rounds of a hand are read with
-abbrev pub setting_of : Dialect → ℕ → PlainFront → PlainSetting
+-- what is needed to read the rounds of a hand
+abbrev pub setting_of : Dialect → ℕ → PlainFront → PlainHandContext
 setting_of dialect file_moves front =
     record {
       ids = ids_of front.players;
@@ -31,7 +31,7 @@ setting_of dialect file_moves front =
       file_moves = file_moves;
     }
 
--- the hand that its parts make
+-- the hand made of its parts
 abbrev pub hand_of : PlainFront → PlainPlay → PlainPaid → SaidNotes → PlainHand
 hand_of front play paid notes =
     record {
@@ -51,8 +51,8 @@ hand_of front play paid notes =
       notes = notes;
     }
 
--- the hand at this place of its file, from 0, after so many moves of the file; and the moves of the
--- file after it
+-- the hand at this place of its file, from 0, after this number of moves of the file; and the moves
+-- of the file after it
 unfoldable pub hand_said : Dialect → ℕ → ℕ → Data → Result (PlainHand × ℕ) MemberFault
 hand_said dialect file_moves place ohh = do
   front ← front_said ohh

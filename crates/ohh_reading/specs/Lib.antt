@@ -1,4 +1,4 @@
--- What bytes in Open Hand History say.
+-- The hands in bytes in Open Hand History.
 pub mod Blocks
 pub mod Sizes
 pub mod Hand

@@ -1,4 +1,4 @@
--- The records that bytes say, or their first fault.
+-- The records in bytes, or the first fault of the bytes.
 use Rattle.std.specs.Prelude.{◌≡◌, ℕ, ◌-◌, nat_lt, if◌then◌else◌, List, [], ◌∷◌, map, Option, Some, None, IfSome, Result, Ok, Err}
 use Rattle.std.specs.Str.{is_utf8}
 use Rattle.serde_json.specs.Data.{Data, object}
@@ -33,7 +33,7 @@ unfoldable pub tree_said : Dialect → ℕ → ℕ → Data → Result (PlainHan
 tree_said dialect file_moves place tree =
     object_of (field paths.Ohh tree) >>= hand_said dialect file_moves place
 
--- what is wrong with the hand that has this number: it is no tree, or has a fault at a member
+-- what is wrong with the hand that has this number: it is not JSON, or has a fault at a member
 abbrev pub of_hand : {A : Type 0} → ℕ → HandFaultKind → Result A OhhHandFault
 of_hand number what = Err (record { hand = number; what = what })
 
@@ -42,11 +42,11 @@ abbrev pub in_hand : {A : Type 0} → ℕ → Result A MemberFault → Result A 
 in_hand number (Ok x) = Ok x
 in_hand number (Err fault) = of_hand number (wrongness.Member fault)
 
--- the tree that a block is
+-- the JSON tree of a block, if it is JSON
 abbrev pub tree_of : List ℕ → Option Data
 tree_of block = if is_utf8 block then read block else None
 
--- the hand of what is a tree or is none
+-- the hand of a tree, if there is one
 unfoldable pub found_said : Dialect → ℕ → ℕ → Option Data → Result (PlainHand × ℕ) OhhHandFault
 found_said dialect file_moves number None = of_hand number wrongness.Text
 found_said dialect file_moves number (Some tree) =
@@ -56,38 +56,38 @@ found_said dialect file_moves number (Some tree) =
 abbrev pub past_hands : MemberFault
 past_hands = record { what = whats.TooMany quantities.Hands; path = paths.Ohh }
 
--- the hand with this number, from 1, after so many moves of the file; and the moves of the file
--- after it
+-- the hand with this number, from 1, after this number of moves of the file; and the moves of the
+-- file after it
 unfoldable pub numbered_hand : Dialect → ℕ → ℕ → List ℕ → Result (List PlainHand × ℕ) OhhHandFault
 numbered_hand dialect file_moves number block =
     if nat_lt MOST_HANDS number then of_hand number (wrongness.Member past_hands)
     else (found_said dialect file_moves number (tree_of block)
     >>= λ found. Ok (found.0 ∷ [], found.1))
 
--- the hands of blocks, in order, and the moves of the file after them
+-- the hands of blocks, in order, and the number of moves in the file
 abbrev pub hands_said : Dialect → List (List ℕ) → Result (List PlainHand × ℕ) OhhHandFault
 hands_said dialect blocks = thread_from (numbered_hand dialect) 0 1 blocks
 
--- what is wrong with bytes: a hand is no tree, or has a fault at a member
+-- what is wrong with bytes: a hand is not JSON, or has a fault at a member
 pub data Wrong : Type 0 where
   NoText : ℕ → Wrong
   InHand : ℕ → List ℕ → MemberFaultKind → Wrong
 
--- a fault with its path as it is spelled
+-- a fault with its path as text
 abbrev pub spelled : ℕ → HandFaultKind → Wrong
 spelled hand wrongness.Text = NoText hand
 spelled hand (wrongness.Member fault) = InHand hand (path_text fault.path) fault.what
 
--- the records, or the fault as it is spelled
+-- the records, or the fault with its path as text
 abbrev pub told : Result (List PlainHand × ℕ) OhhHandFault → Result (List PlainHand) Wrong
 told (Ok found) = Ok found.0
 told (Err fault) = Err (spelled fault.hand fault.what)
 
--- the records that bytes say in a dialect, or their first fault
+-- the records in bytes, read in a dialect, or the first fault
 unfoldable pub reading : Dialect → List ℕ → Result (List PlainHand) Wrong
 reading dialect bytes = told (hands_said dialect (blocks_of bytes))
 
--- what a fault says, but for want of memory
+-- what is wrong, unless memory ran out
 abbrev pub wrong_of : OhhFault → Option Wrong
 wrong_of (faults.Text hand) = Some (NoText hand)
 wrong_of (faults.MissingMember hand path) = Some (InHand hand path whats.MissingMember)
@@ -103,8 +103,7 @@ wrong_of (faults.RakePlace hand path) = Some (InHand hand path whats.RakePlace)
 wrong_of (faults.TooMany hand path quantity) = Some (InHand hand path (whats.TooMany quantity))
 wrong_of (faults.Memory memory) = None
 
--- an answer is what is read: the records that it holds, or the fault that it names; want of memory
--- says nothing
+-- the result is what is read: the records, or the fault; nothing is claimed if memory ran out
 abbrev pub Reads : Result (List Record) OhhFault → Result (List PlainHand) Wrong → Type 0
 Reads (Ok records) read = read ≡ Ok (map plain records)
 Reads (Err fault) read = IfSome (wrong_of fault) (λ wrong. read ≡ Err wrong)

@@ -1,10 +1,11 @@
--- The sizes of bets of a hand are told by its big blind.
+-- The bet sizes of a hand follow from its big blind.
 use Rattle.std.specs.Prelude.{ℕ, ◌*◌, if◌then◌else◌}
 use Rattle.play_event.specs.declared.code.Code.{Code}
 use Rattle.ohh_members.specs.Blinds.{is_fixed_game}
 use Rattle.hand_records.specs.declared.sizes.Sizes.{Sizes}
 
--- in fixed limit the big blind and twice that; in the other limits the big blind is the least bet
+-- in fixed limit the bets are the big blind and twice that; in the other limits the big blind is
+-- the least bet
 abbrev pub sizes_of : Code → ℕ → Sizes
 sizes_of code big_blind =
     if is_fixed_game code

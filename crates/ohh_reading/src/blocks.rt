@@ -1,4 +1,4 @@
-//! The input is cut into blocks at lines without anything but spaces, tabs and carriage returns.
+//! Cuts the input into blocks at lines with nothing but spaces, tabs and carriage returns.
 ghost use Rattle.std.specs.Prelude.{◌≡◌, ◌+◌, ◌==◌, [], ◌∷◌, ◌++◌, List, ℕ, map, length, None, option_map, IfOk, OnOk};
 ghost use Rattle.std.specs.List.{position_or_len};
 ghost use Rattle.std.specs.Option.{option_map_or};
@@ -26,7 +26,7 @@ pub fn cut_blocks(alloc: Global, text: &[u8]) -> Result<Vec<Vec<u8>>, Memory>
     Ok(found)
 }
 
-// The first line, and what stands behind its end, if it has one.
+// The first line, and what comes after its end, if it has one.
 fn cut_line(text: &[u8]) -> (&[u8], Option<&[u8]>)
     ensures lines { lines_of text.now ≡ result.0.now
         ∷ option_map_or (λ rest. lines_of rest.now) result.1 [] }
@@ -42,7 +42,7 @@ fn cut_line(text: &[u8]) -> (&[u8], Option<&[u8]>)
     (line, Some(behind))
 }
 
-// How many bytes stand before the end of the first line.
+// How many bytes come before the end of the first line.
 fn line_len(text: &[u8]) -> usize
     ensures { result ≡ position_or_len (λ sign. sign == 10) text.now }
 {
@@ -54,7 +54,7 @@ fn line_len(text: &[u8]) -> usize
     text.len()
 }
 
-// A line is taken to the block that is not ended, or ends it.
+// Adds a line to the current block, or ends the block if the line is blank.
 fn take_line(
     alloc: Global,
     begun: Option<Vec<u8>>,
@@ -81,7 +81,7 @@ fn take_line(
     }
 }
 
-// Whether the line divides blocks.
+// Whether the line separates blocks.
 fn is_blank(line: &[u8]) -> bool
     ensures { result ≡ is_blank_said line.now }
 {
@@ -93,7 +93,7 @@ fn is_blank(line: &[u8]) -> bool
     true
 }
 
-// The blocks with one more, if there is one.
+// Appends the block, if there is one.
 fn push_block(found: &mut Vec<Vec<u8>>, block: Option<Vec<u8>>) -> Result<(), Memory>
     ensures { OnOk result (map (λ block. block.items) found.new.items
         ≡ map (λ block. block.items) found.old.items

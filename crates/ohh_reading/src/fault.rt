@@ -1,5 +1,5 @@
-//! Why bytes are no hands in Open Hand History: their first fault, with its hand and the path of
-//! its member.
+//! Why bytes cannot be read as hands in Open Hand History: their first fault, with its hand and the
+//! path of its member.
 use card_set::Memory;
 use first_fault::{Quantity, Text};
 use ohh_members::fault::MemberFault;
@@ -8,16 +8,16 @@ use ohh_members::fault::MemberFault;
 /// the order of reading. `path` is the path of the member, as `ohh.rounds[0].actions[4].amount`.
 #[derive(Debug, Drop)]
 pub enum OhhFault {
-    /// A block is no JSON.
+    /// A block is not JSON.
     Text {
         hand: u32,
     },
-    /// A member that is needed lacks.
+    /// A required member is missing.
     MissingMember {
         hand: u32,
         path: Text,
     },
-    /// A member is of another kind, or a text says no card or no date.
+    /// A member has the wrong kind, or a text is no card or no date.
     WrongType {
         hand: u32,
         path: Text,
@@ -32,32 +32,32 @@ pub enum OhhFault {
         hand: u32,
         path: Text,
     },
-    /// The game and its limit are no pair that is read.
+    /// The game and its limit are not a supported pair.
     UnsupportedGame {
         hand: u32,
         path: Text,
     },
-    /// A player is no player of the hand, or is there twice, or there are too few or too many.
+    /// A player is not in the hand, or is listed twice, or there are too few or too many players.
     BadPlayer {
         hand: u32,
         path: Text,
     },
-    /// An action has a word that is not read.
+    /// An action has an unsupported word.
     UnsupportedAction {
         hand: u32,
         path: Text,
     },
-    /// A round or its cards do not come here.
+    /// A round or its cards are out of order.
     BadStreet {
         hand: u32,
         path: Text,
     },
-    /// A blind, a straddle or an ante is not as it must be.
+    /// A blind, a straddle or an ante breaks a condition of posts.
     BadPost {
         hand: u32,
         path: Text,
     },
-    /// A rake is taken from a pot that no hand has.
+    /// A rake is taken from a pot past the last that a hand can have.
     RakePlace {
         hand: u32,
         path: Text,
@@ -72,7 +72,7 @@ pub enum OhhFault {
     Memory(Memory),
 }
 
-/// What is wrong with a hand: its block is no JSON, or a member has a fault.
+/// What is wrong with a hand: its block is not JSON, or a member has a fault.
 #[derive(Clone, Copy, Debug, PartialEq, Eq)]
 pub enum HandFaultKind {
     Text,

@@ -1,5 +1,6 @@
-//! The blocks of a file are read as its hands, in order.
+//! Reads the blocks of a file as its hands, in order.
 ghost use Rattle.std.specs.Prelude.{◌≡◌, ◌≤◌, [], ◌∷◌, Some, option_map, map, IfOk};
+ghost use Rattle.serde_json.specs.Errors.{IsMemory};
 ghost use Rattle.serde_json.specs.View.{view};
 ghost use Rattle.first_fault.specs.declared.limits.TheConstants.{MOST_FILE_MOVES, MOST_HANDS};
 ghost use Rattle.first_fault.specs.Reading.{Gives};
@@ -14,20 +15,20 @@ use crate::blocks::cut_blocks;
 use crate::fault::{HandFaultKind, OhhHandFault};
 use crate::hand::read_hand;
 use card_set::Memory;
-use first_fault::{MOST_HANDS, Quantity, Stop};
+use first_fault::{MOST_HANDS, Quantity, ReadError};
 use hand_records::{Record, Records};
 use ohh_members::Dialect;
 use ohh_members::fault::{MemberFault, MemberFaultKind, Path};
-use ohh_members::values::{field, wrong};
-use serde_json::Value;
+use ohh_members::values::{fault_at, field};
+use serde_json::{Error, Value};
 use std::alloc::Global;
 
-/// The hands of a file in a dialect, and its moves.
+/// The hands of a file in a dialect, and the number of moves in the file.
 pub fn read_file(
     alloc: Global,
     dialect: Dialect,
     bytes: &[u8],
-) -> Result<(Records, usize), Stop<OhhHandFault>>
+) -> Result<(Records, usize), ReadError<OhhHandFault>>
     ensures said { Gives (λ found. (map plain found.0, found.1)) result
         (hands_said dialect (blocks_of bytes.now)) }
     ensures hands { IfOk result (λ found. AreHistories found.0) }
@@ -37,18 +38,18 @@ pub fn read_file(
     Ok(found)
 }
 
-// The hands of blocks, in order, and the moves of the file after them.
+// The hands of blocks, in order, and the number of moves in the file so far.
 fn read_blocks(
     alloc: Global,
     dialect: Dialect,
     blocks: &[Vec<u8>],
-) -> Result<(Records, usize), Stop<OhhHandFault>>
+) -> Result<(Records, usize), ReadError<OhhHandFault>>
     ensures said { Gives (λ found. (map plain found.0, found.1)) result
         (hands_said dialect (map (λ block. block.items) blocks.now)) }
     ensures hands { IfOk result (λ found. AreHistories found.0) }
 {
     let mut records = Records::new(alloc);
-    records.make_room(blocks.len());
+    records.reserve(blocks.len());
     let mut file_moves = 0;
     for (index, block) in blocks.iter().enumerate() {
         let number = index as u32 + 1;
@@ -59,7 +60,7 @@ fn read_blocks(
     Ok((records, file_moves))
 }
 
-// The hand with this number, from 1, after so many moves of the file.
+// The hand with this number, from 1, after `file_moves` moves of the file.
 #[tactic(auto, unfolding(crate::specs::Reading::numbered_hand, crate::specs::Reading::found_said))]
 fn read_numbered(
     alloc: Global,
@@ -67,7 +68,7 @@ fn read_numbered(
     block: &[u8],
     number: u32,
     file_moves: usize,
-) -> Result<(Record, usize), Stop<OhhHandFault>>
+) -> Result<(Record, usize), ReadError<OhhHandFault>>
     requires first { 1 ≤ number }
     requires few { file_moves ≤ MOST_FILE_MOVES }
     ensures said { Gives (λ found. (plain found.0 ∷ [], found.1)) result
@@ -86,19 +87,19 @@ fn read_numbered(
     };
     match read_tree(alloc, dialect, &tree, number - 1, file_moves) {
         Ok(found) => Ok(found),
-        Err(Stop::Memory(memory)) => Err(Stop::Memory(memory)),
-        Err(Stop::At(fault)) => Err(in_hand(number, HandFaultKind::Member(fault))),
+        Err(ReadError::Memory(memory)) => Err(ReadError::Memory(memory)),
+        Err(ReadError::Fault(fault)) => Err(in_hand(number, HandFaultKind::Member(fault))),
     }
 }
 
 // What is wrong with the hand that has this number.
-fn in_hand(hand: u32, what: HandFaultKind) -> Stop<OhhHandFault>
-    ensures { result ≡ Stop.At (record { hand = hand; what = what }) }
+fn in_hand(hand: u32, what: HandFaultKind) -> ReadError<OhhHandFault>
+    ensures { result ≡ ReadError.Fault (record { hand = hand; what = what }) }
 {
-    Stop::At(OhhHandFault { hand, what })
+    ReadError::Fault(OhhHandFault { hand, what })
 }
 
-// The tree that a block is, or nothing where it is none.
+// The JSON tree of a block, or nothing if it is not JSON.
 #[tactic(auto, using(crate::proofs::Trees::no_tree, card_set::specs::Refusal::an_allocator_said_so))]
 fn parse(alloc: Global, block: &[u8]) -> Result<Option<Value>, Memory>
     ensures { IfOk result (λ tree. option_map view tree ≡ tree_of block.now) }
@@ -107,7 +108,7 @@ fn parse(alloc: Global, block: &[u8]) -> Result<Option<Value>, Memory>
         Ok(tree) => Ok(Some(tree)),
         Err(error) => {
             if error.is_memory() {
-                Err(Memory {})
+                Err(refused_in_parser(&error))
             } else {
                 Ok(None)
             }
@@ -115,7 +116,7 @@ fn parse(alloc: Global, block: &[u8]) -> Result<Option<Value>, Memory>
     }
 }
 
-// The hand of a tree at this place of its file, from 0, after so many moves of the file.
+// The hand of a tree at this place of its file, from 0, after `file_moves` moves of the file.
 #[tactic(auto, unfolding(crate::specs::Reading::tree_said))]
 fn read_tree(
     alloc: Global,
@@ -123,7 +124,7 @@ fn read_tree(
     tree: &Value,
     place: u32,
     file_moves: usize,
-) -> Result<(Record, usize), Stop<MemberFault>>
+) -> Result<(Record, usize), ReadError<MemberFault>>
     requires { file_moves ≤ MOST_FILE_MOVES }
     ensures said { Gives (λ found. (plain found.0, found.1)) result
         (tree_said dialect file_moves place (view tree.now)) }
@@ -134,22 +135,22 @@ fn read_tree(
 }
 
 // The object of the hand in a tree.
-fn object_in(tree: &Value) -> Result<&Value, Stop<MemberFault>>
+fn object_in(tree: &Value) -> Result<&Value, ReadError<MemberFault>>
     ensures { Gives (λ ohh. view ohh.now) result
         (object_of (field_said paths.Ohh (view tree.now))) }
 {
     match field(tree, Path::Ohh) {
         Some(value) => object_or_none(value),
-        None => Err(wrong(MemberFaultKind::MissingMember, Path::Ohh)),
+        None => Err(fault_at(MemberFaultKind::MissingMember, Path::Ohh)),
     }
 }
 
-// The object that a value is.
-fn object_or_none(value: &Value) -> Result<&Value, Stop<MemberFault>>
+// The value as an object.
+fn object_or_none(value: &Value) -> Result<&Value, ReadError<MemberFault>>
     ensures { Gives (λ ohh. view ohh.now) result (object_of (Some (view value.now))) }
 {
     match value {
         Value::Object(_) => Ok(value),
-        _ => Err(wrong(MemberFaultKind::MissingMember, Path::Ohh)),
+        _ => Err(fault_at(MemberFaultKind::MissingMember, Path::Ohh)),
     }
 }

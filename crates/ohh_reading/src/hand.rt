@@ -1,4 +1,4 @@
-//! The object of a hand is read as its record.
+//! Reads the object of a hand as its record.
 ghost use Rattle.std.specs.Prelude.{◌≡◌, ◌≤◌, ◌+◌, IfOk};
 ghost use Rattle.serde_json.specs.View.{view};
 ghost use Rattle.first_fault.specs.declared.limits.TheConstants.{MOST_FILE_MOVES};
@@ -11,16 +11,16 @@ ghost use Rattle.hand_records.specs.PlainHands.{plain};
 use crate::parts::{ids_in, notes_in, read_paid, stacks_in};
 use crate::play::read_play;
 use crate::record::record_of;
-use first_fault::Stop;
+use first_fault::ReadError;
 use hand_records::Record;
 use ohh_members::Dialect;
 use ohh_members::fault::MemberFault;
-use ohh_members::front::read_front;
+use ohh_members::header::read_front;
 use serde_json::Value;
 use std::alloc::Global;
 
-/// The hand of an object at this place of its file, from 0, after so many moves of the file; and
-/// the moves of the file after it.
+/// The hand of an object at this place of its file, from 0, after `file_moves` moves of the file;
+/// and the moves of the file after it.
 #[tactic(auto, unfolding(crate::specs::Hand::hand_said))]
 pub fn read_hand(
     alloc: Global,
@@ -28,7 +28,7 @@ pub fn read_hand(
     ohh: &Value,
     place: u32,
     file_moves: usize,
-) -> Result<(Record, usize), Stop<MemberFault>>
+) -> Result<(Record, usize), ReadError<MemberFault>>
     requires { file_moves ≤ MOST_FILE_MOVES }
     ensures said { Gives (λ found. (plain found.0, found.1)) result
         (hand_said dialect file_moves place (view ohh.now)) }

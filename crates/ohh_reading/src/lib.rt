@@ -1,5 +1,4 @@
-//! Bytes in Open Hand History are read as the records that they say, or refused with their first
-//! fault.
+//! Reads bytes in Open Hand History as records, or refuses them with their first fault.
 #![tactic(auto)]
 
 mod blocks;

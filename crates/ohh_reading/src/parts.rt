@@ -1,4 +1,4 @@
-//! The parts of a hand beside its play are read with what stands in front of its rounds.
+//! Reads the parts of a hand other than its play, with what comes before its rounds.
 ghost use Rattle.std.specs.Prelude.{◌≡◌, ◌<◌, ℕ, length, map, slice_index, IfOk};
 ghost use Rattle.serde_json.specs.View.{view};
 ghost use Rattle.hand_records.specs.AllowedNotes.{AreAllowed};
@@ -6,26 +6,26 @@ ghost use Rattle.play_event.specs.ValidSetup.{IsSize};
 ghost use Rattle.first_fault.specs.Reading.{Gives};
 ghost use Rattle.ohh_facts.specs.Notes.{notes_said};
 ghost use Rattle.ohh_facts.specs.Pots.{IsPaid, plain_paid, pots_said};
-ghost use Rattle.ohh_members.specs.Front.{IsFront, ids_of as ids_of_said, stacks_of};
+ghost use Rattle.ohh_members.specs.Header.{IsFront, ids_of as ids_of_said, stacks_of};
 ghost use Rattle.chip_ledger.specs.SeatRow.{amounts_in};
 ghost use Rattle.ohh_members.specs.Players.{plain_player};
 ghost use Rattle.hand_records.specs.SaidNotes.{plain_notes};
 
 use card_set::Memory;
 use chip_ledger::SeatRow;
-use first_fault::Stop;
+use first_fault::ReadError;
 use hand_records::Notes;
 use ohh_facts::listed_pots::Paid;
 use ohh_facts::notes::read_notes;
 use ohh_facts::pots::read_pots;
 use ohh_members::fault::MemberFault;
-use ohh_members::front::Front;
+use ohh_members::header::Header;
 use ohh_members::rows::{ids_of, stack_row};
 use serde_json::Value;
 use std::alloc::Global;
 
 /// The starting stacks of the players.
-pub fn stacks_in(front: &Front) -> SeatRow
+pub fn stacks_in(front: &Header) -> SeatRow
     requires { IsFront front.now }
     ensures said { amounts_in result ≡ stacks_of (map plain_player front.now.players.items) }
     ensures seats { result.seats ≡ length front.now.players.items }
@@ -35,7 +35,7 @@ pub fn stacks_in(front: &Front) -> SeatRow
 }
 
 /// The ids of the players, the first seat's first.
-pub fn ids_in(alloc: Global, front: &Front) -> Result<Vec<i128>, Memory>
+pub fn ids_in(alloc: Global, front: &Header) -> Result<Vec<i128>, Memory>
     ensures said { IfOk result (λ ids. ids.items
         ≡ ids_of_said (map plain_player front.now.players.items)) }
     ensures count { IfOk result (λ ids. length ids.items ≡ length front.now.players.items) }
@@ -43,13 +43,13 @@ pub fn ids_in(alloc: Global, front: &Front) -> Result<Vec<i128>, Memory>
     ids_of(alloc, &front.players)
 }
 
-/// What is stated of the pots of a hand with these players, whose ids they are.
+/// What a hand with these players states of its pots.
 pub fn read_paid(
     alloc: Global,
-    front: &Front,
+    front: &Header,
     ids: &Vec<i128>,
     ohh: &Value,
-) -> Result<Paid, Stop<MemberFault>>
+) -> Result<Paid, ReadError<MemberFault>>
     requires front { IsFront front.now }
     requires count { length ids.now.items ≡ length front.now.players.items }
     requires ids { ids.now.items ≡ ids_of_said (map plain_player front.now.players.items) }
@@ -63,10 +63,10 @@ pub fn read_paid(
 /// The notes of a hand with these players, at this place of its file, from 0.
 pub fn notes_in(
     alloc: Global,
-    front: &Front,
+    front: &Header,
     ohh: &Value,
     place: u32,
-) -> Result<Notes, Stop<MemberFault>>
+) -> Result<Notes, ReadError<MemberFault>>
     requires { IsFront front.now }
     ensures said { Gives (plain_notes (length front.now.players.items)) result
         (notes_said place (map plain_player front.now.players.items) (view ohh.now)) }

@@ -1,37 +1,36 @@
-//! What the rounds of a hand say is read with what stands in front of them.
+//! Reads the rounds of a hand, with what comes before them.
 ghost use Rattle.std.specs.Prelude.{◌≡◌, ◌≤◌, ◌+◌, count_by, length, map, IfOk};
 ghost use Rattle.serde_json.specs.View.{view};
-ghost use Rattle.canon_script.specs.PlayedScript.{IsWithinLimits, is_move};
+ghost use Rattle.play_event.specs.PlayedScript.{IsWithinLimits, is_move};
 ghost use Rattle.first_fault.specs.declared.limits.TheConstants.{MOST_FILE_MOVES};
 ghost use Rattle.play_event.specs.Said.{said_of};
 ghost use Rattle.first_fault.specs.Reading.{Gives};
-ghost use Rattle.ohh_members.specs.Front.{IsFront, ids_of, plain_front, stacks_of};
+ghost use Rattle.ohh_members.specs.Header.{IsFront, ids_of, plain_front, stacks_of};
 ghost use Rattle.chip_ledger.specs.SeatRow.{amounts_in};
 ghost use Rattle.ohh_members.specs.Players.{plain_player};
-ghost use Rattle.ohh_posts.specs.AntesAndBlinds.{AreAntesAndBlindsFor};
+ghost use Rattle.ohh_rounds.specs.AntesAndBlinds.{AreAntesAndBlindsFor};
 ghost use Rattle.ohh_rounds.specs.Play.{plain_play, rounds_said};
 ghost use Rattle.ohh_reading.specs.Hand.{setting_of};
 
 use chip_ledger::SeatRow;
-use first_fault::Stop;
+use first_fault::ReadError;
 use ohh_members::Dialect;
 use ohh_members::fault::MemberFault;
-use ohh_members::front::Front;
-use ohh_posts::NamedBlinds;
-use ohh_rounds::{RoundsPlay, Setting, read_rounds};
+use ohh_members::header::Header;
+use ohh_rounds::{HandContext, NamedBlinds, RoundsPlay, read_rounds};
 use serde_json::Value;
 use std::alloc::Global;
 
-/// What the rounds of a hand say, with the stacks and the ids of its players.
+/// The rounds of a hand, read with the stacks and the ids of its players.
 pub fn read_play(
     alloc: Global,
     dialect: Dialect,
-    front: &Front,
+    front: &Header,
     stacks: SeatRow,
     ids: &Vec<i128>,
     file_moves: usize,
     ohh: &Value,
-) -> Result<RoundsPlay, Stop<MemberFault>>
+) -> Result<RoundsPlay, ReadError<MemberFault>>
     requires front { IsFront front.now }
     requires stacks { amounts_in stacks ≡ stacks_of (map plain_player front.now.players.items) }
     requires ids { ids.now.items ≡ ids_of (map plain_player front.now.players.items) }
@@ -45,7 +44,7 @@ pub fn read_play(
         ≡ file_moves + count_by is_move (map said_of play.script)) }
     ensures few { IfOk result (λ play. play.file_moves ≤ MOST_FILE_MOVES) }
 {
-    let setting = Setting {
+    let setting = HandContext {
         ids: ids.as_slice(),
         table: NamedBlinds {
             stacks,

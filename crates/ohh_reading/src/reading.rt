@@ -1,4 +1,4 @@
-//! Bytes are read as the records that they say, or refused with their first fault.
+//! Reads bytes as records, or refuses them with their first fault.
 ghost use Rattle.std.specs.Prelude.{◌≡◌, ◌≤◌, Some, sum_by, length, IfOk, IfSome};
 ghost use Rattle.std.specs.List.{AllByRecursion};
 ghost use Rattle.first_fault.specs.declared.limits.TheConstants.{MOST_FILE_MOVES, MOST_HANDS};
@@ -9,14 +9,14 @@ ghost use Rattle.hand_records.specs.Moves.{moves_of};
 
 use crate::fault::{HandFaultKind, OhhFault, OhhHandFault};
 use crate::file::read_file;
-use first_fault::{Stop, Text};
+use first_fault::{ReadError, Text};
 use hand_records::Records;
 use ohh_members::Dialect;
 use ohh_members::fault::{MemberFault, MemberFaultKind};
 use std::alloc::Global;
 
-/// The records that bytes in Open Hand History say in a dialect, one for each hand in the order of
-/// reading; or their first fault. Each record is sound, and under the rules of hand histories.
+/// The records in bytes in Open Hand History, read in a dialect, one for each hand in the order of
+/// reading; or the first fault. Each record is sound, and under the rules of hand histories.
 #[tactic(auto, unfolding(crate::specs::Reading::reading))]
 pub fn read(alloc: Global, dialect: Dialect, bytes: &[u8]) -> Result<Records, OhhFault>
     ensures reads { Reads result (reading dialect bytes.now) }
@@ -26,12 +26,12 @@ pub fn read(alloc: Global, dialect: Dialect, bytes: &[u8]) -> Result<Records, Oh
 {
     match read_file(alloc, dialect, bytes) {
         Ok((records, _moves)) => Ok(records),
-        Err(Stop::Memory(memory)) => Err(OhhFault::Memory(memory)),
-        Err(Stop::At(found)) => Err(spelled(alloc, found)),
+        Err(ReadError::Memory(memory)) => Err(OhhFault::Memory(memory)),
+        Err(ReadError::Fault(found)) => Err(spelled(alloc, found)),
     }
 }
 
-// A fault of a hand, with its path as it is spelled.
+// A fault of a hand, with its path as text.
 fn spelled(alloc: Global, found: OhhHandFault) -> OhhFault
     ensures { IfSome (wrong_of result) (λ wrong. wrong ≡ spelled_said found.hand found.what) }
 {
@@ -41,7 +41,7 @@ fn spelled(alloc: Global, found: OhhHandFault) -> OhhFault
     }
 }
 
-// A fault of a member of a hand, with its path as it is spelled.
+// A fault of a member of a hand, with its path as text.
 fn spelled_at(alloc: Global, hand: u32, fault: MemberFault) -> OhhFault
     ensures { IfSome (wrong_of result) (λ wrong.
         wrong ≡ InHand hand (path_text fault.path) fault.what) }

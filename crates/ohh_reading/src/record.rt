@@ -1,14 +1,14 @@
-//! The record of a hand is made of its parts.
+//! Makes the record of a hand from its parts.
 ghost use Rattle.std.specs.Prelude.{◌≡◌, ◌<◌, ℕ, length, map, slice_index};
-ghost use Rattle.canon_script.specs.PlayedScript.{IsWithinLimits};
+ghost use Rattle.play_event.specs.PlayedScript.{IsWithinLimits};
 ghost use Rattle.hand_records.specs.AllowedNotes.{AreAllowed};
 ghost use Rattle.play_event.specs.Said.{said_of};
 ghost use Rattle.play_event.specs.ValidSetup.{IsSize};
 ghost use Rattle.ohh_facts.specs.Pots.{IsPaid, plain_paid};
-ghost use Rattle.ohh_members.specs.Front.{IsFront, plain_front, stacks_of};
+ghost use Rattle.ohh_members.specs.Header.{IsFront, plain_front, stacks_of};
 ghost use Rattle.chip_ledger.specs.SeatRow.{amounts_in};
 ghost use Rattle.ohh_members.specs.Players.{plain_player};
-ghost use Rattle.ohh_posts.specs.AntesAndBlinds.{AreAntesAndBlindsFor};
+ghost use Rattle.ohh_rounds.specs.AntesAndBlinds.{AreAntesAndBlindsFor};
 ghost use Rattle.ohh_rounds.specs.Play.{plain_play};
 ghost use Rattle.ohh_reading.specs.Hand.{hand_of};
 ghost use Rattle.hand_records.specs.Histories.{IsHistory};
@@ -19,13 +19,13 @@ use crate::sizes::sizes_of;
 use chip_ledger::SeatRow;
 use hand_records::{Notes, Record, Stated};
 use ohh_facts::listed_pots::Paid;
-use ohh_members::front::Front;
+use ohh_members::header::Header;
 use ohh_rounds::RoundsPlay;
 use play_event::{Reopen, Rules, Setup};
 
 /// The record of a hand: its setup, its script, what is stated of it, and its notes.
 pub fn record_of(
-    front: &Front,
+    front: &Header,
     stacks: SeatRow,
     play: RoundsPlay,
     paid: Paid,

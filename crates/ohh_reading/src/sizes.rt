@@ -1,4 +1,4 @@
-//! The sizes of the bets of a hand are told by its big blind.
+//! The bet sizes of a hand follow from its big blind.
 ghost use Rattle.std.specs.Prelude.{◌≡◌, ◌≤◌, ◌*◌, not, true};
 ghost use Rattle.chip_ledger.specs.declared.numbers.TheConstants.{MOST_CHIPS};
 ghost use Rattle.play_event.specs.ValidSetup.{IsSizeWhere};
@@ -8,7 +8,7 @@ ghost use Rattle.ohh_reading.specs.Sizes.{sizes_of as sizes_of_said};
 use hand_records::Sizes;
 use play_event::Code;
 
-/// The sizes of the bets of a game with this big blind.
+/// The bet sizes of a game with this big blind.
 pub fn sizes_of(code: Code, big_blind: u64) -> Sizes
     requires least { 1 ≤ big_blind }
     requires most { big_blind ≤ MOST_CHIPS }

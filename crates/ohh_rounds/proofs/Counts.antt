@@ -2,30 +2,30 @@
 use Rattle.std.proofs.Common.{◌≡◌, ℕ, ◌+◌, Bool, not, cond, List, [], ◌∷◌, ◌++◌, length, map, count_by, refl, ap, ◌∙◌, arith}
 use Rattle.std.proofs.lemmas.List.{map-append}
 use Rattle.std.proofs.lemmas.List.FromFn.{length-range_with_len}
-use Rattle.list_laws.proofs.Counting.{count_by-cons, count_by-joined}
-use Rattle.canon_script.specs.PlayedScript.{is_move}
+use Rattle.card_set.proofs.Counting.{count_by-cons, count_by-joined}
+use Rattle.play_event.specs.PlayedScript.{is_move}
 use Rattle.chip_ledger.specs.Seat.{seats_of}
 use Rattle.play_event.specs.declared.event.Event.{Event}
 use Rattle.play_event.specs.Said.{Said, Numbered, numbered, said_of}
-use Rattle.ohh_rounds.specs.Steps.{PlainDeed, PlainStep, Posted, Dealt, Happened, Passed, is_move_deed, is_other_deed, moves_in, others_in}
+use Rattle.ohh_rounds.specs.Steps.{PlainActionEffect, PlainStep, Posted, Dealt, Happened, Passed, is_move_effect, is_other_effect, moves_in, others_in}
 use Rattle.ohh_rounds.specs.Play.{event_in, events_in, hole_deal, script_said}
 
--- what numbered events say
+-- numbered events, without the numbers
 abbrev pub said_in : List Numbered → List Said
 said_in events = map (λ event. event.1) events
 
--- what events say is what they say with their numbers
+-- events without their numbers are the same
 pub said_numbered : (events : List Event) → map said_of events ≡ said_in (map numbered events)
 said_numbered [] = refl
 said_numbered (event ∷ rest) = ap (λ others. said_of event ∷ others) (said_numbered rest)
 
-move_in : (step : PlainStep) (deed : PlainDeed) → count_by is_move (said_in (event_in step deed)) ≡ cond (is_move_deed deed) 1 0
+move_in : (step : PlainStep) (effect : PlainActionEffect) → count_by is_move (said_in (event_in step effect)) ≡ cond (is_move_effect effect) 1 0
 move_in step (Happened event) = count_by-cons is_move event [] ∙ omega arith
 move_in step (Posted post) = refl
 move_in step (Dealt seat slots) = refl
 move_in step Passed = refl
 
-other_in : (step : PlainStep) (deed : PlainDeed) → count_by (λ event. not (is_move event)) (said_in (event_in step deed)) ≡ cond (is_other_deed deed) 1 0
+other_in : (step : PlainStep) (effect : PlainActionEffect) → count_by (λ event. not (is_move event)) (said_in (event_in step effect)) ≡ cond (is_other_effect effect) 1 0
 other_in step (Happened event) = count_by-cons (λ event. not (is_move event)) event [] ∙ omega arith
 other_in step (Posted post) = refl
 other_in step (Dealt seat slots) = refl
@@ -36,11 +36,11 @@ two_parts p xs ys = ap (count_by p) (map-append (λ (event : Numbered). event.1)
 
 moves_of_events : (steps : List PlainStep) → count_by is_move (said_in (events_in steps)) ≡ moves_in steps
 moves_of_events [] = refl
-moves_of_events (step ∷ rest) = omega (arith, two_parts is_move (event_in step step.deed) (events_in rest), move_in step step.deed, moves_of_events rest, count_by-cons (λ x. is_move_deed x.deed) step rest)
+moves_of_events (step ∷ rest) = omega (arith, two_parts is_move (event_in step step.effect) (events_in rest), move_in step step.effect, moves_of_events rest, count_by-cons (λ x. is_move_effect x.effect) step rest)
 
 others_of_events : (steps : List PlainStep) → count_by (λ event. not (is_move event)) (said_in (events_in steps)) ≡ others_in steps
 others_of_events [] = refl
-others_of_events (step ∷ rest) = omega (arith, two_parts (λ event. not (is_move event)) (event_in step step.deed) (events_in rest), other_in step step.deed, others_of_events rest, count_by-cons (λ x. is_other_deed x.deed) step rest)
+others_of_events (step ∷ rest) = omega (arith, two_parts (λ event. not (is_move event)) (event_in step step.effect) (events_in rest), other_in step step.effect, others_of_events rest, count_by-cons (λ x. is_other_effect x.effect) step rest)
 
 moves_of_deals : (count : ℕ) (steps : List PlainStep) (seats : List ℕ) → count_by is_move (said_in (map (hole_deal count steps) seats)) ≡ 0
 moves_of_deals count steps [] = refl
@@ -50,14 +50,14 @@ others_of_deals : (count : ℕ) (steps : List PlainStep) (seats : List ℕ) → 
 others_of_deals count steps [] = refl
 others_of_deals count steps (seat ∷ seats) = omega (arith, count_by-cons (λ event. not (is_move event)) ((hole_deal count steps seat).1) (said_in (map (hole_deal count steps) seats)), others_of_deals count steps seats)
 
--- the moves of a script are those that were told
+-- the moves of a script are those of the steps
 pub script_moves : (seats count : ℕ) (steps : List PlainStep) (events : List Event) → map numbered events ≡ script_said seats count steps → count_by is_move (map said_of events) ≡ moves_in steps
 unfolding script_said
 script_moves seats count steps events is =
     let same = ap (count_by is_move) (said_numbered events ∙ ap said_in is) in
     omega (arith, same, two_parts is_move (map (hole_deal count steps) (seats_of seats)) (events_in steps), moves_of_deals count steps (seats_of seats), moves_of_events steps)
 
--- its other events are the hole deals, and those that were told
+-- its other events are the hole deals, and those of the steps
 pub script_others : (seats count : ℕ) (steps : List PlainStep) (events : List Event) → map numbered events ≡ script_said seats count steps → count_by (λ event. not (is_move event)) (map said_of events) ≡ seats + others_in steps
 unfolding script_said
 script_others seats count steps events is =

@@ -1,4 +1,4 @@
--- A list that is read item by item has as many items.
+-- A list that is read item by item keeps its number of items.
 use Rattle.std.proofs.Common.{◌≡◌, ℕ, ◌+◌, List, [], ◌∷◌, length, Result, Ok, Err, refl, sym, ap, ◌∙◌, arith}
 use Rattle.first_fault.specs.Reading.{◌>>=◌, each_from}
 
@@ -7,7 +7,7 @@ one_more (Err fault) rest xs n is each = absurd (cc)
 one_more (Ok x) (Err fault) xs n is each = absurd (cc)
 one_more (Ok x) (Ok ys) xs n is each = let same : x ∷ ys ≡ xs = cc in ap length (sym same) ∙ let count = each ys refl in omega (arith, count)
 
--- as many items as there were
+-- the same number of items
 pub as_many : {F D A : Type 0} (form : ℕ → D → Result A F) (n : ℕ) (items : List D) (xs : List A) → each_from form n items ≡ Ok xs → length xs ≡ length items
 unfolding each_from
 as_many form n [] xs is = let same : [] ≡ xs = cc in ap length (sym same)

@@ -1,4 +1,4 @@
--- What is told of a seat, with one step more.
+-- The state of a seat, after one more step.
 use Rattle.std.proofs.Common.{◌≡◌, ◌≢◌, ℕ, ◌-◌, ◌≤◌, Bool, true, false, ◌||◌, cond, List, [], ◌∷◌, ◌++◌, find, set, inl, inr, subst, slice_get, Option, Some, None, option_map, refl, sym, ap, ◌∙◌, arith}
 use Rattle.std.specs.Option.{option_or}
 use Rattle.std.proofs.Math.Bool.{or-true}
@@ -6,41 +6,41 @@ use Rattle.std.proofs.lemmas.Bool.{cases_lt}
 use Rattle.std.proofs.lemmas.Grind.{flat_map-append}
 use Rattle.std.proofs.lemmas.List.{append-nil}
 use Rattle.std.proofs.lemmas.List.Folds.{find-append}
-use Rattle.list_laws.proofs.Finding.{list_any-push}
-use Rattle.list_laws.proofs.Tests.{or_false}
+use Rattle.card_set.proofs.Finding.{list_any-push}
+use Rattle.card_set.proofs.Tests.{or_false}
 use Rattle.card_set.specs.declared.card.Slot.{Slot}
 use Rattle.card_set.specs.Row.{slots_of}
-use Rattle.ohh_rounds.specs.declared.seat_told.SeatTold.{SeatTold}
+use Rattle.ohh_rounds.specs.declared.seat_so_far.SeatSoFar.{SeatSoFar}
 use Rattle.ohh_rounds.specs.Kept.{IsToldOf}
-use Rattle.ohh_rounds.specs.Steps.{PlainDeed, PlainStep, Posted, Dealt, Happened, Passed, IsFoldBy, dealt_in, dealt_to, first_deal, has_folded, is_deal_to, is_fold_of, is_seat}
-use Rattle.list_laws.proofs.Entries.{at_other, at_set}
-use Rattle.list_laws.proofs.Numbers.{different_number, same_number}
-use Rattle.list_laws.proofs.Options.{or_nothing}
+use Rattle.ohh_rounds.specs.Steps.{PlainActionEffect, PlainStep, Posted, Dealt, Happened, Passed, IsFoldBy, dealt_in, dealt_to, first_deal, has_folded, is_deal_to, is_fold_of, is_seat}
+use Rattle.card_set.proofs.Entries.{at_other, at_set}
+use Rattle.card_set.proofs.Numbers.{different_number, same_number}
+use Rattle.card_set.proofs.Options.{or_nothing}
 
--- one step more folds the seat, or does not
-pub folds : (seat : ℕ) (steps : List PlainStep) (step : PlainStep) → has_folded seat (steps ++ step ∷ []) ≡ (has_folded seat steps || is_fold_of seat step.deed)
-folds seat steps step = list_any-push (λ x. is_fold_of seat x.deed) steps step
+-- one more step folds the seat, or does not
+pub folds : (seat : ℕ) (steps : List PlainStep) (step : PlainStep) → has_folded seat (steps ++ step ∷ []) ≡ (has_folded seat steps || is_fold_of seat step.effect)
+folds seat steps step = list_any-push (λ x. is_fold_of seat x.effect) steps step
 
 dealt_parts : (seat : ℕ) (steps others : List PlainStep) → dealt_to seat (steps ++ others) ≡ dealt_to seat steps ++ dealt_to seat others
-dealt_parts seat steps others = flat_map-append (λ x. dealt_in seat x.deed) steps others
+dealt_parts seat steps others = flat_map-append (λ x. dealt_in seat x.effect) steps others
 
--- one step more deals some hole cards to the seat, or none
-pub deals : (seat : ℕ) (steps : List PlainStep) (step : PlainStep) → dealt_to seat (steps ++ step ∷ []) ≡ dealt_to seat steps ++ dealt_in seat step.deed
-deals seat steps step = dealt_parts seat steps (step ∷ []) ∙ ap (λ cards. dealt_to seat steps ++ cards) (append-nil (dealt_in seat step.deed))
+-- one more step deals some hole cards to the seat, or none
+pub deals : (seat : ℕ) (steps : List PlainStep) (step : PlainStep) → dealt_to seat (steps ++ step ∷ []) ≡ dealt_to seat steps ++ dealt_in seat step.effect
+deals seat steps step = dealt_parts seat steps (step ∷ []) ∙ ap (λ cards. dealt_to seat steps ++ cards) (append-nil (dealt_in seat step.effect))
 
 either : (found : Option PlainStep) (step : PlainStep) (is_one : Bool) → option_map (λ x. x.number) (option_or found (cond is_one (Some step) None)) ≡ option_or (option_map (λ x. x.number) found) (cond is_one (Some step.number) None)
 either (Some x) step is_one = refl
 either None step true = refl
 either None step false = refl
 
--- one step more is the first deal to the seat, or is not
-pub first_deals : (seat : ℕ) (steps : List PlainStep) (step : PlainStep) → first_deal seat (steps ++ step ∷ []) ≡ option_or (first_deal seat steps) (cond (is_deal_to seat step.deed) (Some step.number) None)
+-- one more step is the first deal to the seat, or is not
+pub first_deals : (seat : ℕ) (steps : List PlainStep) (step : PlainStep) → first_deal seat (steps ++ step ∷ []) ≡ option_or (first_deal seat steps) (cond (is_deal_to seat step.effect) (Some step.number) None)
 first_deals seat steps step =
-    ap (option_map (λ x. x.number)) (find-append (λ x. is_deal_to seat x.deed) steps (step ∷ []))
-    ∙ either (find (λ x. is_deal_to seat x.deed) steps) step (is_deal_to seat step.deed)
+    ap (option_map (λ x. x.number)) (find-append (λ x. is_deal_to seat x.effect) steps (step ∷ []))
+    ∙ either (find (λ x. is_deal_to seat x.effect) steps) step (is_deal_to seat step.effect)
 
--- a step that tells nothing of the seat
-pub untold : (seat : ℕ) (steps : List PlainStep) (step : PlainStep) (kept : SeatTold) → is_fold_of seat step.deed ≡ false → dealt_in seat step.deed ≡ [] → is_deal_to seat step.deed ≡ false → IsToldOf seat steps kept → IsToldOf seat (steps ++ step ∷ []) kept
+-- a step that does not concern the seat
+pub untold : (seat : ℕ) (steps : List PlainStep) (step : PlainStep) (kept : SeatSoFar) → is_fold_of seat step.effect ≡ false → dealt_in seat step.effect ≡ [] → is_deal_to seat step.effect ≡ false → IsToldOf seat steps kept → IsToldOf seat (steps ++ step ∷ []) kept
 untold seat steps step kept no_fold no_cards no_deal told =
     record {
       folded = told.folded ∙ sym (folds seat steps step ∙ ap (λ b. has_folded seat steps || b) no_fold ∙ or_false (has_folded seat steps));
@@ -49,7 +49,7 @@ untold seat steps step kept no_fold no_cards no_deal told =
     }
 
 -- a step that folds the seat
-pub folded : (seat : ℕ) (steps : List PlainStep) (step : PlainStep) (before after : SeatTold) → is_fold_of seat step.deed ≡ true → dealt_in seat step.deed ≡ [] → is_deal_to seat step.deed ≡ false
+pub folded : (seat : ℕ) (steps : List PlainStep) (step : PlainStep) (before after : SeatSoFar) → is_fold_of seat step.effect ≡ true → dealt_in seat step.effect ≡ [] → is_deal_to seat step.effect ≡ false
     → after.folded ≡ true → after.cards ≡ before.cards → after.first_deal ≡ before.first_deal → IsToldOf seat steps before → IsToldOf seat (steps ++ step ∷ []) after
 folded seat steps step before after fold no_cards no_deal is same_cards same_deal told =
     record {
@@ -59,7 +59,7 @@ folded seat steps step before after fold no_cards no_deal is same_cards same_dea
     }
 
 -- a step that deals cards to the seat
-pub dealt : (seat : ℕ) (steps : List PlainStep) (step : PlainStep) (before after : SeatTold) (more : List Slot) → is_fold_of seat step.deed ≡ false → dealt_in seat step.deed ≡ more → is_deal_to seat step.deed ≡ true
+pub dealt : (seat : ℕ) (steps : List PlainStep) (step : PlainStep) (before after : SeatSoFar) (more : List Slot) → is_fold_of seat step.effect ≡ false → dealt_in seat step.effect ≡ more → is_deal_to seat step.effect ≡ true
     → after.folded ≡ before.folded → slots_of after.cards ≡ slots_of before.cards ++ more → after.first_deal ≡ option_or before.first_deal (Some step.number) → IsToldOf seat steps before → IsToldOf seat (steps ++ step ∷ []) after
 dealt seat steps step before after more no_fold cards deal same_fold joined first told =
     record {
@@ -68,32 +68,32 @@ dealt seat steps step before after more no_fold cards deal same_fold joined firs
       first_deal = first ∙ ap (λ found. option_or found (Some step.number)) told.first_deal ∙ sym (first_deals seat steps step ∙ ap (λ b. option_or (first_deal seat steps) (cond b (Some step.number) None)) deal);
     }
 
--- what a fold tells
-pub fold_here : (seat : ℕ) (deed : PlainDeed) → IsFoldBy seat deed → is_fold_of seat deed ≡ true
+-- what a fold means for its seat
+pub fold_here : (seat : ℕ) (effect : PlainActionEffect) → IsFoldBy seat effect → is_fold_of seat effect ≡ true
 fold_here seat (Happened event) is = ap (is_seat seat) is ∙ same_number seat
 fold_here seat (Posted post) is = absurd is
 fold_here seat (Dealt other slots) is = absurd is
 fold_here seat Passed is = absurd is
 
-pub fold_elsewhere : (at seat : ℕ) (deed : PlainDeed) → IsFoldBy at deed → seat ≢ at → is_fold_of seat deed ≡ false
+pub fold_elsewhere : (at seat : ℕ) (effect : PlainActionEffect) → IsFoldBy at effect → seat ≢ at → is_fold_of seat effect ≡ false
 fold_elsewhere at seat (Happened event) is apart = ap (is_seat seat) is ∙ different_number at seat apart
 fold_elsewhere at seat (Posted post) is apart = absurd is
 fold_elsewhere at seat (Dealt other slots) is apart = absurd is
 fold_elsewhere at seat Passed is apart = absurd is
 
-pub fold_deals : (at seat : ℕ) (deed : PlainDeed) → IsFoldBy at deed → dealt_in seat deed ≡ []
+pub fold_deals : (at seat : ℕ) (effect : PlainActionEffect) → IsFoldBy at effect → dealt_in seat effect ≡ []
 fold_deals at seat (Happened event) is = refl
 fold_deals at seat (Posted post) is = absurd is
 fold_deals at seat (Dealt other slots) is = absurd is
 fold_deals at seat Passed is = absurd is
 
-pub fold_is_deal : (at seat : ℕ) (deed : PlainDeed) → IsFoldBy at deed → is_deal_to seat deed ≡ false
+pub fold_is_deal : (at seat : ℕ) (effect : PlainActionEffect) → IsFoldBy at effect → is_deal_to seat effect ≡ false
 fold_is_deal at seat (Happened event) is = refl
 fold_is_deal at seat (Posted post) is = absurd is
 fold_is_deal at seat (Dealt other slots) is = absurd is
 fold_is_deal at seat Passed is = absurd is
 
--- what a deal tells
+-- what a deal means for its seat
 pub deal_here : (seat : ℕ) (slots : List Slot) → dealt_in seat (Dealt seat slots) ≡ slots
 deal_here seat slots = ap (λ b. cond b slots []) (same_number seat)
 
@@ -106,10 +106,10 @@ deal_elsewhere at seat slots apart = ap (λ b. cond b slots []) (different_numbe
 pub is_elsewhere : (at seat : ℕ) (slots : List Slot) → seat ≢ at → is_deal_to seat (Dealt at slots) ≡ false
 is_elsewhere at seat slots apart = different_number at seat apart
 
--- what holds of each seat, where one seat has something else
-pub each_seat : (P : ℕ → SeatTold → Type 0) (seats : List SeatTold) (at : ℕ) (new : SeatTold) → 1 ≤ at → P at new
-    → ((seat : ℕ) → 1 ≤ seat → seat ≤ 10 → seat ≢ at → (kept : SeatTold) → slice_get seats (seat - 1) ≡ Some kept → P seat kept)
-    → (seat : ℕ) → 1 ≤ seat → seat ≤ 10 → (kept : SeatTold) → slice_get (set seats (at - 1) new) (seat - 1) ≡ Some kept → P seat kept
+-- what holds of each seat, if one seat has a new state
+pub each_seat : (P : ℕ → SeatSoFar → Type 0) (seats : List SeatSoFar) (at : ℕ) (new : SeatSoFar) → 1 ≤ at → P at new
+    → ((seat : ℕ) → 1 ≤ seat → seat ≤ 10 → seat ≢ at → (kept : SeatSoFar) → slice_get seats (seat - 1) ≡ Some kept → P seat kept)
+    → (seat : ℕ) → 1 ≤ seat → seat ≤ 10 → (kept : SeatSoFar) → slice_get (set seats (at - 1) new) (seat - 1) ≡ Some kept → P seat kept
 each_seat P seats at new first here others seat from to kept is = elim (cases_lt seat at) [
   | inl below ↦ let apart : seat - 1 ≢ at - 1 = λ e. omega (arith, below, e, from) in let ne : seat ≢ at = λ e. omega (arith, below, e) in others seat from to ne kept (sym (at_other seats (at - 1) (seat - 1) new apart) ∙ is)
   | inr above ↦ elim (cases_lt at seat) [

@@ -1,17 +1,17 @@
--- What is kept of a seat while steps are told.
+-- What is stored of a seat while the steps are read.
 use Rattle.std.specs.Prelude.{◌≡◌, ℕ, ◌-◌, ◌≤◌, List, length, Some, slice_get}
 use Rattle.card_set.specs.Row.{slots_of}
-use Rattle.ohh_rounds.specs.declared.seat_told.SeatTold.{SeatTold}
+use Rattle.ohh_rounds.specs.declared.seat_so_far.SeatSoFar.{SeatSoFar}
 use Rattle.ohh_rounds.specs.Steps.{PlainStep, dealt_to, first_deal, has_folded}
 
--- what is kept of a seat is what the steps tell of it
-pub record IsToldOf (seat : ℕ) (steps : List PlainStep) (kept : SeatTold) : Type 0 where
+-- what is stored of a seat agrees with the steps
+pub record IsToldOf (seat : ℕ) (steps : List PlainStep) (kept : SeatSoFar) : Type 0 where
   pub folded : kept.folded ≡ has_folded seat steps
   pub cards : slots_of kept.cards ≡ dealt_to seat steps
   pub first_deal : kept.first_deal ≡ first_deal seat steps
 
--- what is kept of ten seats is what the steps tell of each
-pub record AreTold (steps : List PlainStep) (seats : List SeatTold) : Type 0 where
+-- what is stored of ten seats agrees with the steps
+pub record AreTold (steps : List PlainStep) (seats : List SeatSoFar) : Type 0 where
   pub ten : length seats ≡ 10
-  pub each : (seat : ℕ) → 1 ≤ seat → seat ≤ 10 → (kept : SeatTold)
+  pub each : (seat : ℕ) → 1 ≤ seat → seat ≤ 10 → (kept : SeatSoFar)
       → slice_get seats (seat - 1) ≡ Some kept → IsToldOf seat steps kept

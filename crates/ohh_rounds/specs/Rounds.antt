@@ -10,11 +10,11 @@ use Rattle.ohh_members.specs.declared.fault.Path.{Path}
 use Rattle.ohh_members.specs.declared.fault.Path.TheVariants as paths
 use Rattle.ohh_members.specs.declared.fault.MemberFaultKind.TheVariants as whats
 use Rattle.ohh_members.specs.declared.fault.MemberFault.{MemberFault}
-use Rattle.ohh_members.specs.Values.{cards_said, field, list_said, needed, object_said, or_wrong, text_said, wrong}
+use Rattle.ohh_members.specs.Values.{cards_said, field, list_said, object_said, or_wrong, required, text_said, wrong}
 use Rattle.ohh_members.specs.declared.street.StreetName.{StreetName}
 use Rattle.ohh_rounds.specs.Streets.{has_board_cards, street_after}
 use Rattle.ohh_rounds.specs.Steps.{PlainStep, Happened}
-use Rattle.ohh_rounds.specs.Setting.{PlainSetting}
+use Rattle.ohh_rounds.specs.HandContext.{PlainHandContext}
 use Rattle.ohh_rounds.specs.Actions.{event_counted, step_said}
 
 -- the path of a member of a round
@@ -24,7 +24,8 @@ at_round round member = paths.Round round member
 -- the street of a round after the last one
 unfoldable pub street_said : Option StreetName → ℕ → Data → Result StreetName MemberFault
 street_said last index round = do
-  text ← needed (at_round index members.Street) round >>= text_said (at_round index members.Street)
+  text ← required (at_round index members.Street) round
+      >>= text_said (at_round index members.Street)
   or_wrong whats.BadStreet (at_round index members.Street) (street_after last text)
 
 -- a list without cards
@@ -33,7 +34,7 @@ no_cards path cards = do
   items ← list_said path cards
   if length items == 0 then Ok [] else wrong whats.BadStreet path
 
--- the board cards of a round: known ones where its street deals some, and none where they lack
+-- the board cards of a round: known ones if its street deals some, and none if they are missing
 unfoldable pub board_said : StreetName → ℕ → Data → Result (List Card) MemberFault
 board_said street index round = elim (field (at_round index members.Cards) round) [
   | None ↦ Ok []
@@ -43,32 +44,32 @@ board_said street index round = elim (field (at_round index members.Cards) round
       else no_cards (at_round index members.Cards) cards
 ]
 
--- the steps with a deal to the board, where there are cards
-unfoldable pub board_dealt : PlainSetting → List PlainStep → ℕ → List Card
+-- the steps with a deal to the board, if there are cards
+unfoldable pub board_dealt : PlainHandContext → List PlainStep → ℕ → List Card
     → Result (List PlainStep) MemberFault
 board_dealt setting earlier index cards =
     if length cards == 0 then Ok earlier
     else (event_counted setting earlier (at_round index members.Cards) (said.Board cards)
     >>= λ counted.
-    Ok (earlier ++ record { number = 0; deed = Happened (said.Board cards) } ∷ []))
+    Ok (earlier ++ record { number = 0; effect = Happened (said.Board cards) } ∷ []))
 
 -- the steps with one more action of a round
-abbrev pub action_added : PlainSetting → ℕ → List PlainStep → ℕ → Data
+abbrev pub action_added : PlainHandContext → ℕ → List PlainStep → ℕ → Data
     → Result (List PlainStep) MemberFault
 action_added setting round earlier index value =
     step_said setting earlier (record { round = round; action = index }) value
     >>= λ step. Ok (earlier ++ step ∷ [])
 
 -- the steps with the actions of a round
-abbrev pub actions_added : PlainSetting → ℕ → List PlainStep → List Data
+abbrev pub actions_added : PlainHandContext → ℕ → List PlainStep → List Data
     → Result (List PlainStep) MemberFault
 actions_added setting round earlier items = added_from (action_added setting round) earlier 0 items
 
 -- the steps with the actions that a round lists
-abbrev pub actions_said : PlainSetting → ℕ → List PlainStep → Data
+abbrev pub actions_said : PlainHandContext → ℕ → List PlainStep → Data
     → Result (List PlainStep) MemberFault
 actions_said setting index earlier round = do
-  items ← needed (at_round index members.Actions) round
+  items ← required (at_round index members.Actions) round
       >>= list_said (at_round index members.Actions)
   actions_added setting index earlier items
 
@@ -77,7 +78,7 @@ abbrev pub SoFar : Type 0
 SoFar = Option StreetName × List PlainStep
 
 -- the street and the cards of a round, and the steps with its deal to the board
-unfoldable pub opening_said : PlainSetting → SoFar → ℕ → Data
+unfoldable pub opening_said : PlainHandContext → SoFar → ℕ → Data
     → Result (StreetName × List PlainStep) MemberFault
 opening_said setting before index round = do
   street ← street_said before.0 index round
@@ -86,23 +87,23 @@ opening_said setting before index round = do
   Ok (street, steps)
 
 -- one more round
-unfoldable pub round_said : PlainSetting → SoFar → ℕ → Data → Result SoFar MemberFault
+unfoldable pub round_said : PlainHandContext → SoFar → ℕ → Data → Result SoFar MemberFault
 round_said setting before index value = do
   round ← object_said (at_round index members.Itself) value
   opening ← opening_said setting before index round
   steps ← actions_said setting index opening.1 round
   Ok (Some opening.0, steps)
 
--- the rounds, one at least
+-- the list of rounds: at least one
 unfoldable pub rounds_listed : Data → Result (List Data) MemberFault
 rounds_listed ohh = do
-  items ← needed paths.Rounds ohh >>= list_said paths.Rounds
+  items ← required paths.Rounds ohh >>= list_said paths.Rounds
   if length items == 0 then wrong whats.BadStreet paths.Rounds else Ok items
 
--- what a list of rounds tells
-abbrev pub each_told : PlainSetting → List Data → Result (List PlainStep) MemberFault
+-- the steps of a list of rounds
+abbrev pub each_told : PlainHandContext → List Data → Result (List PlainStep) MemberFault
 each_told setting items = added_from (round_said setting) (None, []) 0 items >>= λ found. Ok found.1
 
--- what the rounds tell
-unfoldable pub steps_said : PlainSetting → Data → Result (List PlainStep) MemberFault
+-- the steps of the rounds
+unfoldable pub steps_said : PlainHandContext → Data → Result (List PlainStep) MemberFault
 steps_said setting ohh = rounds_listed ohh >>= each_told setting

@@ -5,12 +5,12 @@ use Rattle.ohh_members.specs.declared.street.StreetName.{StreetName}
 use Rattle.ohh_members.specs.declared.street.StreetName.TheVariants as streets
 use Rattle.ohh_members.specs.Streets.{street_name}
 
--- the street, where the text is its name
+-- the street, if the text is its name
 abbrev pub if_named : StreetName → List ℕ → Option StreetName
 if_named street text = if bytes_eq text (street_name street) then Some street else None
 
--- The street that a text names after the last one, if it may come there: first the preflop, then
--- each street after the one before it, or the showdown, after which none may come.
+-- The street that a text names after the last one, if it may come there: first preflop, then each
+-- street after the one before it, or the showdown, after which none may come.
 unfoldable pub street_after : Option StreetName → List ℕ → Option StreetName
 street_after None text = if_named streets.Preflop text
 street_after (Some streets.Preflop) text =

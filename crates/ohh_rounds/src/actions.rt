@@ -1,143 +1,163 @@
-//! An action of a round is read: its word, its player, and then its amount or its cards.
+//! Reads an action of a round: its word, its player, and then its amount or its cards.
 ghost use Rattle.std.specs.Prelude.{◌≡◌, ◌≤◌, ◌+◌, IfOk, length, map};
 ghost use Rattle.serde_json.specs.View.{view};
 ghost use Rattle.card_set.specs.Row.{slots_of};
 ghost use Rattle.play_event.specs.Said.{kind_said};
-ghost use Rattle.canon_script.specs.PlayedScript.{is_move as is_move_said};
+ghost use Rattle.play_event.specs.PlayedScript.{is_move as is_move_said};
 ghost use Rattle.first_fault.specs.Reading.{Gives};
-ghost use Rattle.ohh_rounds.specs.Actions.{at_action, called, chips_said, dealt_cards, deed_counted, deed_said, event_counted, mucked, posted, raise_by, raised, seat_said, shown, step_said, word_said};
-ghost use Rattle.ohh_rounds.specs.Setting.{plain_setting};
-ghost use Rattle.ohh_posts.specs.Posts.{plain_post};
-ghost use Rattle.ohh_rounds.specs.Steps.{Dealt, Happened, HasRoom, IsWithin, LeavesFew, Posted, dealt_to, plain_deed, plain_step};
+ghost use Rattle.ohh_rounds.specs.Actions.{at_action, called, chips_said, dealt_cards, effect_counted, effect_said, event_counted, mucked, posted, raise_by, raised, seat_said, shown, step_said, word_said};
+ghost use Rattle.ohh_rounds.specs.HandContext.{plain_setting};
+ghost use Rattle.ohh_rounds.specs.Posts.{plain_post};
+ghost use Rattle.ohh_rounds.specs.Steps.{Dealt, Happened, HasRoom, IsWithin, LeavesFew, Posted, dealt_to, plain_effect, plain_step};
 
-use crate::step::{Deed, RoundStep, is_move};
-use crate::told::Told;
-use canon_script::{MOST_MOVES, MOST_OTHER_EVENTS};
+use crate::post::{ActionPlace, Post, PostKind};
+use crate::rounds_so_far::RoundsSoFar;
+use crate::step::{ActionEffect, RoundStep, is_move};
 use card_set::SlotRow;
 use chip_ledger::{Chips, MOST_CHIPS, Seat};
-use first_fault::{MOST_FILE_MOVES, Quantity, Stop};
+use first_fault::{MOST_FILE_MOVES, Quantity, ReadError};
 use ohh_members::dialect::Dialect;
 use ohh_members::fault::{ActionMember, MemberFault, MemberFaultKind, Path, RoundMember};
 use ohh_members::values::{
-    field, needed, read_cards, read_few, read_number, read_object, read_player, read_slots,
-    read_text, wrong,
+    fault_at, field, read_cards, read_few, read_number, read_object, read_player, read_slots,
+    read_text, required,
 };
 use ohh_members::words::{Word, is_deal, word_named};
-use ohh_posts::{ActionPlace, Post, PostKind};
-use play_event::{Kind, Spelled};
+use play_event::{Kind, MOST_MOVES, MOST_OTHER_EVENTS, Spelled};
 use serde_json::Value;
 
-/// An action after what was told; it passes no limit.
+/// Reads an action after the steps before it, and checks the limits.
 #[tactic(auto, unfolding(crate::specs::Actions::step_said, crate::specs::Actions::members_said))]
 pub fn read_step(
-    told: &Told,
+    told: &RoundsSoFar,
     place: ActionPlace,
     value: &Value,
-) -> Result<RoundStep, Stop<MemberFault>>
+) -> Result<RoundStep, ReadError<MemberFault>>
     ensures said { Gives plain_step result (step_said (plain_setting told.now.setting)
         (map plain_step told.now.steps.items) place (view value.now)) }
     ensures few { IfOk result (λ step. LeavesFew (map plain_step told.now.steps.items)
-        (plain_deed step.deed)) }
+        (plain_effect step.effect)) }
     ensures within { IfOk result (λ step. IsWithin told.now.setting.table.stacks.seats
         told.now.setting.file_moves (map plain_step told.now.steps.items)
-        (plain_deed step.deed)) }
+        (plain_effect step.effect)) }
 {
     let path = path_of(place, ActionMember::Itself);
     let action = read_object(value, path)?;
     let word = read_word(place, action)?;
     let seat = read_seat(told, place, action)?;
-    let deed = read_deed(told, place, seat, action, word)?;
-    count_deed(told, path, deed)?;
+    let effect = read_effect(told, place, seat, action, word)?;
+    count_effect(told, path, effect)?;
     let number = told.next;
-    Ok(RoundStep { number, deed })
+    Ok(RoundStep { number, effect })
 }
 
 // The word of an action.
 #[tactic(auto, unfolding(crate::specs::Actions::word_said))]
-fn read_word(place: ActionPlace, action: &Value) -> Result<Word, Stop<MemberFault>>
+fn read_word(place: ActionPlace, action: &Value) -> Result<Word, ReadError<MemberFault>>
     ensures { Gives (λ word. word) result (word_said place (view action.now)) }
 {
     let path = path_of(place, ActionMember::Word);
-    let text = read_text(needed(action, path)?, path)?;
+    let text = read_text(required(action, path)?, path)?;
     let Some(word) = word_named(text) else {
-        return Err(wrong(MemberFaultKind::UnsupportedAction, path));
+        return Err(fault_at(MemberFaultKind::UnsupportedAction, path));
     };
     if is_deal(word) && place.round != 0 {
-        return Err(wrong(MemberFaultKind::BadStreet, path));
+        return Err(fault_at(MemberFaultKind::BadStreet, path));
     }
     Ok(word)
 }
 
 // The seat of the action's player.
 #[tactic(auto, unfolding(crate::specs::Actions::seat_said))]
-fn read_seat(told: &Told, place: ActionPlace, action: &Value) -> Result<Seat, Stop<MemberFault>>
+fn read_seat(
+    told: &RoundsSoFar,
+    place: ActionPlace,
+    action: &Value,
+) -> Result<Seat, ReadError<MemberFault>>
     ensures { Gives (λ seat. seat.number) result
         (seat_said (plain_setting told.now.setting) place (view action.now)) }
 {
     let path = path_of(place, ActionMember::PlayerId);
-    read_player(needed(action, path)?, told.setting.ids, path)
+    read_player(required(action, path)?, told.setting.ids, path)
 }
 
-// What a word says of a player.
-#[tactic(auto, unfolding(crate::specs::Actions::deed_said))]
-fn read_deed(
-    told: &Told,
+// What a word means for a player.
+#[tactic(auto, unfolding(crate::specs::Actions::effect_said))]
+fn read_effect(
+    told: &RoundsSoFar,
     place: ActionPlace,
     seat: Seat,
     action: &Value,
     word: Word,
-) -> Result<Deed, Stop<MemberFault>>
-    ensures said { Gives plain_deed result (deed_said (plain_setting told.now.setting)
+) -> Result<ActionEffect, ReadError<MemberFault>>
+    ensures said { Gives plain_effect result (effect_said (plain_setting told.now.setting)
         (map plain_step told.now.steps.items) place seat.number (view action.now) word) }
-    ensures few { IfOk result (λ deed. LeavesFew (map plain_step told.now.steps.items)
-        (plain_deed deed)) }
+    ensures few { IfOk result (λ effect. LeavesFew (map plain_step told.now.steps.items)
+        (plain_effect effect)) }
 {
     let actor = Some(seat);
-    let deed = match word {
-        Word::PostAnte => Deed::Posted(read_post(PostKind::Ante, told, place, seat, action)?),
-        Word::PostSmallBlind => Deed::Posted(read_post(
+    let effect = match word {
+        Word::PostAnte => ActionEffect::Posted(read_post(
+            PostKind::Ante,
+            told,
+            place,
+            seat,
+            action,
+        )?),
+        Word::PostSmallBlind => ActionEffect::Posted(read_post(
             PostKind::SmallBlind,
             told,
             place,
             seat,
             action,
         )?),
-        Word::PostBigBlind => Deed::Posted(read_post(
+        Word::PostBigBlind => ActionEffect::Posted(read_post(
             PostKind::BigBlind,
             told,
             place,
             seat,
             action,
         )?),
-        Word::Straddle => Deed::Posted(read_post(PostKind::Straddle, told, place, seat, action)?),
-        Word::DealtCards => Deed::Dealt {
+        Word::Straddle => ActionEffect::Posted(read_post(
+            PostKind::Straddle,
+            told,
+            place,
+            seat,
+            action,
+        )?),
+        Word::DealtCards => ActionEffect::Dealt {
             seat,
             cards: read_dealt(told, place, seat, action)?,
         },
-        Word::Fold => Deed::Happened(Kind::Fold { actor }),
-        Word::Check => Deed::Happened(Kind::Call {
+        Word::Fold => ActionEffect::Happened(Kind::Fold { actor }),
+        Word::Check => ActionEffect::Happened(Kind::Call {
             actor,
             stated: Some(0),
         }),
-        Word::Call => Deed::Happened(read_call(place, seat, action)?),
-        Word::Bet => Deed::Happened(read_raise(Dialect::Added, place, seat, action)?),
-        Word::Raise => Deed::Happened(read_raise(told.setting.dialect, place, seat, action)?),
-        Word::ShowsCards => Deed::Happened(read_show(place, seat, action)?),
+        Word::Call => ActionEffect::Happened(read_call(place, seat, action)?),
+        Word::Bet => ActionEffect::Happened(read_raise(Dialect::Added, place, seat, action)?),
+        Word::Raise => ActionEffect::Happened(read_raise(
+            told.setting.dialect,
+            place,
+            seat,
+            action,
+        )?),
+        Word::ShowsCards => ActionEffect::Happened(read_show(place, seat, action)?),
         Word::MucksCards => muck(told, seat),
-        Word::SitsDown | Word::StandsUp => Deed::Passed,
+        Word::SitsDown | Word::StandsUp => ActionEffect::Passed,
     };
-    Ok(deed)
+    Ok(effect)
 }
 
 // A post.
 #[tactic(auto, unfolding(crate::specs::Actions::posted))]
 fn read_post(
     kind: PostKind,
-    told: &Told,
+    told: &RoundsSoFar,
     place: ActionPlace,
     seat: Seat,
     action: &Value,
-) -> Result<Post, Stop<MemberFault>>
+) -> Result<Post, ReadError<MemberFault>>
     ensures { Gives (λ post. Posted (plain_post post)) result
         (posted kind (map plain_step told.now.steps.items) place seat.number (view action.now)) }
 {
@@ -152,14 +172,14 @@ fn read_post(
     })
 }
 
-// Hole cards, or none where they lack.
+// Hole cards, or none if they are missing.
 #[tactic(auto, unfolding(crate::specs::Actions::dealt_cards, crate::specs::Actions::listed_cards, ohh_members::specs::Values::slots_said))]
 fn read_dealt(
-    told: &Told,
+    told: &RoundsSoFar,
     place: ActionPlace,
     seat: Seat,
     action: &Value,
-) -> Result<SlotRow, Stop<MemberFault>>
+) -> Result<SlotRow, ReadError<MemberFault>>
     ensures said { Gives (λ cards. Dealt seat.number (slots_of cards)) result
         (dealt_cards (map plain_step told.now.steps.items) place seat.number (view action.now)) }
     ensures few { IfOk result (λ cards. length (dealt_to seat.number
@@ -172,7 +192,7 @@ fn read_dealt(
     };
     let values = read_few(listed, path)?;
     if dealt + values.len() > 7 {
-        return Err(wrong(MemberFaultKind::WrongType, path));
+        return Err(fault_at(MemberFaultKind::WrongType, path));
     }
     let cards = read_slots(listed, path)?;
     Ok(cards)
@@ -180,7 +200,7 @@ fn read_dealt(
 
 // A call that states the chips that it adds.
 #[tactic(auto, unfolding(crate::specs::Actions::called))]
-fn read_call(place: ActionPlace, seat: Seat, action: &Value) -> Result<Kind, Stop<MemberFault>>
+fn read_call(place: ActionPlace, seat: Seat, action: &Value) -> Result<Kind, ReadError<MemberFault>>
     ensures { Gives (λ kind. Happened (kind_said kind)) result
         (called place seat.number (view action.now)) }
 {
@@ -198,7 +218,7 @@ fn read_raise(
     place: ActionPlace,
     seat: Seat,
     action: &Value,
-) -> Result<Kind, Stop<MemberFault>>
+) -> Result<Kind, ReadError<MemberFault>>
     ensures { Gives (λ kind. Happened (kind_said kind)) result
         (raised dialect place seat.number (view action.now)) }
 {
@@ -211,15 +231,15 @@ fn read_raise(
 
 // The amount of an action.
 #[tactic(auto, unfolding(crate::specs::Actions::chips_said))]
-fn read_chips(place: ActionPlace, action: &Value) -> Result<Chips, Stop<MemberFault>>
+fn read_chips(place: ActionPlace, action: &Value) -> Result<Chips, ReadError<MemberFault>>
     ensures { Gives (λ chips. chips.number) result (chips_said place (view action.now)) }
 {
     let path = path_of(place, ActionMember::Amount);
-    let number = read_number(needed(action, path)?, 0, MOST_CHIPS, path)?;
+    let number = read_number(required(action, path)?, 0, MOST_CHIPS, path)?;
     Ok(Chips { number })
 }
 
-// How the amount of a raise is meant.
+// The raise that this amount means in the dialect.
 fn raise_of(dialect: Dialect, amount: Chips) -> Spelled
     ensures { result ≡ raise_by dialect amount.number }
 {
@@ -231,12 +251,12 @@ fn raise_of(dialect: Dialect, amount: Chips) -> Spelled
 
 // A show of cards.
 #[tactic(auto, unfolding(crate::specs::Actions::shown))]
-fn read_show(place: ActionPlace, seat: Seat, action: &Value) -> Result<Kind, Stop<MemberFault>>
+fn read_show(place: ActionPlace, seat: Seat, action: &Value) -> Result<Kind, ReadError<MemberFault>>
     ensures { Gives (λ kind. Happened (kind_said kind)) result
         (shown place seat.number (view action.now)) }
 {
     let path = path_of(place, ActionMember::Cards);
-    let cards = read_cards(needed(action, path)?, path)?;
+    let cards = read_cards(required(action, path)?, path)?;
     Ok(Kind::Show { seat, cards })
 }
 
@@ -253,34 +273,38 @@ pub fn path_of(place: ActionPlace, member: ActionMember) -> Path
     }
 }
 
-// A muck, which is passed over where the player folded before.
-fn muck(told: &Told, seat: Seat) -> Deed
-    ensures said { plain_deed result ≡ mucked (map plain_step told.now.steps.items) seat.number }
-    ensures few { LeavesFew (map plain_step told.now.steps.items) (plain_deed result) }
+// A muck, which is ignored if the player folded before.
+fn muck(told: &RoundsSoFar, seat: Seat) -> ActionEffect
+    ensures said { plain_effect result ≡ mucked (map plain_step told.now.steps.items) seat.number }
+    ensures few { LeavesFew (map plain_step told.now.steps.items) (plain_effect result) }
 {
     if told.has_folded(seat) {
-        Deed::Passed
+        ActionEffect::Passed
     } else {
-        Deed::Happened(Kind::Muck { seat })
+        ActionEffect::Happened(Kind::Muck { seat })
     }
 }
 
-// What was done passes no limit.
-fn count_deed(told: &Told, path: Path, deed: Deed) -> Result<(), Stop<MemberFault>>
-    ensures said { Gives (λ x. x) result (deed_counted (plain_setting told.now.setting)
-        (map plain_step told.now.steps.items) path (plain_deed deed)) }
+// Checks that the action exceeds no limit.
+fn count_effect(
+    told: &RoundsSoFar,
+    path: Path,
+    effect: ActionEffect,
+) -> Result<(), ReadError<MemberFault>>
+    ensures said { Gives (λ x. x) result (effect_counted (plain_setting told.now.setting)
+        (map plain_step told.now.steps.items) path (plain_effect effect)) }
     ensures within { IfOk result (λ x. IsWithin told.now.setting.table.stacks.seats
-        told.now.setting.file_moves (map plain_step told.now.steps.items) (plain_deed deed)) }
+        told.now.setting.file_moves (map plain_step told.now.steps.items) (plain_effect effect)) }
 {
-    match deed {
-        Deed::Happened(kind) => count_event(told, path, kind),
-        Deed::Posted(_) | Deed::Dealt { .. } | Deed::Passed => Ok(()),
+    match effect {
+        ActionEffect::Happened(kind) => count_event(told, path, kind),
+        ActionEffect::Posted(_) | ActionEffect::Dealt { .. } | ActionEffect::Passed => Ok(()),
     }
 }
 
-/// An event passes no limit.
+/// Checks that an event exceeds no limit.
 #[tactic(auto, unfolding(crate::specs::Actions::event_counted))]
-pub fn count_event(told: &Told, path: Path, kind: Kind) -> Result<(), Stop<MemberFault>>
+pub fn count_event(told: &RoundsSoFar, path: Path, kind: Kind) -> Result<(), ReadError<MemberFault>>
     ensures said { Gives (λ x. x) result (event_counted (plain_setting told.now.setting)
         (map plain_step told.now.steps.items) path (kind_said kind)) }
     ensures room { IfOk result (λ x. HasRoom told.now.setting.table.stacks.seats
@@ -303,9 +327,10 @@ pub fn count_event(told: &Told, path: Path, kind: Kind) -> Result<(), Stop<Membe
     }
 }
 
-// A fault of a quantity that passes its limit.
-fn too_many(quantity: Quantity, path: Path) -> Stop<MemberFault>
-    ensures { result ≡ Stop.At (record { what = MemberFaultKind.TooMany quantity; path = path }) }
+// The fault of a quantity that exceeds its limit.
+fn too_many(quantity: Quantity, path: Path) -> ReadError<MemberFault>
+    ensures { result ≡ ReadError.Fault
+        (record { what = MemberFaultKind.TooMany quantity; path = path }) }
 {
-    wrong(MemberFaultKind::TooMany { quantity }, path)
+    fault_at(MemberFaultKind::TooMany { quantity }, path)
 }

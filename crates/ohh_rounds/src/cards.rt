@@ -1,36 +1,36 @@
-//! Each step tells something of one seat at most.
+//! What each step changes for the seats: every step concerns at most one seat.
 ghost use Rattle.std.specs.Prelude.{◌≡◌, ◌≤◌, ◌+◌, ◌∷◌, ◌++◌, [], Some, map, option_map, true};
 ghost use Rattle.std.specs.Option.{option_or};
 ghost use Rattle.card_set.specs.Row.{slots_of};
 ghost use Rattle.ohh_rounds.specs.Kept.{AreTold};
 ghost use Rattle.play_event.specs.Said.{kind_said};
-ghost use Rattle.ohh_rounds.specs.Steps.{LeavesFew, folder as folder_said, plain_deed, plain_step};
+ghost use Rattle.ohh_rounds.specs.Steps.{LeavesFew, folder as folder_said, plain_effect, plain_step};
 
-use crate::seat_told::SeatTold;
-use crate::step::{Deed, RoundStep};
+use crate::seat_so_far::SeatSoFar;
+use crate::step::{ActionEffect, RoundStep};
 use card_set::SlotRow;
 use chip_ledger::Seat;
 use play_event::Kind;
 
-/// What is told of each seat, with one step more.
+/// The state of each seat after one more step.
 pub fn seats_after(
-    mut seats: [SeatTold; 10],
+    mut seats: [SeatSoFar; 10],
     step: RoundStep,
     steps: &[RoundStep],
-) -> [SeatTold; 10]
+) -> [SeatSoFar; 10]
     requires told { AreTold (map plain_step steps.now) seats }
-    requires few { LeavesFew (map plain_step steps.now) (plain_deed step.deed) }
+    requires few { LeavesFew (map plain_step steps.now) (plain_effect step.effect) }
     ensures { AreTold (map plain_step steps.now ++ plain_step step ∷ []) result }
 {
-    match step.deed {
-        Deed::Posted(_) => seats,
-        Deed::Passed => seats,
-        Deed::Dealt { seat, cards } => {
+    match step.effect {
+        ActionEffect::Posted(_) => seats,
+        ActionEffect::Passed => seats,
+        ActionEffect::Dealt { seat, cards } => {
             let index = seat.number as usize - 1;
             seats[index] = with_deal(seats[index], cards, step.number);
             seats
         }
-        Deed::Happened(kind) => match folder(kind) {
+        ActionEffect::Happened(kind) => match folder(kind) {
             Some(seat) => {
                 let index = seat.number as usize - 1;
                 seats[index] = with_fold(seats[index]);
@@ -41,21 +41,21 @@ pub fn seats_after(
     }
 }
 
-// The seat was dealt more cards, in the step with this number.
-fn with_deal(told: SeatTold, cards: SlotRow, number: u32) -> SeatTold
+// The seat after it was dealt more cards, in the step with this number.
+fn with_deal(told: SeatSoFar, cards: SlotRow, number: u32) -> SeatSoFar
     requires { told.cards.len + cards.len ≤ 7 }
     ensures folded { result.folded ≡ told.folded }
     ensures cards { slots_of result.cards ≡ slots_of told.cards ++ slots_of cards }
     ensures first_deal { result.first_deal ≡ option_or told.first_deal (Some number) }
 {
-    SeatTold {
+    SeatSoFar {
         folded: told.folded,
         cards: joined(told.cards, cards),
         first_deal: first_of(told.first_deal, number),
     }
 }
 
-// Cards and more cards behind them.
+// The cards, followed by more cards.
 fn joined(cards: SlotRow, more: SlotRow) -> SlotRow
     requires { cards.len + more.len ≤ 7 }
     ensures { slots_of result ≡ slots_of cards ++ slots_of more }
@@ -67,7 +67,7 @@ fn joined(cards: SlotRow, more: SlotRow) -> SlotRow
     all
 }
 
-// The number of the first deal, where one more has this number.
+// The number of the first deal; this number, if there was none before.
 fn first_of(first: Option<u32>, number: u32) -> Option<u32>
     ensures { result ≡ option_or first (Some number) }
 {
@@ -87,15 +87,15 @@ fn folder(kind: Kind) -> Option<Seat>
     }
 }
 
-// The seat folded.
-fn with_fold(told: SeatTold) -> SeatTold
+// The seat after it folded.
+fn with_fold(told: SeatSoFar) -> SeatSoFar
     ensures { result ≡ record {
       folded = true;
       cards = told.cards;
       first_deal = told.first_deal;
     } }
 {
-    SeatTold {
+    SeatSoFar {
         folded: true,
         ..told
     }

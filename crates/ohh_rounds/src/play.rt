@@ -1,54 +1,56 @@
-//! The posts of a hand are checked, and its script is put together.
+//! Checks the posts of a hand, and puts its script together.
 ghost use Rattle.std.specs.Prelude.{◌≡◌, ◌≤◌, ◌+◌, ◌++◌, IfOk, OnOk, count_by, map};
 ghost use Rattle.serde_json.specs.View.{view};
-ghost use Rattle.canon_script.specs.PlayedScript.{IsWithinLimits, is_move};
+ghost use Rattle.play_event.specs.PlayedScript.{IsWithinLimits, is_move};
 ghost use Rattle.card_set.specs.Row.{slots_of};
 ghost use Rattle.chip_ledger.specs.Seat.{seats_of};
 ghost use Rattle.first_fault.specs.declared.limits.TheConstants.{MOST_FILE_MOVES};
 ghost use Rattle.play_event.specs.Said.{numbered, said_of};
 ghost use Rattle.first_fault.specs.Reading.{Gives};
-ghost use Rattle.ohh_posts.specs.Conditions.{posts_checked};
-ghost use Rattle.ohh_posts.specs.Posts.{plain_post};
-ghost use Rattle.ohh_posts.specs.AntesAndBlinds.{AreAntesAndBlindsFor, antes_and_blinds_said, plain_antes_and_blinds};
-ghost use Rattle.ohh_posts.specs.NamedBlinds.{plain_named_blinds};
+ghost use Rattle.ohh_rounds.specs.PostRules.{posts_checked};
+ghost use Rattle.ohh_rounds.specs.Posts.{plain_post};
+ghost use Rattle.ohh_rounds.specs.AntesAndBlinds.{AreAntesAndBlindsFor, antes_and_blinds_said, plain_antes_and_blinds};
+ghost use Rattle.ohh_rounds.specs.NamedBlinds.{plain_named_blinds};
 ghost use Rattle.ohh_rounds.specs.Play.{at_posts, event_in, events_in, hole_cards as hole_cards_said, hole_deal as hole_deal_said, plain_play, post_in, posts_in, rounds_said, script_said};
-ghost use Rattle.ohh_rounds.specs.Setting.{plain_setting};
-ghost use Rattle.ohh_rounds.specs.Steps.{plain_deed, plain_step};
+ghost use Rattle.ohh_rounds.specs.HandContext.{plain_setting};
+ghost use Rattle.ohh_rounds.specs.Steps.{plain_effect, plain_step};
 
 use crate::actions::path_of;
+use crate::antes_and_blinds::AntesAndBlinds;
+use crate::checking::check_posts;
+use crate::hand_context::HandContext;
+use crate::named_blinds::NamedBlinds;
+use crate::post::{Post, PostFault};
 use crate::rounds::read_told;
-use crate::setting::Setting;
-use crate::step::{Deed, RoundStep};
-use crate::told::Told;
+use crate::rounds_so_far::RoundsSoFar;
+use crate::step::{ActionEffect, RoundStep};
 use card_set::{Memory, Slot, SlotRow};
 use chip_ledger::Seat;
-use first_fault::Stop;
+use first_fault::ReadError;
 use ohh_members::fault::{ActionMember, MemberFault, MemberFaultKind, Path};
-use ohh_members::values::wrong;
-use ohh_posts::{AntesAndBlinds, NamedBlinds, Post, PostFault, check_posts};
+use ohh_members::values::fault_at;
 use play_event::{Event, Kind, Script};
 use serde_json::Value;
 use std::alloc::Global;
 
-/// What the rounds of a hand say.
+/// The rounds of a hand, as they are read.
 #[derive(Debug, Drop)]
 pub struct RoundsPlay {
     /// The antes and blinds.
     pub stakes: AntesAndBlinds,
-    /// The hole deals of all seats, and then what happened.
+    /// The hole deals of all seats, followed by the other events.
     pub script: Script,
-    /// The moves of the file after this hand.
+    /// The number of moves in the file after this hand.
     pub file_moves: usize,
 }
 
-/// What the rounds of a hand say, whose object this is: its posts are checked, and its script is
-/// put together.
+/// Reads the rounds of this hand: checks its posts, and puts its script together.
 #[tactic(auto, unfolding(crate::specs::Play::rounds_said))]
 pub fn read_rounds(
     alloc: Global,
-    setting: &Setting,
+    setting: &HandContext,
     ohh: &Value,
-) -> Result<RoundsPlay, Stop<MemberFault>>
+) -> Result<RoundsPlay, ReadError<MemberFault>>
     ensures said { Gives plain_play result
         (rounds_said (plain_setting setting.now) (view ohh.now)) }
     ensures stakes { IfOk result (λ play.
@@ -68,12 +70,12 @@ pub fn read_rounds(
     })
 }
 
-// The stakes of the posts, which meet their conditions.
+// The antes and blinds of the posts, which meet their conditions.
 fn read_stakes(
     alloc: Global,
     table: &NamedBlinds,
     steps: &[RoundStep],
-) -> Result<AntesAndBlinds, Stop<MemberFault>>
+) -> Result<AntesAndBlinds, ReadError<MemberFault>>
     ensures checked { Gives (λ stakes. tt) result
         (at_posts (posts_checked
         (plain_named_blinds table.now) (posts_in (map plain_step steps.now)))) }
@@ -94,35 +96,35 @@ fn posts_of(alloc: Global, steps: &[RoundStep]) -> Result<Vec<Post>, Memory>
 {
     let mut posts = Vec::new(alloc);
     for step in steps {
-        push_post(&mut posts, step.deed)?;
+        push_post(&mut posts, step.effect)?;
     }
     Ok(posts)
 }
 
-// The posts with that of a step, if it is one.
-fn push_post(posts: &mut Vec<Post>, deed: Deed) -> Result<(), Memory>
+// Appends the post of a step, if it is one.
+fn push_post(posts: &mut Vec<Post>, effect: ActionEffect) -> Result<(), Memory>
     ensures { OnOk result (map plain_post posts.new.items
-        ≡ map plain_post posts.old.items ++ post_in (plain_deed deed)) }
+        ≡ map plain_post posts.old.items ++ post_in (plain_effect effect)) }
 {
-    match deed {
-        Deed::Posted(post) => {
+    match effect {
+        ActionEffect::Posted(post) => {
             posts.push(post)?;
             Ok(())
         }
-        Deed::Dealt { .. } | Deed::Happened(_) | Deed::Passed => Ok(()),
+        ActionEffect::Dealt { .. } | ActionEffect::Happened(_) | ActionEffect::Passed => Ok(()),
     }
 }
 
-// The posts meet their conditions, or the first that does not is told at its action.
-fn check(table: &NamedBlinds, posts: &[Post]) -> Result<(), Stop<MemberFault>>
+// Checks the posts; the first that breaks a condition is reported at its action.
+fn check(table: &NamedBlinds, posts: &[Post]) -> Result<(), ReadError<MemberFault>>
     ensures { Gives (λ x. x) result
         (at_posts (posts_checked (plain_named_blinds table.now) (map plain_post posts.now))) }
 {
     match check_posts(table, posts) {
         Ok(()) => Ok(()),
-        Err(PostFault::MissingBlind) => Err(wrong(MemberFaultKind::BadPost, Path::Rounds)),
+        Err(PostFault::MissingBlind) => Err(fault_at(MemberFaultKind::BadPost, Path::Rounds)),
         Err(PostFault::At(place)) => {
-            Err(wrong(
+            Err(fault_at(
                 MemberFaultKind::BadPost,
                 path_of(place, ActionMember::Itself),
             ))
@@ -132,7 +134,7 @@ fn check(table: &NamedBlinds, posts: &[Post]) -> Result<(), Stop<MemberFault>>
 
 // The script.
 #[tactic(auto, unfolding(crate::specs::Play::script_said))]
-fn script_of(alloc: Global, told: &Told) -> Result<Script, Memory>
+fn script_of(alloc: Global, told: &RoundsSoFar) -> Result<Script, Memory>
     ensures script { IfOk result (λ script. map numbered script
         ≡ script_said told.now.setting.table.stacks.seats told.now.setting.hole_cards
         (map plain_step told.now.steps.items)) }
@@ -143,7 +145,7 @@ fn script_of(alloc: Global, told: &Told) -> Result<Script, Memory>
 }
 
 // The hole deals of all seats.
-fn hole_deals(alloc: Global, told: &Told) -> Result<Script, Memory>
+fn hole_deals(alloc: Global, told: &RoundsSoFar) -> Result<Script, Memory>
     ensures { IfOk result (λ script. map numbered script
         ≡ map (hole_deal_said told.now.setting.hole_cards (map plain_step told.now.steps.items))
         (seats_of told.now.setting.table.stacks.seats)) }
@@ -156,7 +158,7 @@ fn hole_deals(alloc: Global, told: &Told) -> Result<Script, Memory>
 }
 
 // The deal of a seat's hole cards.
-fn hole_deal(told: &Told, seat: Seat) -> Event
+fn hole_deal(told: &RoundsSoFar, seat: Seat) -> Event
     ensures { numbered result ≡ hole_deal_said told.now.setting.hole_cards
         (map plain_step told.now.steps.items) seat.number }
 {
@@ -172,7 +174,7 @@ fn hole_deal(told: &Told, seat: Seat) -> Event
     }
 }
 
-// The cards, and unknown ones up to so many.
+// The cards, filled up to `count` with unknown ones.
 fn filled(cards: SlotRow, count: u8) -> SlotRow
     requires { count ≤ 7 }
     ensures { slots_of result ≡ hole_cards_said count (slots_of cards) }
@@ -184,7 +186,7 @@ fn filled(cards: SlotRow, count: u8) -> SlotRow
     all
 }
 
-// The script with what happened.
+// Appends the events of the steps.
 fn push_events(script: &mut Script, steps: &[RoundStep]) -> Result<(), Memory>
     ensures { OnOk result (map numbered script.new
         ≡ map numbered script.old ++ events_in (map plain_step steps.now)) }
@@ -195,16 +197,16 @@ fn push_events(script: &mut Script, steps: &[RoundStep]) -> Result<(), Memory>
     Ok(())
 }
 
-// The script with the event of a step, if it is one.
+// Appends the event of a step, if it is one.
 fn push_event(script: &mut Script, step: RoundStep) -> Result<(), Memory>
     ensures { OnOk result (map numbered script.new
-        ≡ map numbered script.old ++ event_in (plain_step step) (plain_deed step.deed)) }
+        ≡ map numbered script.old ++ event_in (plain_step step) (plain_effect step.effect)) }
 {
-    match step.deed {
-        Deed::Happened(kind) => script.push(Event {
+    match step.effect {
+        ActionEffect::Happened(kind) => script.push(Event {
             at: step.number,
             kind,
         }),
-        Deed::Posted(_) | Deed::Dealt { .. } | Deed::Passed => Ok(()),
+        ActionEffect::Posted(_) | ActionEffect::Dealt { .. } | ActionEffect::Passed => Ok(()),
     }
 }

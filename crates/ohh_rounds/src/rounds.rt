@@ -1,40 +1,42 @@
-//! The rounds are read, each with its street, its cards and its actions.
+//! Reads the rounds, each with its street, its cards and its actions.
 ghost use Rattle.std.specs.Prelude.{◌≡◌, Some, IfOk, map};
 ghost use Rattle.serde_json.specs.View.{view};
 ghost use Rattle.card_set.specs.Row.{cards_of};
 ghost use Rattle.first_fault.specs.Reading.{Gives};
 ghost use Rattle.ohh_rounds.specs.Rounds.{actions_said, at_round, board_dealt, board_said, no_cards, round_said, rounds_listed, steps_said, street_said};
-ghost use Rattle.ohh_rounds.specs.Setting.{plain_setting};
+ghost use Rattle.ohh_rounds.specs.HandContext.{plain_setting};
 ghost use Rattle.ohh_rounds.specs.Steps.{plain_step};
 
 use crate::actions::{count_event, read_step};
-use crate::setting::Setting;
-use crate::step::{Deed, RoundStep};
+use crate::hand_context::HandContext;
+use crate::post::ActionPlace;
+use crate::rounds_so_far::RoundsSoFar;
+use crate::step::{ActionEffect, RoundStep};
 use crate::street::{has_board_cards, street_after};
-use crate::told::Told;
 use card_set::CardRow;
-use first_fault::Stop;
+use first_fault::ReadError;
 use ohh_members::fault::{MemberFault, MemberFaultKind, Path, RoundMember};
 use ohh_members::street::StreetName;
-use ohh_members::values::{field, needed, read_cards, read_list, read_object, read_text, wrong};
-use ohh_posts::ActionPlace;
+use ohh_members::values::{
+    fault_at, field, read_cards, read_list, read_object, read_text, required,
+};
 use play_event::Kind;
 use serde_json::Value;
 use std::alloc::Global;
 
-/// What the rounds of the object tell.
+/// The steps of the rounds of the object.
 #[tactic(auto, unfolding(crate::specs::Rounds::steps_said))]
 pub fn read_told<'a>(
     alloc: Global,
-    setting: &Setting<'a>,
+    setting: &HandContext<'a>,
     ohh: &Value,
-) -> Result<Told<'a>, Stop<MemberFault>>
+) -> Result<RoundsSoFar<'a>, ReadError<MemberFault>>
     ensures said { Gives (λ told. map plain_step told.steps.items) result
         (steps_said (plain_setting setting.now) (view ohh.now)) }
     ensures setting { IfOk result (λ told. told.setting ≡ setting.now) }
 {
     let values = read_listed(ohh)?;
-    let mut told = Told::none(alloc, setting);
+    let mut told = RoundsSoFar::none(alloc, setting);
     let mut last = None;
     for (index, value) in values.iter().enumerate() {
         let street = read_round(&mut told, last, index as u64, value)?;
@@ -43,26 +45,26 @@ pub fn read_told<'a>(
     Ok(told)
 }
 
-// The rounds, one at least.
+// The list of rounds: at least one.
 #[tactic(auto, unfolding(crate::specs::Rounds::rounds_listed))]
-fn read_listed(ohh: &Value) -> Result<&[Value], Stop<MemberFault>>
+fn read_listed(ohh: &Value) -> Result<&[Value], ReadError<MemberFault>>
     ensures { Gives (λ values. map view values.now) result (rounds_listed (view ohh.now)) }
 {
-    let values = read_list(needed(ohh, Path::Rounds)?, Path::Rounds)?;
+    let values = read_list(required(ohh, Path::Rounds)?, Path::Rounds)?;
     if values.is_empty() {
-        return Err(wrong(MemberFaultKind::BadStreet, Path::Rounds));
+        return Err(fault_at(MemberFaultKind::BadStreet, Path::Rounds));
     }
     Ok(values)
 }
 
-// One more round is told.
+// Reads one more round.
 #[tactic(auto, unfolding(crate::specs::Rounds::round_said, crate::specs::Rounds::opening_said))]
 fn read_round(
-    told: &mut Told,
+    told: &mut RoundsSoFar,
     last: Option<StreetName>,
     index: u64,
     value: &Value,
-) -> Result<StreetName, Stop<MemberFault>>
+) -> Result<StreetName, ReadError<MemberFault>>
     ensures said { Gives (λ street. (Some street, map plain_step told.new.steps.items)) result
         (round_said (plain_setting told.old.setting)
         (last, map plain_step told.old.steps.items) index (view value.now)) }
@@ -82,20 +84,24 @@ fn read_street(
     last: Option<StreetName>,
     index: u64,
     round: &Value,
-) -> Result<StreetName, Stop<MemberFault>>
+) -> Result<StreetName, ReadError<MemberFault>>
     ensures { Gives (λ street. street) result (street_said last index (view round.now)) }
 {
     let path = path_of(index, RoundMember::Street);
-    let text = read_text(needed(round, path)?, path)?;
+    let text = read_text(required(round, path)?, path)?;
     match street_after(last, text) {
         Some(street) => Ok(street),
-        None => Err(wrong(MemberFaultKind::BadStreet, path)),
+        None => Err(fault_at(MemberFaultKind::BadStreet, path)),
     }
 }
 
 // The board cards of a round.
 #[tactic(auto, unfolding(crate::specs::Rounds::board_said))]
-fn read_board(street: StreetName, index: u64, round: &Value) -> Result<CardRow, Stop<MemberFault>>
+fn read_board(
+    street: StreetName,
+    index: u64,
+    round: &Value,
+) -> Result<CardRow, ReadError<MemberFault>>
     ensures { Gives cards_of result (board_said street index (view round.now)) }
 {
     let path = path_of(index, RoundMember::Cards);
@@ -111,19 +117,23 @@ fn read_board(street: StreetName, index: u64, round: &Value) -> Result<CardRow, 
 
 // A list without cards.
 #[tactic(auto, unfolding(crate::specs::Rounds::no_cards))]
-fn read_no_cards(cards: &Value, path: Path) -> Result<CardRow, Stop<MemberFault>>
+fn read_no_cards(cards: &Value, path: Path) -> Result<CardRow, ReadError<MemberFault>>
     ensures { Gives cards_of result (no_cards path (view cards.now)) }
 {
     let values = read_list(cards, path)?;
     if !values.is_empty() {
-        return Err(wrong(MemberFaultKind::BadStreet, path));
+        return Err(fault_at(MemberFaultKind::BadStreet, path));
     }
     Ok(CardRow::new())
 }
 
-// A deal to the board is told, where there are cards.
+// Adds a deal to the board, if there are cards.
 #[tactic(auto, unfolding(crate::specs::Rounds::board_dealt))]
-fn deal_board(told: &mut Told, index: u64, cards: CardRow) -> Result<(), Stop<MemberFault>>
+fn deal_board(
+    told: &mut RoundsSoFar,
+    index: u64,
+    cards: CardRow,
+) -> Result<(), ReadError<MemberFault>>
     ensures said { Gives (λ x. map plain_step told.new.steps.items) result
         (board_dealt (plain_setting told.old.setting)
         (map plain_step told.old.steps.items) index (cards_of cards)) }
@@ -136,7 +146,7 @@ fn deal_board(told: &mut Told, index: u64, cards: CardRow) -> Result<(), Stop<Me
     count_event(told, path_of(index, RoundMember::Cards), kind)?;
     told.push(RoundStep {
         number: 0,
-        deed: Deed::Happened(kind),
+        effect: ActionEffect::Happened(kind),
     })?;
     Ok(())
 }
@@ -148,15 +158,19 @@ fn path_of(index: u64, member: RoundMember) -> Path
     Path::Round { index, member }
 }
 
-// The actions that a round lists are told.
-fn read_actions(told: &mut Told, index: u64, round: &Value) -> Result<(), Stop<MemberFault>>
+// Reads the actions that a round lists.
+fn read_actions(
+    told: &mut RoundsSoFar,
+    index: u64,
+    round: &Value,
+) -> Result<(), ReadError<MemberFault>>
     ensures said { Gives (λ x. map plain_step told.new.steps.items) result
         (actions_said (plain_setting told.old.setting) index
         (map plain_step told.old.steps.items) (view round.now)) }
     ensures setting { told.new.setting ≡ told.old.setting }
 {
     let path = path_of(index, RoundMember::Actions);
-    let values = read_list(needed(round, path)?, path)?;
+    let values = read_list(required(round, path)?, path)?;
     for (action, value) in values.iter().enumerate() {
         let place = ActionPlace {
             round: index,

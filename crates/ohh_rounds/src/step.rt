@@ -1,18 +1,18 @@
-//! What an action did, or a deal to the board, and how it counts.
+//! One step of a hand: what an action did, or a deal to the board, and how it counts.
 ghost use Rattle.std.specs.Prelude.{◌≡◌, ◌+◌, cond, min};
-ghost use Rattle.canon_script.specs.PlayedScript.{is_move as is_move_said};
+ghost use Rattle.play_event.specs.PlayedScript.{is_move as is_move_said};
 ghost use Rattle.play_event.specs.Said.{kind_said};
-ghost use Rattle.ohh_rounds.specs.Steps.{is_action, is_move_deed, is_other_deed, plain_deed, plain_step};
+ghost use Rattle.ohh_rounds.specs.Steps.{is_action, is_move_effect, is_other_effect, plain_effect, plain_step};
 
+use crate::post::Post;
 use card_set::SlotRow;
 use chip_ledger::Seat;
-use ohh_posts::Post;
 use play_event::Kind;
 
 /// What was done.
 #[derive(Clone, Copy, Debug, PartialEq, Eq)]
-pub enum Deed {
-    /// Chips were put in before the play.
+pub enum ActionEffect {
+    /// Chips were put in before play began.
     Posted(Post),
     /// Hole cards were dealt to a seat.
     Dealt { seat: Seat, cards: SlotRow },
@@ -22,35 +22,35 @@ pub enum Deed {
     Passed,
 }
 
-/// What was done, and the number of its action through all rounds from 1, or 0 where no action says
-/// it.
+/// What was done, and the number of its action through all rounds from 1, or 0 if it comes from no
+/// action.
 #[derive(Clone, Copy, Debug, PartialEq, Eq)]
 pub struct RoundStep {
     pub number: u32,
-    pub deed: Deed,
+    pub effect: ActionEffect,
 }
 
-/// One where a move was made, else none.
-pub fn moves_of(deed: Deed) -> usize
-    ensures { result ≡ cond (is_move_deed (plain_deed deed)) 1 0 }
+/// 1 for a move, else 0.
+pub fn moves_of(effect: ActionEffect) -> usize
+    ensures { result ≡ cond (is_move_effect (plain_effect effect)) 1 0 }
 {
-    match deed {
-        Deed::Happened(kind) => if is_move(kind) { 1 } else { 0 },
-        Deed::Posted(_) | Deed::Dealt { .. } | Deed::Passed => 0,
+    match effect {
+        ActionEffect::Happened(kind) => if is_move(kind) { 1 } else { 0 },
+        ActionEffect::Posted(_) | ActionEffect::Dealt { .. } | ActionEffect::Passed => 0,
     }
 }
 
-/// One where another event of the script happened, else none.
-pub fn others_of(deed: Deed) -> usize
-    ensures { result ≡ cond (is_other_deed (plain_deed deed)) 1 0 }
+/// 1 for an event of the script that is not a move, else 0.
+pub fn others_of(effect: ActionEffect) -> usize
+    ensures { result ≡ cond (is_other_effect (plain_effect effect)) 1 0 }
 {
-    match deed {
-        Deed::Happened(kind) => if is_move(kind) { 0 } else { 1 },
-        Deed::Posted(_) | Deed::Dealt { .. } | Deed::Passed => 0,
+    match effect {
+        ActionEffect::Happened(kind) => if is_move(kind) { 0 } else { 1 },
+        ActionEffect::Posted(_) | ActionEffect::Dealt { .. } | ActionEffect::Passed => 0,
     }
 }
 
-/// Whether it is a move.
+/// Whether the event is a move.
 pub fn is_move(kind: Kind) -> bool
     ensures { result ≡ is_move_said (kind_said kind) }
 {
@@ -60,7 +60,7 @@ pub fn is_move(kind: Kind) -> bool
     }
 }
 
-/// The number of the next action after a step, where this was it before.
+/// The number of the next action after a step; `next` was it before.
 pub fn next_after(next: u32, step: RoundStep) -> u32
     ensures { result ≡ min (next + cond (is_action (plain_step step)) 1 0) 4294967295 }
 {

@@ -1,4 +1,4 @@
-//! The streets come in their order.
+//! The order of the streets.
 ghost use Rattle.std.specs.Prelude.{◌≡◌};
 ghost use Rattle.ohh_rounds.specs.Streets.{has_board_cards as has_board_cards_said, if_named, street_after as street_said};
 
@@ -25,7 +25,7 @@ pub fn street_after(last: Option<StreetName>, text: &str) -> Option<StreetName>
     }
 }
 
-// The street, where the text is its name.
+// The street, if the text is its name.
 fn named(street: StreetName, text: &str) -> Option<StreetName>
     ensures { result ≡ if_named street text.now }
 {

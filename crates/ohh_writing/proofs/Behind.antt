@@ -1,4 +1,4 @@
--- The line of one play more stands behind those of the plays before it, with an empty line between.
+-- The line of one more play comes after those of the plays before it, with an empty line between.
 use Rattle.std.proofs.Common.{◌≡◌, ◌==◌, false, ℕ, ◌+◌, ◌<◌, List, [], ◌∷◌, ◌++◌, length, take, get_or, sym, ap, subst, ◌∙◌, refl, append_assoc, arith}
 use Rattle.std.proofs.lemmas.Bool.Decides.{nat_tests}
 use Rattle.std.proofs.lemmas.List.{take_more}
@@ -6,11 +6,11 @@ use Rattle.hand_records.specs.declared.trace.Play.{Play}
 use Rattle.ohh_members.specs.declared.dialect.Dialect.{Dialect}
 use Rattle.ohh_writing.specs.Lines.{AreRead, IsTextOf, Spells, empty_line_before, empty_line_behind, hand_text, lines, lines_from}
 
--- what is written of a play behind others: an empty line, if there are others, and its own line
+-- what is written of a play after others: an empty line, if there are others, and its own line
 abbrev more_of : Dialect → ℕ → List Play → Play → List ℕ
 more_of dialect place before play = empty_line_before before ++ (hand_text dialect (place + length before) play ++ 10 ∷ [])
 
--- lines of plays, of which the first is at a place, and what is written of one play more
+-- lines of plays, the first at a place, and what is written of one more play
 lines_more : (dialect : Dialect) (place : ℕ) (before : List Play) (play : Play)
     → lines_from dialect place (before ++ play ∷ []) ≡ lines_from dialect place before ++ more_of dialect place before play
 lines_more dialect place [] play =
@@ -38,14 +38,15 @@ read_more dialect place (first ∷ rest) play read one =
     let here : place + length (first ∷ rest) ≡ place + 1 + length rest = omega arith in
     (read.0, read_more dialect (place + 1) rest play read.1 (subst (λ (n : ℕ). IsTextOf dialect n play) here one))
 
--- behind so many plays stands an empty line, if these are any
+-- after this many plays comes an empty line, if there are any
 same_gap : (before : List Play) → empty_line_behind (length before) ≡ empty_line_before before
 same_gap [] = refl
 same_gap (first ∷ rest) =
     let some : (length (first ∷ rest) == 0) ≡ false = grind (arith, nat_tests) in
     rw some refl
 
--- bytes that spell plays, and behind them an empty line, if there are any plays, and the text of one play more
+-- bytes that spell plays, and after them an empty line, if there are any plays, and the text of one
+-- more play
 pub one_line_more : (dialect : Dialect) (before : List Play) (play : Play) (place : ℕ) (old gap text new : List ℕ)
     → length before ≡ place → Spells dialect before old → gap ≡ old ++ empty_line_behind place
     → text ≡ gap ++ hand_text dialect place play → new ≡ text ++ 10 ∷ [] → IsTextOf dialect place play

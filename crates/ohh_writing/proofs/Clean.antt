@@ -1,4 +1,4 @@
--- What is written for a tree stands on one line: no byte of it is a newline.
+-- What is written for a tree is on one line: no byte of it is a newline.
 use Rattle.std.proofs.Common.{◌≡◌, ℕ, zero, suc, ◌+◌, ◌/◌, ◌%◌, Bool, true, false, not, cond, eqb, nat_lt, ◌==◌, ◌||◌, ℤ, pos, negsuc, List, [], ◌∷◌, ◌++◌, decimal, refl, arith}
 use Rattle.std.specs.Fmt.{digits, digits_onto, digit_glyph, signed_decimal}
 use Rattle.std.specs.List.{list_all}
@@ -13,7 +13,7 @@ use Rattle.ohh_members.specs.declared.dialect.Dialect.{Dialect}
 use Rattle.ohh_writing.specs.Lines.{hand_text}
 use Rattle.ohh_writing.specs.Tree.{hand_tree}
 
--- a byte is no newline
+-- a byte is not a newline
 abbrev pub is_clean : ℕ → Bool
 is_clean byte = not (byte == 10)
 

@@ -13,11 +13,11 @@ use Rattle.play_event.specs.Past.{Act, Folded, Called, Raised, BroughtIn, Move}
 use Rattle.play_event.specs.Played.{move_said}
 use Rattle.play_event.specs.Seats.{all_seats}
 use Rattle.play_event.specs.Trace.{TracedMove, TracedPlace}
-use Rattle.canon_script.specs.CanonScript.{dealt_slots, held_slots, plain_move}
-use Rattle.canon_script.specs.declared.limits.TheConstants.{MOST_MOVES}
+use Rattle.play_event.specs.CanonScript.{dealt_slots, held_slots, plain_move}
+use Rattle.play_event.specs.declared.hand_limits.TheConstants.{MOST_MOVES}
 use Rattle.hand_records.specs.declared.trace.Trace.{Trace}
 use Rattle.hand_records.specs.TraceRows.{core_said}
-use Rattle.list_laws.proofs.FlatMaps.{flat_few}
+use Rattle.card_set.proofs.FlatMaps.{flat_few}
 use Rattle.ohh_members.specs.declared.dialect.Dialect.{Dialect}
 use Rattle.ohh_writing.specs.declared.action.Round.{Round}
 use Rattle.ohh_members.specs.declared.street.StreetName.{StreetName}
@@ -25,7 +25,7 @@ use Rattle.ohh_members.specs.declared.street.StreetName.TheVariants as streets
 use Rattle.ohh_members.specs.declared.words.Word.TheVariants as words
 use Rattle.ohh_writing.specs.Actions.{PlainAction, act_written, action_said, alone, ante_post, big_blind_seat, blind_post, deal_written, deals, has_known, move_written, moves_written, posts, showing, showings, small_blind_seat, straddle_post, with_cards, with_chips}
 use Rattle.ohh_writing.specs.Rounds.{PlainRound, board_round, board_round_on, round, first_actions, hand_rounds, moves_on, round_said, showdown_round}
-use Rattle.list_laws.proofs.Lists.{either_few, one_at_most, where_few}
+use Rattle.card_set.proofs.Lists.{either_few, one_at_most, where_few}
 
 seats_few : {X : Type 0} (made : ℕ → List X) (setup : Setup) → ((seat : ℕ) → length (made seat) ≤ 1) → length (flat_map made (all_seats setup)) ≤ 10
 seats_few made setup few =
@@ -116,7 +116,7 @@ actions_few dialect trace few =
       showdown_few (showings trace),
     )
 
--- the rounds of the code have as many actions
+-- the rounds of the code have the same number of actions
 pub same_count : (rounds : List Round) → sum_by (λ (round : Round). length round.actions.items) rounds ≡ count (map round_said rounds)
 same_count [] = refl
 same_count (first ∷ rest) =

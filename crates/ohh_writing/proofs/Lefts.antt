@@ -1,4 +1,4 @@
--- The chips that each seat has left after one move more.
+-- The chips that each seat has left after one more move.
 use Rattle.std.proofs.Common.{◌≡◌, ◌≢◌, ℕ, ◌+◌, ◌-◌, ◌≤◌, Bool, true, false, cond, ◌==◌, List, ◌∷◌, length, get_or, set, refl, sym, ap, ◌∙◌, arith}
 use Rattle.std.proofs.lemmas.Bool.Decides.{nat_tests}
 use Rattle.std.proofs.lemmas.Grind.{get_or-set_at}
@@ -16,7 +16,7 @@ of_seat setup before move seat same is =
     let less : amount_of setup.stacks seat - (posted setup seat + (chips + added)) ≡ (amount_of setup.stacks seat - (posted setup seat + added)) - chips = omega arith in
     rw is less
 
--- each seat has what it had, but for the seat of the move
+-- each seat has what it had, except the seat of the move
 pub left_after : (setup : Setup) (before : List Move) (move : Move) (left : List ℕ) (chips : ℕ) → length left ≡ 10 → 1 ≤ move.seat → move.seat ≤ 10
     → chips ≡ get_or left (move.seat - 1) 0 - (move.to - move.from)
     → ((k : ℕ) → k ≤ 9 → get_or left k 0 ≡ chips_left setup before (k + 1))

@@ -1,4 +1,5 @@
--- The tree of a hand has no fraction and nests little, so its text is the compact one and reads back.
+-- The tree of a hand has no fraction and little nesting, so its text is the compact one and reads
+-- back.
 use Rattle.std.proofs.Common.{◌≡◌, ℕ, ◌+◌, ◌≤◌, Bool, true, false, cond, nat_lt, List, [], ◌∷◌, ◌++◌, length, map, codes, Option, Some, None, refl, arith}
 use Rattle.std.specs.List.{AllByRecursion, flat_map}
 use Rattle.serde_json.specs.Data.{Data, string, Members, member, no_members, depth, items_depth, members_depth}

@@ -1,4 +1,4 @@
--- Members that are put one after the other stand in the order of their names.
+-- Members that are put one after the other are in the order of their names.
 use Rattle.std.proofs.Common.{◌≡◌, ℕ, List, codes, Option, Some, None, decimal, unwrap_or, refl}
 use Rattle.serde_json.specs.Data.{Data, Members, member, no_members, put, string}
 use Rattle.chip_ledger.specs.SeatRow.{amount_of}
@@ -15,7 +15,7 @@ use Rattle.ohh_writing.specs.Seating.{number_among}
 use Rattle.ohh_writing.specs.Spelled.{big_blind, greatest_ante}
 use Rattle.ohh_writing.specs.Tree.{date_member, detail_members, hand_members, limit_tree, list, numbers_written, players, pots, round_trees, table_size, text_or_empty, whole, with_date, with_detail}
 
--- the members of an action, whatever it tells
+-- the members of an action, whatever its details
 pub action_sorted : (n : ℕ) (word : List ℕ) (player : ℕ) (detail : PlainDetail)
     → put (codes "player_id") (whole player) (with_detail detail (member (codes "action") (string word) (member (codes "action_number") (whole n) no_members)))
     ≡ member (codes "action") (string word) (member (codes "action_number") (whole n) (detail_members detail (member (codes "player_id") (whole player) no_members)))

@@ -1,5 +1,5 @@
 -- The actions of a hand that is written: posts, deals, moves and shows, each with its word, its
--- player and what it tells.
+-- player and its details.
 use Rattle.std.specs.Prelude.{ℕ, ◌-◌, ◌==◌, ◌&&◌, nat_lt, not, Bool, if◌then◌else◌, List, [], ◌∷◌, ◌++◌, Some}
 use Rattle.std.specs.List.{flat_map, list_any}
 use Rattle.card_set.specs.declared.card.Slot.{Slot}
@@ -12,7 +12,7 @@ use Rattle.play_event.specs.Chips.{blind_posted, chips_left, posted}
 use Rattle.play_event.specs.Past.{Move, Act, Folded, Called, Raised, BroughtIn}
 use Rattle.play_event.specs.Seats.{all_seats}
 use Rattle.play_event.specs.Trace.{TracedMove, TracedPlace}
-use Rattle.canon_script.specs.CanonScript.{dealt_slots, held_slots, plain_move}
+use Rattle.play_event.specs.CanonScript.{dealt_slots, held_slots, plain_move}
 use Rattle.hand_records.specs.declared.trace.Trace.{Trace}
 use Rattle.hand_records.specs.TraceRows.{core_said}
 use Rattle.ohh_members.specs.declared.dialect.Dialect.{Dialect}
@@ -24,8 +24,8 @@ use Rattle.ohh_members.specs.declared.words.Word.{Word}
 use Rattle.ohh_members.specs.declared.words.Word.TheVariants as words
 use Rattle.chip_ledger.specs.Seat.{big_blind_of, small_blind_of}
 
--- what an action tells beside its word and its player: nothing, chips and whether the seat has none
--- left, or cards
+-- what an action has beside its word and its player: nothing, or chips and whether the seat is
+-- all-in, or cards
 pub data PlainDetail : Type 0 where
   Nothing : PlainDetail
   Chips : ℕ → Bool → PlainDetail
@@ -37,33 +37,33 @@ pub record PlainAction : Type 0 where
   pub player : ℕ
   pub detail : PlainDetail
 
--- what an action of the code tells
+-- the details of an action, as the definitions see them
 abbrev pub detail_said : Detail → PlainDetail
 detail_said details.Nothing = Nothing
 detail_said (details.Chips amount all_in) = Chips amount all_in
 detail_said (details.Cards cards) = Cards (slots_of cards)
 
--- an action of the code
+-- an action, as the definitions see it
 abbrev pub action_said : Action → PlainAction
 action_said action =
     record { word = action.word; player = action.player; detail = detail_said action.detail }
 
--- an action that puts chips: it is all-in where no chips are left behind it
+-- an action that puts in chips: it is all-in if no chips are left after it
 abbrev pub with_chips : Word → ℕ → ℕ → ℕ → PlainAction
 with_chips word seat amount left =
     record { word = word; player = seat; detail = Chips amount (left == 0) }
 
--- an action that tells its player alone
+-- an action with nothing but its player
 abbrev pub alone : Word → ℕ → PlainAction
 alone word seat = record { word = word; player = seat; detail = Nothing }
 
--- an action that tells cards
+-- an action with cards
 abbrev pub with_cards : Word → ℕ → List Slot → PlainAction
 with_cards word seat cards = record { word = word; player = seat; detail = Cards cards }
 
 -- ---- posts
 
--- the seat of the small blind: the first after the button, and of two seats the button
+-- the seat of the small blind: the first after the button; with two seats, the button
 abbrev pub small_blind_seat : Setup → ℕ
 small_blind_seat setup = small_blind_of setup.stacks.seats
 
@@ -71,7 +71,7 @@ small_blind_seat setup = small_blind_of setup.stacks.seats
 abbrev pub big_blind_seat : Setup → ℕ
 big_blind_seat setup = big_blind_of setup.stacks.seats
 
--- the ante of a seat, where it posts one
+-- the ante of a seat, if it posts one
 abbrev pub ante_post : Setup → ℕ → List PlainAction
 ante_post setup seat =
     if nat_lt 0 (amount_of setup.antes seat)
@@ -106,7 +106,7 @@ posts setup =
 abbrev pub has_known : List Slot → Bool
 has_known slots = list_any (λ slot. not (is_unknown slot)) slots
 
--- the cards that a seat was dealt, where one of them is known
+-- the cards that a seat was dealt, if one of them is known
 abbrev pub deal_written : ℕ → List Slot → List PlainAction
 deal_written seat cards =
     if has_known cards then with_cards words.DealtCards seat cards ∷ [] else []
@@ -129,27 +129,28 @@ showings trace = flat_map (showing trace) (all_seats trace.setup)
 
 -- ---- moves
 
--- the amount of a raise in a dialect: the chips that it adds, or the chips of the street to which
--- it goes
+-- the amount of a raise in a dialect: the chips that it adds, or the bet on the street that it
+-- raises to
 abbrev pub raise_amount : Dialect → TracedMove → ℕ
 raise_amount dialects.Added move = move.to - move.from
 raise_amount dialects.To move = move.to
 
--- a check where nothing was owed, else a call of the chips that it adds
+-- a check if there was nothing to call, else a call of the chips that it adds
 abbrev pub call_written : TracedMove → ℕ → PlainAction
 call_written move left =
     if move.price == move.from
     then alone words.Check move.seat
     else with_chips words.Call move.seat (move.to - move.from) left
 
--- a bet of the chips that it adds where nobody had put any on the street, else a raise
+-- a bet of the chips that it adds if nobody had put in chips on the street, else a raise
 abbrev pub raise_written : Dialect → TracedMove → ℕ → PlainAction
 raise_written dialect move left =
     if move.price == 0
     then with_chips words.Bet move.seat (move.to - move.from) left
     else with_chips words.Raise move.seat (raise_amount dialect move) left
 
--- a move by its act, which leaves its seat so many chips; no game that is written has a bring-in
+-- a move by its act, with the chips that the seat has left; no game that can be written has a
+-- bring-in
 abbrev pub act_written : Dialect → Act → TracedMove → ℕ → List PlainAction
 act_written dialect Folded move left = alone words.Fold move.seat ∷ []
 act_written dialect Called move left = call_written move left ∷ []
@@ -161,7 +162,7 @@ abbrev pub move_written : Dialect → Setup → List Move → TracedMove → Lis
 move_written dialect setup before move =
     act_written dialect move.act move (chips_left setup (plain_move move ∷ before) move.seat)
 
--- the moves of a street, among moves that come after those before them, of which the newest is the
+-- the moves of a street, among moves that come after those before them, the newest of which is the
 -- first
 abbrev pub moves_written : Dialect → Setup → ℕ → List Move → List TracedMove → List PlainAction
 moves_written dialect setup street before [] = []

@@ -1,5 +1,5 @@
--- What is written of plays as Open Hand History: the facts that it spells, and the one tree and
--- line that stand for a play.
+-- How plays are written as Open Hand History: the facts that it can write, and the one tree and
+-- line for each play.
 pub mod Actions
 pub mod Rounds
 pub mod Games

@@ -1,5 +1,4 @@
--- The one list of bytes that stands for plays: a line of compact JSON for each, and an empty line
--- between two.
+-- The bytes for plays: one line of compact JSON per play, and an empty line between two.
 use Rattle.std.specs.Prelude.{◌≡◌, ℕ, ◌+◌, ◌==◌, if◌then◌else◌, List, [], ◌∷◌, ◌++◌, Some}
 use Rattle.std.specs.Str.{IsUtf8}
 use Rattle.serde_json.specs.Read.{read}
@@ -8,20 +7,20 @@ use Rattle.hand_records.specs.declared.trace.Play.{Play}
 use Rattle.ohh_members.specs.declared.dialect.Dialect.{Dialect}
 use Rattle.ohh_writing.specs.Tree.{hand_tree}
 
--- the text of the hand at a place of its file, from 0
+-- the text of the hand at this place of its file, from 0
 abbrev pub hand_text : Dialect → ℕ → Play → List ℕ
 hand_text dialect place play = compact_text (hand_tree dialect place play)
 
--- an empty line, where other hands follow
+-- an empty line, if other hands follow
 abbrev pub empty_line_before : List Play → List ℕ
 empty_line_before [] = []
 empty_line_before (next ∷ rest) = 10 ∷ []
 
--- an empty line behind so many hands, where these are any
+-- an empty line after this number of hands, if there are any
 abbrev pub empty_line_behind : ℕ → List ℕ
 empty_line_behind place = if place == 0 then [] else 10 ∷ []
 
--- the lines of plays, of which the first is at this place
+-- the lines of plays; the first is at this place
 abbrev pub lines_from : Dialect → ℕ → List Play → List ℕ
 lines_from dialect place [] = []
 lines_from dialect place (play ∷ rest) =
@@ -32,13 +31,12 @@ lines_from dialect place (play ∷ rest) =
 abbrev pub lines : Dialect → List Play → List ℕ
 lines dialect plays = lines_from dialect 0 plays
 
--- a text is that of the hand at a place of its file: it is a text that JSON reads as the tree of
--- the hand
+-- the text of the hand at this place of its file is one that JSON reads as the tree of the hand
 pub record IsTextOf (dialect : Dialect) (place : ℕ) (play : Play) : Type 0 where
   pub text : IsUtf8 (hand_text dialect place play)
   pub tree : read (hand_text dialect place play) ≡ Some (hand_tree dialect place play)
 
--- the text of each of some plays, of which the first is at this place, reads as its tree
+-- the text of each play reads as its tree; the first play is at this place
 abbrev pub AreRead : Dialect → ℕ → List Play → Type 0
 AreRead dialect place [] = Unit {0}
 AreRead dialect place (play ∷ rest) = IsTextOf dialect place play × AreRead dialect (place + 1) rest

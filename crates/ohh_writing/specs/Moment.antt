@@ -1,33 +1,33 @@
--- When a hand was played, as the format writes it: a civil date and a time in the zone UTC.
+-- When a hand was played, as the format writes it: a date and a time in the zone UTC.
 use Rattle.std.specs.Prelude.{ℕ, zero, suc, ◌+◌, ◌/◌, ◌%◌, ◌==◌, bytes_eq, if◌then◌else◌, List, [], ◌∷◌, ◌++◌, codes, Option, Some, None}
 use Rattle.hand_records.specs.declared.notes.Clock.{Clock}
 use Rattle.hand_records.specs.declared.notes.Notes.{Notes}
 use Rattle.hand_records.specs.declared.notes.Moment.{Moment}
 
--- the moment, where the zone is UTC
+-- the moment, if the zone is UTC
 abbrev pub moment_in : ℕ → ℕ → ℕ → Clock → List ℕ → Option Moment
 moment_in year month day time zone =
     if bytes_eq zone (codes "UTC")
     then Some (record { day = record { year = year; month = month; day = day }; time = time })
     else None
 
--- the moment, where all five are said and the zone is UTC
+-- the moment, if all five are given and the zone is UTC
 abbrev pub moment_said : Option ℕ → Option ℕ → Option ℕ → Option Clock → Option (List ℕ)
     → Option Moment
 moment_said (Some year) (Some month) (Some day) (Some time) (Some zone) =
     moment_in year month day time zone
 moment_said _ _ _ _ _ = None
 
--- the moment that the notes spell
+-- the moment of the notes, if it can be written
 abbrev pub moment_of : Notes → Option Moment
 moment_of notes = moment_said notes.year notes.month notes.day notes.time notes.zone
 
--- a number by so many decimal digits, the last ones that it has
+-- a number as its last decimal digits, this many
 abbrev pub by_digits : ℕ → ℕ → List ℕ
 by_digits zero number = []
 by_digits (suc count) number = by_digits count (number / 10) ++ (48 + number % 10) ∷ []
 
--- a part of a second by nine digits behind a point, where there is one
+-- a fraction of a second as nine digits after a point, if it is not 0
 abbrev pub fraction_text : ℕ → List ℕ
 fraction_text nano = if nano == 0 then [] else codes "." ++ by_digits 9 nano
 

@@ -3,7 +3,7 @@
 use Rattle.std.specs.Prelude.{ℕ, List, [], ◌∷◌, ◌++◌, None, map}
 use Rattle.card_set.specs.declared.card.Slot.{Slot}
 use Rattle.card_set.specs.Row.{slots_of}
-use Rattle.canon_script.specs.CanonScript.{dealt_slots}
+use Rattle.play_event.specs.CanonScript.{dealt_slots}
 use Rattle.hand_records.specs.declared.trace.Trace.{Trace}
 use Rattle.hand_records.specs.TraceRows.{core_said}
 use Rattle.ohh_members.specs.declared.dialect.Dialect.{Dialect}
@@ -18,7 +18,7 @@ pub record PlainRound : Type 0 where
   pub cards : List Slot
   pub actions : List PlainAction
 
--- a round of the code
+-- a round, as the definitions see it
 abbrev pub round_said : Round → PlainRound
 round_said round =
     record {
@@ -40,7 +40,7 @@ abbrev pub first_actions : Dialect → Trace → List PlainAction
 first_actions dialect trace =
     posts trace.setup ++ (deals trace.setup (core_said trace).places ++ moves_on dialect trace 1)
 
--- a round of a street whose cards were dealt to the board
+-- a round of a street, if its cards were dealt to the board
 abbrev pub board_round : StreetName → List Slot → List PlainAction → List PlainRound
 board_round street [] actions = []
 board_round street (slot ∷ rest) actions = round street (slot ∷ rest) actions ∷ []
@@ -51,7 +51,7 @@ board_round_on dialect trace street number =
     board_round street (dealt_slots (core_said trace).places None number)
     (moves_on dialect trace number)
 
--- the showdown, where there is one
+-- the showdown, if there is one
 abbrev pub showdown_round : List PlainAction → List PlainRound
 showdown_round [] = []
 showdown_round (action ∷ rest) = round streets.Showdown [] (action ∷ rest) ∷ []

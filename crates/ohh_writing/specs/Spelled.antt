@@ -1,5 +1,5 @@
--- Which facts of a play the format spells, in the order in which they are tried, and the first play
--- with one that it does not.
+-- Which facts of a play the format can write, in the order in which they are checked, and the first
+-- play with one that it cannot.
 use Rattle.std.specs.Prelude.{ℕ, ◌*◌, ◌-◌, ◌==◌, ◌&&◌, ◌||◌, Bool, min, nat_lt, nat_le, not, if◌then◌else◌, List, [], ◌∷◌, map, Option, Some, None, is_some, is_none}
 use Rattle.std.specs.List.{list_all, list_any}
 use Rattle.chip_ledger.specs.Greatest.{greatest}
@@ -28,8 +28,8 @@ use Rattle.hand_records.specs.WriteRefusals.{or_behind}
 abbrev pub big_blind : Setup → ℕ
 big_blind setup = amount_of setup.blinds (big_blind_seat setup)
 
--- the bets of fixed limit are the big blind and twice the big blind, and the least bet of the other
--- limits is the big blind
+-- in fixed limit the bets are the big blind and twice the big blind, and in the other limits the
+-- least bet is the big blind
 abbrev pub has_spelled_sizes : Setup → Bool
 has_spelled_sizes setup =
     if is_fixed (limit_of setup.code)
@@ -40,7 +40,7 @@ has_spelled_sizes setup =
 abbrev pub greatest_ante : Setup → ℕ
 greatest_ante setup = greatest (map (amount_of setup.antes) (all_seats setup))
 
--- a seat posts the greatest ante, or its whole stack where that is less
+-- a seat posts the greatest ante, or its whole stack if that is less
 abbrev pub is_whole_ante : Setup → ℕ → Bool
 is_whole_ante setup seat =
     amount_of setup.antes seat == min (amount_of setup.stacks seat) (greatest_ante setup)
@@ -49,8 +49,8 @@ is_whole_ante setup seat =
 abbrev pub has_no_ante : Setup → ℕ → Bool
 has_no_ante setup seat = amount_of setup.antes seat == 0
 
--- Antes that are not dead are those of all seats: each posts the greatest ante, as far as its stack
--- goes. Where there are none, the greatest is 0. Dead antes are not those of all: some seat posts
+-- Antes that are not dead are those of all seats: each posts the greatest ante, or all of a smaller
+-- stack; if there are none, the greatest is 0. Dead antes are not those of all: some seat posts
 -- none.
 abbrev pub has_spelled_antes : Setup → Bool
 has_spelled_antes setup =
@@ -65,8 +65,8 @@ is_covered_straddle setup seat =
     || nat_le (amount_of setup.blinds seat)
     (amount_of setup.stacks seat - amount_of setup.antes seat)
 
--- of three or more seats, the first has no more than the big blind, and the others behind the
--- second straddle as far as their stacks go
+-- with three or more seats, the first has no more than the big blind, and the straddles of the
+-- seats after the second are within their stacks
 abbrev pub has_spelled_straddles : Setup → Bool
 has_spelled_straddles setup =
     nat_le (amount_of setup.blinds 1) (amount_of setup.blinds 2)
@@ -76,23 +76,23 @@ has_spelled_straddles setup =
 abbrev pub has_two_blinds : Setup → Bool
 has_two_blinds setup = nat_lt 0 (amount_of setup.blinds 1) && nat_lt 0 (amount_of setup.blinds 2)
 
--- the blinds have a spelling
+-- the blinds can be written
 abbrev pub has_spelled_blinds : Setup → Bool
 has_spelled_blinds setup =
     has_two_blinds setup && (setup.stacks.seats == 2 || has_spelled_straddles setup)
 
 -- ---- facts in order
 
--- facts, each with whether it has a spelling
+-- facts, each with whether it can be written
 abbrev pub Tried : Type 0
 Tried = List (Bool × Unspelled)
 
--- the first of them that has none
+-- the first of them that cannot be written
 abbrev pub first_unspelled : Tried → Option Unspelled
 first_unspelled [] = None
 first_unspelled (fact ∷ rest) = if fact.0 then first_unspelled rest else Some fact.1
 
--- some raise needs rules by which betting always reopens
+-- some raise needs rules under which every raise reopens the betting
 abbrev pub has_closed : Trace → Bool
 has_closed trace = list_any (λ move. move.closed) trace.moves
 
@@ -106,16 +106,16 @@ trace_facts trace =
     ∷ (not (has_closed trace), facts.ReopenedShort)
     ∷ []
 
--- a note of the date has a spelling: none is said, or the whole moment has one
+-- a note of the date can be written: it is missing, or the whole moment can be written
 abbrev pub is_spelled_date : {A : Type 0} → Notes → Option A → Bool
 is_spelled_date notes said = is_none said || is_some (moment_of notes)
 
--- the numbers of the seats have a spelling: none are said, or they go round
+-- the numbers of the seats can be written: they are missing, or go round
 abbrev pub has_spelled_numbers : ℕ → Notes → Bool
 has_spelled_numbers count notes = is_none notes.seats || is_some (numbers_spelled count notes.seats)
 
--- the notes of so many seats of which some have no spelling; names, texts and the number of seats
--- always have one
+-- the notes of a hand with this many seats that cannot always be written; names, texts and the
+-- number of seats always can
 abbrev pub note_facts : ℕ → Notes → Tried
 note_facts count notes =
     (has_spelled_numbers count notes, facts.Note names.Seats)
@@ -126,13 +126,13 @@ note_facts count notes =
     ∷ (is_spelled_date notes notes.time, facts.Note names.Time)
     ∷ []
 
--- the notes that are to be kept, where all of them are; where only those are kept that have a
--- spelling, none of them fails
+-- the notes that are to be kept if all of them are; if only those that can be written are kept,
+-- none of them fails
 abbrev pub kept_facts : Keep → Play → Tried
 kept_facts keeps.All play = note_facts play.trace.setup.stacks.seats play.hand.notes
 kept_facts keeps.Spelled play = []
 
--- the first fact of a play that has no spelling: one of the trace, or else one of the notes that
+-- the first fact of a play that cannot be written: one of the trace, or else one of the notes that
 -- are to be kept
 unfoldable pub unspelled : Keep → Play → Option Unspelled
 unspelled keep play =

@@ -1,5 +1,4 @@
--- The one tree of JSON that stands for a play, with the members of each object in the order of
--- their names.
+-- The one JSON tree for a play, with the members of each object in the order of their names.
 use Rattle.std.specs.Prelude.{ℕ, ◌+◌, nat_lt, if◌then◌else◌, List, [], ◌∷◌, codes, length, map, slice_index_or, Option, Some, None, unwrap_or}
 use Rattle.std.specs.Fmt.{decimal}
 use Rattle.std.specs.List.{flat_map}
@@ -44,21 +43,21 @@ list items = array (items_of items)
 abbrev pub cards_tree : List Slot → Data
 cards_tree slots = list (map (λ slot. string (slot_spelling slot)) slots)
 
--- the members of what an action tells, before its player's
+-- the details of an action as members, before that of its player
 abbrev pub detail_members : PlainDetail → Members → Members
 detail_members Nothing rest = rest
 detail_members (Chips amount all_in) rest =
     member (codes "amount") (whole amount) (member (codes "is_allin") (boolean all_in) rest)
 detail_members (Cards cards) rest = member (codes "cards") (cards_tree cards) rest
 
--- members, with what an action tells besides
+-- members, together with the details of an action
 abbrev pub with_detail : PlainDetail → Members → Members
 with_detail Nothing members = members
 with_detail (Chips amount all_in) members =
     put (codes "is_allin") (boolean all_in) (put (codes "amount") (whole amount) members)
 with_detail (Cards cards) members = put (codes "cards") (cards_tree cards) members
 
--- an action with its number, where what it tells besides stands before its player
+-- an action with its number, whose details come before its player
 abbrev pub action_object : ℕ → List ℕ → ℕ → (Members → Members) → Data
 action_object n word player detail =
     object (member (codes "action") (string word)
@@ -70,7 +69,7 @@ abbrev pub action_tree : ℕ → PlainAction → Data
 action_tree n action =
     action_object n (word_text action.word) action.player (detail_members action.detail)
 
--- actions, of which the first has this number
+-- actions; the first has this number
 abbrev pub action_trees : ℕ → List PlainAction → List Data
 action_trees n [] = []
 action_trees n (action ∷ rest) = action_tree n action ∷ action_trees (n + 1) rest
@@ -82,7 +81,8 @@ round_tree n round =
     (member (codes "cards") (cards_tree round.cards)
     (member (codes "street") (string (street_name round.street)) no_members)))
 
--- rounds; the numbers of their actions run through the hand, and the first action has this number
+-- rounds; the numbers of their actions run through the whole hand, and the first action has this
+-- number
 abbrev pub round_trees : ℕ → List PlainRound → List Data
 round_trees n [] = []
 round_trees n (round ∷ rest) = round_tree n round ∷ round_trees (n + length round.actions) rest
@@ -101,27 +101,27 @@ player_tree stacks notes numbers seat =
 abbrev pub players : SeatRow → Notes → Option (List ℕ) → Data
 players stacks notes numbers = list (map (player_tree stacks notes numbers) (seats_of stacks.seats))
 
--- so many chips that a seat wins
+-- the chips that a seat wins
 abbrev pub win_object : ℕ → ℕ → Data
 win_object seat amount =
     object
     (member (codes "player_id") (whole seat)
     (member (codes "win_amount") (whole amount) no_members))
 
--- what a seat wins of a pot, where it wins something
+-- what a seat wins of a pot, if it wins something
 abbrev pub win_tree : SeatRow → ℕ → List Data
 win_tree share seat =
     if nat_lt 0 (amount_of share seat) then win_object seat (amount_of share seat) ∷ [] else []
 
--- what so many seats win of a pot, from p1 upward
+-- what this many seats win of a pot, from p1 upward
 abbrev pub wins_of : SeatRow → ℕ → Data
 wins_of share seats = list (flat_map (win_tree share) (seats_of seats))
 
--- the shares of the pot at this place, from 0; past the last one nobody has a share
+-- the shares of the pot at this place, from 0; nobody has a share past the last pot
 abbrev pub share_at : Trace → ℕ → SeatRow
 share_at trace place = slice_index_or trace.shares.shares place no_amounts
 
--- the pot at a place, from 0, with its rake in it
+-- the pot at this place, from 0, including its rake
 abbrev pub pot_tree : Trace → ℕ → Pot → Data
 pot_tree trace place pot =
     object (member (codes "amount") (whole pot.chips)
@@ -129,7 +129,7 @@ pot_tree trace place pot =
     (member (codes "player_wins") (wins_of (share_at trace place) trace.setup.stacks.seats)
     (member (codes "rake") (whole (rake_of trace.setup.rakes (place + 1))) no_members))))
 
--- pots, of which the first is at this place
+-- pots; the first is at this place
 abbrev pub pot_trees : Trace → ℕ → List Pot → List Data
 pot_trees trace place [] = []
 pot_trees trace place (pot ∷ rest) = pot_tree trace place pot ∷ pot_trees trace (place + 1) rest
@@ -140,12 +140,12 @@ pots trace = list (pot_trees trace 0 (pots_in trace.pots))
 
 -- ---- the hand
 
--- when the hand was played, where that is said
+-- when the hand was played, if that is noted
 abbrev pub date_member : Option Moment → Members → Members
 date_member None rest = rest
 date_member (Some moment) rest = member (codes "start_date_utc") (string (moment_text moment)) rest
 
--- members, with the moment besides where it is said
+-- members, together with the moment if it is noted
 abbrev pub with_date : Option Moment → Members → Members
 with_date None members = members
 with_date (Some moment) members = put (codes "start_date_utc") (string (moment_text moment)) members
@@ -154,19 +154,19 @@ with_date (Some moment) members = put (codes "start_date_utc") (string (moment_t
 abbrev pub limit_tree : Setup → Data
 limit_tree setup = object (member (codes "bet_type") (string (bet_word setup.code)) no_members)
 
--- a text that is said, or the empty one
+-- the text of a note, or the empty text
 abbrev pub text_or_empty : Option (List ℕ) → Data
 text_or_empty said = string (unwrap_or said [])
 
--- the number that is written of the table's seats: as many as the hand's, where none is said
+-- the number of seats of the table: as noted, or else that of the hand
 abbrev pub table_size : Setup → Notes → ℕ
 table_size setup notes = unwrap_or notes.seat_count setup.stacks.seats
 
--- the numbers that are written of the seats, where they are said and go round
+-- the numbers of the seats that are written, if they are noted and go round
 abbrev pub numbers_written : Setup → Notes → Option (List ℕ)
 numbers_written setup notes = numbers_spelled setup.stacks.seats notes.seats
 
--- the members of the hand at a place of its file, from 0
+-- the members of the hand at this place of its file, from 0
 abbrev pub hand_members : Dialect → ℕ → Trace → Notes → Members
 hand_members dialect place trace notes =
     member (codes "ante_amount") (whole (greatest_ante trace.setup))
@@ -189,7 +189,7 @@ hand_members dialect place trace notes =
     (member (codes "table_name") (text_or_empty notes.table)
     (member (codes "table_size") (whole (table_size trace.setup notes)) no_members))))))))))))))))
 
--- the tree of the hand at a place of its file, from 0
+-- the tree of the hand at this place of its file, from 0
 unfoldable pub hand_tree : Dialect → ℕ → Play → Data
 hand_tree dialect place play =
     object

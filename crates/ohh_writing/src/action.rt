@@ -1,19 +1,19 @@
-//! A hand is written as rounds of actions: each has a word, a player, and what it tells besides.
+//! A hand is written as rounds of actions: each has a word, a player, and its details.
 use card_set::SlotRow;
 use ohh_members::street::StreetName;
 use ohh_members::words::Word;
 
-/// What an action tells beside its word and its player.
+/// What an action has beside its word and its player.
 #[derive(Clone, Copy)]
 pub enum Detail {
     Nothing,
-    /// Chips, and whether the player has none left.
+    /// Chips, and whether the player is all-in.
     Chips { amount: u64, all_in: bool },
     Cards(SlotRow),
 }
 
-/// An action. Its player is the number of a seat. Its word is one of those that plays have: in them
-/// nobody sits down or stands up.
+/// An action. Its player is the number of a seat. Its word is one that a play can have: nobody sits
+/// down or stands up during a hand.
 #[derive(Clone, Copy)]
 pub struct Action {
     pub word: Word,

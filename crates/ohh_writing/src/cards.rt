@@ -1,10 +1,9 @@
-//! The cards of a hand that were dealt to one owner on a street, and those that a seat holds at the
-//! end.
+//! The cards that were dealt to one owner on a street, and those that a seat holds at the end.
 ghost use Rattle.std.specs.Prelude.{◌≡◌, ◌≤◌, ◌+◌, ◌&&◌, not, [], ◌∷◌, ◌++◌, length, map, option_map, if◌then◌else◌};
 ghost use Rattle.card_set.specs.Known.{is_unknown};
 ghost use Rattle.card_set.specs.Row.{slots_of};
 ghost use Rattle.play_event.specs.Places.{is_same_owner};
-ghost use Rattle.canon_script.specs.CanonScript.{dealt_slots, held_slots};
+ghost use Rattle.play_event.specs.CanonScript.{dealt_slots, held_slots};
 ghost use Rattle.hand_records.specs.TraceRows.{place_said};
 ghost use Rattle.ohh_writing.specs.Actions.{has_known as has_known_said};
 
@@ -12,7 +11,7 @@ use card_set::{Slot, SlotRow};
 use chip_ledger::Seat;
 use play_event::Place;
 
-/// The cards that an owner was dealt on a street, where `None` is the board.
+/// The cards that an owner was dealt on a street; the owner `None` is the board.
 pub fn dealt_cards(places: &[Place], owner: Option<Seat>, street: u8) -> SlotRow
     requires { length (dealt_slots (map place_said places.now)
         (option_map (λ seat. seat.number) owner) street) ≤ 7 }
@@ -42,7 +41,7 @@ pub fn held_cards(places: &[Place], seat: Seat) -> SlotRow
     cards
 }
 
-// Puts the card of a place behind others, where the place counts and belongs to this owner.
+// Appends the card of a place, if the place counts and belongs to this owner.
 fn add(cards: &mut SlotRow, place: Place, owner: Option<Seat>, counts: bool)
     requires { length (slots_of cards.old) + length (if is_same_owner (place_said place).owner
         (option_map (λ seat. seat.number) owner) && counts then place.slot ∷ [] else []) ≤ 7 }
@@ -54,7 +53,7 @@ fn add(cards: &mut SlotRow, place: Place, owner: Option<Seat>, counts: bool)
     }
 }
 
-// Whether two owners are one.
+// Whether two owners are the same.
 fn is_owner(one: Option<Seat>, other: Option<Seat>) -> bool
     ensures { result ≡ is_same_owner (option_map (λ seat. seat.number) one)
         (option_map (λ seat. seat.number) other) }

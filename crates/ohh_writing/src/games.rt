@@ -1,10 +1,10 @@
-//! The games that the format spells, and the words that name them.
+//! The games that the format can write, and the words that name them.
 ghost use Rattle.std.specs.Prelude.{◌≡◌};
 ghost use Rattle.ohh_writing.specs.Games.{bet_word as bet_said, game_word as game_said, is_spelled_game as is_spelled_said};
 
 use play_event::Code;
 
-/// Whether the format spells the game.
+/// Whether the format can write the game.
 pub fn is_spelled_game(code: Code) -> bool
     ensures { result ≡ is_spelled_said code }
 {
@@ -15,7 +15,7 @@ pub fn is_spelled_game(code: Code) -> bool
     }
 }
 
-/// The word of the game.
+/// The word for the game.
 pub fn game_word(code: Code) -> &'static str
     ensures { result.now ≡ game_said code }
 {
@@ -27,7 +27,7 @@ pub fn game_word(code: Code) -> &'static str
     }
 }
 
-/// The word of the limit of the game.
+/// The word for the limit of the game.
 pub fn bet_word(code: Code) -> &'static str
     ensures { result.now ≡ bet_said code }
 {

@@ -1,11 +1,11 @@
-//! The tree of a hand: what is written of its setup, its notes and its play.
+//! The tree of a hand: its setup, its notes and its play as they are written.
 ghost use Rattle.std.specs.Prelude.{◌≡◌, [], codes, unwrap_or, IfOk, OnOk};
 ghost use Rattle.std.specs.Fmt.{decimal};
 ghost use Rattle.serde_json.specs.Data.{object, string, put as put_said};
 ghost use Rattle.serde_json.specs.View.{view, members_view};
 ghost use Rattle.chip_ledger.specs.SeatRow.{amount_of};
 ghost use Rattle.hand_records.specs.TraceRows.{core_said};
-ghost use Rattle.canon_script.specs.Tidy.{IsTidy};
+ghost use Rattle.play_event.specs.Tidy.{IsTidy};
 ghost use Rattle.ohh_writing.specs.Actions.{small_blind_seat as small_blind_seat_said};
 ghost use Rattle.ohh_writing.specs.Games.{game_word as game_said};
 ghost use Rattle.ohh_writing.specs.Rounds.{hand_rounds as hand_rounds_said};
@@ -33,7 +33,7 @@ use play_event::Setup;
 use serde_json::{Map, Value};
 use std::alloc::Global;
 
-/// The tree of the hand at a place of its file, from 0.
+/// The tree of the hand at this place of its file, from 0.
 #[tactic(auto, unfolding(crate::specs::Tree::hand_tree))]
 pub fn hand_value(
     alloc: Global,
@@ -50,7 +50,7 @@ pub fn hand_value(
     Ok(Value::Object(members))
 }
 
-// The members of the hand at a place of its file, as an object.
+// The members of the hand at this place of its file, as an object.
 fn make_members(alloc: Global, dialect: Dialect, place: usize, play: &Play) -> Result<Value, Memory>
     requires { IsTidy (core_said play.now.trace) }
     ensures { IfOk result (λ value. view value
@@ -86,7 +86,7 @@ fn put_setup(alloc: Global, ohh: &mut Map<String, Value>, setup: &Setup) -> Resu
     Ok(())
 }
 
-// The limit of the game.
+// The object with the limit of the game.
 fn limit_value(alloc: Global, setup: &Setup) -> Result<Value, Memory>
     ensures { IfOk result (λ value. view value ≡ limit_tree setup.now) }
 {
@@ -95,7 +95,7 @@ fn limit_value(alloc: Global, setup: &Setup) -> Result<Value, Memory>
     Ok(Value::Object(members))
 }
 
-// Puts the players, the button and the number of the table's seats under their names.
+// Puts the players, the button and the table's number of seats under their names.
 fn put_seating(
     alloc: Global,
     ohh: &mut Map<String, Value>,
@@ -125,8 +125,8 @@ fn put_seating(
     Ok(())
 }
 
-// Puts the names of the hand at a place of its file, of its table, venue and currency under their
-// names.
+// Puts the names of the hand at this place of its file, of its table, venue and currency under
+// their names.
 fn put_names(
     alloc: Global,
     ohh: &mut Map<String, Value>,
@@ -152,7 +152,7 @@ fn put_names(
     Ok(())
 }
 
-// A text that is said, or the empty one.
+// The text of a note, or the empty text.
 fn text_of(note: &Option<Text>) -> &str
     ensures { result.now ≡ unwrap_or note.now [] }
 {
@@ -162,7 +162,7 @@ fn text_of(note: &Option<Text>) -> &str
     }
 }
 
-// The name of the hand at a place of its file: the one that is said, or its place.
+// The name of the hand at this place of its file: its note, or else its number.
 fn hand_name(alloc: Global, place: usize, name: &Option<Text>) -> Result<Value, Memory>
     ensures { IfOk result (λ value. view value ≡ string (unwrap_or name.now (decimal place))) }
 {
@@ -191,7 +191,7 @@ fn put_play(
     Ok(())
 }
 
-// Puts the versions of the format and of this project's spelling under their names.
+// Puts the versions of the format and of this project's form of it under their names.
 fn put_versions(alloc: Global, ohh: &mut Map<String, Value>) -> Result<(), Memory>
     ensures { OnOk result (members_view ohh.new.entries
         ≡ put_said (codes "spec_version") (string (codes "1.4.6"))
@@ -202,7 +202,7 @@ fn put_versions(alloc: Global, ohh: &mut Map<String, Value>) -> Result<(), Memor
     Ok(())
 }
 
-// Puts the moment under its name, where the notes say a whole one.
+// Puts the moment under its name, if the notes have a complete one.
 fn put_date(alloc: Global, ohh: &mut Map<String, Value>, notes: &Notes) -> Result<(), Memory>
     ensures { OnOk result (members_view ohh.new.entries
         ≡ with_date (moment_said notes.now) (members_view ohh.old.entries)) }

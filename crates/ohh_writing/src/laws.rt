@@ -1,4 +1,4 @@
-//! What is written of a hand stands on one line, proved over the definitions.
+//! What is written for a hand is one line, proved over the definitions.
 ghost use Rattle.std.specs.Prelude.{◌≡◌, ◌==◌, ℕ, true, not};
 ghost use Rattle.std.specs.List.{list_all};
 ghost use Rattle.hand_records.specs.declared.trace.Play.{Play};

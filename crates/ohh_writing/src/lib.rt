@@ -1,5 +1,5 @@
-//! Plays are written as Open Hand History, a line of JSON for each, or the first play is named that
-//! the format does not spell.
+//! Writes plays as Open Hand History, one line of JSON per play, or names the first play that the
+//! format cannot write.
 #![tactic(auto)]
 
 mod action;

@@ -1,4 +1,4 @@
-//! Plays are written as the one list of lines that stands for them.
+//! Writes plays as their lines.
 ghost use Rattle.std.specs.Prelude.{◌≡◌, ◌⊎◌, ◌≤◌, ◌<◌, ◌+◌, List, [], ◌∷◌, ◌++◌, None, Some, length, vec_capacity, vec_len, IfOk, IfErr, IsOk, OnErr, OnOk};
 ghost use Rattle.std.specs.List.{AllByRecursion};
 ghost use Rattle.hand_canon.specs.Sound.{IsSound};
@@ -6,7 +6,7 @@ ghost use Rattle.first_fault.specs.declared.limits.TheConstants.{MOST_HANDS};
 ghost use Rattle.hand_records.specs.declared.trace.Play.{Play as AnyPlay};
 ghost use Rattle.ohh_writing.specs.Lines.{IsTextOf, Spells, empty_line_behind, hand_text};
 ghost use Rattle.ohh_writing.specs.Spelled.{unspelled};
-ghost use Rattle.hand_records.specs.WriteRefusals.{IsWant, first_refusal};
+ghost use Rattle.hand_records.specs.WriteRefusals.{IsOutOfMemory, first_refusal};
 
 use crate::hand::hand_value;
 use crate::spelled::find_refusal;
@@ -16,7 +16,7 @@ use ohh_members::Dialect;
 use std::alloc::Global;
 
 /// The lines of some plays, each the compact text of the tree of its hand, with an empty line
-/// between two. Nothing is written where the format does not spell one of them.
+/// between two. Nothing is written if the format cannot write one of them.
 pub fn write(
     alloc: Global,
     dialect: Dialect,
@@ -27,7 +27,7 @@ pub fn write(
     requires sound { AllByRecursion IsSound plays.now }
     ensures written { IfOk result (λ bytes. Spells dialect plays.now bytes.items) }
     ensures spelled { OnOk result (first_refusal (unspelled keep) plays.now ≡ None) }
-    ensures refused { IfErr result (λ refusal. IsWant refusal
+    ensures refused { IfErr result (λ refusal. IsOutOfMemory refusal
         ⊎ (first_refusal (unspelled keep) plays.now ≡ Some refusal)) }
 {
     if let Some(refusal) = find_refusal(plays, keep) {
@@ -51,8 +51,8 @@ fn spell(alloc: Global, dialect: Dialect, plays: &[Play]) -> Result<Vec<u8>, Mem
     Ok(out)
 }
 
-/// Puts the line of the play at a place of its file, from 0, behind those of the plays before it,
-/// and an empty line between; all of it or nothing.
+/// Appends the line of the play at this place of its file, from 0, and an empty line before it if
+/// it is not the first; all of it or nothing.
 pub fn push_line(
     alloc: Global,
     out: &mut Vec<u8>,
@@ -66,8 +66,8 @@ pub fn push_line(
         → OnOk result (Spells dialect (before ++ play.now ∷ []) out.new.items) }
     ensures unchanged { OnErr result (out.new.items ≡ out.old.items) }
 {
-    // The text comes first, and then the room for all that is put, so that no step fails behind
-    // one that put something.
+    // The text comes first, and then the room for all that is appended, so that no step fails after
+    // something was appended.
     let text = make_text(alloc, dialect, place, play)?;
     out.reserve(text.len() + 2)?;
     push_empty_line(out, place)?;
@@ -76,7 +76,7 @@ pub fn push_line(
     Ok(())
 }
 
-// Puts an empty line behind the hands that stand before a place, if there are any.
+// Appends an empty line after the hands before this place, if there are any.
 fn push_empty_line(out: &mut Vec<u8>, place: usize) -> Result<(), Memory>
     ensures line { OnOk result (out.new.items ≡ out.old.items ++ empty_line_behind place) }
     ensures room { OnOk result (vec_capacity out.old ≤ vec_capacity out.new) }

@@ -1,5 +1,5 @@
-//! The members of an object of JSON, put one after the other. Each call makes the value that it
-//! puts, so that its callers own nothing but the members where memory is wanting.
+//! Puts the members of a JSON object, one after the other. Each call makes the value that it puts,
+//! so that its callers own nothing but the members if memory runs out.
 ghost use Rattle.std.specs.Prelude.{◌≡◌, IfOk, OnOk};
 ghost use Rattle.serde_json.specs.Data.{put as put_said, string};
 ghost use Rattle.serde_json.specs.View.{view, members_view};
@@ -50,7 +50,7 @@ pub fn put_value(
     Ok(put(members, alloc, name, value)?)
 }
 
-/// A copy of a text as a value.
+/// A text as a value.
 pub fn text_value(alloc: Global, text: &str) -> Result<Value, Memory>
     ensures { IfOk result (λ value. view value ≡ string text.now) }
 {

@@ -1,4 +1,4 @@
-//! A hand is dated where its notes say a whole moment in the zone UTC.
+//! A hand gets a date if its notes have a complete moment in the zone UTC.
 ghost use Rattle.std.specs.Prelude.{◌≡◌, ◌++◌, string_bytes, IfOk, OnOk};
 ghost use Rattle.ohh_writing.specs.Moment.{by_digits, fraction_text, moment_in as moment_in_said, moment_of as moment_said, moment_text as text_said, time_text};
 
@@ -6,7 +6,7 @@ use card_set::Memory;
 use hand_records::{CivilDate, Clock, Moment, Notes};
 use std::alloc::Global;
 
-/// The moment that the notes say, where all of it is said and its zone is UTC.
+/// The moment of the notes, if it is complete and its zone is UTC.
 pub fn moment_of(notes: &Notes) -> Option<Moment>
     ensures { result ≡ moment_said notes.now }
 {
@@ -20,7 +20,7 @@ pub fn moment_of(notes: &Notes) -> Option<Moment>
     }
 }
 
-// The moment, where the zone is UTC.
+// The moment, if the zone is UTC.
 fn moment_in(year: u16, month: u8, day: u8, time: Clock, zone: &str) -> Option<Moment>
     ensures { result ≡ moment_in_said year month day time zone.now }
 {
@@ -48,7 +48,7 @@ pub fn moment_text(alloc: Global, moment: Moment) -> Result<String, Memory>
     Ok(text)
 }
 
-// Puts a time behind a text.
+// Appends a time.
 fn push_time(text: &mut String, time: Clock) -> Result<(), Memory>
     ensures { OnOk result (string_bytes text.new ≡ string_bytes text.old ++ time_text time) }
 {
@@ -60,7 +60,7 @@ fn push_time(text: &mut String, time: Clock) -> Result<(), Memory>
     push_fraction(text, time.nano)
 }
 
-// Puts a part of a second behind a text, where there is one.
+// Appends a fraction of a second, if there is one.
 fn push_fraction(text: &mut String, nano: u32) -> Result<(), Memory>
     ensures { OnOk result (string_bytes text.new ≡ string_bytes text.old ++ fraction_text nano) }
 {
@@ -71,7 +71,7 @@ fn push_fraction(text: &mut String, nano: u32) -> Result<(), Memory>
     push_digits(text, 9, nano)
 }
 
-// Puts so many digits of a number, its last ones, behind a text.
+// Appends the last `count` digits of a number.
 fn push_digits(text: &mut String, count: u8, number: u32) -> Result<(), Memory>
     ensures { OnOk result (string_bytes text.new
         ≡ string_bytes text.old ++ by_digits count number) }

@@ -1,4 +1,4 @@
-//! The moves of a street, each with the chips that it adds and whether its seat is all in.
+//! The moves of a street, each with the chips that it adds and whether its seat is all-in.
 ghost use Rattle.std.specs.Prelude.{◌≡◌, ◌==◌, ◌≤◌, ℕ, ◌+◌, ◌-◌, [], ◌∷◌, ◌++◌, if◌then◌else◌, map, slice_index, IfNone, IfSome, OnOk};
 ghost use Rattle.play_event.specs.Chips.{chips_left};
 ghost use Rattle.play_event.specs.Played.{move_said};
@@ -12,7 +12,7 @@ use ohh_members::Dialect;
 use ohh_members::words::Word;
 use play_event::{Act, Move, Setup};
 
-/// Puts the moves of a street behind other actions.
+/// Appends the moves of a street to the actions.
 pub fn push_moves(
     actions: &mut Vec<Action>,
     dialect: Dialect,
@@ -35,7 +35,7 @@ pub fn push_moves(
     Ok(())
 }
 
-// The chips that each seat, of ten, has left when it has posted.
+// The chips that each of ten seats has left after its posts.
 fn stacks_after_posts(setup: &Setup) -> [u64; 10]
     ensures { (k : ℕ) → k ≤ 9 → slice_index result k ≡ chips_left setup.now [] (k + 1) }
 {
@@ -57,7 +57,7 @@ fn first_move(moves: &[Move]) -> Option<(Move, &[Move])>
     }
 }
 
-// Puts a move that leaves its seat so many chips behind other actions, if it is one of the street.
+// Appends the move if it belongs to the street; `left` is the player's remaining stack.
 fn push_move(
     actions: &mut Vec<Action>,
     dialect: Dialect,
@@ -92,7 +92,7 @@ fn call_action(played: Move, left: u64) -> Action
     chips_action(Word::Call, played.seat.number, added(played), left)
 }
 
-// An action that tells its player alone.
+// An action with nothing but its player.
 fn alone_action(word: Word, played: Move) -> Action
     ensures { action_said result ≡ alone word played.seat.number }
 {

@@ -14,8 +14,8 @@ use hand_records::Notes;
 use serde_json::{Map, Value};
 use std::alloc::Global;
 
-/// The trees of the players, from p1 upward. The numbers of their seats are these, or by default 1,
-/// 2 and so on.
+/// The trees of the players, from p1 upward. The numbers of their seats are `numbers`, or by
+/// default 1, 2 and so on.
 pub fn player_values(
     alloc: Global,
     stacks: &SeatRow,
@@ -73,7 +73,7 @@ fn put_name(
     Ok(())
 }
 
-// The name of a seat's player, or its default where none is said.
+// The name of a seat's player, or its default if there is none.
 fn name_of(alloc: Global, notes: &Notes, seat: Seat) -> Result<String, Memory>
     ensures { IfOk result (λ name. string_bytes name ≡ name_written notes.now seat.number) }
 {

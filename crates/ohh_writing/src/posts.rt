@@ -12,7 +12,7 @@ use chip_ledger::{Seat, SeatRow};
 use ohh_members::words::Word;
 use play_event::Setup;
 
-/// Puts the posts of a hand behind other actions.
+/// Appends the posts of a hand to the actions.
 pub fn push_posts(actions: &mut Vec<Action>, setup: &Setup) -> Result<(), Memory>
     ensures { OnOk result (map action_said actions.new.items
         ≡ map action_said actions.old.items ++ posts setup.now) }
@@ -23,7 +23,7 @@ pub fn push_posts(actions: &mut Vec<Action>, setup: &Setup) -> Result<(), Memory
     push_straddles(actions, setup)
 }
 
-// Puts the antes behind other actions, from the first seat upward.
+// Appends the antes, from the first seat upward.
 fn push_antes(actions: &mut Vec<Action>, setup: &Setup) -> Result<(), Memory>
     ensures { OnOk result (map action_said actions.new.items
         ≡ map action_said actions.old.items
@@ -35,7 +35,7 @@ fn push_antes(actions: &mut Vec<Action>, setup: &Setup) -> Result<(), Memory>
     Ok(())
 }
 
-// Puts the ante of a seat behind other actions, where it posts one.
+// Appends the ante of a seat, if it posts one.
 fn push_ante(actions: &mut Vec<Action>, setup: &Setup, seat: Seat) -> Result<(), Memory>
     ensures { OnOk result (map action_said actions.new.items
         ≡ map action_said actions.old.items ++ ante_post setup.now seat.number) }
@@ -65,7 +65,7 @@ pub fn big_blind_seat(setup: &Setup) -> Seat
     Seat { number }
 }
 
-// Puts the straddles behind other actions, from the third seat upward.
+// Appends the straddles, from the third seat upward.
 fn push_straddles(actions: &mut Vec<Action>, setup: &Setup) -> Result<(), Memory>
     ensures { OnOk result (map action_said actions.new.items
         ≡ map action_said actions.old.items
@@ -77,7 +77,7 @@ fn push_straddles(actions: &mut Vec<Action>, setup: &Setup) -> Result<(), Memory
     Ok(())
 }
 
-// Puts the straddle of a seat behind other actions, where it posts one.
+// Appends the straddle of a seat, if it posts one.
 fn push_straddle(actions: &mut Vec<Action>, setup: &Setup, seat: Seat) -> Result<(), Memory>
     ensures { OnOk result (map action_said actions.new.items
         ≡ map action_said actions.old.items ++ straddle_post setup.now seat.number) }
@@ -97,7 +97,7 @@ fn blind_action(setup: &Setup, word: Word, seat: Seat) -> Action
     chips_action(word, seat.number, amount, left_after_posts(setup, seat))
 }
 
-/// An action that puts chips and leaves so many.
+/// An action that puts in chips; `left` is the player's remaining stack.
 pub fn chips_action(word: Word, player: u8, amount: u64, left: u64) -> Action
     ensures { action_said result ≡ with_chips word player amount left }
 {
@@ -109,7 +109,7 @@ pub fn chips_action(word: Word, player: u8, amount: u64, left: u64) -> Action
     }
 }
 
-/// The chips that a seat has left when it has posted its ante and its blind.
+/// The chips that a seat has left after its ante and its blind.
 pub fn left_after_posts(setup: &Setup, seat: Seat) -> u64
     ensures { result ≡ amount_of setup.now.stacks seat.number
         - posted setup.now seat.number }

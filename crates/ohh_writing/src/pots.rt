@@ -1,4 +1,4 @@
-//! The pots of a hand, with their rakes and with what is won of them.
+//! The pots of a hand, with their rakes and with who wins them.
 ghost use Rattle.std.specs.Prelude.{◌≡◌, ◌≤◌, ◌<◌, ◌++◌, ◌+◌, codes, map, IfOk, OnOk};
 ghost use Rattle.serde_json.specs.Data.{put as put_said};
 ghost use Rattle.serde_json.specs.View.{view, members_view};
@@ -38,7 +38,7 @@ fn pot_value(alloc: Global, trace: &Trace, place: u8, pot: &Pot) -> Result<Value
     Ok(Value::Object(members))
 }
 
-// Puts what so many seats win of a pot under its name.
+// Puts what the seats win of a pot under its name.
 fn put_wins(
     alloc: Global,
     members: &mut Map<String, Value>,
@@ -59,7 +59,7 @@ fn put_wins(
     Ok(())
 }
 
-// The trees of what so many seats win of a pot.
+// The trees of what the first `seats` seats win of a pot.
 fn win_values(alloc: Global, share: &SeatRow, seats: u8) -> Result<Value, Memory>
     requires { seats ≤ 10 }
     ensures { IfOk result (λ value. view value ≡ wins_of share.now seats) }
@@ -71,7 +71,7 @@ fn win_values(alloc: Global, share: &SeatRow, seats: u8) -> Result<Value, Memory
     Ok(Value::Array(wins))
 }
 
-// Puts what a seat wins of a pot behind other wins, where it wins something.
+// Appends what a seat wins of a pot, if it wins something.
 fn push_win(alloc: Global, wins: &mut Vec<Value>, share: &SeatRow, seat: Seat) -> Result<(), Memory>
     ensures { OnOk result (map view wins.new.items
         ≡ map view wins.old.items ++ win_tree share.now seat.number) }
@@ -84,7 +84,7 @@ fn push_win(alloc: Global, wins: &mut Vec<Value>, share: &SeatRow, seat: Seat) -
     Ok(())
 }
 
-// The tree of so many chips that a seat wins.
+// The tree of the chips that a seat wins.
 fn win_value(alloc: Global, seat: u8, amount: u64) -> Result<Value, Memory>
     ensures { IfOk result (λ value. view value ≡ win_object seat amount) }
 {

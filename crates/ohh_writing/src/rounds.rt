@@ -1,4 +1,4 @@
-//! A hand is a list of rounds: those of its streets, and the showdown.
+//! A hand is written as a list of rounds: those of its streets, and the showdown.
 ghost use Rattle.std.specs.Prelude.{◌≡◌, None, [], ◌++◌, map, IfOk, OnOk};
 ghost use Rattle.ohh_writing.specs.Actions.{action_said, showings};
 ghost use Rattle.ohh_writing.specs.Rounds.{board_round_on, first_actions, hand_rounds as hand_rounds_said, moves_on as moves_on_said, round, round_said, showdown_round};
@@ -54,7 +54,7 @@ fn first_round(alloc: Global, dialect: Dialect, tidy: &TidyTrace) -> Result<Roun
     })
 }
 
-// Puts the round of a street of the board behind others, where its cards were dealt.
+// Appends the round of a board street, if its cards were dealt.
 fn push_board_round(
     alloc: Global,
     rounds: &mut Vec<Round>,
@@ -101,7 +101,7 @@ fn moves_on(
     Ok(actions)
 }
 
-// Puts the showdown behind other rounds, where there is one.
+// Appends the showdown, if there is one.
 fn push_showdown(alloc: Global, rounds: &mut Vec<Round>, tidy: &TidyTrace) -> Result<(), Memory>
     ensures { OnOk result (map round_said rounds.new.items
         ≡ map round_said rounds.old.items ++ showdown_round (showings tidy.now.trace.now)) }

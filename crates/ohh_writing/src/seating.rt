@@ -1,9 +1,9 @@
-//! Numbers of seats are written where they go round the table once.
+//! Numbers of seats are written if they go round the table once.
 ghost use Rattle.std.specs.Prelude.{◌≡◌, ◌==◌, ◌≤◌, length};
 ghost use Rattle.std.specs.List.{list_any};
 ghost use Rattle.ohh_writing.specs.Seating.{fall as fall_said, falls as falls_said, first_or as first_or_said, has_no_repeat as has_no_repeat_said, is_circular as is_circular_said, number_among as number_among_said, numbers_spelled as numbers_said};
 
-/// The numbers of so many seats, where they are said and go round.
+/// The numbers of the first `count` seats, if they are noted and go round.
 pub fn numbers_spelled(count: u8, said: Option<[u8; 10]>) -> Option<[u8; 10]>
     requires least { 1 ≤ count }
     requires greatest { count ≤ 10 }
@@ -21,7 +21,7 @@ pub fn numbers_spelled(count: u8, said: Option<[u8; 10]>) -> Option<[u8; 10]>
     }
 }
 
-// Whether numbers differ, and one step goes down when one goes round them.
+// Whether the numbers differ and go round once: they fall at one step only.
 fn is_circular(numbers: &[u8]) -> bool
     requires { 1 ≤ length numbers.now }
     ensures { result ≡ is_circular_said numbers.now }
@@ -32,7 +32,7 @@ fn is_circular(numbers: &[u8]) -> bool
     falls(numbers[0], numbers) == 1
 }
 
-// Whether no number stands twice.
+// Whether no number is repeated.
 fn has_no_repeat(numbers: &[u8]) -> bool
     ensures { result ≡ has_no_repeat_said numbers.now }
 {
@@ -59,7 +59,7 @@ fn has_number(numbers: &[u8], number: u8) -> bool
     false
 }
 
-// How many steps go down, from each number to the next, and from the last one back.
+// How many steps fall, from each number to the next, and from the last one to `back`.
 fn falls(back: u8, numbers: &[u8]) -> usize
     ensures falls { result ≡ falls_said back numbers.now }
     ensures few { result ≤ length numbers.now }
@@ -70,7 +70,7 @@ fn falls(back: u8, numbers: &[u8]) -> usize
     }
 }
 
-// Whether a step goes down, as a number.
+// 1 if a step falls, else 0.
 fn fall(number: u8, next: u8) -> usize
     ensures fall { result ≡ fall_said number next }
     ensures few { result ≤ 1 }
@@ -78,7 +78,7 @@ fn fall(number: u8, next: u8) -> usize
     usize::from(next < number)
 }
 
-// The first of some numbers, or this one behind the last.
+// The first of some numbers, or `back` after the last.
 fn first_or(back: u8, numbers: &[u8]) -> u8
     ensures { result ≡ first_or_said back numbers.now }
 {
@@ -88,7 +88,7 @@ fn first_or(back: u8, numbers: &[u8]) -> u8
     }
 }
 
-/// The number of a seat among these, or by default that of its place.
+/// The number of a seat among these, or by default its place.
 pub fn number_among(numbers: Option<[u8; 10]>, seat: u8) -> u8
     requires first { 1 ≤ seat }
     requires last { seat ≤ 10 }

@@ -1,4 +1,4 @@
-//! Which setups the format spells.
+//! Which setups the format can write.
 ghost use Rattle.std.specs.Prelude.{◌≡◌};
 ghost use Rattle.std.specs.List.{list_all, list_any};
 ghost use Rattle.play_event.specs.Seats.{all_seats};
@@ -27,7 +27,7 @@ pub fn big_blind(setup: &Setup) -> u64
     amount_at(&setup.blinds, big_blind_seat(setup).number)
 }
 
-/// Whether the antes are those of all seats where they are not dead, and else those of some.
+/// Whether the antes can be written: those of all seats if they are not dead, else those of some.
 pub fn has_spelled_antes(setup: &Setup) -> bool
     ensures { result ≡ has_antes_said setup.now }
 {
@@ -57,7 +57,7 @@ fn has_no_ante(setup: &Setup, seat: Seat) -> bool
     amount_at(&setup.antes, seat.number) == 0
 }
 
-// Whether each seat posts the greatest ante, as far as its stack goes.
+// Whether each seat posts the greatest ante, or all of a smaller stack.
 fn has_whole_antes(setup: &Setup) -> bool
     ensures { result ≡ list_all (is_whole_said setup.now) (all_seats setup.now) }
 {
@@ -83,7 +83,7 @@ pub fn greatest_ante(setup: &Setup) -> u64
     greatest
 }
 
-// Whether a seat posts the greatest ante, as far as its stack goes.
+// Whether a seat posts the greatest ante, or all of a smaller stack.
 fn is_whole_ante(setup: &Setup, greatest: u64, seat: Seat) -> bool
     requires { greatest ≡ greatest_ante_said setup.now }
     ensures { result ≡ is_whole_said setup.now seat.number }
@@ -91,7 +91,8 @@ fn is_whole_ante(setup: &Setup, greatest: u64, seat: Seat) -> bool
     amount_at(&setup.antes, seat.number) == amount_at(&setup.stacks, seat.number).min(greatest)
 }
 
-/// Whether the first two seats have the blinds, and the others straddles that their stacks cover.
+/// Whether the first two seats have the blinds, and the other seats have no more than straddles
+/// that their stacks cover.
 pub fn has_spelled_blinds(setup: &Setup) -> bool
     ensures { result ≡ has_blinds_said setup.now }
 {
@@ -108,7 +109,7 @@ fn has_two_blinds(setup: &Setup) -> bool
     0 < amount_at(&setup.blinds, 1) && 0 < amount_at(&setup.blinds, 2)
 }
 
-// Whether of three or more seats the first has the small blind, and each straddle is covered.
+// Whether, with three or more seats, the first has the small blind and each straddle is covered.
 fn has_spelled_straddles(setup: &Setup) -> bool
     ensures { result ≡ has_straddles_said setup.now }
 {

@@ -13,7 +13,7 @@ use card_set::{Memory, SlotRow};
 use chip_ledger::Seat;
 use ohh_members::words::Word;
 
-/// Puts the deals to the seats behind other actions, from p1 upward.
+/// Appends the deals to the seats, from p1 upward.
 pub fn push_deals(actions: &mut Vec<Action>, tidy: &TidyTrace) -> Result<(), Memory>
     ensures { OnOk result (map action_said actions.new.items ≡ map action_said actions.old.items
         ++ deals tidy.now.trace.now.setup (core_said tidy.now.trace.now).places) }
@@ -26,7 +26,7 @@ pub fn push_deals(actions: &mut Vec<Action>, tidy: &TidyTrace) -> Result<(), Mem
     Ok(())
 }
 
-// Puts the deal of cards to a seat behind other actions, where one of them is known.
+// Appends the deal of cards to a seat, if one of them is known.
 fn push_deal(actions: &mut Vec<Action>, seat: Seat, cards: SlotRow) -> Result<(), Memory>
     ensures { OnOk result (map action_said actions.new.items
         ≡ map action_said actions.old.items ++ deal_written seat.number (slots_of cards)) }
@@ -38,7 +38,7 @@ fn push_deal(actions: &mut Vec<Action>, seat: Seat, cards: SlotRow) -> Result<()
     Ok(())
 }
 
-/// Puts the showdown behind other actions, from p1 upward.
+/// Appends the actions of the showdown, from p1 upward.
 pub fn push_showings(actions: &mut Vec<Action>, tidy: &TidyTrace) -> Result<(), Memory>
     ensures { OnOk result (map action_said actions.new.items
         ≡ map action_said actions.old.items ++ showings tidy.now.trace.now) }
@@ -49,7 +49,7 @@ pub fn push_showings(actions: &mut Vec<Action>, tidy: &TidyTrace) -> Result<(), 
     Ok(())
 }
 
-// Puts what a seat does at the showdown behind other actions, where it is in it.
+// Appends what a seat does at the showdown, if it takes part.
 fn push_showing(actions: &mut Vec<Action>, tidy: &TidyTrace, seat: Seat) -> Result<(), Memory>
     ensures { OnOk result (map action_said actions.new.items
         ≡ map action_said actions.old.items ++ showing tidy.now.trace.now seat.number) }
@@ -64,7 +64,7 @@ fn push_showing(actions: &mut Vec<Action>, tidy: &TidyTrace, seat: Seat) -> Resu
     Ok(())
 }
 
-// An action that tells cards.
+// An action with cards.
 fn cards_action(word: Word, seat: Seat, cards: SlotRow) -> Action
     ensures { action_said result ≡ with_cards word seat.number (slots_of cards) }
 {

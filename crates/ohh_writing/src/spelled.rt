@@ -1,4 +1,4 @@
-//! The first fact of a play that the format does not spell, and the first play that has one.
+//! The first fact of a play that the format cannot write, and the first play that has one.
 ghost use Rattle.std.specs.Prelude.{◌≡◌, ◌≤◌, length};
 ghost use Rattle.first_fault.specs.declared.limits.TheConstants.{MOST_HANDS};
 ghost use Rattle.ohh_writing.specs.Spelled.{first_unspelled, has_spelled_numbers as has_numbers_said, kept_facts, note_facts, trace_facts, unspelled};
@@ -11,7 +11,7 @@ use crate::setup::{has_spelled_antes, has_spelled_blinds, has_spelled_sizes};
 use chip_ledger::SeatRow;
 use hand_records::{Keep, NoteName, Notes, Play, Trace, Unspelled, WriteRefusal};
 
-/// The refusal of the first play that the format does not spell. The first hand has the number 1.
+/// The refusal of the first play that the format cannot write. The first hand has the number 1.
 pub fn find_refusal(plays: &[Play], keep: Keep) -> Option<WriteRefusal>
     requires { length plays.now ≤ MOST_HANDS }
     ensures { result ≡ first_refusal (unspelled keep) plays.now }
@@ -27,8 +27,8 @@ pub fn find_refusal(plays: &[Play], keep: Keep) -> Option<WriteRefusal>
     None
 }
 
-/// The first fact of the play that the format does not spell, in either dialect. Notes count where
-/// all are kept.
+/// The first fact of the play that the format cannot write, in either dialect. Notes count if all
+/// are kept.
 #[tactic(auto, unfolding(crate::specs::Spelled::unspelled))]
 pub fn spells(play: &Play, keep: Keep) -> Option<Unspelled>
     ensures { result ≡ unspelled keep play.now }
@@ -39,7 +39,7 @@ pub fn spells(play: &Play, keep: Keep) -> Option<Unspelled>
     }
 }
 
-// The first fact of a trace that is not spelled.
+// The first fact of a trace that cannot be written.
 fn first_of_trace(trace: &Trace) -> Option<Unspelled>
     ensures { result ≡ first_unspelled (trace_facts trace.now) }
 {
@@ -61,7 +61,7 @@ fn first_of_trace(trace: &Trace) -> Option<Unspelled>
     None
 }
 
-// The first of the notes to be kept that is not spelled.
+// The first of the notes to be kept that cannot be written.
 fn first_of_kept(play: &Play, keep: Keep) -> Option<Unspelled>
     ensures { result ≡ first_unspelled (kept_facts keep play.now) }
 {
@@ -71,7 +71,7 @@ fn first_of_kept(play: &Play, keep: Keep) -> Option<Unspelled>
     }
 }
 
-// The first note that is not spelled, of as many seats as there are stacks.
+// The first note that cannot be written; there are as many seats as stacks.
 fn first_of_notes(stacks: &SeatRow, notes: &Notes) -> Option<Unspelled>
     ensures { result ≡ first_unspelled (note_facts stacks.now.seats notes.now) }
 {
@@ -99,7 +99,7 @@ fn first_of_notes(stacks: &SeatRow, notes: &Notes) -> Option<Unspelled>
     None
 }
 
-// Whether the numbers of the seats are not said, or go round the table.
+// Whether the numbers of the seats are not noted, or go round the table.
 fn has_spelled_numbers(stacks: &SeatRow, notes: &Notes) -> bool
     ensures { result ≡ has_numbers_said stacks.now.seats notes.now }
 {

@@ -1,6 +1,6 @@
-//! A tidy trace has few cards: at most seven are dealt to one owner on a street, and at most seven
-//! are held by one seat.
-ghost use Rattle.canon_script.specs.Tidy.{HasTidyCards};
+//! A trace is tidy if at most seven cards are dealt to one owner on a street, and at most seven are
+//! held by one seat.
+ghost use Rattle.play_event.specs.Tidy.{HasTidyCards};
 ghost use Rattle.hand_records.specs.TraceRows.{core_said};
 
 use hand_records::Trace;

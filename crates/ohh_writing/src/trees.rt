@@ -1,4 +1,4 @@
-//! Rounds, actions and cards as trees of JSON.
+//! Rounds, actions and cards as JSON trees.
 ghost use Rattle.std.specs.Prelude.{◌≡◌, ◌≤◌, ◌<◌, ◌+◌, ◌^◌, codes, length, map, sum_by, slice_index, IfOk, OnOk};
 ghost use Rattle.serde_json.specs.Data.{boolean, put as put_said, string};
 ghost use Rattle.serde_json.specs.View.{view, members_view};
@@ -14,7 +14,7 @@ use ohh_members::street::name_of;
 use serde_json::{Map, Value};
 use std::alloc::Global;
 
-/// The trees of rounds. The numbers of their actions run through the hand.
+/// The trees of rounds. The numbers of their actions run through the whole hand.
 pub fn round_values(alloc: Global, rounds: &[Round]) -> Result<Vec<Value>, Memory>
     requires few { sum_by (λ round. length round.actions.items) rounds.now ≤ 2 ^ 32 }
     ensures { IfOk result (λ values.
@@ -44,7 +44,7 @@ fn round_value(alloc: Global, number: u64, round: &Round) -> Result<Value, Memor
     Ok(Value::Object(members))
 }
 
-// The trees of actions, of which the first has this number.
+// The trees of actions; the first has the number `first`.
 fn action_values(alloc: Global, first: u64, actions: &[Action]) -> Result<Value, Memory>
     requires few { first + length actions.now ≤ 2 ^ 63 }
     ensures { IfOk result (λ value.
@@ -74,7 +74,7 @@ fn action_value(alloc: Global, number: u64, action: Action) -> Result<Value, Mem
     Ok(Value::Object(members))
 }
 
-// Puts what an action tells beside its word and its player.
+// Puts what an action has beside its word and its player.
 fn put_detail(alloc: Global, members: &mut Map<String, Value>, detail: Detail) -> Result<(), Memory>
     ensures { OnOk result (members_view members.new.entries
         ≡ with_detail (detail_said detail) (members_view members.old.entries)) }
@@ -86,7 +86,7 @@ fn put_detail(alloc: Global, members: &mut Map<String, Value>, detail: Detail) -
     }
 }
 
-// Puts chips, and whether the player has none left, under their names.
+// Puts chips, and whether the player is all-in, under their names.
 fn put_chips(
     alloc: Global,
     members: &mut Map<String, Value>,

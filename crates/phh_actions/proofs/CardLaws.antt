@@ -1,4 +1,4 @@
--- Laws of the cards of an action: what is read of them is what they say.
+-- Laws of the cards of an action: what is read from them is what they mean.
 use Rattle.std.proofs.Common.{◌≡◌, ℕ, ◌≤◌, ◌&&◌, nat_le, List, length, Option, Some, None, Err, refl, ap, ◌∙◌, arith, inl, inr}
 use Rattle.std.proofs.lemmas.Bool.{cases_Bool, and_parts, leb-true}
 use Rattle.first_fault.specs.Reading.{◌>>=◌}
@@ -10,7 +10,7 @@ use Rattle.first_fault.specs.Forms.{or_fault}
 use Rattle.phh_actions.specs.declared.fault.ActionFault.TheVariants as faults
 use Rattle.phh_actions.specs.Action.{one_to, slots_said}
 
--- letters that spell slots say them, if they are one to so many
+-- letters of cards mean these cards, if there are one to this many
 pub slots_read : (most : ℕ) (word : List ℕ) (slots : List Slot) → word ≡ spelling slots → slots_said most word ≡ one_to most slots
 unfolding slots_said
 slots_read most word slots is =
@@ -30,7 +30,7 @@ faulty most word fault None few is has = refl
 faulty most word fault (Some slots) few is has =
     too_few_or_many most slots (λ some short. fault_spells_nothing word fault has slots (omega (arith, few, short)) (spelling-slots_spelled word slots is))
 
--- letters with a fault say no slots
+-- letters with a fault mean no cards
 pub bad_slots : (most : ℕ) (word : List ℕ) (fault : CardFault) → most ≤ 7 → HasFault word fault → slots_said most word ≡ Err faults.BadAction
 unfolding slots_said
 bad_slots most word fault few has = faulty most word fault (slots_spelled word) few refl has

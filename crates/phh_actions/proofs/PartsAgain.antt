@@ -1,4 +1,5 @@
--- The parts of an action read back as what they were written for: the name of a seat, an amount, and cards.
+-- The parts of an action read back as what they were written for: the name of a seat, an amount,
+-- and cards.
 use Rattle.std.proofs.Common.{◌≡◌, ℕ, zero, suc, ◌+◌, ◌<◌, ◌≤◌, ◌^◌, Bool, true, false, bytes_eq, List, [], ◌∷◌, length, drop, find, decimal, Some, Ok, refl, ap, ◌∙◌, arith, inl, inr}
 use Rattle.std.specs.Char.{digit_value}
 use Rattle.std.specs.List.{list_all, list_any, range_with_len}
@@ -19,7 +20,7 @@ use Rattle.phh_actions.proofs.CardLaws.{slots_read}
 use Rattle.phh_actions.proofs.WordsAgain.{IsWord, is_plain}
 use Rattle.card_set.proofs.KnownCards.{all_known}
 use Rattle.card_set.proofs.Letters.{each_rank, each_suit}
-use Rattle.list_laws.proofs.Digits.{of_digits}
+use Rattle.card_set.proofs.Digits.{of_digits}
 use Rattle.chip_ledger.specs.SeatsSaid.{default_name}
 
 -- digits are bytes of a word
@@ -87,14 +88,14 @@ seat_again seats seat few from within =
     (λ other _ below. names_differ seat other (omega (arith, few, within)) below) ((bytes_eq-Decides (default_name seat) (default_name seat)).1 refl) in
     rw found refl
 
--- an amount that is written says that amount
+-- an amount that is written reads as that amount
 pub amount_again : (amount : ℕ) → amount ≤ MOST_CHIPS → amount_said (decimal amount) ≡ Ok amount
 unfolding amount_said are_digits number_of
 amount_again amount most =
     let is = decimal_is_IsNumeral amount (omega (arith, most)) in
     rw (lt-ltb 0 (length (decimal amount)) is.0.0, of_digits (decimal amount) is.0.1, is.1, le-leb amount MOST_CHIPS most) refl
 
--- slots that are spelled are those slots
+-- cards, known or unknown, that are written read as these
 pub slots_again : (most : ℕ) (cards : List Slot) → 1 ≤ length cards → length cards ≤ most → slots_said most (spelling cards) ≡ Ok cards
 slots_again most cards some few = slots_read most (spelling cards) cards refl ∙ rw (le-leb 1 (length cards) some, le-leb (length cards) most few) refl
 
@@ -102,7 +103,7 @@ none_unknown : (cards : List Card) → list_any is_unknown (known_slots cards) �
 none_unknown [] = refl
 none_unknown (card ∷ rest) = none_unknown rest
 
--- cards that are spelled are those cards
+-- cards that are written read as these
 pub cards_again : (most : ℕ) (cards : List Card) → 1 ≤ length cards → length cards ≤ most → cards_said most (spelling (known_slots cards)) ≡ Ok cards
 unfolding cards_said
 cards_again most cards some few =

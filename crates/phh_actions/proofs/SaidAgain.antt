@@ -1,4 +1,4 @@
--- The text of an event says that event.
+-- The text of an event reads as that event.
 use Rattle.std.proofs.Common.{◌≡◌, ℕ, ◌≤◌, [], ◌∷◌, codes, Some, None, Ok, refl, ap, ◌∙◌, arith}
 use Rattle.std.specs.List.{AllByRecursion}
 use Rattle.play_event.specs.declared.event.Spelled.TheVariants as spelled
@@ -64,7 +64,7 @@ are_words seats (said.Raise (Some seat) (spelled.HandTotal amount)) few can = ab
 are_words seats (said.Raise (Some seat) spelled.Unit) few can = absurd can
 are_words seats (said.BringIn None) few can = absurd can
 
--- the words of an event say that event
+-- the words of an event read as that event
 words_back : (seats : ℕ) (event : Said) → seats ≤ 10 → IsInRange seats event → words_say seats (event_words event) ≡ Ok (Some event)
 unfolding words_say two_say three_say four_say act_said act_with_said
 words_back seats (said.Hole seat slots) few can = rw (seat_again seats seat few can.0.first can.0.last, slots_again 7 slots can.1 can.2) refl
@@ -86,7 +86,7 @@ words_back seats (said.Raise (Some seat) (spelled.HandTotal amount)) few can = a
 words_back seats (said.Raise (Some seat) spelled.Unit) few can = absurd can
 words_back seats (said.BringIn None) few can = absurd can
 
--- the text of an event says that event
+-- the text of an event reads as that event
 pub event_again : (seats : ℕ) (event : Said) → seats ≤ 10 → IsInRange seats event → action_said seats (event_text event) ≡ Ok (Some event)
 unfolding event_text
 event_again seats event few can = ap (words_say seats) (words_again (event_words event) (are_words seats event few can)) ∙ words_back seats event few can

@@ -8,7 +8,7 @@ use Rattle.std.proofs.lemmas.List.Sums.{AllPass-from_list_all, position_or_len_i
 use Rattle.phh_actions.specs.Words.{before_commentary, commentary_sign}
 use Rattle.first_fault.specs.Words.{is_space, words_of}
 
--- a byte that may stand in a word: no space, and not the sign of a commentary
+-- a byte that may be in a word: not a space, and not the character that begins a commentary
 abbrev pub is_plain : ℕ → Bool
 is_plain sign = not (is_space sign) && not (sign == commentary_sign)
 

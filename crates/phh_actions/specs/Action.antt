@@ -1,4 +1,4 @@
--- What an action says: one of nine forms, in words divided by spaces, or what is wrong with it.
+-- An action as an event: one of nine forms, in words separated by spaces, or what is wrong with it.
 use Rattle.std.specs.Prelude.{ℕ, ◌+◌, ◌==◌, Bool, ◌&&◌, nat_le, bytes_eq, if◌then◌else◌, List, [], ◌∷◌, length, find, codes, Option, Some, None, take, drop, Result, Ok, Err}
 use Rattle.std.specs.List.{list_any, position_or_len}
 use Rattle.card_set.specs.declared.card.Card.{Card}
@@ -23,12 +23,12 @@ use Rattle.chip_ledger.specs.SeatsSaid.{default_name}
 abbrev pub Read : Type 0 → Type 0
 Read A = Result A ActionFault
 
--- an answer with its value as definitions see it
+-- a result with its value as the definitions see it
 abbrev pub seen_by : {X Y : Type 0} → (X → Y) → Read X → Read Y
 seen_by view (Ok value) = Ok (view value)
 seen_by view (Err fault) = Err fault
 
--- the seat with this name, in a hand with so many seats
+-- the seat with this name, in a hand with this number of seats
 unfoldable pub seat_named : ℕ → List ℕ → Option ℕ
 seat_named seats word = find (λ seat. bytes_eq word (default_name seat)) (seats_of seats)
 
@@ -42,31 +42,31 @@ has_fraction word =
     let point = position_or_len (λ sign. sign == 46) word in are_digits (take point word)
     && are_digits (drop (point + 1) word)
 
--- the amount that a word says: decimal digits, leading zeros among them
+-- the amount that a word means: decimal digits, with leading zeros allowed
 unfoldable pub amount_said : List ℕ → Read ℕ
 amount_said word =
     if are_digits word then or_fault faults.AmountLimit (number_of MOST_CHIPS word)
     else if has_fraction word then Err faults.AmountNotWhole
     else Err faults.BadAction
 
--- slots, if they are one to so many
+-- the cards, if there are one to this many
 abbrev pub one_to : ℕ → List Slot → Read (List Slot)
 one_to most slots =
     if nat_le 1 (length slots) && nat_le (length slots) most then Ok slots else Err faults.BadAction
 
--- one to so many slots, two letters each
+-- one to this many cards, known or unknown, two letters each
 unfoldable pub slots_said : ℕ → List ℕ → Read (List Slot)
 slots_said most word = or_fault faults.BadAction (slots_spelled word) >>= one_to most
 
--- the cards of slots, if each is known
+-- the cards, if all are known
 abbrev pub all_known : List Slot → Read (List Card)
 all_known slots = if list_any is_unknown slots then Err faults.BadAction else Ok (known_cards slots)
 
--- one to so many known cards
+-- one to this many known cards
 unfoldable pub cards_said : ℕ → List ℕ → Read (List Card)
 cards_said most word = slots_said most word >>= all_known
 
--- what a seat does, in one word: a fold, a check or call, a bring-in, standing pat, a muck
+-- what a seat does, in one word: fold, check or call, bring in, stand pat, or muck
 unfoldable pub act_said : ℕ → List ℕ → Read Said
 act_said seat act =
     if bytes_eq act (codes "f") then Ok (said.Fold (Some seat))
@@ -76,7 +76,7 @@ act_said seat act =
     else if bytes_eq act (codes "sm") then Ok (said.Muck seat)
     else Err faults.BadAction
 
--- what a seat does, in two words: a bet or raise to an amount, a discard of slots, a show of cards
+-- what a seat does, in two words: bet or raise to an amount, discard cards, or show cards
 unfoldable pub act_with_said : ℕ → List ℕ → List ℕ → Read Said
 act_with_said seat act more =
     if bytes_eq act (codes "cbr")
@@ -95,17 +95,17 @@ is_board_deal dealer deal = bytes_eq dealer (codes "d") && bytes_eq deal (codes 
 abbrev pub is_hole_deal : List ℕ → List ℕ → Bool
 is_hole_deal dealer deal = bytes_eq dealer (codes "d") && bytes_eq deal (codes "dh")
 
--- what two words say: a seat, and what it does
+-- the event of two words: a seat, and what it does
 unfoldable pub two_say : ℕ → List ℕ → List ℕ → Read Said
 two_say seats name act = seat_said seats name >>= λ seat. act_said seat act
 
--- what three words say
+-- the event of three words
 unfoldable pub three_say : ℕ → List ℕ → List ℕ → List ℕ → Read Said
 three_say seats first second third =
     if is_board_deal first second then (cards_said 5 third >>= λ cards. Ok (said.Board cards))
     else (seat_said seats first >>= λ seat. act_with_said seat second third)
 
--- what four words say
+-- the event of four words
 unfoldable pub four_say : ℕ → List ℕ → List ℕ → List ℕ → List ℕ → Read Said
 four_say seats first second third fourth =
     if is_hole_deal first second
@@ -117,7 +117,7 @@ four_say seats first second third fourth =
 abbrev pub an_event : Said → Read (Option Said)
 an_event event = Ok (Some event)
 
--- what the words of an action say: no word is no event
+-- the event of the words of an action: no words are no event
 unfoldable pub words_say : ℕ → List (List ℕ) → Read (Option Said)
 words_say seats [] = Ok None
 words_say seats (name ∷ act ∷ []) = two_say seats name act >>= an_event
@@ -126,6 +126,6 @@ words_say seats (first ∷ second ∷ third ∷ fourth ∷ []) =
     four_say seats first second third fourth >>= an_event
 words_say seats words = Err faults.BadAction
 
--- what an action says in a hand with so many seats
+-- the event of an action in a hand with this number of seats
 abbrev pub action_said : ℕ → List ℕ → Read (Option Said)
 action_said seats text = words_say seats (words_of (before_commentary text))

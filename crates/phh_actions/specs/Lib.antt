@@ -1,5 +1,5 @@
--- How an action is spelled in the Poker Hand History format: its words, the event that they say,
--- and the text of an event.
+-- How an action is written in the Poker Hand History format: its words, their event, and the text
+-- of an event.
 pub mod Words
 pub mod Action
 pub mod Written

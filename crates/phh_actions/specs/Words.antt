@@ -1,9 +1,9 @@
--- A text and its words: what stands behind the first # is commentary, and spaces divide what stands
+-- A text and its words: what comes after the first # is commentary, and spaces separate the words
 -- before it.
 use Rattle.std.specs.Prelude.{ℕ, ◌==◌, List, take}
 use Rattle.std.specs.List.{position_or_len}
 
--- the sign with which a commentary begins: #
+-- the character that begins a commentary: #
 abbrev pub commentary_sign : ℕ
 commentary_sign = 35
 

@@ -1,4 +1,4 @@
--- The text of an event: its words, with a space between two. It reads as that event again.
+-- The text of an event: its words, with a space between two. It reads back as that event.
 use Rattle.std.specs.Prelude.{ℕ, Bool, nat_lt, List, [], ◌∷◌, length, codes, decimal, Some}
 use Rattle.std.specs.List.{join_with_byte}
 use Rattle.card_set.specs.Known.{known_slots}
@@ -8,8 +8,8 @@ use Rattle.play_event.specs.Said as said
 use Rattle.play_event.specs.Said.{Said}
 use Rattle.chip_ledger.specs.SeatsSaid.{default_name}
 
--- The words of an event whose actor is named, and whose raise is spelled by the amount to which it
--- goes. What a call is said to add has no word. Other events have no words.
+-- The words of an event whose actor is named, and whose raise is given by the amount that it raises
+-- to. The chips that a call is stated to add have no word. Other events have no words.
 abbrev pub event_words : Said → List (List ℕ)
 event_words (said.Hole seat slots) =
     codes "d" ∷ codes "dh" ∷ default_name seat ∷ spelling slots ∷ []

@@ -1,5 +1,5 @@
-//! An action of the Poker Hand History format is read as the event that its words say, and an event
-//! is written in words that read as that event again.
+//! Reads an action of the Poker Hand History format as its event, and writes an event in words that
+//! read back as that event.
 #![tactic(auto)]
 
 mod fault;

@@ -39,7 +39,7 @@ fn names_seat(name: &[u8], seat: u8) -> bool
     }
 }
 
-/// The amount that a word says; leading zeros may stand.
+/// The amount that a word means; leading zeros are allowed.
 #[tactic(auto, unfolding(crate::specs::Action::amount_said))]
 pub fn read_amount(word: &[u8]) -> Result<u64, ActionFault>
     ensures { seen_by (λ amount. amount) result ≡ amount_said word.now }
@@ -69,7 +69,7 @@ fn is_fraction(word: &[u8]) -> bool
     are_digits(&word[..len]) && are_digits(&word[len + 1..])
 }
 
-/// The cards of the slots, if each of them is known.
+/// The cards, if each of them is known.
 pub fn known_cards(slots: SlotRow) -> Result<CardRow, ActionFault>
     ensures { seen_by cards_of result ≡ all_known (slots_of slots) }
 {
@@ -79,7 +79,7 @@ pub fn known_cards(slots: SlotRow) -> Result<CardRow, ActionFault>
     Ok(known_row(slots.as_slice()))
 }
 
-/// One to so many slots, two letters each.
+/// One to `most` cards, known or unknown, two letters each.
 #[tactic(auto, unfolding(crate::specs::Action::slots_said))]
 pub fn read_slots(most: u8, word: &[u8]) -> Result<SlotRow, ActionFault>
     requires { most ≤ 7 }
@@ -91,7 +91,7 @@ pub fn read_slots(most: u8, word: &[u8]) -> Result<SlotRow, ActionFault>
     keep_within(most, slots)
 }
 
-// The slots, if they are one to so many.
+// The cards, if there are one to `most`.
 fn keep_within(most: u8, slots: SlotRow) -> Result<SlotRow, ActionFault>
     ensures { seen_by slots_of result ≡ one_to most (slots_of slots) }
 {
@@ -103,7 +103,7 @@ fn keep_within(most: u8, slots: SlotRow) -> Result<SlotRow, ActionFault>
     }
 }
 
-// Whether one of the slots is unknown.
+// Whether one of the cards is unknown.
 fn has_unknown(slots: &[Slot]) -> bool
     ensures { result ≡ list_any is_unknown slots.now }
 {
@@ -115,7 +115,7 @@ fn has_unknown(slots: &[Slot]) -> bool
     false
 }
 
-// The known cards of up to seven slots.
+// The known ones of up to seven cards.
 fn known_row(slots: &[Slot]) -> CardRow
     requires { length slots.now ≤ 7 }
     ensures { cards_of result ≡ known_cards_said slots.now }

@@ -1,4 +1,4 @@
-//! The words of an action are read as the event that they say.
+//! Reads the words of an action as an event.
 ghost use Rattle.std.specs.Prelude.{◌≡◌, ◌≤◌, option_map};
 ghost use Rattle.play_event.specs.Said.{kind_said};
 ghost use Rattle.phh_actions.specs.Action.{action_said, act_said, act_with_said, four_say, seen_by, three_say, two_say, words_say};
@@ -12,7 +12,7 @@ use chip_ledger::Seat;
 use first_fault::next_word;
 use play_event::{Kind, Spelled};
 
-/// What an action says in a hand with so many seats; an action without a word says no event.
+/// The event of an action in a hand with `seats` seats; an action without a word is no event.
 ///
 /// The forms are those of the format's own document: `d dh pN cards`, `d db cards`, `pN f`, `pN
 /// cc`, `pN cbr amount`, `pN pb`, `pN sd`, `pN sd cards`, `pN sm` and `pN sm cards`.
@@ -23,7 +23,7 @@ pub fn read_action(text: &str, seats: u8) -> Result<Option<Kind>, ActionFault>
     ActionReader { seats }.read_words(before_commentary(text.as_bytes()))
 }
 
-// The words of the actions of a hand with so many seats are read by it.
+// Reads the words of the actions of a hand with this number of seats.
 #[derive(Clone, Copy)]
 struct ActionReader {
     seats: u8,
@@ -31,8 +31,8 @@ struct ActionReader {
 }
 
 impl ActionReader {
-    // What the words of an action say: two are a seat and what it does, three have cards or an
-    // amount besides or deal to the board, and four deal to a seat.
+    // The event of the words of an action: two words are a seat and what it does, three add cards
+    // or an amount or deal to the board, and four deal to a seat.
     #[tactic(auto, unfolding(crate::specs::Action::words_say))]
     fn read_words(self, text: &[u8]) -> Result<Option<Kind>, ActionFault>
         ensures { seen_by (option_map kind_said) result

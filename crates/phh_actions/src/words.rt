@@ -1,4 +1,4 @@
-//! What stands behind the first `#` of a text is commentary.
+//! What comes after the first `#` of a text is commentary.
 ghost use Rattle.std.specs.Prelude.{◌≡◌, bytes_eq};
 ghost use Rattle.phh_actions.specs.Words.{before_commentary as said_part};
 

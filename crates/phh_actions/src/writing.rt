@@ -1,4 +1,4 @@
-//! An event is written in the words of its form.
+//! Writes an event in the words of its form.
 ghost use Rattle.std.specs.Prelude.{◌≡◌, ℕ, ◌<◌, ◌≤◌, ◌++◌, ◌∷◌, Some, Ok, IfOk, OnOk, IsTrue, slice_index, string_bytes};
 ghost use Rattle.card_set.specs.Known.{known_slots};
 ghost use Rattle.card_set.specs.Spelling.{slot_spelling, spelling};
@@ -13,9 +13,8 @@ use chip_ledger::Seat;
 use play_event::{Kind, Spelled};
 use std::alloc::Global;
 
-/// The text of an event, as an action of the format says it. Ask first that its actor is named and
-/// that a raise is spelled by the amount to which it goes; the chips that a call is said to add are
-/// not written.
+/// The text of an event, as an action of the format. Its actor must be named, and a raise must be
+/// given by the amount that it raises to; the chips that a call is stated to add are not written.
 #[tactic(auto, unfolding(crate::specs::Written::event_text))]
 pub fn event_text(alloc: Global, kind: Kind) -> Result<String, Memory>
     requires { IsTrue (has_words (kind_said kind)) }
@@ -78,7 +77,7 @@ fn discard_text(alloc: Global, seat: Seat, slots: &[Slot]) -> Result<String, Mem
     Ok(text)
 }
 
-// The letters of slots.
+// The letters of cards, known or unknown.
 fn push_slots(text: &mut String, slots: &[Slot]) -> Result<(), Memory>
     ensures { OnOk result (string_bytes text.new ≡ string_bytes text.old ++ spelling slots.now) }
 {
@@ -116,7 +115,7 @@ fn push_cards(text: &mut String, cards: &[Card]) -> Result<(), Memory>
     Ok(())
 }
 
-// The two letters of a slot.
+// The two letters of a card, known or unknown.
 fn push_slot(text: &mut String, slot: Slot) -> Result<(), Memory>
     ensures { OnOk result (string_bytes text.new ≡ string_bytes text.old ++ slot_spelling slot) }
 {
@@ -126,7 +125,7 @@ fn push_slot(text: &mut String, slot: Slot) -> Result<(), Memory>
     Ok(())
 }
 
-// The two letters of a slot; each of them is one byte of a text.
+// The two letters of a card, known or unknown; each of them is one byte of a text.
 #[tactic(auto, using(card_set::proofs::Letters::one_byte_each))]
 fn letters_of(slot: Slot) -> [u8; 2]
     ensures letters { result ≡ slot_spelling slot }
@@ -136,8 +135,8 @@ fn letters_of(slot: Slot) -> [u8; 2]
     slot_text(slot)
 }
 
-/// The text of an event says that event again, in each hand in which an action can say it. The
-/// function does nothing: its contract is a law.
+/// The text of an event reads back as that event, in each hand in which an action can be that
+/// event. The function does nothing: its contract is a law.
 #[tactic(auto, using(crate::proofs::SaidAgain::event_again))]
 pub fn law_of_words()
     ensures { (seats : ℕ) (event : Said) → seats ≤ 10 → IsInRange seats event

@@ -16,16 +16,16 @@ use Rattle.phh_writing.specs.HandFields.{hand_fields, script_of}
 use Rattle.phh_writing.proofs.Puts.{field_at, get_member-table_of}
 use Rattle.phh_format.specs.Again.{hand_again, hands_again}
 use Rattle.phh_format.proofs.EventsAgain.{HaveRoom, counts_with, one_more}
-use Rattle.list_laws.proofs.Counting.{count_by-cons}
+use Rattle.card_set.proofs.Counting.{count_by-cons}
 use Rattle.std.proofs.lemmas.List.Sums.{sum_by-cons}
-use Rattle.canon_script.specs.PlayedScript.{is_move}
+use Rattle.play_event.specs.PlayedScript.{is_move}
 use Rattle.play_event.specs.Said.{Said}
 use Rattle.phh_reading.specs.declared.events.EventCounts.{EventCounts}
 use Rattle.phh_format.proofs.Readable.{IsReadable, moves_written}
 use Rattle.phh_format.proofs.HandAgain.{hand_read}
 use Rattle.phh_format.proofs.OrderAgain.{are_hands_again, hand_tables, in_order_again}
 
--- the moves of the file after the play that comes after so many
+-- the moves of the file after one more play, by the moves before it
 abbrev pub moves_with : ℕ → Play → ℕ
 moves_with file_moves play = (counts_with (counts_after file_moves) (script_of play.trace)).file_moves
 
@@ -54,7 +54,7 @@ hands_read file_moves place [] few are = refl
 hands_read file_moves place (play ∷ rest) few are =
     rw (one_hand file_moves place play (omega (arith, few)) are.0 are.1, hands_read (moves_with file_moves play) (place + 1) rest (omega (arith, few)) are.2) refl
 
--- no number is spelled as the key of the variant
+-- no number is written as the key of the variant
 no_variant : (n : ℕ) → n < 2 ^ 64 → bytes_eq (codes "variant") (decimal n) ≡ false
 no_variant n small = go (bytes_eq (codes "variant") (decimal n)) refl
   where
@@ -82,7 +82,7 @@ one_counted : (counts : EventCounts) (moves : Bool) (m : ℕ) → (one_more coun
 one_counted counts true m = omega arith
 one_counted counts false m = omega arith
 
--- the file has the moves of the events more
+-- the moves of the file grow by the moves of the events
 moves_counted : (counts : EventCounts) (events : List Said) → (counts_with counts events).file_moves ≡ counts.file_moves + count_by is_move events
 moves_counted counts [] = omega arith
 moves_counted counts (event ∷ rest) =

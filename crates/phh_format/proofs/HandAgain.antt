@@ -9,18 +9,18 @@ use Rattle.play_event.specs.declared.setup.Setup.{Setup}
 use Rattle.first_fault.specs.Reading.{◌>>=◌, read_if}
 use Rattle.hand_records.specs.declared.trace.Play.{Play}
 use Rattle.phh_actions.specs.Written.{event_text}
-use Rattle.phh_fields.specs.declared.fault.FieldFault.{FieldFault}
-use Rattle.phh_fields.specs.declared.fault.FieldKey.{FieldKey}
-use Rattle.phh_fields.specs.declared.fault.FieldKey.TheVariants as keys
-use Rattle.phh_fields.specs.Fields.{at_key, field, key_text, list_said, needed}
-use Rattle.phh_fields.specs.Rows.{rakes_from, rakes_said, row_said}
-use Rattle.phh_fields.specs.NoteFields.{PlainSeating, day_said, labels_said, notes_said, seating_said}
+use Rattle.phh_reading.specs.declared.field_fault.FieldFault.{FieldFault}
+use Rattle.phh_reading.specs.declared.field_fault.FieldKey.{FieldKey}
+use Rattle.phh_reading.specs.declared.field_fault.FieldKey.TheVariants as keys
+use Rattle.phh_reading.specs.Fields.{at_key, field, key_text, list_said, required}
+use Rattle.phh_reading.specs.Rows.{rakes_from, rakes_said, row_said}
+use Rattle.phh_reading.specs.NoteFields.{PlainSeating, day_said, labels_said, notes_said, seating_said}
 use Rattle.phh_reading.specs.Events.{counts_after}
 use Rattle.phh_reading.specs.Hand.{hand_said, rakes_at}
 use Rattle.phh_writing.specs.Document.{hand_table}
 use Rattle.phh_writing.specs.HandFields.{hand_field, hand_fields, label, local_time, names_field, number_field, numbers, rakes_field, script_of}
 use Rattle.phh_writing.proofs.Puts.{field_at}
-use Rattle.phh_fields.proofs.Zeros.{with_zeros}
+use Rattle.phh_reading.proofs.Zeros.{with_zeros}
 use Rattle.phh_format.proofs.Readable.{IsReadable}
 use Rattle.phh_format.specs.Again.{hand_again}
 use Rattle.phh_format.proofs.RowsAgain.{amount_count, amounts_again, each_amount, list_again, listed_again, number_data, row_again}
@@ -28,8 +28,8 @@ use Rattle.phh_format.proofs.SetupAgain.{at, field_alone, setup_again}
 use Rattle.phh_format.proofs.NotesAgain.{calendar_again, name_again, said_again, table_again, text_note_again, time_again}
 use Rattle.phh_format.proofs.SeatingAgain.{names_again, seat_count_again, seats_again}
 use Rattle.phh_format.proofs.EventsAgain.{HaveRoom, counts_with, events_again}
-use Rattle.list_laws.proofs.Entries.{cut_zeros, each_taken}
-use Rattle.list_laws.proofs.Any.{zero_from_none_taken}
+use Rattle.card_set.proofs.Entries.{cut_zeros, each_taken}
+use Rattle.card_set.proofs.Any.{zero_from_none_taken}
 use Rattle.chip_ledger.specs.SeatRow.{amounts_in}
 use Rattle.hand_records.specs.SaidNotes.{SaidNotes, kept_label, said_notes}
 use Rattle.hand_records.specs.AllowedNotes.{IsWithin}
@@ -39,11 +39,11 @@ all_zero all eleven none =
     let left : length all - 0 ≡ 11 = omega (arith, eleven) in
     cut_zeros all 0 (omega arith) (λ k _. none k) ∙ ap (λ (n : ℕ). replicate n 0) left
 
--- who sits where, as notes say it
+-- who sits where, according to the notes
 abbrev seating_of : SaidNotes → PlainSeating
 seating_of notes = record { names = notes.names; seats = notes.seats; seat_count = notes.seat_count }
 
--- the rakes that are said, or none
+-- the rakes that are given, or none
 abbrev rakes_found : Option Data → Result (List ℕ) FieldFault
 rakes_found (Some value) = rakes_said value
 rakes_found None = Ok (replicate 11 0)
@@ -64,8 +64,8 @@ module _ (place : ℕ) (play : Play) (is : IsReadable play) where
   few : seats ≤ 10
   few = setup.stacks.greatest
 
-  actions_again : (needed keys.Actions members >>= list_said (at_key keys.Actions)) ≡ Ok (map string (map event_text (script_of play.trace)))
-  unfolding needed list_said
+  actions_again : (required keys.Actions members >>= list_said (at_key keys.Actions)) ≡ Ok (map string (map event_text (script_of play.trace)))
+  unfolding required list_said
   actions_again = rw (here keys.Actions) (ap (λ items. Ok items) (listed_again (map string (map event_text (script_of play.trace)))))
 
   finish_again : read_if (row_said seats MOST_AMOUNT keys.FinishingStacks) (field keys.FinishingStacks members) ≡ Ok (Some (amounts_in play.trace.finish))

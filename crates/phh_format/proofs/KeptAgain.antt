@@ -1,11 +1,11 @@
--- What is read again of notes are all of them.
+-- All notes are read back.
 use Rattle.std.proofs.Common.{◌≡◌, ℕ, ap, ◌∙◌}
 use Rattle.hand_records.specs.declared.notes.Notes.{Notes}
 use Rattle.hand_records.proofs.NoteLaws.{label_twice, names_along, notes_same, numbers_again}
 use Rattle.phh_format.specs.KeptNotes.{kept_in_phh}
 use Rattle.hand_records.specs.SaidNotes.{KeepsNotes, SaidNotes, kept_label, name_said, plain_notes, said_notes}
 
--- notes that are read again are those that were said
+-- notes that are read back are those that were written
 pub keeps_said : (place count : ℕ) (notes again : Notes) → plain_notes count again ≡ said_notes place count notes
     → KeepsNotes kept_in_phh place count notes again
 keeps_said place count notes again same =

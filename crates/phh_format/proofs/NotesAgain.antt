@@ -11,13 +11,13 @@ use Rattle.first_fault.specs.Reading.{read_if, or_none}
 use Rattle.first_fault.specs.declared.limits.TheConstants.{MOST_TEXT_BYTES}
 use Rattle.hand_records.specs.declared.notes.Clock.{Clock}
 use Rattle.hand_records.specs.AllowedNotes.{IsNoteText, IsTime, IsWithin, days_in_month}
-use Rattle.phh_fields.specs.declared.fault.FieldPlace.{FieldPlace}
-use Rattle.phh_fields.specs.Fields.{number_said, text_said}
-use Rattle.phh_fields.specs.NoteFields.{clock_said, is_in_calendar, label_said, note_said, or_zero, text_note_said, time_said}
+use Rattle.phh_reading.specs.declared.field_fault.FieldPlace.{FieldPlace}
+use Rattle.phh_reading.specs.Fields.{number_said, text_said}
+use Rattle.phh_reading.specs.NoteFields.{clock_said, is_in_calendar, label_said, note_said, or_zero, text_note_said, time_said}
 use Rattle.phh_writing.specs.HandFields.{hand_field, label, local_time, number_field, number_written}
-use Rattle.list_laws.proofs.Tests.{implied}
-use Rattle.list_laws.proofs.Digits.{all_digits, own_digits}
-use Rattle.list_laws.proofs.Options.{from_none_some}
+use Rattle.card_set.proofs.Tests.{implied}
+use Rattle.card_set.proofs.Digits.{all_digits, own_digits}
+use Rattle.card_set.proofs.Options.{from_none_some}
 use Rattle.hand_records.specs.SaidNotes.{kept_label}
 use Rattle.hand_records.proofs.NoteTexts.{not_empty, noted_again}
 
@@ -30,7 +30,7 @@ unfolding text_note_said text_said
 text_note_again place None is = refl
 text_note_again place (Some text) is = note_again [] text place is (not_empty text is)
 
--- a number within the greatest is what its digits say
+-- a number within the limit is what its digits mean
 of_number : (most : ℕ) (digits : List ℕ) (number : ℕ) → number_of most digits ≡ Some number → (digits_value 10 digits ≡ number) × (number ≤ most)
 unfolding number_of
 of_number most digits number is = go (nat_le (digits_value 10 digits) most) refl is
@@ -56,7 +56,7 @@ number_is text number is = go (are_digits text && (not (slice_index text 0 == 48
         let small : digits_value 10 text < 2 ^ 64 = omega (arith, value.0, value.1) in
         ap decimal (sym value.0) ∙ decimal-digits_value own_digits text (all_digits text digits.1) (ltb-true 0 (length text) digits.0) no_zero small
 
--- a label says its text again
+-- a label reads back as its text
 pub label_again : (default text : List ℕ) (place : FieldPlace) → IsNoteText text → bytes_eq text default ≡ false → label_said default place (label text) ≡ Ok (Some text)
 unfolding label_said
 label_again default text place is other = go (number_written text) refl

@@ -1,4 +1,5 @@
--- Hands that are the same are written as one table, and what is written as one table are the same hands.
+-- Hands that are the same are written as one table, and what is written as one table are the same
+-- hands.
 use Rattle.std.proofs.Common.{◌≡◌, ℕ, sum_by, ◌+◌, ◌≤◌, ◌↔◌, Bool, true, false, cond, if◌then◌else◌, bytes_eq, List, [], ◌∷◌, ◌++◌, length, map, take, Option, Some, None, is_some, option_map, unwrap_or, decimal, Ok, refl, sym, ap, ap₂, subst, ◌∙◌, arith}
 use Rattle.std.specs.List.{AllByRecursion, list_any, range_with_len}
 use Rattle.std.specs.Str.{IsUtf8}
@@ -17,7 +18,7 @@ use Rattle.hand_records.specs.declared.notes.Notes.{Notes}
 use Rattle.hand_records.specs.declared.trace.Play.{Play}
 use Rattle.hand_records.specs.declared.trace.Trace.{Trace}
 use Rattle.hand_records.specs.declared.writing.Unspelled.TheVariants as unspellables
-use Rattle.list_laws.proofs.NumbersOfRange.{map_agree}
+use Rattle.card_set.proofs.NumbersOfRange.{map_agree}
 use Rattle.phh_format.proofs.SoundPlays.{same_script, sound_again}
 use Rattle.phh_format.specs.Again.{hand_again, hands_again}
 use Rattle.phh_reading.specs.Reading.{reading}
@@ -39,7 +40,7 @@ use Rattle.hand_records.specs.SaidNotes.{SaidNotes, kept_label, name_said, notes
 
 -- ---- what is written of notes
 
--- a label that is written is one that is said
+-- a label that is written is one that is noted
 label_field : (place : ℕ) (said : Option (List ℕ)) → hand_field place said ≡ option_map label (kept_label place said)
 label_field place None = refl
 label_field place (Some text) = by_test (bytes_eq text (decimal place))
@@ -128,13 +129,13 @@ one_table plays others bytes too sound other_sound spell spell_too all =
 
 -- ---- hands of one table
 
--- the canonical script of a sound play comes to its trace
+-- the canonical script of a sound play leads to its trace
 own_words : (play : Play) → IsSound play → HasTraceOf play.hand.setup play.hand.rules (script_said play.hand) (script_of play.trace)
 own_words play sound =
     subst (HasTraceOf play.hand.setup play.hand.rules (script_said play.hand)) (same_script play sound)
     (confluent play.hand.setup play.hand.rules (script_said play.hand) sound.legal.played)
 
--- plays that are read as one hand are the same
+-- plays that read as one hand are the same
 hand_same : (place : ℕ) (play other : Play) → IsSound play → IsSound other → hand_again place play ≡ hand_again place other → AreSameHand kept_in_phh place play other
 hand_same place play other sound too same =
     let setups_are : play.trace.setup ≡ other.trace.setup =
@@ -175,16 +176,16 @@ same_hands plays others bytes too few few_too moves moves_too sound other_sound 
 
 -- ---- facts
 
--- which fact of a play has no spelling is told by its trace
+-- which fact of a play cannot be written is determined by its trace
 pub trace_fact : (play other : Play) → play.trace ≡ other.trace → facts.unspelled play ≡ facts.unspelled other
 unfolding facts.unspelled
 trace_fact play other same =
     ap (λ (trace : Trace). if list_any (λ move. move.closed) trace.moves then Some unspellables.ReopenedShort else None) same
 
--- all notes are spelled
+-- all notes can be written
 pub all_spelled : (place : ℕ) (play : Play) → (facts.unspelled play ≡ None) ↔ ((facts.unspelled play ≡ None) × (kept_in_phh (notes_of place play) ≡ notes_of place play))
 all_spelled place play = ((λ none. (none, refl)), (λ both. both.0))
 
--- what is kept of what is kept
+-- keeping notes twice is the same as once
 pub kept_again : (notes : SaidNotes) → kept_in_phh (kept_in_phh notes) ≡ kept_in_phh notes
 kept_again notes = refl

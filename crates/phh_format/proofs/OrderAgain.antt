@@ -1,4 +1,5 @@
--- Hands that were written under 1, 2 and so on are read in this order: it does not matter in which order they are placed.
+-- Hands that were written under 1, 2 and so on are read in this order: it does not matter in which
+-- order they are placed.
 use Rattle.std.proofs.Common.{◌≡◌, ℕ, ◌+◌, ◌≤◌, ◌<◌, ◌^◌, ◌&&◌, true, List, [], ◌∷◌, ◌++◌, length, map, decimal, Ordering, Less, Equal, Greater, nat_cmp, is_eq, refl, sym, ap, ◌∙◌, arith, append_assoc}
 use Rattle.std.specs.List.{AllByRecursion}
 use Rattle.std.specs.Cmp.{IsTotalOrder, nat_cmp_is}
@@ -13,11 +14,11 @@ use Rattle.std.proofs.lemmas.Slice.Eq.{bytes_eq-Decides}
 use Rattle.std.proofs.lemmas.List.{append-nil}
 use Rattle.toml.specs.Data.{Data, Members, no_members, member, table}
 use Rattle.hand_records.specs.declared.trace.Play.{Play}
-use Rattle.phh_reading.specs.Order.{Entry, are_hands, in_order, is_table, key_cmp, placed, placed_all, tables_among}
+use Rattle.phh_reading.specs.Order.{Entry, is_multi_hand, in_order, is_table, key_cmp, placed, placed_all, tables_among}
 use Rattle.phh_writing.specs.Members.{put, table_of}
 use Rattle.phh_writing.specs.Document.{hand_table, numbered_hands}
-use Rattle.list_laws.proofs.Digits.{number_said}
-use Rattle.list_laws.proofs.Orderings.{less_not_equal}
+use Rattle.card_set.proofs.Digits.{number_said}
+use Rattle.card_set.proofs.Orderings.{less_not_equal}
 use Rattle.first_fault.proofs.DecimalDigits.{decimal_digits}
 
 number_total : IsTotalOrder (λ (k l : List ℕ). nat_cmp (digits_value 10 k) (digits_value 10 l))
@@ -34,7 +35,7 @@ key_total = then_total number_total nat_list_cmp_total
 IsOther : List ℕ → List ℕ → Type 0
 IsOther k l = key_cmp k l ≡ Equal → ⊥
 
--- an entry beside the first of others: before it, in its place, or behind it
+-- an entry compared with the first of others: before it, in its place, or after it
 before : (k : List ℕ) (v : Data) (e : Entry) (es : List Entry) → key_cmp k e.0 ≡ Less → placed k v (e ∷ es) ≡ (k, v) ∷ e ∷ es
 before k v e es is = ap (λ o. match_ordering o ((k, v) ∷ e ∷ es) ((e.0, v) ∷ es) (e ∷ placed k v es)) is
 
@@ -124,7 +125,7 @@ put_at Equal es k l v w rest is other later =
     absurd (other (ap (key_cmp k) (sym same) ∙ same_key_cmp k))
 put_at Greater es k l v w rest is other later = later ∙ ap (λ (entries : List Entry). placed_all entries rest) (placed_either k l v w other es)
 
--- what is put among members may be placed before them
+-- what is put among members can be placed before them
 placed_first : (es : List Entry) (k : List ℕ) (v : Data) (members : Members) → IsNew k members → placed_all es (put k v members) ≡ placed_all (placed k v es) members
 placed_first es k v no_members new = refl
 placed_first es k v (member l w rest) new =
@@ -145,7 +146,7 @@ lower_key : (n m : ℕ) → n < m → m < 2 ^ 64 → key_cmp (decimal n) (decima
 lower_key n m lower small =
     rw (sym (nat_cmp_is (digits_value 10 (decimal n)) (digits_value 10 (decimal m)) Less (omega (arith, lower, number_said n (omega (arith, lower, small)), number_said m small)))) refl
 
--- the hands of plays with their keys, of which the first is at this place
+-- the hands of plays with their keys; the first is at this place
 abbrev pub hands_from : ℕ → List Play → List Entry
 hands_from place [] = []
 hands_from place (play ∷ rest) = (decimal (place + 1), table (hand_table place play)) ∷ hands_from (place + 1) rest
@@ -162,7 +163,7 @@ new_key n place (play ∷ rest) lower few =
 abbrev pub AreUpTo : ℕ → List Entry → Type 0
 AreUpTo most es = AllByRecursion (λ (e : Entry). (n : ℕ) × (e.0 ≡ decimal n) × (n ≤ most)) es
 
--- an entry with a greater number is placed behind all
+-- an entry with a greater number is placed after all
 placed_last : (most : ℕ) (v : Data) (es : List Entry) → AreUpTo most es → most + 1 < 2 ^ 64 → placed (decimal (most + 1)) v es ≡ es ++ (decimal (most + 1), v) ∷ []
 placed_last most v [] each small = refl
 placed_last most v (e ∷ es) each small =
@@ -176,7 +177,7 @@ more_up_to : (most : ℕ) (v : Data) (es : List Entry) → AreUpTo most es → A
 more_up_to most v [] each = ((most + 1, refl, omega arith), tt)
 more_up_to most v (e ∷ es) each = ((each.0.0, each.0.1, omega (arith, each.0.2)), more_up_to most v es each.1)
 
--- the hands of plays are placed behind those before them
+-- the hands of plays are placed after those before them
 pub placed_in_order : (place : ℕ) (plays : List Play) (es : List Entry) → AreUpTo place es → place + length plays < 2 ^ 64
     → placed_all es (table_of (numbered_hands place plays)) ≡ es ++ hands_from place plays
 placed_in_order place [] es each small = sym (append-nil es)
@@ -188,7 +189,7 @@ placed_in_order place (play ∷ rest) es each small =
     ∙ placed_in_order (place + 1) rest (es ++ (decimal (place + 1), value) ∷ []) (more_up_to place value es each) (omega (arith, small))
     ∙ append_assoc es ((decimal (place + 1), value) ∷ []) (hands_from (place + 1) rest)
 
--- the tables of plays, of which the first is at this place
+-- the tables of plays; the first is at this place
 abbrev pub hand_tables : ℕ → List Play → List Members
 hand_tables place [] = []
 hand_tables place (play ∷ rest) = hand_table place play ∷ hand_tables (place + 1) rest
@@ -202,20 +203,20 @@ pub in_order_again : (plays : List Play) → length plays < 2 ^ 64 → in_order 
 in_order_again plays small =
     ap (λ (entries : List Entry). tables_among (map (λ entry. entry.1) entries)) (placed_in_order 0 plays [] tt (omega (arith, small))) ∙ tables_from 0 plays
 
-hands_at : (o : Ordering) (k l : List ℕ) (v w : Data) (rest more : Members) → (are_digits k && is_table v) ≡ true → slice_cmp nat_cmp k l ≡ o → are_hands (member l w rest) ≡ true → are_hands more ≡ true
-    → are_hands (match_ordering o (member k v (member l w rest)) (member l v rest) (member l w more)) ≡ true
+hands_at : (o : Ordering) (k l : List ℕ) (v w : Data) (rest more : Members) → (are_digits k && is_table v) ≡ true → slice_cmp nat_cmp k l ≡ o → is_multi_hand (member l w rest) ≡ true → is_multi_hand more ≡ true
+    → is_multi_hand (match_ordering o (member k v (member l w rest)) (member l v rest) (member l w more)) ≡ true
 hands_at Less k l v w rest more one is all later = rw one all
 hands_at Equal k l v w rest more one is all later =
     let same : k ≡ l = (bytes_eq-Decides k l).0 (sym (is_eq-slice_cmp k l) ∙ ap is_eq is) in
-    rw (ap (λ (key : List ℕ). are_digits key && is_table v) (sym same) ∙ one) (and_parts (are_digits l && is_table w) (are_hands rest) all).1
-hands_at Greater k l v w rest more one is all later = rw ((and_parts (are_digits l && is_table w) (are_hands rest) all).0) later
+    rw (ap (λ (key : List ℕ). are_digits key && is_table v) (sym same) ∙ one) (and_parts (are_digits l && is_table w) (is_multi_hand rest) all).1
+hands_at Greater k l v w rest more one is all later = rw ((and_parts (are_digits l && is_table w) (is_multi_hand rest) all).0) later
 
-hands_put : (k : List ℕ) (v : Data) (members : Members) → (are_digits k && is_table v) ≡ true → are_hands members ≡ true → are_hands (put k v members) ≡ true
+hands_put : (k : List ℕ) (v : Data) (members : Members) → (are_digits k && is_table v) ≡ true → is_multi_hand members ≡ true → is_multi_hand (put k v members) ≡ true
 hands_put k v no_members one all = rw one refl
 hands_put k v (member l w rest) one all =
-    hands_at (slice_cmp nat_cmp k l) k l v w rest (put k v rest) one refl all (hands_put k v rest one (and_parts (are_digits l && is_table w) (are_hands rest) all).1)
+    hands_at (slice_cmp nat_cmp k l) k l v w rest (put k v rest) one refl all (hands_put k v rest one (and_parts (are_digits l && is_table w) (is_multi_hand rest) all).1)
 
-pub are_hands_again : (place : ℕ) (plays : List Play) → place + length plays < 2 ^ 64 → are_hands (table_of (numbered_hands place plays)) ≡ true
+pub are_hands_again : (place : ℕ) (plays : List Play) → place + length plays < 2 ^ 64 → is_multi_hand (table_of (numbered_hands place plays)) ≡ true
 are_hands_again place [] small = refl
 are_hands_again place (play ∷ rest) small =
     hands_put (decimal (place + 1)) (table (hand_table place play)) (table_of (numbered_hands (place + 1) rest))

@@ -1,8 +1,9 @@
--- The hands that are read again of sound plays are legal under the rules of hand histories, and have the traces of the plays.
+-- The hands that are read back from sound plays are legal under the rules of hand histories, and
+-- have the traces of the plays.
 use Rattle.std.proofs.Common.{◌≡◌, ℕ, ◌+◌, true, false, Bool, pos, List, [], ◌∷◌, ◌++◌, length, map, find, sum_by, Some, None, Ok, refl, sym, ap, ap₂, subst, ◌∙◌, ◌≤◌}
 use Rattle.std.specs.List.{AllByRecursion, list_any}
 use Rattle.std.proofs.lemmas.Bool.Decides.{Decides-int_eq}
-use Rattle.list_laws.proofs.Any.{list_any-map}
+use Rattle.card_set.proofs.Any.{list_any-map}
 use Rattle.chip_ledger.specs.PotRow.{plain_shares}
 use Rattle.chip_ledger.specs.SeatRow.{amount_of}
 use Rattle.play_event.specs.HistoryRules.{history_rules}
@@ -12,9 +13,9 @@ use Rattle.play_event.specs.Scripts.{past_at_end}
 use Rattle.play_event.specs.Seats.{all_seats}
 use Rattle.play_event.specs.declared.setup.Rules.{Rules}
 use Rattle.play_event.specs.declared.setup.Setup.{Setup}
-use Rattle.canon_script.specs.CanonScript.{canon_of}
-use Rattle.canon_script.specs.PlayedScript.{IsPlayed}
-use Rattle.canon_script.specs.TraceCore.{TraceCore, core_after}
+use Rattle.play_event.specs.CanonScript.{canon_of}
+use Rattle.play_event.specs.PlayedScript.{IsPlayed}
+use Rattle.play_event.specs.TraceCore.{TraceCore, core_after}
 use Rattle.canon_laws.specs.OtherRules.{SuitsRules}
 use Rattle.canon_laws.proofs.SuitedMoves.{played_by}
 use Rattle.first_fault.specs.declared.limits.TheConstants.{MOST_FILE_MOVES, MOST_HANDS}
@@ -48,7 +49,7 @@ use Rattle.hand_records.specs.WriteRefusals.{refusal_from, first_refusal}
 use Rattle.hand_records.specs.PlainHands.{PlainHand, PlainSetup, PlainStated, plain}
 use Rattle.hand_records.specs.SaidNotes.{KeepsNotes, SaidNotes, notes_of, plain_notes}
 
--- a play that the format spells has no closed raise
+-- a play that the format can write has no closed raise
 spelled_open : (play : Play) → unspelled play ≡ None → list_any (λ move. move.closed) (core_said play.trace).moves ≡ false
 unfolding unspelled
 spelled_open play spelled = go (list_any (λ move. move.closed) play.trace.moves) refl
@@ -64,7 +65,7 @@ module _ (play : Play) (sound : IsSound play) (spelled : unspelled play ≡ None
   abbrev script : List Said
   script = script_said play.hand
 
-  -- so the play suits the rules of hand histories, by which full raises alone reopen the betting
+  -- so the play fits the rules of hand histories, under which only full raises reopen the betting
   suits : SuitsRules history_rules (core_after setup script)
   suits =
       record {
@@ -80,7 +81,7 @@ module _ (play : Play) (sound : IsSound play) (spelled : unspelled play ≡ None
   legal : IsLegalHand setup history_rules (canon_of setup script)
   legal = legal_hand setup history_rules script (record { played = played; shareable = sound.legal.shareable })
 
-  -- its canonical script comes to the same trace
+  -- its canonical script leads to the same trace
   whole : IsTraceOf setup (past_at_end setup (canon_of setup script)) play.trace
   whole =
       let same : core_after setup script ≡ core_after setup (canon_of setup script) = sym (same_trace setup history_rules script played) in
@@ -165,7 +166,7 @@ module _ (place : ℕ) (play : Play) (hand : Record) (same : plain hand ≡ hand
   pub rules_back : hand.rules ≡ history_rules
   rules_back = ap (λ (read : PlainHand). read.rules) same
 
--- a hand that is read of a play is that of the play again
+-- a hand that is read from a play is that play again
 is_again : (place : ℕ) (play : Play) (hand : Record) → IsSound play → unspelled play ≡ None → plain hand ≡ hand_again place play → IsAgain (KeepsNotes kept_in_phh place play.trace.setup.stacks.seats) play hand
 is_again place play hand sound spelled same =
     let setups = setup_back place play hand same in
@@ -191,7 +192,7 @@ are_again number place (play ∷ plays) (hand ∷ hands) each spelled same =
     let told = none_refused number (unspelled play) (refusal_from unspelled (number + 1) plays) spelled in
     (is_again place play hand each.0 told.0 (cc), are_again (number + 1) (place + 1) plays hands each.1 told.1 (cc))
 
--- the hands that are read of bytes that spell sound plays
+-- the hands that are read from bytes that spell sound plays
 pub read_back : (plays : List Play) (bytes : List ℕ) → length plays ≤ MOST_HANDS → AllByRecursion IsSound plays → sum_by moves_played plays ≤ MOST_FILE_MOVES → first_refusal unspelled plays ≡ None → Spells plays bytes
     → (hands : List Record) → reading bytes ≡ Ok (map plain hands) → AreAgain (KeepsNotes kept_in_phh) 0 plays hands
 read_back plays bytes few each moves spelled spells hands reads =

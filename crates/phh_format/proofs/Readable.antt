@@ -1,7 +1,7 @@
--- What a reader needs of a play, so that it reads back when it was written.
+-- What a reader needs of a play, so that it reads back after it was written.
 use Rattle.std.specs.Prelude.{◌≡◌, ℕ, ◌<◌, count_by}
 use Rattle.std.specs.List.{AllByRecursion}
-use Rattle.canon_script.specs.PlayedScript.{IsWithinLimits, is_move}
+use Rattle.play_event.specs.PlayedScript.{IsWithinLimits, is_move}
 use Rattle.chip_ledger.specs.RakeRow.{rake_of}
 use Rattle.play_event.specs.ValidSetup.{IsValid}
 use Rattle.hand_records.specs.declared.trace.Play.{Play}
@@ -9,8 +9,8 @@ use Rattle.hand_records.specs.AllowedNotes.{AreAllowed}
 use Rattle.phh_writing.specs.HandFields.{script_of}
 use Rattle.play_event.specs.Ranges.{IsInRange}
 
--- Its setup is valid, an action can say each event of its canonical script, which is within the limits, past the last pot
--- there is no rake, and its notes are allowed.
+-- Its setup is valid, an action can express each event of its canonical script, which is within the
+-- limits, there is no rake past the last pot, and its notes are allowed.
 pub record IsReadable (play : Play) : Type 0 where
   pub valid : IsValid play.trace.setup
   pub events : AllByRecursion (IsInRange play.trace.setup.stacks.seats) (script_of play.trace)

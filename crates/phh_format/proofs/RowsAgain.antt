@@ -8,12 +8,12 @@ use Rattle.toml.specs.View.{items_of}
 use Rattle.chip_ledger.specs.declared.seat_row.SeatRow.{SeatRow}
 use Rattle.chip_ledger.specs.SeatRow.{amount_of, amounts_in}
 use Rattle.first_fault.specs.Reading.{each_from}
-use Rattle.phh_fields.specs.declared.fault.FieldKey.{FieldKey}
-use Rattle.phh_fields.specs.declared.fault.FieldPlace.{FieldPlace}
-use Rattle.phh_fields.specs.Fields.{amount_said, at_item, items_said, list_said, listed}
-use Rattle.phh_fields.specs.Rows.{amounts_said, row_said}
+use Rattle.phh_reading.specs.declared.field_fault.FieldKey.{FieldKey}
+use Rattle.phh_reading.specs.declared.field_fault.FieldPlace.{FieldPlace}
+use Rattle.phh_reading.specs.Fields.{amount_said, at_item, items_said, list_said, listed}
+use Rattle.phh_reading.specs.Rows.{amounts_said, row_said}
 use Rattle.phh_writing.specs.HandFields.{numbers}
-use Rattle.list_laws.proofs.Entries.{each_taken}
+use Rattle.card_set.proofs.Entries.{each_taken}
 use Rattle.hand_records.specs.AllowedNotes.{IsWithin}
 
 -- the items of a list, in order

@@ -10,24 +10,24 @@ use Rattle.toml.specs.Data.{string}
 use Rattle.first_fault.specs.Reading.{each_from, or_none}
 use Rattle.first_fault.specs.declared.limits.TheConstants.{MOST_TEXT_BYTES}
 use Rattle.hand_records.specs.declared.notes.Notes.{Notes}
-use Rattle.hand_records.specs.AllowedNotes.{AreSeatNumbers, IsName, IsSeatCount, IsWithin, name_written, unless_usual}
-use Rattle.phh_fields.specs.declared.fault.FieldKey.TheVariants as keys
-use Rattle.phh_fields.specs.declared.fault.FieldPlace.{FieldPlace}
-use Rattle.phh_fields.specs.Fields.{at_item, at_key, items_said, list_said, number_said, text_said}
-use Rattle.phh_fields.specs.NoteFields.{names_said, note_said, seat_count_said, seats_said, text_note_said}
+use Rattle.hand_records.specs.AllowedNotes.{AreSeatNumbers, IsName, IsSeatCount, IsWithin, name_written, non_default_seats}
+use Rattle.phh_reading.specs.declared.field_fault.FieldKey.TheVariants as keys
+use Rattle.phh_reading.specs.declared.field_fault.FieldPlace.{FieldPlace}
+use Rattle.phh_reading.specs.Fields.{at_item, at_key, items_said, list_said, number_said, text_said}
+use Rattle.phh_reading.specs.NoteFields.{names_said, note_said, seat_count_said, seats_said, text_note_said}
 use Rattle.phh_writing.specs.HandFields.{names_field, number_field, numbers, texts}
 use Rattle.phh_format.proofs.RowsAgain.{items_again, listed_again, number_data}
 use Rattle.phh_format.proofs.NotesAgain.{note_again, number_again}
-use Rattle.list_laws.proofs.Bytes.{different_bytes}
-use Rattle.list_laws.proofs.Entries.{taken_within}
-use Rattle.list_laws.proofs.Options.{none_anyway}
+use Rattle.card_set.proofs.Bytes.{different_bytes}
+use Rattle.card_set.proofs.Entries.{taken_within}
+use Rattle.card_set.proofs.Options.{none_anyway}
 use Rattle.chip_ledger.specs.SeatsSaid.{default_name}
 
 -- the name that a seat has, if it has one
 abbrev pub name_at : Notes → ℕ → Option (List ℕ)
 name_at notes seat = get_or notes.names (seat - 1) None
 
--- a name that is the default is none
+-- a name that is the default counts as none
 default_again : (seat : ℕ) (place : FieldPlace) → seat ≤ 10 → note_said (default_name seat) place (default_name seat) ≡ Ok None
 unfolding note_said
 default_again seat place few =
@@ -58,7 +58,7 @@ module _ (notes : Notes) (count : ℕ) (few : count ≤ 10) (named : (seat : ℕ
       let long : length all ≡ count = length-map (map (name_written notes) (range_with_len 1 count)) string ∙ length-map-range_with_len (name_written notes) 1 count in
       rw (listed_again all, eq-eqb (length all) count long) refl
 
-  -- the names of players where none is said
+  -- the names of players, if none is noted
   none_named : (some : Bool) → list_any is_some (take count notes.names) ≡ some → names_said count (cond some (Some (texts (map (name_written notes) (range_with_len 1 count)))) None) ≡ Ok (map (name_at notes) (range_with_len 1 count))
   unfolding names_said
   none_named true is = rw items_named (each_name 0 count (omega arith))
@@ -87,7 +87,7 @@ each_number n [] each = refl
 each_number n (number ∷ rest) each =
     rw (number_again 1 255 number (at_item keys.Seats n) (each 0 (omega arith)), each_number (n + 1) rest (λ k within. each (suc k) (omega (arith, within)))) refl
 
-pub seats_again : (count : ℕ) (said : Option (List ℕ)) → 1 ≤ count → IfSome said (AreSeatNumbers count) → or_none (seats_said count) (option_map (λ seats. numbers (take count seats)) said) ≡ Ok (option_and_then (λ seats. unless_usual count (take count seats)) said)
+pub seats_again : (count : ℕ) (said : Option (List ℕ)) → 1 ≤ count → IfSome said (AreSeatNumbers count) → or_none (seats_said count) (option_map (λ seats. numbers (take count seats)) said) ≡ Ok (option_and_then (λ seats. non_default_seats count (take count seats)) said)
 unfolding seats_said
 seats_again count None some are = refl
 seats_again count (Some seats) some are =

@@ -12,22 +12,22 @@ use Rattle.play_event.specs.Streets.{is_stud, limit_of}
 use Rattle.play_event.specs.ValidSetup.{IsSizeWhere, IsValid, is_fixed}
 use Rattle.first_fault.specs.Reading.{◌>>=◌, each_from}
 use Rattle.hand_records.specs.declared.trace.Play.{Play}
-use Rattle.phh_fields.specs.declared.fault.FieldKey.{FieldKey}
-use Rattle.phh_fields.specs.declared.fault.FieldKey.TheVariants as keys
-use Rattle.phh_fields.specs.Fields.{at_item, at_key, field, flag_said, key_text, needed, text_said}
-use Rattle.phh_fields.specs.Rows.{ante_said, antes_said, posted, stacks_said}
-use Rattle.phh_fields.specs.SetupFields.{are_dead, blinds_said, setup_said, size_said, sizes_said, trimming_said, variant_said}
+use Rattle.phh_reading.specs.declared.field_fault.FieldKey.{FieldKey}
+use Rattle.phh_reading.specs.declared.field_fault.FieldKey.TheVariants as keys
+use Rattle.phh_reading.specs.Fields.{at_item, at_key, field, flag_said, key_text, required, text_said}
+use Rattle.phh_reading.specs.Rows.{ante_said, antes_said, heads_up_swapped, stacks_said}
+use Rattle.phh_reading.specs.SetupFields.{are_dead, blinds_said, setup_said, size_said, sizes_said, trimming_said, variant_said}
 use Rattle.phh_writing.specs.Document.{hand_table}
 use Rattle.phh_writing.specs.HandFields.{blinds_written, hand_fields, numbers, size_field}
 use Rattle.phh_writing.proofs.Puts.{field_at, get_member-table_of, or_later}
 use Rattle.phh_format.proofs.RowsAgain.{amount_again, amount_count, amounts_again, each_amount, items_again, list_again, number_data, row_again}
-use Rattle.phh_fields.proofs.Games.{own_code}
-use Rattle.list_laws.proofs.Entries.{less_taken, taken_zeros}
-use Rattle.list_laws.proofs.NumbersOfRange.{any_taken}
+use Rattle.phh_reading.proofs.Games.{own_code}
+use Rattle.card_set.proofs.Entries.{less_taken, taken_zeros}
+use Rattle.card_set.proofs.NumbersOfRange.{any_taken}
 use Rattle.hand_records.specs.AllowedNotes.{IsWithin}
 use Rattle.hand_records.specs.PlainHands.{plain_setup}
 
--- an ante that is no more than the stack stands as it is
+-- an ante that is no more than the stack stays as it is
 ante_again : (stack ante n : ℕ) → ante ≤ stack → ante ≤ MOST_CHIPS → ante_said stack (at_item keys.Antes n) (integer (pos ante)) ≡ Ok ante
 unfolding ante_said
 ante_again stack ante n less few =
@@ -49,8 +49,8 @@ unfolding antes_said
 antes_kept stacks antes same each less =
     rw (items_again (length stacks) keys.Antes antes same) (antes_at stacks 0 antes each (λ k. subst (λ (j : ℕ). get_or antes k 0 ≤ get_or stacks j 0) (omega arith) (less k)))
 
--- of two blinds the greater is the first seat's again
-posted_again : (blinds : List ℕ) → (length blinds ≡ 2 → get_or blinds 1 0 ≤ get_or blinds 0 0) → posted (blinds_written blinds) ≡ blinds
+-- with two blinds, the greater is again the first seat's
+posted_again : (blinds : List ℕ) → (length blinds ≡ 2 → get_or blinds 1 0 ≤ get_or blinds 0 0) → heads_up_swapped (blinds_written blinds) ≡ blinds
 posted_again [] heads_up = refl
 posted_again (first ∷ []) heads_up = refl
 posted_again (first ∷ second ∷ []) heads_up =
@@ -98,15 +98,15 @@ module _ (place : ℕ) (play : Play) (valid : IsValid play.trace.setup) where
   unfolding hand_table
   at key = get_member-table_of (key_text key) (hand_fields place play)
 
-  variant_again : (needed keys.Variant members >>= variant_said) ≡ Ok setup.code
-  unfolding needed variant_said text_said
+  variant_again : (required keys.Variant members >>= variant_said) ≡ Ok setup.code
+  unfolding required variant_said text_said
   variant_again = rw (at keys.Variant, own_code setup.code) refl
 
   stacks_count : length (amounts_in setup.stacks) ≡ setup.stacks.seats
   stacks_count = amount_count setup.stacks
 
-  stacks_again : (needed keys.StartingStacks members >>= stacks_said (game_of setup.code).seats) ≡ Ok (amounts_in setup.stacks)
-  unfolding needed stacks_said
+  stacks_again : (required keys.StartingStacks members >>= stacks_said (game_of setup.code).seats) ≡ Ok (amounts_in setup.stacks)
+  unfolding required stacks_said
   stacks_again =
       let all = amounts_in setup.stacks in
       let count : length (number_data all) ≡ setup.stacks.seats = length-map all (λ number. integer (pos number)) ∙ stacks_count in
@@ -119,8 +119,8 @@ module _ (place : ℕ) (play : Play) (valid : IsValid play.trace.setup) where
   ante_few : (seat : ℕ) → 1 ≤ seat → seat ≤ setup.antes.seats → IsWithin 0 MOST_CHIPS (amount_of setup.antes seat)
   ante_few seat from within = (omega arith, omega (arith, valid.antes seat, (valid.stacks seat from (omega (arith, within, valid.same_antes))).1))
 
-  antes_again : (needed keys.Antes members >>= antes_said (amounts_in setup.stacks)) ≡ Ok (amounts_in setup.antes)
-  unfolding needed
+  antes_again : (required keys.Antes members >>= antes_said (amounts_in setup.stacks)) ≡ Ok (amounts_in setup.antes)
+  unfolding required
   antes_again = rw (at keys.Antes) (antes_kept (amounts_in setup.stacks) (amounts_in setup.antes) antes_count (each_amount (IsWithin 0 MOST_CHIPS) setup.antes ante_few) ante_less)
     where
       ante_less : (k : ℕ) → get_or (amounts_in setup.antes) k 0 ≤ get_or (amounts_in setup.stacks) k 0
@@ -156,7 +156,7 @@ module _ (place : ℕ) (play : Play) (valid : IsValid play.trace.setup) where
       (two_taken setup.blinds.amounts (valid.heads_up (sym valid.same_blinds ∙ seats)))
 
   blinds_by : (stud : Bool) → is_stud setup.code ≡ stud → blinds_said setup.code (length (amounts_in setup.stacks)) members ≡ Ok (amounts_in setup.blinds)
-  unfolding blinds_said needed
+  unfolding blinds_said required
   blinds_by true is =
       let zeros = taken_zeros setup.blinds.seats setup.blinds.amounts (omega (arith, setup.blinds.full, setup.blinds.greatest))
       (λ k. subst (λ (n : ℕ). get_or setup.blinds.amounts n 0 ≡ 0) (omega arith) (valid.stud is (k + 1))) in
@@ -171,7 +171,7 @@ module _ (place : ℕ) (play : Play) (valid : IsValid play.trace.setup) where
   blinds_again = blinds_by (is_stud setup.code) refl
 
   size_again : (used : Bool) (size : ℕ) (key : FieldKey) → IsSizeWhere used size → field_at (key_text key) (hand_fields place play) ≡ size_field used size → size_said used key members ≡ Ok size
-  unfolding size_said needed
+  unfolding size_said required
   size_again true size key is found = rw (at key, found) (amount_again 1 MOST_CHIPS size (at_key key) is.0 is.1)
   size_again false size key is found = ap (λ n. Ok n) (sym is)
 

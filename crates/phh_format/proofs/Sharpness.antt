@@ -1,19 +1,19 @@
--- A play that the format does not spell is that of no hand that bytes say: each such hand is under the rules of hand histories,
--- where no raise of a legal hand is closed.
+-- A play that the format cannot write is in no bytes: each hand that is read is under the rules of
+-- hand histories, where no raise of a legal hand is closed.
 use Rattle.std.proofs.Common.{◌≡◌, ℕ, ◌+◌, ◌-◌, nat_lt, Bool, true, false, if◌then◌else◌, List, [], ◌∷◌, ◌++◌, map, Option, Some, None, Result, Ok, Err, IfOk, length, refl, sym, ap, subst, ◌∙◌}
 use Rattle.std.specs.List.{AllByRecursion, list_any}
 use Rattle.toml.specs.Data.{Data, Members}
 use Rattle.chip_ledger.specs.declared.seat_row.TheConstants.{MOST_AMOUNT}
-use Rattle.phh_fields.specs.declared.fault.FieldKey.TheVariants as keys
-use Rattle.phh_fields.specs.Fields.{at_key, field, list_said, needed}
-use Rattle.phh_fields.specs.NoteFields.{notes_said}
-use Rattle.phh_fields.specs.Rows.{row_said}
-use Rattle.phh_fields.specs.SetupFields.{setup_said}
+use Rattle.phh_reading.specs.declared.field_fault.FieldKey.TheVariants as keys
+use Rattle.phh_reading.specs.Fields.{at_key, field, list_said, required}
+use Rattle.phh_reading.specs.NoteFields.{notes_said}
+use Rattle.phh_reading.specs.Rows.{row_said}
+use Rattle.phh_reading.specs.SetupFields.{setup_said}
 use Rattle.phh_reading.specs.Events.{counts_after, events_said}
 use Rattle.phh_reading.specs.declared.events.EventCounts.{EventCounts}
 use Rattle.play_event.specs.Said.{Numbered}
-use Rattle.list_laws.proofs.Any.{list_any-map}
-use Rattle.list_laws.proofs.Tests.{false_true}
+use Rattle.card_set.proofs.Any.{list_any-map}
+use Rattle.card_set.proofs.Tests.{false_true}
 use Rattle.first_fault.specs.Reading.{◌>>=◌, read_if, thread_from}
 use Rattle.play_event.specs.HistoryRules.{history_rules}
 use Rattle.play_event.specs.Played.{move_said}
@@ -23,13 +23,13 @@ use Rattle.hand_records.specs.declared.trace.Play.{Play}
 use Rattle.hand_records.specs.declared.writing.Unspelled.{Unspelled}
 use Rattle.hand_records.specs.declared.writing.Unspelled.TheVariants as facts
 use Rattle.hand_canon.specs.Judged.{IsTraceOfLegal}
-use Rattle.canon_ranges.proofs.SuitedRules.{suits_own}
+use Rattle.canon_laws.proofs.SuitedRules.{suits_own}
 use Rattle.phh_reading.specs.Hand.{finish_stated, hand_said, rakes_at}
 use Rattle.phh_reading.specs.Reading.{Wrong, at_variant, document_of, document_said, hands_of, hands_said, in_hand, numbered_hand, reading, records_said, spelled_fault, those_said}
 use Rattle.phh_reading.specs.declared.fault.PhhHandFault.{PhhHandFault}
-use Rattle.phh_fields.specs.declared.fault.FieldFault.{FieldFault}
-use Rattle.phh_fields.specs.declared.fault.FieldFaultKind.{FieldFaultKind}
-use Rattle.phh_fields.specs.declared.fault.FieldFaultKind.TheVariants as whats
+use Rattle.phh_reading.specs.declared.field_fault.FieldFault.{FieldFault}
+use Rattle.phh_reading.specs.declared.field_fault.FieldFaultKind.{FieldFaultKind}
+use Rattle.phh_reading.specs.declared.field_fault.FieldFaultKind.TheVariants as whats
 use Rattle.first_fault.specs.declared.limits.Quantity.TheVariants as quantities
 use Rattle.first_fault.specs.declared.limits.TheConstants.{MOST_HANDS}
 use Rattle.phh_writing.specs.Spelled.{unspelled}
@@ -46,7 +46,7 @@ abbrev AreRuled : {S : Type 0} → List PlainHand × S → Type 0
 AreRuled found = AllByRecursion IsRuled found.0
 
 module _ (file_moves place : ℕ) (members : Members) where
-  -- what is read behind each field, in order
+  -- what is read after each field, in order
   abbrev after_notes : PlainSetup → List Numbered × EventCounts → Option (List ℕ) → List ℕ → SaidNotes → Result (PlainHand × ℕ) FieldFault
   after_notes setup events finish rakes notes =
       Ok (record { setup = setup; rakes = rakes; rules = history_rules; script = events.0; stated = finish_stated finish; notes = notes }, events.1.file_moves)
@@ -67,7 +67,7 @@ module _ (file_moves place : ℕ) (members : Members) where
   after_actions setup actions = events_said (length setup.stacks) (counts_after file_moves) actions >>= after_events setup
 
   abbrev actions_read : Result (List Data) FieldFault
-  actions_read = needed keys.Actions members >>= list_said (at_key keys.Actions)
+  actions_read = required keys.Actions members >>= list_said (at_key keys.Actions)
 
   abbrev after_setup : PlainSetup → Result (PlainHand × ℕ) FieldFault
   after_setup setup = actions_read >>= after_actions setup
@@ -106,7 +106,7 @@ then_ruled : (found : List PlainHand × ℕ) (others : Result (List PlainHand ×
 then_ruled found (Ok rest) is all = both_ruled found.0 rest.0 is all
 then_ruled found (Err fault) is all = tt
 
--- hands behind the first one, from the moves of the file behind it
+-- hands after the first one, from the moves of the file after it
 rest_ruled : (rest : ℕ → Result (List PlainHand × ℕ) PhhHandFault) (first : Result (List PlainHand × ℕ) PhhHandFault) → IfOk first AreRuled → ((file_moves : ℕ) → IfOk (rest file_moves) AreRuled)
     → IfOk (first >>= λ found. rest found.1 >>= λ others. Ok (found.0 ++ others.0, others.1)) AreRuled
 rest_ruled rest (Ok found) is all = then_ruled found (rest found.1) is (all found.1)
@@ -137,7 +137,7 @@ document_ruled : (document : Option Members) → IfOk (document_said document) (
 document_ruled None = tt
 document_ruled (Some members) = spelled_ruled (those_said (hands_of members)) (those_ruled (hands_of members))
 
--- each hand that bytes say is under the rules of hand histories
+-- each hand that is read from bytes is under the rules of hand histories
 reading_ruled : (bytes : List ℕ) → IfOk (reading bytes) (AllByRecursion IsRuled)
 unfolding reading
 reading_ruled bytes = document_ruled (document_of bytes)
@@ -162,7 +162,7 @@ each_other play fact is (hand ∷ hands) ruled = (
   each_other play fact is hands ruled.1,
 )
 
--- what the format does not spell, no bytes say
+-- what the format cannot write is in no bytes
 pub unspelled_unsaid : (play : Play) (fact : Unspelled) → unspelled play ≡ Some fact → (bytes : List ℕ) (hands : List Record) → reading bytes ≡ Ok (map plain hands) → AllByRecursion (IsOther play) hands
 unspelled_unsaid play fact is bytes hands reads =
     let P : Result (List PlainHand) Wrong → Type 0 = λ read. IfOk read (AllByRecursion IsRuled) in

@@ -1,4 +1,4 @@
--- Sound plays have all that a reader needs, so what was written of them reads back.
+-- Sound plays have all that a reader needs, so what was written for them reads back.
 use Rattle.std.proofs.Common.{◌≡◌, ℕ, ◌-◌, ◌≤◌, ◌<◌, List, [], ◌∷◌, length, count_by, sum_by, Ok, refl, sym, ap, subst, ◌∙◌, arith}
 use Rattle.std.specs.List.{AllByRecursion}
 use Rattle.std.proofs.lemmas.List.{length-map, length-take-le}
@@ -11,10 +11,10 @@ use Rattle.play_event.specs.Said.{Said}
 use Rattle.play_event.specs.Scripts.{past_at_end}
 use Rattle.play_event.specs.ValidSetup.{IsValid}
 use Rattle.play_event.specs.declared.setup.Setup.{Setup}
-use Rattle.canon_script.specs.CanonScript.{canon_of, canonical_script}
-use Rattle.canon_script.specs.PlayedScript.{IsWithinLimits, is_move}
-use Rattle.canon_ranges.proofs.EventRanges.{events_in_range}
-use Rattle.canon_ranges.proofs.SameMoves.{canon_within, same_moves}
+use Rattle.play_event.specs.CanonScript.{canon_of, canonical_script}
+use Rattle.play_event.specs.PlayedScript.{IsWithinLimits, is_move}
+use Rattle.canon_laws.proofs.EventRanges.{events_in_range}
+use Rattle.canon_laws.proofs.SameMoves.{canon_within, same_moves}
 use Rattle.hand_records.specs.AllowedNotes.{AreAllowed}
 use Rattle.hand_canon.specs.Sound.{IsSound}
 use Rattle.hand_records.specs.SoundRecord.{script_said}
@@ -59,7 +59,7 @@ module _ (play : Play) (sound : IsSound play) where
       sym (ap (λ (of : Setup). canonical_script of (core_said play.trace)) sound.trace.same_setup
       ∙ ap (canonical_script setup) sound.trace.core)
 
-  -- as many moves are written as were played
+  -- the same number of moves is written as was played
   pub same_count : moves_written play ≡ moves_played play
   same_count =
       ap (count_by is_move) (sym same_script) ∙ same_moves setup play.hand.rules script sound.legal.played

@@ -1,4 +1,4 @@
--- The hands that are read again of plays that were written: the same setups, rakes and finishing
+-- The hands that are read back from plays that were written: the same setups, rakes and finishing
 -- stacks, the canonical scripts, and the notes.
 use Rattle.std.specs.Prelude.{ℕ, ◌+◌, List, [], ◌∷◌, Some}
 use Rattle.play_event.specs.HistoryRules.{history_rules}
@@ -11,12 +11,12 @@ use Rattle.first_fault.specs.Numbers.{kept_number}
 use Rattle.hand_records.specs.PlainHands.{PlainHand, plain_setup}
 use Rattle.hand_records.specs.SaidNotes.{notes_of}
 
--- events with the numbers of their actions, of which the first has this number
+-- events with the numbers of their actions; the first has this number
 abbrev pub numbered_from : ℕ → List Said → List Numbered
 numbered_from n [] = []
 numbered_from n (event ∷ rest) = (kept_number n, event) ∷ numbered_from (n + 1) rest
 
--- the hand that is read again of the play at a place of its file, from 0
+-- the hand that is read back from the play at this place of its file, from 0
 abbrev pub hand_again : ℕ → Play → PlainHand
 hand_again place play =
     record {
@@ -28,7 +28,7 @@ hand_again place play =
       notes = notes_of place play;
     }
 
--- the hands that are read again of plays, of which the first is at this place
+-- the hands that are read back from plays; the first is at this place
 abbrev pub hands_again : ℕ → List Play → List PlainHand
 hands_again place [] = []
 hands_again place (play ∷ rest) = hand_again place play ∷ hands_again (place + 1) rest

@@ -1,6 +1,6 @@
 -- Which notes the format keeps: all of them.
 use Rattle.hand_records.specs.SaidNotes.{SaidNotes}
 
--- the notes that have a spelling
+-- the notes that the format can write
 abbrev pub kept_in_phh : SaidNotes → SaidNotes
 kept_in_phh notes = notes

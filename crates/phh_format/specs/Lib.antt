@@ -1,5 +1,5 @@
--- What is read again of plays that were written, which notes are kept, and when two texts are one
--- table.
+-- What is read back from plays that were written, which notes are kept, and when two texts are the
+-- same table.
 pub mod Again
 pub mod KeptNotes
 pub mod SameTables

@@ -1,4 +1,4 @@
-//! What was written of plays reads back, proved over the definitions.
+//! What was written for plays reads back as these plays, proved over the definitions.
 ghost use Rattle.std.specs.Prelude.{◌≡◌, ℕ, ◌≤◌, List, length, map, sum_by, None, Ok, Some};
 ghost use Rattle.std.specs.List.{AllByRecursion};
 ghost use Rattle.first_fault.specs.declared.limits.TheConstants.{MOST_FILE_MOVES, MOST_HANDS};
@@ -18,8 +18,8 @@ ghost use Rattle.hand_canon.specs.Sharp.{IsOther};
 ghost use Rattle.hand_records.specs.WriteRefusals.{first_refusal};
 ghost use Rattle.hand_records.specs.PlainHands.{plain};
 
-/// Bytes that spell sound plays, no more of them and of their moves than a file may have, read as
-/// the hands of these plays: with their setups, rakes and finishing stacks, their canonical
+/// Take bytes that spell sound plays, where plays and moves are within the limits of a file. They
+/// read as the hands of these plays: with their setups, rakes and finishing stacks, their canonical
 /// scripts, and their kept notes. The function does nothing: its contract is a law.
 pub fn law_of_reading_again()
     ensures { (plays : List Play) (bytes : List ℕ)
@@ -28,10 +28,11 @@ pub fn law_of_reading_again()
         → Spells plays bytes → reading bytes ≡ Ok (hands_again 0 plays) }
 {}
 
-/// What bytes say that spell sound plays, no more of them and of their moves than a file may have:
-/// as many hands, which are legal under the rules of hand histories, have the whole traces of the
-/// plays, state nothing that differs, and have all notes. It holds where the format spells the
-/// plays: no raise is closed. The function does nothing: its contract is a law.
+/// Take bytes that spell sound plays, where plays and moves are within the limits of a file. They
+/// read as the same number of hands, which are legal under the rules of hand histories, have the
+/// whole traces of the plays, state nothing that differs, and have all notes. This holds if the
+/// format can write the plays: no raise in them is closed. The function does nothing: its contract
+/// is a law.
 pub fn law_of_reading_back()
     ensures { (plays : List Play) (bytes : List ℕ)
         → length plays ≤ MOST_HANDS → AllByRecursion IsSound plays
@@ -41,7 +42,7 @@ pub fn law_of_reading_back()
         → AreAgain (KeepsNotes kept_in_phh) 0 plays hands }
 {}
 
-/// A play that the format does not spell is written in no bytes: no hand that any bytes say is
+/// If the format cannot write a play, then no bytes hold it: no hand that is read from any bytes is
 /// legal with the trace of the play. The function does nothing: its contract is a law.
 pub fn law_of_sharpness()
     ensures { (play : Play) (fact : Unspelled) → unspelled play ≡ Some fact

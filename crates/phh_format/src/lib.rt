@@ -1,5 +1,5 @@
-//! The Poker Hand History format: bytes are read as records, and plays are written as bytes that
-//! read as their document, and so as their hands again.
+//! The Poker Hand History format: reads bytes as records, and writes plays as bytes that read as
+//! their document, and so as the same hands.
 #![tactic(auto)]
 
 mod laws;

@@ -1,8 +1,8 @@
 -- Events are counted one after the other.
 use Rattle.std.proofs.Common.{◌≡◌, ℕ, ◌+◌, Bool, true, false, not, cond, List, [], ◌∷◌, ◌++◌, map, count_by, Option, Some, None, refl, sym, ap, ◌∙◌, subst, arith}
 use Rattle.std.proofs.lemmas.List.{append-nil, map_push}
-use Rattle.list_laws.proofs.Counting.{count_by-push}
-use Rattle.canon_script.specs.PlayedScript.{is_move}
+use Rattle.card_set.proofs.Counting.{count_by-push}
+use Rattle.play_event.specs.PlayedScript.{is_move}
 use Rattle.play_event.specs.declared.event.Event.{Event}
 use Rattle.play_event.specs.Said.{Said, said_of}
 use Rattle.phh_reading.specs.declared.events.EventCounts.{EventCounts}

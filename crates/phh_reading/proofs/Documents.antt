@@ -1,4 +1,4 @@
--- Whether bytes are a document is told by whether they are text, and by what the text reads as.
+-- Whether bytes are a document depends on whether they are text, and on what the text reads as.
 use Rattle.std.proofs.Common.{◌≡◌, ℕ, true, false, List, Some, None, ◌∙◌, ap, if◌then◌else◌, ⊎_elim}
 use Rattle.std.specs.Str.{IsUtf8, is_utf8}
 use Rattle.std.proofs.lemmas.Bool.{cases_Bool}
@@ -12,7 +12,7 @@ pub document_is : (bytes : List ℕ) (document : Members) → IsUtf8 bytes → p
 document_is bytes document text read =
     ap (λ b. if b then parse_document bytes else None) (is_utf8-from_IsUtf8 bytes text) ∙ read
 
--- what is no text, or reads as no document, is none
+-- bytes that are not text, or do not read as a document, have no document
 pub no_document : (bytes : List ℕ) → (IsUtf8 bytes → parse_document bytes ≡ None) → document_of bytes ≡ None
 no_document bytes unread =
     ⊎_elim

@@ -1,3 +1,8 @@
+-- Laws of the fields of a hand.
+pub mod Lists
+pub mod Zeros
+pub mod Games
+pub mod NoRakes
 -- Laws of readings.
 pub mod NumberOrder
 pub mod Placing

@@ -1,5 +1,5 @@
--- Numbers compare as the digits of their texts do once zeros in front are dropped: the longer is the greater, and of equal
--- length the greater digits.
+-- Numbers compare as the digits of their texts do without leading zeros: the longer is the greater,
+-- and with equal length the greater digits.
 use Rattle.std.proofs.Common.{◌≡◌, ℕ, zero, suc, ◌+◌, ◌-◌, ◌*◌, ◌<◌, ◌≤◌, ◌==◌, true, false, List, [], ◌∷◌, ◌++◌, length, replicate, Less, Greater, nat_cmp, nat_lt, refl, sym, subst, ap, ◌∙◌, inl, inr, arith, length-append}
 use Rattle.std.proofs.lemmas.Bool.{cases_Bool, cases_lt, and_parts, eqb-true}
 use Rattle.std.proofs.lemmas.List.{length-replicate}
@@ -10,8 +10,8 @@ use Rattle.std.specs.Ordering.{ordering_then}
 use Rattle.std.specs.Str.Parse.{digits_value, digits_value_after}
 use Rattle.first_fault.specs.Digits.{are_digits}
 use Rattle.phh_reading.specs.Stripped.{number_digits}
-use Rattle.list_laws.proofs.Digits.{digit_least, digit_most, zeros_say}
-use Rattle.list_laws.proofs.Orderings.{equal, greater, less, then_assoc, then_equal}
+use Rattle.card_set.proofs.Digits.{digit_least, digit_most, zeros_say}
+use Rattle.card_set.proofs.Orderings.{equal, greater, less, then_assoc, then_equal}
 
 -- a digit
 abbrev IsDigit : ℕ → Type 0
@@ -29,7 +29,7 @@ digits_from (sign ∷ rest) all =
     let parts = and_parts (is_digit sign 10) (list_all (λ other. is_digit other 10) rest) all in
     ((digit_least sign parts.0, digit_most sign parts.0), digits_from rest parts.1)
 
--- one digit more on each side
+-- one more digit on each side
 next : (n m x y : ℕ) → IsDigit x → IsDigit y → nat_cmp (n * 10 + digit_value x) (m * 10 + digit_value y) ≡ ordering_then (nat_cmp n m) (nat_cmp x y)
 next n m x y dx dy =
     let vx = digit_is x dx in
@@ -48,7 +48,7 @@ next n m x y dx dy =
       ]
     ]
 
--- as many digits on each side
+-- the same number of digits on each side
 same_length : (xs ys : List ℕ) (n m : ℕ) → AreDigits xs → AreDigits ys → length xs ≡ length ys → nat_cmp (digits_value_after 10 n xs) (digits_value_after 10 m ys) ≡ ordering_then (nat_cmp n m) (slice_cmp nat_cmp xs ys)
 same_length [] [] n m dx dy same = then_equal (nat_cmp n m)
 same_length [] (y ∷ ys) n m dx dy same = absurd (omega (arith, same))
@@ -70,7 +70,7 @@ strip_zero c cs is =
 strip_other : (c : ℕ) (cs : List ℕ) → (c == 48) ≡ false → number_digits (c ∷ cs) ≡ c ∷ cs
 strip_other c cs other = rw other refl
 
--- digits without zeros in front
+-- digits without leading zeros
 abbrev IsStripped : List ℕ → Type 0
 IsStripped [] = Unit {0}
 IsStripped (c ∷ cs) = (c == 48) ≡ false
@@ -104,7 +104,7 @@ strip_value (c ∷ cs) =
 above_zero : (y : ℕ) → IsDigit y → (y == 48) ≡ false → 48 < y
 above_zero y is other = grind (arith, is.0, other)
 
--- fewer digits than digits without zeros in front say less
+-- a number with fewer digits is less than one with more digits and no leading zero
 padded : (xs : List ℕ) (y : ℕ) (ys : List ℕ) → length xs < length (y ∷ ys) → length (replicate (suc (length ys - length xs)) 48 ++ xs) ≡ length (y ∷ ys)
 padded xs y ys few = omega (arith, few, length-append (replicate (suc (length ys - length xs)) 48) xs, length-replicate {A = ℕ} (suc (length ys - length xs)) 48)
 

@@ -2,8 +2,8 @@
 use Rattle.std.specs.Prelude.{◌≡◌, ℕ, ◌+◌, ◌≤◌, Bool, not, cond, map, count_by, nat_le, if◌then◌else◌, List, [], ◌∷◌, Option, Some, None, Result, Ok, Err}
 use Rattle.toml.specs.Data.{Data}
 use Rattle.first_fault.specs.declared.limits.Quantity.TheVariants as quantities
-use Rattle.canon_script.specs.declared.limits.TheConstants.{MOST_MOVES, MOST_OTHER_EVENTS}
-use Rattle.canon_script.specs.PlayedScript.{is_move}
+use Rattle.play_event.specs.declared.hand_limits.TheConstants.{MOST_MOVES, MOST_OTHER_EVENTS}
+use Rattle.play_event.specs.PlayedScript.{is_move}
 use Rattle.first_fault.specs.declared.limits.TheConstants.{MOST_FILE_MOVES}
 use Rattle.play_event.specs.declared.event.Event.{Event}
 use Rattle.play_event.specs.Said.{Said, Numbered, numbered, said_of}
@@ -11,20 +11,20 @@ use Rattle.first_fault.specs.Reading.{◌>>=◌, thread_from}
 use Rattle.phh_actions.specs.declared.fault.ActionFault.{ActionFault}
 use Rattle.phh_actions.specs.declared.fault.ActionFault.TheVariants as actions
 use Rattle.phh_actions.specs.Action.{action_said}
-use Rattle.phh_fields.specs.declared.fault.FieldKey.TheVariants as keys
-use Rattle.phh_fields.specs.declared.fault.FieldFaultKind.{FieldFaultKind}
-use Rattle.phh_fields.specs.declared.fault.FieldFaultKind.TheVariants as whats
-use Rattle.phh_fields.specs.declared.fault.FieldPlace.{FieldPlace}
-use Rattle.phh_fields.specs.declared.fault.FieldFault.{FieldFault}
-use Rattle.phh_fields.specs.Fields.{at_item, wrong, text_said}
+use Rattle.phh_reading.specs.declared.field_fault.FieldKey.TheVariants as keys
+use Rattle.phh_reading.specs.declared.field_fault.FieldFaultKind.{FieldFaultKind}
+use Rattle.phh_reading.specs.declared.field_fault.FieldFaultKind.TheVariants as whats
+use Rattle.phh_reading.specs.declared.field_fault.FieldPlace.{FieldPlace}
+use Rattle.phh_reading.specs.declared.field_fault.FieldFault.{FieldFault}
+use Rattle.phh_reading.specs.Fields.{at_item, wrong, text_said}
 use Rattle.phh_reading.specs.declared.events.EventCounts.{EventCounts}
 use Rattle.first_fault.specs.Numbers.{kept_number}
 
--- the counts before the first action of a hand, after so many moves of the file
+-- the counts before the first action of a hand, after this number of moves of the file
 abbrev pub counts_after : ℕ → EventCounts
 counts_after file_moves = record { moves = 0; other_events = 0; file_moves = file_moves }
 
--- no count passes its limit
+-- no count exceeds its limit
 pub record AreFew (counts : EventCounts) : Type 0 where
   pub moves : counts.moves ≤ MOST_MOVES
   pub other_events : counts.other_events ≤ MOST_OTHER_EVENTS
@@ -41,7 +41,7 @@ abbrev pub IsAfter : EventCounts → Option Event → EventCounts → Type 0
 IsAfter before None after = after ≡ before
 IsAfter before (Some event) after = IsOneMore before (is_move (said_of event)) after
 
--- the counts after a hand's first events, where the file had so many moves before the hand
+-- the counts after a hand's first events; the file had this number of moves before the hand
 pub record AreCounted (earlier : ℕ) (script : List Event) (counts : EventCounts) : Type 0 where
   pub moves : counts.moves ≡ count_by is_move (map said_of script)
   pub other_events :

@@ -1,5 +1,5 @@
--- The hands of a document whose keys are numbers, in the order of the numbers, equal numbers in the
--- order of the texts.
+-- The hands of a document whose keys are numbers: in the order of the numbers, and for equal
+-- numbers in the order of the keys' texts.
 use Rattle.std.specs.Prelude.{ℕ, Bool, true, false, ◌&&◌, List, [], ◌∷◌, map}
 use Rattle.std.specs.declared.cmp.Ordering.{Ordering}
 use Rattle.std.specs.Ordering.{nat_cmp, match_ordering, ordering_then}
@@ -14,9 +14,9 @@ is_table (table hand) = true
 is_table _ = false
 
 -- each key is a number, and each value a table
-abbrev pub are_hands : Members → Bool
-are_hands no_members = true
-are_hands (member key value rest) = (are_digits key && is_table value) && are_hands rest
+abbrev pub is_multi_hand : Members → Bool
+is_multi_hand no_members = true
+is_multi_hand (member key value rest) = (are_digits key && is_table value) && is_multi_hand rest
 
 -- a key and its value
 abbrev pub Entry : Type 0
@@ -28,14 +28,14 @@ key_cmp key other =
     ordering_then (nat_cmp (digits_value 10 key) (digits_value 10 other))
     (slice_cmp nat_cmp key other)
 
--- an entry at its place among others
+-- an entry, inserted at its place among others
 abbrev pub placed : List ℕ → Data → List Entry → List Entry
 placed key value [] = (key, value) ∷ []
 placed key value (next ∷ rest) =
     match_ordering (key_cmp key next.0) ((key, value) ∷ next ∷ rest) ((next.0, value) ∷ rest)
     (next ∷ placed key value rest)
 
--- each of the entries placed among those before it
+-- the entries, each inserted at its place among those before it
 abbrev pub placed_all : List Entry → Members → List Entry
 placed_all entries no_members = entries
 placed_all entries (member key value rest) = placed_all (placed key value entries) rest

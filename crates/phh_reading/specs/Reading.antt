@@ -1,4 +1,4 @@
--- The records that bytes say, or their first fault.
+-- The records in bytes, or the first fault of the bytes.
 use Rattle.std.specs.Prelude.{◌≡◌, ℕ, ◌-◌, nat_lt, if◌then◌else◌, List, [], ◌∷◌, map, Option, Some, None, is_some, IfSome, Result, Ok, Err}
 use Rattle.std.specs.Str.{is_utf8}
 use Rattle.toml.specs.Data.{Members}
@@ -7,16 +7,16 @@ use Rattle.first_fault.specs.declared.limits.Quantity.TheVariants as quantities
 use Rattle.first_fault.specs.declared.limits.TheConstants.{MOST_HANDS}
 use Rattle.hand_records.specs.declared.record.Record.{Record}
 use Rattle.first_fault.specs.Reading.{◌>>=◌, thread_from}
-use Rattle.phh_fields.specs.declared.fault.FieldKey.TheVariants as keys
-use Rattle.phh_fields.specs.declared.fault.FieldFaultKind.{FieldFaultKind}
-use Rattle.phh_fields.specs.declared.fault.FieldFaultKind.TheVariants as whats
-use Rattle.phh_fields.specs.declared.fault.FieldFault.{FieldFault}
-use Rattle.phh_fields.specs.Fields.{at_key, field, place_text}
+use Rattle.phh_reading.specs.declared.field_fault.FieldKey.TheVariants as keys
+use Rattle.phh_reading.specs.declared.field_fault.FieldFaultKind.{FieldFaultKind}
+use Rattle.phh_reading.specs.declared.field_fault.FieldFaultKind.TheVariants as whats
+use Rattle.phh_reading.specs.declared.field_fault.FieldFault.{FieldFault}
+use Rattle.phh_reading.specs.Fields.{at_key, field, place_text}
 use Rattle.phh_reading.specs.declared.fault.PhhHandFault.{PhhHandFault}
 use Rattle.phh_reading.specs.declared.fault.PhhFault.{PhhFault}
 use Rattle.phh_reading.specs.declared.fault.PhhFault.TheVariants as faults
 use Rattle.phh_reading.specs.Hand.{hand_said}
-use Rattle.phh_reading.specs.Order.{are_hands, in_order}
+use Rattle.phh_reading.specs.Order.{is_multi_hand, in_order}
 use Rattle.hand_records.specs.PlainHands.{PlainHand, plain}
 
 -- a fault of the hand with this number
@@ -29,23 +29,23 @@ abbrev pub at_variant : {A : Type 0} → ℕ → FieldFaultKind → Result A Phh
 at_variant number what =
     Err (record { hand = number; fault = record { what = what; place = at_key keys.Variant } })
 
--- the hand with this number, from 1, after so many moves of the file; and the moves of the file
--- after it
+-- the hand with this number, from 1, after this number of moves of the file; and the moves of the
+-- file after it
 unfoldable pub numbered_hand : ℕ → ℕ → Members → Result (List PlainHand × ℕ) PhhHandFault
 numbered_hand file_moves number members =
     if nat_lt MOST_HANDS number then at_variant number (whats.TooMany quantities.Hands)
     else (in_hand number (hand_said file_moves (number - 1) members)
     >>= λ found. Ok (found.0 ∷ [], found.1))
 
--- the hands of a document: one where it has a variant, those under its numbers, or none where
--- nothing is in it
+-- the hands of a document: one if it has a variant, else those under its numbers; none if it is
+-- empty
 unfoldable pub hands_of : Members → Option (List Members)
 hands_of members =
     if is_some (field keys.Variant members) then Some (members ∷ [])
-    else if are_hands members then Some (in_order members)
+    else if is_multi_hand members then Some (in_order members)
     else None
 
--- the hands of tables, in order, and the moves of the file after them
+-- the hands of tables, in order, and the number of moves in the file
 abbrev pub hands_said : List Members → Result (List PlainHand × ℕ) PhhHandFault
 hands_said hands = thread_from numbered_hand 0 1 hands
 
@@ -53,36 +53,35 @@ hands_said hands = thread_from numbered_hand 0 1 hands
 abbrev pub records_said : List Members → Result (List PlainHand) PhhHandFault
 records_said hands = hands_said hands >>= λ found. Ok found.0
 
--- the hands of a document that has some or none, and any other document lacks the variant of its
--- first hand
+-- the records of these hands; any other document has no variant for its first hand
 abbrev pub those_said : Option (List Members) → Result (List PlainHand) PhhHandFault
 those_said (Some hands) = records_said hands
 those_said None = at_variant 1 whats.MissingField
 
--- what is wrong with bytes: they are no document, or a hand of it has a fault at a key
+-- what is wrong with bytes: they are not a document, or one of its hands has a fault at a key
 pub data Wrong : Type 0 where
   NoDocument : Wrong
   InHand : ℕ → List ℕ → FieldFaultKind → Wrong
 
--- a fault with its key as it is spelled
+-- a fault with its key as text
 abbrev pub spelled_fault : {A : Type 0} → Result A PhhHandFault → Result A Wrong
 spelled_fault (Ok x) = Ok x
 spelled_fault (Err found) = Err (InHand found.hand (place_text found.fault.place) found.fault.what)
 
--- the document that the bytes are
+-- the document of the bytes, if they are TOML
 abbrev pub document_of : List ℕ → Option Members
 document_of bytes = if is_utf8 bytes then parse_document bytes else None
 
--- the records of what is a document or is none
+-- the records of the document, if there is one
 abbrev pub document_said : Option Members → Result (List PlainHand) Wrong
 document_said None = Err NoDocument
 document_said (Some members) = spelled_fault (those_said (hands_of members))
 
--- the records that bytes say, or their first fault
+-- the records in bytes, or the first fault
 unfoldable pub reading : List ℕ → Result (List PlainHand) Wrong
 reading bytes = document_said (document_of bytes)
 
--- what a fault says, but for want of memory
+-- what is wrong, unless memory ran out
 abbrev pub wrong_of : PhhFault → Option Wrong
 wrong_of faults.Text = Some NoDocument
 wrong_of (faults.MissingField hand key) = Some (InHand hand key whats.MissingField)
@@ -96,8 +95,7 @@ wrong_of (faults.BadAction hand key) = Some (InHand hand key whats.BadAction)
 wrong_of (faults.TooMany hand key quantity) = Some (InHand hand key (whats.TooMany quantity))
 wrong_of (faults.Memory memory) = None
 
--- an answer is what is read: the records that it holds, or the fault that it names; want of memory
--- says nothing
+-- the result is what is read: the records, or the fault; nothing is claimed if memory ran out
 abbrev pub Reads : Result (List Record) PhhFault → Result (List PlainHand) Wrong → Type 0
 Reads (Ok records) read = read ≡ Ok (map plain records)
 Reads (Err fault) read = IfSome (wrong_of fault) (λ wrong. read ≡ Err wrong)

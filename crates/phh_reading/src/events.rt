@@ -1,25 +1,24 @@
-//! Actions are read as events, counted, with the numbers of their actions.
+//! Reads actions as events, counts them, and numbers them by their actions.
 ghost use Rattle.std.specs.Prelude.{◌≡◌, ◌≤◌, ◌+◌, ◌++◌, map, IfOk, OnOk, option_map};
 ghost use Rattle.toml.specs.View.{view};
 ghost use Rattle.first_fault.specs.declared.limits.TheConstants.{MOST_FILE_MOVES};
-ghost use Rattle.canon_script.specs.PlayedScript.{is_move as is_move_said};
+ghost use Rattle.play_event.specs.PlayedScript.{is_move as is_move_said};
 ghost use Rattle.play_event.specs.Said.{kind_said, numbered};
 ghost use Rattle.first_fault.specs.Reading.{Gives};
 ghost use Rattle.phh_actions.specs.Action.{action_said};
 ghost use Rattle.phh_reading.specs.Events.{AreCounted, AreFew, IsAfter, IsOneMore, action_fault, at_place, counted, counts_after, event_said, events_said, listed_event, one_event};
 ghost use Rattle.first_fault.specs.Numbers.{kept_number};
 
-use canon_script::{MOST_MOVES, MOST_OTHER_EVENTS};
+use crate::field_fault::{FieldFault, FieldFaultKind, FieldKey, FieldPlace};
+use crate::values::{field_fault_at, read_text};
 use card_set::Memory;
-use first_fault::{MOST_FILE_MOVES, Quantity, Stop};
+use first_fault::{MOST_FILE_MOVES, Quantity, ReadError};
 use phh_actions::{ActionFault, read_action};
-use phh_fields::fault::{FieldFault, FieldFaultKind, FieldKey, FieldPlace};
-use phh_fields::values::{read_text, wrong};
-use play_event::{Event, Kind, Script};
+use play_event::{Event, Kind, MOST_MOVES, MOST_OTHER_EVENTS, Script};
 use std::alloc::Global;
 use toml::Value;
 
-/// How many moves and other events were read of a hand, and how many moves of the file.
+/// How many moves and other events were read of a hand, and how many moves of the whole file.
 #[derive(Clone, Copy, Debug, PartialEq, Eq)]
 pub struct EventCounts {
     pub moves: usize,
@@ -27,14 +26,14 @@ pub struct EventCounts {
     pub file_moves: usize,
 }
 
-/// The events of the actions of a hand with so many seats, after so many moves of the file; and the
-/// counts after them.
+/// The events of the actions of a hand with `seats` seats, after `file_moves` moves of the file;
+/// and the counts after them.
 pub fn read_events(
     alloc: Global,
     seats: u8,
     file_moves: usize,
     actions: &[Value],
-) -> Result<(Script, EventCounts), Stop<FieldFault>>
+) -> Result<(Script, EventCounts), ReadError<FieldFault>>
     requires seats { seats ≤ 10 }
     requires few { file_moves ≤ MOST_FILE_MOVES }
     ensures said { Gives (λ found. (map numbered found.0, found.1)) result
@@ -63,7 +62,7 @@ fn read_event(
     counts: EventCounts,
     number: u64,
     value: &Value,
-) -> Result<(Option<Event>, EventCounts), Stop<FieldFault>>
+) -> Result<(Option<Event>, EventCounts), ReadError<FieldFault>>
     requires { seats ≤ 10 }
     ensures said { Gives (λ found. (listed_event found.0, found.1)) result
         (event_said seats counts number (view value.now)) }
@@ -79,20 +78,24 @@ fn read_event(
         None => Ok((None, counts)),
         Some(kind) => {
             let next = count(counts, place, is_move(kind))?;
-            let at = kept(number);
+            let at = saturating_u32(number);
             Ok((Some(Event { at, kind }), next))
         }
     }
 }
 
-// What the text of an action says.
-fn read_kind(text: &str, seats: u8, place: FieldPlace) -> Result<Option<Kind>, Stop<FieldFault>>
+// The event of an action's text.
+fn read_kind(
+    text: &str,
+    seats: u8,
+    place: FieldPlace,
+) -> Result<Option<Kind>, ReadError<FieldFault>>
     requires { seats ≤ 10 }
     ensures { Gives (option_map kind_said) result (at_place place (action_said seats text.now)) }
 {
     match read_action(text, seats) {
         Ok(kind) => Ok(kind),
-        Err(fault) => Err(wrong(fault_of(fault), place)),
+        Err(fault) => Err(field_fault_at(fault_of(fault), place)),
     }
 }
 
@@ -113,7 +116,7 @@ fn count(
     counts: EventCounts,
     place: FieldPlace,
     moves: bool,
-) -> Result<EventCounts, Stop<FieldFault>>
+) -> Result<EventCounts, ReadError<FieldFault>>
     ensures said { Gives (λ next. next) result (counted counts place moves) }
     ensures few { AreFew counts → IfOk result AreFew }
     ensures one_more { IfOk result (IsOneMore counts moves) }
@@ -142,14 +145,15 @@ fn count(
     }
 }
 
-// A fault of a quantity that passes its limit.
-fn too_many(quantity: Quantity, place: FieldPlace) -> Stop<FieldFault>
-    ensures { result ≡ Stop.At (record { what = FieldFaultKind.TooMany quantity; place = place }) }
+// The fault of a quantity that exceeds its limit.
+fn too_many(quantity: Quantity, place: FieldPlace) -> ReadError<FieldFault>
+    ensures { result ≡ ReadError.Fault
+        (record { what = FieldFaultKind.TooMany quantity; place = place }) }
 {
-    wrong(FieldFaultKind::TooMany { quantity }, place)
+    field_fault_at(FieldFaultKind::TooMany { quantity }, place)
 }
 
-// Whether it is a move.
+// Whether the event is a move.
 fn is_move(kind: Kind) -> bool
     ensures { result ≡ is_move_said (kind_said kind) }
 {
@@ -159,8 +163,8 @@ fn is_move(kind: Kind) -> bool
     }
 }
 
-// The number of an action as it is kept.
-fn kept(number: u64) -> u32
+// The number of an action as it is stored.
+fn saturating_u32(number: u64) -> u32
     ensures { result ≡ kept_number number }
 {
     if number > 4_294_967_295 {
@@ -170,7 +174,7 @@ fn kept(number: u64) -> u32
     }
 }
 
-// The script with one more event, if there is one.
+// Appends the event to the script, if there is one.
 fn push_if(script: &mut Script, event: Option<Event>) -> Result<(), Memory>
     ensures events { OnOk result (script.new ≡ script.old ++ one_event event) }
     ensures numbered { OnOk result (map numbered script.new

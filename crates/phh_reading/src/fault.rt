@@ -1,22 +1,22 @@
-//! Why bytes are no hands in the Poker Hand History format: their first fault, with its hand and
-//! its key.
+//! Why bytes cannot be read as hands in the Poker Hand History format: their first fault, with its
+//! hand and its key.
+use crate::field_fault::FieldFault;
 use card_set::Memory;
 use first_fault::{Quantity, Text};
-use phh_fields::fault::FieldFault;
 
 /// The first fault of bytes, in the order in which fields are examined. `hand` counts from 1 in the
 /// order of reading. `key` is the key of the field, and for an item of a list the key, a space and
 /// the number of the item from 1.
 #[derive(Debug, Drop)]
 pub enum PhhFault {
-    /// The bytes are no TOML document.
+    /// The bytes are not a TOML document.
     Text,
-    /// A field that is needed lacks.
+    /// A required field is missing.
     MissingField {
         hand: u32,
         key: Text,
     },
-    /// A field is of another kind, or a day is none of the calendar.
+    /// A field has the wrong type, or the date does not exist.
     WrongType {
         hand: u32,
         key: Text,
@@ -31,22 +31,22 @@ pub enum PhhFault {
         hand: u32,
         key: Text,
     },
-    /// The variant is none of the eleven.
+    /// Unknown variant code.
     UnknownVariant {
         hand: u32,
         key: Text,
     },
-    /// The game is not played by so many seats.
+    /// The game is not played with this number of seats.
     SeatCount {
         hand: u32,
         key: Text,
     },
-    /// A list has not one item for each seat, or more rakes than a hand has pots.
+    /// A list does not have one item per seat, or has more rakes than a hand can have pots.
     ListLength {
         hand: u32,
         key: Text,
     },
-    /// An action has none of the forms.
+    /// An action has none of the known forms.
     BadAction {
         hand: u32,
         key: Text,

@@ -1,35 +1,35 @@
-//! The hands of a document are read in order: one where it has a variant, else those under its
-//! numbers.
+//! Reads the hands of a document in order: one hand if the document has a variant, else those under
+//! its numbers.
 ghost use Rattle.std.specs.Prelude.{◌≡◌, ◌≤◌, map, [], ◌∷◌, IfOk};
 ghost use Rattle.toml.specs.View.{table_view};
 ghost use Rattle.first_fault.specs.declared.limits.TheConstants.{MOST_FILE_MOVES, MOST_HANDS};
 ghost use Rattle.first_fault.specs.Reading.{Gives};
-ghost use Rattle.phh_fields.specs.declared.fault.FieldKey.TheVariants as keys;
-ghost use Rattle.phh_fields.specs.Fields.{at_key};
+ghost use Rattle.phh_reading.specs.declared.field_fault.FieldKey.TheVariants as keys;
+ghost use Rattle.phh_reading.specs.Fields.{at_key};
 ghost use Rattle.phh_reading.specs.Reading.{hands_of, hands_said, numbered_hand, records_said, those_said};
 ghost use Rattle.hand_records.specs.Histories.{AreHistories, IsNextHand};
 ghost use Rattle.hand_records.specs.PlainHands.{plain};
 
 use crate::fault::PhhHandFault;
+use crate::field_fault::{FieldFault, FieldFaultKind, FieldKey, FieldPlace};
 use crate::hand::read_hand;
-use crate::order::{are_hands, tables_in_order};
-use first_fault::{MOST_HANDS, Quantity, Stop};
+use crate::order::{is_multi_hand, tables_in_order};
+use crate::values::field;
+use first_fault::{MOST_HANDS, Quantity, ReadError};
 use hand_records::{Record, Records};
-use phh_fields::fault::{FieldFault, FieldFaultKind, FieldKey, FieldPlace};
-use phh_fields::values::field;
 use std::alloc::Global;
 use toml::Table;
 
 /// The hands of a document.
 #[tactic(auto, unfolding(crate::specs::Reading::hands_of))]
-pub fn read_hands(alloc: Global, table: &Table) -> Result<Records, Stop<PhhHandFault>>
+pub fn read_hands(alloc: Global, table: &Table) -> Result<Records, ReadError<PhhHandFault>>
     ensures said { Gives (map plain) result (those_said (hands_of (table_view table.now))) }
     ensures hands { IfOk result AreHistories }
 {
     if field(table, FieldKey::Variant).is_some() {
         return read_records(alloc, &[table]);
     }
-    if !are_hands(table) {
+    if !is_multi_hand(table) {
         return Err(at_variant(1, FieldFaultKind::MissingField));
     }
     let tables = tables_in_order(alloc, table)?;
@@ -37,7 +37,7 @@ pub fn read_hands(alloc: Global, table: &Table) -> Result<Records, Stop<PhhHandF
 }
 
 // The hands of tables, in order.
-fn read_records(alloc: Global, tables: &[&Table]) -> Result<Records, Stop<PhhHandFault>>
+fn read_records(alloc: Global, tables: &[&Table]) -> Result<Records, ReadError<PhhHandFault>>
     ensures said { Gives (map plain) result
         (records_said (map (λ hand. table_view hand.now) tables.now)) }
     ensures hands { IfOk result AreHistories }
@@ -46,14 +46,17 @@ fn read_records(alloc: Global, tables: &[&Table]) -> Result<Records, Stop<PhhHan
     Ok(records)
 }
 
-// The hands of tables, in order, and the moves of the file after them.
-fn read_tables(alloc: Global, tables: &[&Table]) -> Result<(Records, usize), Stop<PhhHandFault>>
+// The hands of tables, in order, and the number of moves in the file.
+fn read_tables(
+    alloc: Global,
+    tables: &[&Table],
+) -> Result<(Records, usize), ReadError<PhhHandFault>>
     ensures said { Gives (λ found. (map plain found.0, found.1)) result
         (hands_said (map (λ hand. table_view hand.now) tables.now)) }
     ensures hands { IfOk result (λ found. AreHistories found.0) }
 {
     let mut records = Records::new(alloc);
-    records.make_room(tables.len());
+    records.reserve(tables.len());
     let mut file_moves = 0;
     for (index, hand) in tables.iter().enumerate() {
         let (record, moves) = read_numbered(alloc, hand, index as u32 + 1, file_moves)?;
@@ -63,14 +66,14 @@ fn read_tables(alloc: Global, tables: &[&Table]) -> Result<(Records, usize), Sto
     Ok((records, file_moves))
 }
 
-// The hand with this number, from 1, after so many moves of the file.
+// The hand with this number, from 1, after `file_moves` moves of the file.
 #[tactic(auto, unfolding(crate::specs::Reading::numbered_hand))]
 fn read_numbered(
     alloc: Global,
     table: &Table,
     number: u32,
     file_moves: usize,
-) -> Result<(Record, usize), Stop<PhhHandFault>>
+) -> Result<(Record, usize), ReadError<PhhHandFault>>
     requires first { 1 ≤ number }
     requires few { file_moves ≤ MOST_FILE_MOVES }
     ensures said { Gives (λ found. (plain found.0 ∷ [], found.1)) result
@@ -84,8 +87,8 @@ fn read_numbered(
     }
     match read_hand(alloc, table, number - 1, file_moves) {
         Ok(found) => Ok(found),
-        Err(Stop::Memory(memory)) => Err(Stop::Memory(memory)),
-        Err(Stop::At(fault)) => Err(Stop::At(PhhHandFault {
+        Err(ReadError::Memory(memory)) => Err(ReadError::Memory(memory)),
+        Err(ReadError::Fault(fault)) => Err(ReadError::Fault(PhhHandFault {
             hand: number,
             fault,
         })),
@@ -93,14 +96,14 @@ fn read_numbered(
 }
 
 // What is wrong at a hand's variant.
-fn at_variant(hand: u32, what: FieldFaultKind) -> Stop<PhhHandFault>
-    ensures { result ≡ Stop.At (record {
+fn at_variant(hand: u32, what: FieldFaultKind) -> ReadError<PhhHandFault>
+    ensures { result ≡ ReadError.Fault (record {
       hand = hand;
       fault = record { what = what; place = at_key keys.Variant };
     }) }
 {
     let place = FieldPlace::at_key(FieldKey::Variant);
-    Stop::At(PhhHandFault {
+    ReadError::Fault(PhhHandFault {
         hand,
         fault: FieldFault { what, place },
     })

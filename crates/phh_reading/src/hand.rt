@@ -1,4 +1,4 @@
-//! The fields of a table are read as the record of one hand.
+//! Reads the fields of a table as the record of one hand.
 ghost use Rattle.std.specs.Prelude.{◌≡◌, ◌≤◌, ◌+◌, ℕ, IfOk, option_map};
 ghost use Rattle.std.specs.Option.{ForSome};
 ghost use Rattle.toml.specs.View.{table_view};
@@ -6,9 +6,9 @@ ghost use Rattle.chip_ledger.specs.declared.seat_row.TheConstants.{MOST_AMOUNT};
 ghost use Rattle.chip_ledger.specs.RakeRow.{rake_of};
 ghost use Rattle.first_fault.specs.declared.limits.TheConstants.{MOST_FILE_MOVES};
 ghost use Rattle.first_fault.specs.Reading.{Gives, read_if};
-ghost use Rattle.phh_fields.specs.declared.fault.FieldKey.TheVariants as keys;
-ghost use Rattle.phh_fields.specs.Fields.{field as field_said};
-ghost use Rattle.phh_fields.specs.Rows.{row_said};
+ghost use Rattle.phh_reading.specs.declared.field_fault.FieldKey.TheVariants as keys;
+ghost use Rattle.phh_reading.specs.Fields.{field as field_said};
+ghost use Rattle.phh_reading.specs.Rows.{row_said};
 ghost use Rattle.chip_ledger.specs.SeatRow.{amounts_in};
 ghost use Rattle.phh_reading.specs.Hand.{hand_said, rakes_at};
 ghost use Rattle.hand_records.specs.Histories.{IsHistory};
@@ -16,27 +16,27 @@ ghost use Rattle.hand_records.specs.Moves.{moves_of};
 ghost use Rattle.hand_records.specs.PlainHands.{plain};
 
 use crate::events::read_events;
+use crate::field_fault::{FieldFault, FieldKey, FieldPlace};
+use crate::notes::read_notes;
+use crate::rows::{read_rakes, read_row};
+use crate::setup::read_setup;
+use crate::values::{field, read_list, required};
 use chip_ledger::{MOST_AMOUNT, RakeRow, SeatRow};
-use first_fault::Stop;
+use first_fault::ReadError;
 use hand_records::{Record, Stated};
-use phh_fields::fault::{FieldFault, FieldKey, FieldPlace};
-use phh_fields::notes::read_notes;
-use phh_fields::rows::{read_rakes, read_row};
-use phh_fields::setup::read_setup;
-use phh_fields::values::{field, needed, read_list};
 use play_event::{Reopen, Rules, Setup};
 use std::alloc::Global;
 use toml::Table;
 
-/// The hand of a table at this place of its file, from 0, after so many moves of the file; and the
-/// moves of the file after it.
+/// The hand of a table at this place of its file, from 0, after `file_moves` moves of the file; and
+/// the moves of the file after it.
 #[tactic(auto, unfolding(crate::specs::Hand::hand_said))]
 pub fn read_hand(
     alloc: Global,
     table: &Table,
     place: u32,
     file_moves: usize,
-) -> Result<(Record, usize), Stop<FieldFault>>
+) -> Result<(Record, usize), ReadError<FieldFault>>
     requires { file_moves ≤ MOST_FILE_MOVES }
     ensures said { Gives (λ found. (plain found.0, found.1)) result
         (hand_said file_moves place (table_view table.now)) }
@@ -47,7 +47,7 @@ pub fn read_hand(
     let setup = read_setup(table)?;
     let seats = setup.stacks.seats;
     let actions = read_list(
-        needed(table, FieldKey::Actions)?,
+        required(table, FieldKey::Actions)?,
         FieldPlace::at_key(FieldKey::Actions),
     )?;
     let (script, counts) = read_events(alloc, seats, file_moves, actions)?;
@@ -73,8 +73,8 @@ pub fn read_hand(
     Ok((hand, counts.file_moves))
 }
 
-// The finishing stacks of so many seats, if they are stated.
-fn read_finish(table: &Table, seats: u8) -> Result<Option<SeatRow>, Stop<FieldFault>>
+// The finishing stacks of `seats` seats, if they are stated.
+fn read_finish(table: &Table, seats: u8) -> Result<Option<SeatRow>, ReadError<FieldFault>>
     requires some { 2 ≤ seats }
     requires few { seats ≤ 10 }
     ensures said { Gives (option_map amounts_in) result
@@ -91,9 +91,9 @@ fn read_finish(table: &Table, seats: u8) -> Result<Option<SeatRow>, Stop<FieldFa
     }
 }
 
-// The rakes, or none.
+// The rakes; 0 if the field is missing.
 #[tactic(auto, unfolding(crate::specs::Hand::rakes_at))]
-fn read_rakes_at(table: &Table) -> Result<RakeRow, Stop<FieldFault>>
+fn read_rakes_at(table: &Table) -> Result<RakeRow, ReadError<FieldFault>>
     ensures said { Gives (λ row. row.rakes) result (rakes_at (table_view table.now)) }
     ensures most { IfOk result (λ row. (pot : ℕ) → rake_of row pot ≤ MOST_AMOUNT) }
 {

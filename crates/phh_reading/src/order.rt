@@ -1,10 +1,10 @@
-//! The tables of a document whose keys are numbers come in the order of the numbers, and then of
-//! the texts.
+//! Orders the tables of a document whose keys are numbers by these numbers, and equal numbers by
+//! the text of the key.
 ghost use Rattle.std.specs.Prelude.{◌≡◌, ◌==◌, [], ◌∷◌, ◌++◌, map, IfOk, IsTrue, OnOk};
 ghost use Rattle.std.specs.List.{prefix_len};
 ghost use Rattle.toml.specs.View.{table_view, view};
 ghost use Rattle.first_fault.specs.Digits.{are_digits as are_digits_said};
-ghost use Rattle.phh_reading.specs.Order.{are_hands as are_hands_said, in_order, is_table as is_table_said, tables_among};
+ghost use Rattle.phh_reading.specs.Order.{is_multi_hand as are_hands_said, in_order, is_table as is_table_said, tables_among};
 ghost use Rattle.phh_reading.specs.Stripped.{number_digits};
 
 use card_set::Memory;
@@ -13,12 +13,12 @@ use std::alloc::Global;
 use std::collections::BTreeMap;
 use toml::{Table, Value};
 
-// Values by the length of the number of their key, the digits of the number, and the key: the
-// longer number is the greater.
+// Values by the length of their key's number, the digits of the number, and the key: of two numbers
+// the longer is the greater.
 type NumberedTables<'a> = BTreeMap<(usize, &'a [u8], &'a [u8]), &'a Value>;
 
 /// Whether each key is a number and each value a table.
-pub fn are_hands(table: &Table) -> bool
+pub fn is_multi_hand(table: &Table) -> bool
     ensures { result ≡ are_hands_said (table_view table.now) }
 {
     for (key, value) in table.iter() {
@@ -46,7 +46,7 @@ fn is_table(value: &Value) -> bool
     }
 }
 
-/// The tables in the order of the numbers of their keys. Ask first that they are hands.
+/// The tables in the order of the numbers of their keys. Check first that they are hands.
 pub fn tables_in_order<'a>(alloc: Global, table: &'a Table) -> Result<Vec<&'a Table>, Memory>
     requires { IsTrue (are_hands_said (table_view table.now)) }
     ensures { IfOk result (λ tables. map (λ hand. table_view hand.now) tables.items
@@ -77,7 +77,7 @@ fn values_in_order<'a>(alloc: Global, table: &'a Table) -> Result<NumberedTables
     Ok(hands)
 }
 
-// The digits without the zeros in front.
+// The digits without leading zeros.
 fn without_zeros(key: &[u8]) -> &[u8]
     ensures { result.now ≡ number_digits key.now }
 {
@@ -86,7 +86,7 @@ fn without_zeros(key: &[u8]) -> &[u8]
     digits
 }
 
-// How many zeros stand in front.
+// The number of leading zeros.
 fn zeros(key: &[u8]) -> usize
     ensures { result ≡ prefix_len (λ digit. digit == 48) key.now }
 {
@@ -98,7 +98,7 @@ fn zeros(key: &[u8]) -> usize
     key.len()
 }
 
-// The tables with one more value, if it is a table.
+// Appends the value, if it is a table.
 fn push_table<'a>(tables: &mut Vec<&'a Table>, value: &'a Value) -> Result<(), Memory>
     ensures { OnOk result (map (λ hand. table_view hand.now) tables.new.items
         ≡ map (λ hand. table_view hand.now) tables.old.items

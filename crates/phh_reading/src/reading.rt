@@ -1,24 +1,26 @@
-//! Bytes are read as the records that they say, or refused with their first fault.
+//! Reads bytes as records, or refuses them with their first fault.
 ghost use Rattle.std.specs.Prelude.{◌≡◌, ◌≤◌, Some, sum_by, length, option_map, IfOk, IfSome};
 ghost use Rattle.std.specs.List.{AllByRecursion};
+ghost use Rattle.toml.specs.Errors.{IsMemory};
 ghost use Rattle.toml.specs.View.{table_view};
 ghost use Rattle.first_fault.specs.declared.limits.TheConstants.{MOST_FILE_MOVES, MOST_HANDS};
-ghost use Rattle.phh_fields.specs.Fields.{place_text as place_text_said};
+ghost use Rattle.phh_reading.specs.Fields.{place_text as place_text_said};
 ghost use Rattle.phh_reading.specs.Reading.{InHand, Reads, document_of, document_said, reading, wrong_of};
 ghost use Rattle.hand_records.specs.Histories.{AreHistories, IsHistory};
 ghost use Rattle.hand_records.specs.Moves.{moves_of};
 
 use crate::fault::{PhhFault, PhhHandFault};
+use crate::field_fault::{FieldFaultKind, FieldPlace};
 use crate::file::read_hands;
 use card_set::Memory;
-use first_fault::{Stop, Text};
+use first_fault::{ReadError, Text};
 use hand_records::Records;
-use phh_fields::fault::{FieldFaultKind, FieldPlace};
 use std::alloc::Global;
 use toml::Table;
+use toml::de::Error;
 
-/// The records that bytes in the Poker Hand History format say, one for each hand in the order of
-/// reading; or their first fault. Each record is sound, and under the rules of hand histories.
+/// The records in bytes in the Poker Hand History format, one for each hand in the order of
+/// reading; or the first fault. Each record is sound, and under the rules of hand histories.
 #[tactic(auto, unfolding(crate::specs::Reading::reading))]
 pub fn read(alloc: Global, bytes: &[u8]) -> Result<Records, PhhFault>
     ensures reads { Reads result (reading bytes.now) }
@@ -33,8 +35,8 @@ pub fn read(alloc: Global, bytes: &[u8]) -> Result<Records, PhhFault>
     }
 }
 
-// The document that bytes are, or nothing where they are none. It is a door: the parser tells want
-// of memory where a request for it was refused.
+// The document that bytes are, or nothing if they are not TOML. The parser reports out of memory
+// only if a request was refused; that is assumed here.
 #[tactic(auto, using(crate::proofs::Documents::no_document, card_set::specs::Refusal::an_allocator_said_so))]
 fn parse(alloc: Global, bytes: &[u8]) -> Result<Option<Table>, Memory>
     ensures { IfOk result (λ table. option_map (λ t. table_view t) table ≡ document_of bytes.now) }
@@ -43,7 +45,7 @@ fn parse(alloc: Global, bytes: &[u8]) -> Result<Option<Table>, Memory>
         Ok(table) => Ok(Some(table)),
         Err(error) => {
             if error.is_memory() {
-                Err(Memory {})
+                Err(refused_in_parser(&error))
             } else {
                 Ok(None)
             }
@@ -51,19 +53,19 @@ fn parse(alloc: Global, bytes: &[u8]) -> Result<Option<Table>, Memory>
     }
 }
 
-// The records that a document says.
+// The records in a document.
 fn read_document(alloc: Global, table: &Table) -> Result<Records, PhhFault>
     ensures reads { Reads result (document_said (Some (table_view table.now))) }
     ensures hands { IfOk result AreHistories }
 {
     match read_hands(alloc, table) {
         Ok(records) => Ok(records),
-        Err(Stop::Memory(memory)) => Err(PhhFault::Memory(memory)),
-        Err(Stop::At(found)) => Err(spelled(alloc, found)),
+        Err(ReadError::Memory(memory)) => Err(PhhFault::Memory(memory)),
+        Err(ReadError::Fault(found)) => Err(spelled(alloc, found)),
     }
 }
 
-// A fault with its key as it is spelled.
+// A fault with its key as text.
 fn spelled(alloc: Global, found: PhhHandFault) -> PhhFault
     ensures { IfSome (wrong_of result) (λ wrong.
         wrong ≡ InHand found.hand (place_text_said found.fault.place) found.fault.what) }
@@ -74,7 +76,7 @@ fn spelled(alloc: Global, found: PhhHandFault) -> PhhFault
     }
 }
 
-// How a place is spelled: the key, and for an item a space and its number.
+// A place as text: the key, and for an item a space and its number.
 fn place_text(alloc: Global, place: FieldPlace) -> Result<Text, Memory>
     ensures { IfOk result (λ text. text ≡ place_text_said place) }
 {

@@ -10,8 +10,8 @@ use Rattle.play_event.specs.Seats.{all_seats, is_live, live_count}
 use Rattle.play_event.specs.Streets.{has_draw}
 use Rattle.play_event.specs.Trace.{TracedPlace, streets_of}
 use Rattle.play_event.specs.declared.setup.Setup.{Setup}
-use Rattle.canon_script.specs.TraceCore.{TraceCore}
-use Rattle.canon_script.specs.CanonScript.{act_named, board_said, canonical_script, deal_said, deals_said, dealt_slots, discards_said, discarded_slots, drawing_seats, held_slots, is_reached, move_named, moves_named, plain_moves, showdown_said, showing_said, street_said}
+use Rattle.play_event.specs.TraceCore.{TraceCore}
+use Rattle.play_event.specs.CanonScript.{act_named, board_said, canonical_script, deal_said, deals_said, dealt_slots, discards_said, discarded_slots, drawing_seats, held_slots, is_reached, move_named, moves_named, plain_moves, showdown_said, showing_said, street_said}
 use Rattle.phh_actions.specs.Written.{has_words}
 
 abbrev HaveWords : List Said → Type 0

@@ -9,8 +9,8 @@ use Rattle.toml.specs.Data.{Data, Members, no_members, member, get_member}
 use Rattle.toml.specs.View.{view, members_view}
 use Rattle.toml.specs.declared.value.Value.{Value}
 use Rattle.phh_writing.specs.Members.{put, Field, table_of}
-use Rattle.list_laws.proofs.Bytes.{different_by_test}
-use Rattle.list_laws.proofs.Orderings.{same_text}
+use Rattle.card_set.proofs.Bytes.{different_by_test}
+use Rattle.card_set.proofs.Orderings.{same_text}
 
 abbrev pub Entry : Type 0
 Entry = String Global × Value
@@ -58,12 +58,12 @@ pub get_member-put_other : (q k : List ℕ) (d : Data) (ms : Members) → (q ≡
 get_member-put_other q k d no_members other = skips q k d no_members other
 get_member-put_other q k d (member l e ms) other = get_member-put_other_at _ q k l d e ms refl other (get_member-put_other q k d ms other)
 
--- the first of two values that stands
+-- the first of two values that is there
 abbrev pub or_later : Option Data → Option Data → Option Data
 or_later None later = later
 or_later (Some value) later = Some value
 
--- the value at a key in fields: the first that stands
+-- the value at a key in fields: the first that is there
 abbrev pub field_at : List ℕ → List Field → Option Data
 field_at q [] = None
 field_at q (field ∷ fields) = cond (bytes_eq q field.0) (or_later field.1 (field_at q fields)) (field_at q fields)

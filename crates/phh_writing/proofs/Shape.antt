@@ -1,4 +1,4 @@
--- The document of plays is shallow, and each time in it is one of a day.
+-- The document of plays has little nesting, and each time in it is a valid time of day.
 use Rattle.std.proofs.Common.{◌≡◌, ℕ, ◌+◌, ◌≤◌, Bool, true, false, ◌==◌, cond, nat_lt, bytes_eq, decimal, List, [], ◌∷◌, ◌++◌, map, take, Option, Some, None, IfSome, option_map, unwrap_or, is_some, not, Ordering, Less, Equal, Greater, pos, refl, arith}
 use Rattle.std.specs.List.{AllByRecursion, list_any, range_with_len}
 use Rattle.std.specs.Ordering.{nat_cmp, match_ordering}
@@ -23,7 +23,7 @@ use Rattle.phh_writing.specs.HandFields.{blinds_written, hand_field, hand_fields
 use Rattle.phh_writing.specs.Document.{document, hand_table, numbered_hands}
 use Rattle.chip_ledger.specs.SeatRow.{amounts_in}
 
--- a value is no deeper than this, and its times are times of a day
+-- a value is no deeper than this, and its times are valid times of day
 pub record IsPlain (most : ℕ) (value : Data) : Type 0 where
   pub shallow : depth value ≤ most
   pub dates : has_valid_dates value ≡ true
@@ -33,7 +33,7 @@ pub record ArePlain (most : ℕ) (members : Members) : Type 0 where
   pub shallow : members_depth members ≤ most
   pub dates : members_have_valid_dates members ≡ true
 
--- the same of a field that may lack
+-- the same of a field that may be missing
 abbrev pub IsPlainField : ℕ → Option Data → Type 0
 IsPlainField most None = Unit {0}
 IsPlainField most (Some value) = IsPlain most value

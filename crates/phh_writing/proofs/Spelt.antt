@@ -1,4 +1,4 @@
--- What is written of no plays is nothing, and a text that reads as the document of plays spells them.
+-- For no plays nothing is written, and a text that reads as the document of plays spells them.
 use Rattle.std.proofs.Common.{◌≡◌, List, [], ◌∷◌, length, refl, arith}
 use Rattle.std.proofs.lemmas.Str.{IsUtf8-nil}
 use Rattle.toml.proofs.OnLiterals.{toml_on_literals}
@@ -9,7 +9,7 @@ nothing_written : Spells [] []
 unfolding toml_on_literals
 nothing_written = record { text = IsUtf8-nil; table = refl }
 
--- no bytes spell no plays
+-- no plays are spelled by no bytes
 pub nothing_spelled : (plays : List Play) → length plays ≡ 0 → Spells plays []
 nothing_spelled [] none = nothing_written
 nothing_spelled (play ∷ rest) none = absurd (omega (arith, none))

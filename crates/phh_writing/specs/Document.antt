@@ -1,5 +1,5 @@
--- The one document that stands for plays: a hand by itself is its table, and several stand under 1,
--- 2 and so on.
+-- The one document for plays: a single hand is its table, and several are under the keys 1, 2 and
+-- so on.
 use Rattle.std.specs.Prelude.{◌≡◌, ℕ, ◌+◌, List, [], ◌∷◌, Some}
 use Rattle.std.specs.Fmt.{decimal}
 use Rattle.std.specs.Str.{IsUtf8}
@@ -9,11 +9,11 @@ use Rattle.hand_records.specs.declared.trace.Play.{Play}
 use Rattle.phh_writing.specs.Members.{Field, table_of}
 use Rattle.phh_writing.specs.HandFields.{hand_fields}
 
--- the table of the hand at a place of its file, from 0
+-- the table of the hand at this place of its file, from 0
 unfoldable pub hand_table : ℕ → Play → Members
 hand_table place play = table_of (hand_fields place play)
 
--- hands under their numbers, of which the first is at this place, from 0
+-- hands under their numbers; the first is at this place, from 0
 abbrev pub numbered_hands : ℕ → List Play → List Field
 numbered_hands place [] = []
 numbered_hands place (play ∷ rest) =

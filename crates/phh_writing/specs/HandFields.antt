@@ -1,5 +1,4 @@
--- The fields of a hand that is written, each with its key, in the order in which a reader examines
--- them.
+-- The fields of a hand that is written, each with its key, in the order in which they are read.
 use Rattle.std.specs.Prelude.{ℕ, Bool, ◌&&◌, ◌||◌, ◌==◌, not, nat_lt, min, max, bytes_eq, if◌then◌else◌, pos, List, [], ◌∷◌, ◌++◌, length, map, take, codes, slice_index, Option, Some, None, option_map, unwrap_or, is_some}
 use Rattle.std.specs.Fmt.{decimal}
 use Rattle.std.specs.List.{list_any, range_with_len}
@@ -17,7 +16,7 @@ use Rattle.hand_records.specs.declared.notes.Notes.{Notes}
 use Rattle.hand_records.specs.declared.trace.Play.{Play}
 use Rattle.hand_records.specs.declared.trace.Trace.{Trace}
 use Rattle.hand_records.specs.AllowedNotes.{name_written}
-use Rattle.canon_script.specs.CanonScript.{canonical_script}
+use Rattle.play_event.specs.CanonScript.{canonical_script}
 use Rattle.hand_records.specs.TraceRows.{core_said}
 use Rattle.phh_actions.specs.Written.{event_text}
 use Rattle.phh_writing.specs.Members.{Field}
@@ -31,17 +30,17 @@ numbers all = array (items_of (map (λ number. integer (pos number)) all))
 abbrev pub texts : List (List ℕ) → Data
 texts all = array (items_of (map string all))
 
--- of two blinds the smaller is written first
+-- with two blinds the smaller is written first
 abbrev pub blinds_written : List ℕ → List ℕ
 blinds_written (first ∷ second ∷ []) = min first second ∷ max first second ∷ []
 blinds_written blinds = blinds
 
--- the blinds, in a game that has some
+-- the blinds, in a game that has blinds
 abbrev pub blinds_field : Setup → Option Data
 blinds_field setup =
     if is_stud setup.code then None else Some (numbers (blinds_written (amounts_in setup.blinds)))
 
--- a size that the game uses
+-- a bet size, if the game uses it
 abbrev pub size_field : Bool → ℕ → Option Data
 size_field used size = if used then Some (integer (pos size)) else None
 
@@ -63,12 +62,12 @@ setup_fields setup =
 abbrev pub script_of : Trace → List Said
 script_of trace = canonical_script trace.setup (core_said trace)
 
--- the rakes of so many pots, where something is taken from one of them
+-- the rakes of this many pots, if one of them is above 0
 abbrev pub rakes_field : ℕ → RakeRow → Option Data
 rakes_field pots row =
     if list_any (nat_lt 0) (take pots row.rakes) then Some (numbers (take pots row.rakes)) else None
 
--- what was played, and what it comes to
+-- what was played, and its result
 abbrev pub trace_fields : Trace → List Field
 trace_fields trace =
     (codes "actions", Some (texts (map event_text (script_of trace))))
@@ -76,7 +75,7 @@ trace_fields trace =
     ∷ (codes "_rakes", rakes_field trace.pots.count trace.setup.rakes)
     ∷ []
 
--- the names of so many players, where one is said
+-- the names of this many players, if one is noted
 abbrev pub names_field : ℕ → Notes → Option Data
 names_field count notes =
     if list_any is_some (take count notes.names)
@@ -95,12 +94,12 @@ abbrev pub label : List ℕ → Data
 label text =
     unwrap_or (option_map (λ number. integer (pos number)) (number_written text)) (string text)
 
--- the name of a hand at a place of its file, from 0; by default the name is that place
+-- the name of a hand at this place of its file, from 0; its default is that place
 abbrev pub hand_field : ℕ → Option (List ℕ) → Option Data
 hand_field place None = None
 hand_field place (Some name) = if bytes_eq name (decimal place) then None else Some (label name)
 
--- a part of a second, where there is one
+-- the fraction of a second, if it is not 0
 abbrev pub fraction : ℕ → Option ℕ
 fraction nano = if nano == 0 then None else Some nano
 
@@ -120,11 +119,11 @@ local_time clock =
       offset = None;
     })
 
--- a number that is said
+-- a number, if it is noted
 abbrev pub number_field : Option ℕ → Option Data
 number_field said = option_map (λ number. integer (pos number)) said
 
--- the notes of so many seats, at a place of the file
+-- the notes of a hand with this number of seats, at a place of the file
 abbrev pub note_fields : ℕ → ℕ → Notes → List Field
 note_fields place count notes =
     (codes "players", names_field count notes)
@@ -141,7 +140,7 @@ note_fields place count notes =
     ∷ (codes "time_zone", option_map string notes.zone)
     ∷ []
 
--- the fields of the hand at a place of its file, from 0
+-- the fields of the hand at this place of its file, from 0
 abbrev pub hand_fields : ℕ → Play → List Field
 hand_fields place play =
     setup_fields play.trace.setup

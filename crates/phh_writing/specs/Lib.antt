@@ -1,5 +1,5 @@
--- What is written of plays in the Poker Hand History format: the facts that it spells, and the one
--- document that stands for them.
+-- How plays are written in the Poker Hand History format: the facts that it can write, and the one
+-- document for them.
 pub mod Spelled
 pub mod Members
 pub mod HandFields

@@ -1,4 +1,4 @@
--- A table is made of fields, each a key and, where the field stands, its value.
+-- A table is made of fields: a key and, if the field is present, its value.
 use Rattle.std.specs.Prelude.{ℕ, List, [], ◌∷◌, Option, Some, None}
 use Rattle.std.specs.Ordering.{nat_cmp, match_ordering}
 use Rattle.std.specs.Cmp.Lexicographic.{slice_cmp}
@@ -13,16 +13,16 @@ put key value (member next other rest) =
     (member next value rest)
     (member next other (put key value rest))
 
--- the same, where there is a value
+-- the same, if there is a value
 abbrev pub put_if : List ℕ → Option Data → Members → Members
 put_if key None members = members
 put_if key (Some value) members = put key value members
 
--- a key, and its value where the field stands
+-- a key, and its value if the field is present
 abbrev pub Field : Type 0
 Field = List ℕ × Option Data
 
--- a table with these fields besides
+-- a table together with these fields
 abbrev pub with_fields : List Field → Members → Members
 with_fields [] members = members
 with_fields (field ∷ fields) members = put_if field.0 field.1 (with_fields fields members)

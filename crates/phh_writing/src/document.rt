@@ -1,4 +1,4 @@
-//! Plays are written as the bytes of their document.
+//! Writes plays as the bytes of their document.
 ghost use Rattle.std.specs.Prelude.{◌≡◌, ◌⊎◌, ◌≤◌, [], None, Some, length, IfOk, IfErr, OnOk};
 ghost use Rattle.std.specs.List.{AllByRecursion};
 ghost use Rattle.toml.specs.View.{table_view};
@@ -6,7 +6,7 @@ ghost use Rattle.hand_canon.specs.Sound.{IsSound};
 ghost use Rattle.first_fault.specs.declared.limits.TheConstants.{MOST_HANDS};
 ghost use Rattle.phh_writing.specs.Document.{Spells, document, hand_table};
 ghost use Rattle.phh_writing.specs.Spelled.{unspelled};
-ghost use Rattle.hand_records.specs.WriteRefusals.{IsWant, first_refusal};
+ghost use Rattle.hand_records.specs.WriteRefusals.{IsOutOfMemory, first_refusal};
 
 use crate::members::put;
 use crate::notes::put_notes;
@@ -19,16 +19,16 @@ use std::alloc::Global;
 use toml::ser::Error;
 use toml::{Table, Value};
 
-/// The bytes of the document of some plays: one hand is its table, several stand under 1, 2 and so
-/// on, and no hands are no bytes. Nothing is written where the format does not spell one of them.
-/// It spells every note, so which are kept does not matter.
+/// The bytes of the document of some plays: one hand is its table, several are under the keys 1, 2
+/// and so on, and no hands are no bytes. Nothing is written if the format cannot write one of them.
+/// It can write every note, so the choice of notes does not matter.
 pub fn write(alloc: Global, plays: &[Play], keep: Keep) -> Result<Vec<u8>, WriteRefusal>
     requires few { length plays.now ≤ MOST_HANDS }
     requires sound { AllByRecursion IsSound plays.now }
     ensures written { IfOk result (λ bytes. Spells plays.now bytes.items) }
     ensures nothing { plays.now ≡ [] → IfOk result (λ bytes. bytes.items ≡ []) }
     ensures spelled { OnOk result (first_refusal unspelled plays.now ≡ None) }
-    ensures refused { IfErr result (λ refusal. IsWant refusal
+    ensures refused { IfErr result (λ refusal. IsOutOfMemory refusal
         ⊎ (first_refusal unspelled plays.now ≡ Some refusal)) }
 {
     if let Some(refusal) = find_refusal(plays, keep) {
@@ -48,13 +48,14 @@ pub fn write(alloc: Global, plays: &[Play], keep: Keep) -> Result<Vec<u8>, Write
     }
 }
 
-// Want of memory, as the printer of documents tells it. It is a door.
+// Out of memory, as reported by the printer of documents; that a request was refused is assumed
+// here.
 #[tactic(auto, using(card_set::specs::Refusal::an_allocator_said_so))]
 fn told_by_printer() -> Memory {
     Memory {}
 }
 
-// The document of some plays. The tables of several hands are put in from the last to the first.
+// The document of some plays. The tables of several hands are inserted from the last to the first.
 fn make_document(alloc: Global, plays: &[Play]) -> Result<Table, Memory>
     requires { AllByRecursion IsSound plays.now }
     ensures { IfOk result (λ table. table_view table ≡ document plays.now) }
@@ -73,7 +74,7 @@ fn make_document(alloc: Global, plays: &[Play]) -> Result<Table, Memory>
     Ok(table)
 }
 
-// The table of the hand at a place of its file, from 0.
+// The table of the hand at this place of its file, from 0.
 #[tactic(auto, unfolding(crate::specs::Document::hand_table))]
 fn make_hand(alloc: Global, place: usize, play: &Play) -> Result<Table, Memory>
     requires { IsSound play.now }

@@ -1,5 +1,5 @@
-//! Plays are written as the one document of the Poker Hand History format that stands for them, or
-//! the first play is named that the format does not spell.
+//! Writes plays as their one document in the Poker Hand History format, or names the first play
+//! that the format cannot write.
 #![tactic(auto)]
 
 mod document;

@@ -1,4 +1,4 @@
-//! A value is put into a table under its key.
+//! Puts a value into a table under its key.
 ghost use Rattle.std.specs.Prelude.{ℕ, ◌≡◌, ◌≤◌, ◌<◌, ◌^◌, pos, length, take, slice_index, string_bytes, OnOk};
 ghost use Rattle.toml.specs.Data.{integer, string};
 ghost use Rattle.toml.specs.View.{table_view, view};
@@ -42,7 +42,7 @@ pub fn put_row(alloc: Global, table: &mut Table, key: &str, row: &SeatRow) -> Re
     )
 }
 
-/// Puts a list of the first so many amounts under a key.
+/// Puts a list of the first `count` amounts under a key.
 pub fn put_amounts(
     alloc: Global,
     table: &mut Table,

@@ -1,4 +1,4 @@
-//! The notes of a hand are put into its table.
+//! Puts the notes of a hand into its table.
 ghost use Rattle.std.specs.Prelude.{◌≡◌, ◌≤◌, ◌<◌, ◌^◌, codes, length, map, option_map, pos, string_bytes, take, IfOk, IfSome, OnOk};
 ghost use Rattle.std.specs.List.{list_any};
 ghost use Rattle.std.specs.Option.{is_some};
@@ -16,8 +16,8 @@ use std::alloc::Global;
 use toml::{Table, Value};
 use toml_datetime::{Datetime, Time};
 
-/// Puts the notes of a hand with so many seats into its table. `place` is the hand's place in its
-/// file, from 0, which is its name by default.
+/// Puts the notes of a hand with `count` seats into its table. `place` is the hand's place in its
+/// file, from 0; the default name of the hand follows from it.
 pub fn put_notes(
     alloc: Global,
     table: &mut Table,
@@ -43,7 +43,7 @@ pub fn put_notes(
     put_names(alloc, table, count, notes)
 }
 
-// Puts a text under a key, where one is said.
+// Puts a text under a key, if there is one.
 fn put_note(alloc: Global, table: &mut Table, key: &str, note: &Option<Text>) -> Result<(), Memory>
     ensures { OnOk result (table_view table.new
         ≡ put_if key.now (option_map string note.now) (table_view table.old)) }
@@ -54,7 +54,7 @@ fn put_note(alloc: Global, table: &mut Table, key: &str, note: &Option<Text>) ->
     }
 }
 
-// Puts the time of the day under its key, where it is said.
+// Puts the time of day under its key, if it is noted.
 fn put_time(alloc: Global, table: &mut Table, said: Option<Clock>) -> Result<(), Memory>
     ensures { OnOk result (table_view table.new
         ≡ put_if (codes "time") (option_map time_said said) (table_view table.old)) }
@@ -65,7 +65,7 @@ fn put_time(alloc: Global, table: &mut Table, said: Option<Clock>) -> Result<(),
     }
 }
 
-// A time of a day as a value.
+// A time of day as a value.
 fn local_time(clock: Clock) -> Value
     ensures { view result ≡ time_said clock }
 {
@@ -81,14 +81,14 @@ fn local_time(clock: Clock) -> Value
     })
 }
 
-// A part of a second, where there is one.
+// The fraction of a second, if it is not 0.
 fn fraction(nano: u32) -> Option<u32>
     ensures { result ≡ fraction_said nano }
 {
     if nano == 0 { None } else { Some(nano) }
 }
 
-// Puts a number under a key, where one is said.
+// Puts a number under a key, if there is one.
 fn put_said(alloc: Global, table: &mut Table, key: &str, said: Option<u16>) -> Result<(), Memory>
     ensures { OnOk result (table_view table.new
         ≡ put_if key.now (number_field said) (table_view table.old)) }
@@ -99,7 +99,7 @@ fn put_said(alloc: Global, table: &mut Table, key: &str, said: Option<u16>) -> R
     }
 }
 
-// The same number in more bits.
+// The same number as u16.
 fn widened(said: Option<u8>) -> Option<u16>
     ensures { result ≡ said }
 {
@@ -109,7 +109,7 @@ fn widened(said: Option<u8>) -> Option<u16>
     }
 }
 
-// Puts the name of the table under its key, where one is said.
+// Puts the name of the table under its key, if it is noted.
 fn put_table_name(alloc: Global, table: &mut Table, name: &Option<Text>) -> Result<(), Memory>
     ensures { OnOk result (table_view table.new
         ≡ put_if (codes "table") (option_map label name.now) (table_view table.old)) }
@@ -120,7 +120,7 @@ fn put_table_name(alloc: Global, table: &mut Table, name: &Option<Text>) -> Resu
     }
 }
 
-// Puts the name of the hand under its key, where one is said and it is not the default.
+// Puts the name of the hand under its key, if it is noted and is not the default.
 fn put_hand_name(
     alloc: Global,
     table: &mut Table,
@@ -140,7 +140,7 @@ fn put_hand_name(
     put_label(alloc, table, "hand", name.as_str())
 }
 
-// Puts a text under a key, as a number where it is one.
+// Puts a text under a key, as a number if it is one.
 fn put_label(alloc: Global, table: &mut Table, key: &str, text: &str) -> Result<(), Memory>
     ensures { OnOk result (table_view table.new
         ≡ put_said key.now (label text.now) (table_view table.old)) }
@@ -163,7 +163,7 @@ fn number_of(text: &[u8]) -> Option<u64>
     read_digits(text, 999_999_999_999_999_999)
 }
 
-// Puts the numbers of so many seats under their key, where they are said.
+// Puts the numbers of `count` seats under their key, if they are noted.
 fn put_seats(
     alloc: Global,
     table: &mut Table,
@@ -181,7 +181,7 @@ fn put_seats(
     put(alloc, table, "seats", Value::Array(seats))
 }
 
-// The numbers of so many seats, as values.
+// The numbers of the first `count` seats, as values.
 fn seats_of(alloc: Global, seats: &[u8], count: u8) -> Result<Vec<Value>, Memory>
     requires { count ≤ length seats.now }
     ensures { IfOk result (λ values. map view values.items
@@ -194,7 +194,7 @@ fn seats_of(alloc: Global, seats: &[u8], count: u8) -> Result<Vec<Value>, Memory
     Ok(values)
 }
 
-// Puts the names of so many players under their key, where one of them is said.
+// Puts the names of `count` players under their key, if one of them is noted.
 fn put_names(alloc: Global, table: &mut Table, count: u8, notes: &Notes) -> Result<(), Memory>
     requires { count ≤ 10 }
     ensures { OnOk result (table_view table.new
@@ -211,7 +211,7 @@ fn put_names(alloc: Global, table: &mut Table, count: u8, notes: &Notes) -> Resu
     put(alloc, table, "players", Value::Array(values))
 }
 
-// Whether one of the names is said.
+// Whether one of the names is noted.
 fn has_name(names: &[Option<Text>]) -> bool
     ensures { result ≡ list_any is_some names.now }
 {
@@ -223,7 +223,7 @@ fn has_name(names: &[Option<Text>]) -> bool
     false
 }
 
-// The name of a seat's player, or its default where none is said.
+// The name of a seat's player, or its default if there is none.
 fn name_of(alloc: Global, notes: &Notes, seat: u8) -> Result<String, Memory>
     requires first { 1 ≤ seat }
     requires last { seat ≤ 10 }

@@ -1,10 +1,10 @@
-//! What was played in a hand, and what it comes to, are put into its table.
+//! Puts what was played in a hand, and its result, into its table.
 ghost use Rattle.std.specs.Prelude.{◌≡◌, codes, map, nat_lt, true, OnOk};
 ghost use Rattle.std.specs.List.{list_all, list_any};
 ghost use Rattle.toml.specs.View.{table_view};
 ghost use Rattle.play_event.specs.Said.{said_of};
 ghost use Rattle.play_event.specs.ValidSetup.{IsValid};
-ghost use Rattle.canon_script.specs.Tidy.{IsTidy};
+ghost use Rattle.play_event.specs.Tidy.{IsTidy};
 ghost use Rattle.hand_records.specs.TraceRows.{core_said};
 ghost use Rattle.phh_actions.specs.Written.{event_text as text_said, has_words};
 ghost use Rattle.phh_writing.specs.Members.{put as put_said, put_if, with_fields};
@@ -19,8 +19,8 @@ use play_event::Script;
 use std::alloc::Global;
 use toml::{Table, Value};
 
-/// Puts what was played in a hand into its table, as its canonical script, with the finishing
-/// stacks and the rakes.
+/// Puts what was played in a hand into its table: its canonical script, the finishing stacks and
+/// the rakes.
 #[tactic(auto, using(crate::proofs::CanonWords::canonical_words))]
 pub fn put_trace(alloc: Global, table: &mut Table, trace: &Trace) -> Result<(), Memory>
     requires tidy { IsTidy (core_said trace.now) }
@@ -34,7 +34,7 @@ pub fn put_trace(alloc: Global, table: &mut Table, trace: &Trace) -> Result<(), 
     put_actions(alloc, table, &script)
 }
 
-// Puts the rakes of the pots under their key, where something is taken from one of them.
+// Puts the rakes of the pots under their key, if one of them is above 0.
 fn put_rakes(alloc: Global, table: &mut Table, trace: &Trace) -> Result<(), Memory>
     requires { IsValid trace.now.setup }
     ensures { OnOk result (table_view table.new ≡ put_if (codes "_rakes")

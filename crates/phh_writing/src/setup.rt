@@ -1,4 +1,4 @@
-//! The setup of a hand is put into its table.
+//! Puts the setup of a hand into its table.
 ghost use Rattle.std.specs.Prelude.{◌≡◌, codes, OnOk};
 ghost use Rattle.toml.specs.View.{table_view};
 ghost use Rattle.play_event.specs.ValidSetup.{IsValid, IsSizeWhere};
@@ -11,7 +11,7 @@ use play_event::Setup;
 use std::alloc::Global;
 use toml::{Table, Value};
 
-/// Puts the setup of a hand into its table. The fields are put in from the last to the first.
+/// Puts the setup of a hand into its table. The fields are inserted from the last to the first.
 pub fn put_setup(alloc: Global, table: &mut Table, setup: &Setup) -> Result<(), Memory>
     requires { IsValid setup.now }
     ensures { OnOk result (table_view table.new
@@ -36,7 +36,7 @@ pub fn put_setup(alloc: Global, table: &mut Table, setup: &Setup) -> Result<(), 
     put_text(alloc, table, "variant", setup.code.text())
 }
 
-// Puts a size under a key, where the game uses it.
+// Puts a bet size under a key, if the game uses it.
 fn put_size(
     alloc: Global,
     table: &mut Table,
@@ -55,7 +55,8 @@ fn put_size(
     }
 }
 
-// Puts the blinds under their key, in a game that has some; of two the smaller comes first.
+// Puts the blinds under their key, in a game that has blinds; with two seats the smaller comes
+// first.
 fn put_blinds(alloc: Global, table: &mut Table, setup: &Setup) -> Result<(), Memory>
     ensures { OnOk result (table_view table.new
         ≡ put_if (codes "blinds_or_straddles") (blinds_field setup.now) (table_view table.old)) }

@@ -1,4 +1,4 @@
-//! The format spells each play in which no raise is closed by a short one before it.
+//! The format can write each play in which no raise is closed by a short raise before it.
 ghost use Rattle.std.specs.Prelude.{◌≡◌, ◌≤◌, length};
 ghost use Rattle.first_fault.specs.declared.limits.TheConstants.{MOST_HANDS};
 ghost use Rattle.phh_writing.specs.Spelled.{unspelled};
@@ -6,7 +6,7 @@ ghost use Rattle.hand_records.specs.WriteRefusals.{first_refusal};
 
 use hand_records::{Keep, Play, Unspelled, WriteRefusal};
 
-/// The refusal of the first play that the format does not spell. The first hand has the number 1.
+/// The refusal of the first play that the format cannot write. The first hand has the number 1.
 pub fn find_refusal(plays: &[Play], keep: Keep) -> Option<WriteRefusal>
     requires { length plays.now ≤ MOST_HANDS }
     ensures { result ≡ first_refusal unspelled plays.now }
@@ -22,8 +22,8 @@ pub fn find_refusal(plays: &[Play], keep: Keep) -> Option<WriteRefusal>
     None
 }
 
-/// The first fact of the play that the format does not spell. It spells all notes, so which of them
-/// are kept does not matter.
+/// The first fact of the play that the format cannot write. It can write all notes, so the choice
+/// of notes does not matter.
 #[tactic(auto, unfolding(crate::specs::Spelled::unspelled))]
 pub fn spells(play: &Play, _keep: Keep) -> Option<Unspelled>
     ensures { result ≡ unspelled play.now }

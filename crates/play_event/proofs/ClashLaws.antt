@@ -1,16 +1,16 @@
--- No legal event makes two places clash.
+-- No legal event makes two dealt cards clash.
 use Rattle.std.proofs.Common.{◌≡◌, ◌≢◌, ℕ, ◌+◌, ◌≤◌, ◌==◌, Bool, true, false, ◌&&◌, ◌||◌, not, inl, inr, ◌⊎◌, Option, Some, None, is_some, List, [], ◌∷◌, ◌++◌, length, count_by, refl, sym, ◌∙◌, ap, subst, arith}
 use Rattle.std.specs.List.{list_any}
 use Rattle.std.proofs.lemmas.Bool.{or_parts, le-leb}
 use Rattle.std.proofs.Math.Bool.{or_comm}
-use Rattle.list_laws.proofs.Numbers.{different_number, eq_true_both}
-use Rattle.list_laws.proofs.Tests.{and_false, false_true}
+use Rattle.card_set.proofs.Numbers.{different_number, eq_true_both}
+use Rattle.card_set.proofs.Tests.{and_false, false_true}
 use Rattle.card_set.specs.declared.card.Slot.{Slot}
 use Rattle.card_set.specs.declared.card.Slot.TheVariants as slots
 use Rattle.card_set.specs.Deck.{deck_place}
 use Rattle.play_event.specs.declared.code.Code.{Code}
 use Rattle.play_event.specs.Places.{Place, places_dealt, after_deal, is_past_deck, is_in_group}
-use Rattle.play_event.specs.Taken.{is_clash, may_repeat, is_gone_before, is_one_card, is_borne_by, is_in_deck, is_taken, has_repeat, is_repeated, has_taken_card, has_misplaced_card, is_misplaced, is_foreign, newly_known}
+use Rattle.play_event.specs.Taken.{is_clash, may_repeat, is_gone_before, is_one_card, slot_is_card, is_in_deck, is_taken, has_repeat, is_repeated, has_taken_card, has_misplaced_card, is_misplaced, is_not_in_deck, newly_known}
 use Rattle.play_event.specs.Laws.{IsAmong, NoneClash}
 use Rattle.play_event.proofs.Kept.{AreKept, ComesFrom, comes_from, clash_kept}
 
@@ -25,7 +25,7 @@ clash_both a b =
     ap (λ m. not m && is_one_card a.slot b.slot) (or_comm (may_repeat a b) (may_repeat b a))
     ∙ ap (λ s. not (may_repeat b a || may_repeat a b) && s) (one_card_both a.slot b.slot)
 
--- where a test passes nowhere, it does not pass at a place of the list
+-- if a test passes nowhere, it does not pass at a place of the list
 pub not_at : (p : Place → Bool) (placed : List Place) (place : Place) → list_any p placed ≡ false → IsAmong placed place → p place ≡ false
 not_at p [] place none among = absurd among
 not_at p (first ∷ rest) place none (inl is) = ap p (sym is) ∙ (or_parts (p first) (list_any p rest) none).0
@@ -34,7 +34,7 @@ not_at p (first ∷ rest) place none (inr later) = not_at p rest place (or_parts
 fresh_fits : (code : Code) (before after : List Place) (a b : Place) → has_misplaced_card code before after ≡ false → IsAmong (newly_known before after) a → IsAmong after b → a.number ≢ b.number → is_clash a b ≡ false
 fresh_fits code before after a b fits fresh among differ =
     let placed_well : is_misplaced code after a ≡ false = not_at (is_misplaced code after) (newly_known before after) a fits fresh in
-    let others : list_any (λ other. not (other.number == a.number) && is_clash a other) after ≡ false = (or_parts (is_foreign code a.slot) (list_any (λ other. not (other.number == a.number) && is_clash a other) after) placed_well).1 in
+    let others : list_any (λ other. not (other.number == a.number) && is_clash a other) after ≡ false = (or_parts (is_not_in_deck code a.slot) (list_any (λ other. not (other.number == a.number) && is_clash a other) after) placed_well).1 in
     let here : (not (b.number == a.number) && is_clash a b) ≡ false = not_at (λ other. not (other.number == a.number) && is_clash a other) after b others among in
     sym (ap (λ x. not x && is_clash a b) (different_number b.number a.number differ)) ∙ here
 
@@ -52,7 +52,8 @@ pub kept_none_clash : (code : Code) (count : ℕ) (before after : List Place) �
 kept_none_clash code count before after kept fits none a b in_a in_b differ =
     kept_pair code count before after a b none fits in_a in_b differ (comes_from count before after kept a in_a) (comes_from count before after kept b in_b)
 
--- a card that was dealt: it bears one of the cards, its number is not below that of the first, and it is not gone
+-- a card that was just dealt: it is one of these cards, its number is not below that of the first,
+-- and it is not gone
 abbrev pub IsOneOf : List Slot → Slot → Type 0
 IsOneOf [] slot = ⊥
 IsOneOf (first ∷ rest) slot = (first ≡ slot) ⊎ IsOneOf rest slot
@@ -82,13 +83,13 @@ not_one_of p [] slot none among = absurd among
 not_one_of p (first ∷ rest) slot none (inl is) = ap p (sym is) ∙ (or_parts (p first) (list_any p rest) none).0
 not_one_of p (first ∷ rest) slot none (inr later) = not_one_of p rest slot (or_parts (p first) (list_any p rest) none).1 later
 
--- cards that bear different cards do not clash
+-- dealt cards that are different known cards do not clash
 different_clash : (a b : Place) → is_one_card a.slot b.slot ≡ false → is_clash a b ≡ false
 different_clash a b differ = ap (λ s. not (may_repeat a b || may_repeat b a) && s) differ ∙ and_false (not (may_repeat a b || may_repeat b a))
 
 -- the cards of one deal do not clash
 stands_once : (first : Slot) (rest : List Slot) (slot : Slot) → is_repeated first rest ≡ false → IsOneOf rest slot → is_one_card first slot ≡ false
-stands_once (slots.Known card) rest slot once among = not_one_of (is_borne_by card) rest slot once among
+stands_once (slots.Known card) rest slot once among = not_one_of (slot_is_card card) rest slot once among
 stands_once slots.Unknown rest slot once among = refl
 
 dealt_apart : (owner : Option ℕ) (street : ℕ) (late : Bool) (index least : ℕ) (cards : List Slot) → has_repeat cards ≡ false → NoneClash (places_dealt owner street late index least cards)
@@ -118,7 +119,7 @@ without_own false false s none is = is
 
 not_taken : (card : Slot) (code : Code) (placed : List Place) (late : Bool) (old : Place) → is_taken code placed late card ≡ false → IsAmong placed old → (not (late && is_some old.gone_after) && is_one_card card old.slot) ≡ false
 not_taken (slots.Known card) code placed late old free among =
-    not_at (λ place. not (late && is_some place.gone_after) && is_borne_by card place.slot) placed old (or_parts (not (is_in_deck code card)) (list_any (λ place. not (late && is_some place.gone_after) && is_borne_by card place.slot) placed) free).1 among
+    not_at (λ place. not (late && is_some place.gone_after) && slot_is_card card place.slot) placed old (or_parts (not (is_in_deck code card)) (list_any (λ place. not (late && is_some place.gone_after) && slot_is_card card place.slot) placed) free).1 among
 not_taken slots.Unknown code placed late old free among = and_false (not (late && is_some old.gone_after))
 
 new_fits : (code : Code) (placed : List Place) (late : Bool) (cards : List Slot) (new old : Place) → GoneWithin placed → list_any (is_taken code placed late) cards ≡ false → IsDealt late (length placed) cards new → IsAmong placed old → is_clash new old ≡ false

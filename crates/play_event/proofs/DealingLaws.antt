@@ -14,7 +14,7 @@ pub some_street : (code : Code) → 1 ≤ street_count code
 some_street games.FT = omega arith
 some_street _ = omega arith
 
--- who did not draw discarded nothing
+-- a seat that did not draw has discarded nothing
 pub undrawn_none : (before : Past) (street seat : ℕ) → has_drawn before street seat ≡ false → cards_discarded before street seat ≡ 0
 undrawn_none [] street seat is = refl
 undrawn_none (Dealt on owner cards ∷ before) street seat is = undrawn_none before street seat is
@@ -26,7 +26,7 @@ undrawn_none (Discarded on owner cards ∷ before) street seat is =
     let parts = or_parts ((on == street) && (owner == seat)) (has_drawn before street seat) is in
     omega (arith, ap (λ b. if b then length cards else 0) parts.0, undrawn_none before street seat parts.1)
 
--- how many places of a group a deal makes
+-- how many cards of a group a deal adds
 pub dealt_group : (owner to : Option ℕ) (street on : ℕ) (late : Bool) (index number : ℕ) (cards : List Slot) → length (filter (is_in_group owner street) (places_dealt to on late index number cards)) ≡ (if is_same_owner to owner && (on == street) then length cards else 0)
 dealt_group owner to street on late index number [] = by_pass (is_same_owner to owner && (on == street))
   where

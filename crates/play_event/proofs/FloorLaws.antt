@@ -1,11 +1,12 @@
--- In no limit and pot limit the least raise that is not all-in goes above the price, and no further above it than a full raise.
+-- In no limit and pot limit the lowest raise that is not all-in goes above the current bet, by at
+-- most a full raise.
 use Rattle.std.proofs.Common.{◌≡◌, ℕ, zero, suc, ◌+◌, ◌-◌, ◌*◌, ◌<◌, ◌≤◌, ◌==◌, Bool, true, false, ◌&&◌, ◌||◌, not, inl, inr, ◌⊎◌, min, max, nat_le, nat_lt, Option, Some, None, List, [], ◌∷◌, ◌++◌, map, find, refl, sym, ◌∙◌, ap, subst, arith, cond, if◌then◌else◌}
 use Rattle.std.specs.List.{list_any, range_with_len}
 use Rattle.std.proofs.lemmas.Bool.{and_parts, cases_lt, eq-eqb, eqb-true, le-leb, leb-true, ltb-false, ltb-true, not-false, or_cases, or_left, or_right}
 use Rattle.std.proofs.lemmas.List.Folds.{list_any-append}
 use Rattle.std.proofs.lemmas.Option.{same_Some}
-use Rattle.list_laws.proofs.Options.{some_is_none}
-use Rattle.list_laws.proofs.Tests.{false_true, holds_by_both}
+use Rattle.card_set.proofs.Options.{some_is_none}
+use Rattle.card_set.proofs.Tests.{false_true, holds_by_both}
 use Rattle.chip_ledger.specs.Greatest.{greatest}
 use Rattle.play_event.specs.declared.code.Code.{Code}
 use Rattle.play_event.specs.declared.code.Code.TheVariants as games
@@ -26,14 +27,14 @@ use Rattle.play_event.specs.Said.{Said}
 use Rattle.play_event.specs.Past.{Past, Move, moves_of, moves_on, is_raise}
 use Rattle.play_event.specs.Chips.{chips_left, street_chips, chips_added, brought, all_in}
 use Rattle.play_event.specs.Seats.{all_seats, is_live, able_count}
-use Rattle.play_event.specs.Price.{price, full_raise, rise, doubled_raises, starting_price}
+use Rattle.play_event.specs.CurrentBet.{current_bet, full_raise, rise, doubled_raises, starting_bet}
 use Rattle.play_event.specs.Amounts.{raise_target}
 use Rattle.play_event.specs.Targets.{floor, pot_ceiling, is_legal_target, is_target_in, greatest_target}
 use Rattle.play_event.specs.Raising.{may_raise, has_able_opponent, is_within_cap, is_reopened}
 use Rattle.play_event.specs.Due.{turn, is_unfinished, is_move_due, is_bring_in_due, has_to_move, has_opened_betting, is_settled}
 use Rattle.play_event.specs.Dealing.{is_deal_due, is_draw_due}
 use Rattle.play_event.specs.Openers.{InTurn, NoSeat, TheSeat, Undecided, in_turn, UpCards, blinds_opener, opener_by, seat_after, last_big_blind}
-use Rattle.play_event.specs.Mover.{mover, mover_after, next_in_turn, first_in_turn, seats_from}
+use Rattle.play_event.specs.PlayerToAct.{player_to_act, player_to_act_after, next_in_turn, first_in_turn, seats_from}
 use Rattle.play_event.specs.MoveReasons.{actor_of, is_other_seat, is_undecided}
 use Rattle.play_event.specs.Reasons.{why, is_due_kind}
 use Rattle.play_event.specs.Table.{up_cards}
@@ -41,14 +42,14 @@ use Rattle.play_event.specs.Scripts.{with_event, past_of, resolved_by}
 use Rattle.play_event.specs.TurnTargets.{is_bet_due}
 use Rattle.play_event.specs.ValidSetup.{IsValid, IsSizeWhere, is_fixed}
 use Rattle.play_event.specs.Laws.{AreLegal}
-use Rattle.play_event.proofs.MoverLaws.{mover_is_able, found_in_turn}
+use Rattle.play_event.proofs.PlayerToActLaws.{player_to_act_can_act, found_in_turn}
 use Rattle.play_event.proofs.ReasonLaws.{no_reason_holds}
 use Rattle.play_event.proofs.StreetLaws.{due_is_first}
 use Rattle.play_event.proofs.TargetLaws.{greatest_is_legal}
-use Rattle.list_laws.proofs.NumbersOfRange.{any_in_range}
-use Rattle.list_laws.proofs.Finding.{found_among}
+use Rattle.card_set.proofs.NumbersOfRange.{any_in_range}
+use Rattle.card_set.proofs.Finding.{found_among}
 
--- the greatest of some numbers, each of which is bounded by another or by one bound
+-- the greatest of some numbers, if each is bounded by another or by one bound
 greatest_within : (f g : ℕ → ℕ) (bound : ℕ) → ((x : ℕ) → g x ≤ max (f x) bound) → (xs : List ℕ) → greatest (map g xs) ≤ max (greatest (map f xs)) bound
 greatest_within f g bound each [] = omega arith
 greatest_within f g bound each (x ∷ xs) = omega (arith, each x, greatest_within f g bound each xs)
@@ -66,18 +67,18 @@ greatest_reaches f first (suc count) x low high = elim (cases_lt first x) [
       omega (arith, ap f same)
 ]
 
--- a move takes its seat from the chips that it had; a raise takes a seat of the hand above the price, and no other
--- move goes above the price
+-- a move takes its seat up from the chips that it had; a raise takes a seat of the hand above the
+-- current bet, and no other move goes above it
 record IsFitting (setup : Setup) (older : List Move) (move : Move) : Type 0 where
   from_is : move.from ≡ street_chips setup older move.street move.seat
-  raises : is_raise move.act ≡ true → (price setup older move.street < move.to) × ((1 ≤ move.seat) × (move.seat ≤ setup.stacks.seats))
-  stays : is_raise move.act ≡ false → move.to ≤ max move.from (price setup older move.street)
+  raises : is_raise move.act ≡ true → (current_bet setup older move.street < move.to) × ((1 ≤ move.seat) × (move.seat ≤ setup.stacks.seats))
+  stays : is_raise move.act ≡ false → move.to ≤ max move.from (current_bet setup older move.street)
 
 abbrev AreFitting : Setup → List Move → Type 0
 AreFitting setup [] = Unit {0}
 AreFitting setup (move ∷ older) = IsFitting setup older move × AreFitting setup older
 
--- what a move adds to a seat's chips of a street
+-- what a move adds to the chips of a seat on a street
 module _ (setup : Setup) (older : List Move) (move : Move) (street : ℕ) where
   abbrev chips_before : ℕ → ℕ
   chips_before x = street_chips setup older street x
@@ -110,41 +111,41 @@ module _ (setup : Setup) (older : List Move) (move : Move) (street : ℕ) where
   chips_grow : (x : ℕ) → chips_before x ≤ chips_after x
   chips_grow x = chips_grow_by x (move.street == street) (move.seat == x) refl refl
 
-  price_grows : price setup older street ≤ price setup (move ∷ older) street
-  price_grows = greatest_grows chips_before chips_after chips_grow (all_seats setup)
+  current_bet_grows : current_bet setup older street ≤ current_bet setup (move ∷ older) street
+  current_bet_grows = greatest_grows chips_before chips_after chips_grow (all_seats setup)
 
-  price_elsewhere : (move.street == street) ≡ false → price setup (move ∷ older) street ≤ price setup older street
-  price_elsewhere elsewhere =
+  current_bet_elsewhere : (move.street == street) ≡ false → current_bet setup (move ∷ older) street ≤ current_bet setup older street
+  current_bet_elsewhere elsewhere =
       let within = greatest_within chips_before chips_after 0 (λ x. omega (arith, chips_elsewhere x elsewhere)) (all_seats setup) in
       omega (arith, within)
 
-  -- a raise takes the price to its target
+  -- a raise takes the current bet to its target
   within_target : (x : ℕ) (mine : Bool) → IsFitting setup older move → (move.street == street) ≡ true → (move.seat == x) ≡ mine → chips_after x ≤ max (chips_before x) move.to
   within_target x true fits there is = omega (arith, added_by x true there is, from_here x fits there is)
   within_target x false fits there is = omega (arith, added_by x false there is)
 
-  price_raised : IsFitting setup older move → (move.street == street) ≡ true → price setup (move ∷ older) street ≤ max (price setup older street) move.to
-  price_raised fits there = greatest_within chips_before chips_after move.to (λ x. within_target x (move.seat == x) fits there refl) (all_seats setup)
+  current_bet_raised : IsFitting setup older move → (move.street == street) ≡ true → current_bet setup (move ∷ older) street ≤ max (current_bet setup older street) move.to
+  current_bet_raised fits there = greatest_within chips_before chips_after move.to (λ x. within_target x (move.seat == x) fits there refl) (all_seats setup)
 
-  target_reached : IsFitting setup older move → (move.street == street) ≡ true → 1 ≤ move.seat → move.seat ≤ setup.stacks.seats → move.to ≤ price setup (move ∷ older) street
+  target_reached : IsFitting setup older move → (move.street == street) ≡ true → 1 ≤ move.seat → move.seat ≤ setup.stacks.seats → move.to ≤ current_bet setup (move ∷ older) street
   target_reached fits there least most =
       let own : (move.seat == move.seat) ≡ true = eq-eqb move.seat move.seat refl in
       let reaches = greatest_reaches chips_after 1 setup.stacks.seats move.seat least (omega (arith, most)) in
       omega (arith, added_by move.seat true there own, from_here move.seat fits there own, reaches)
 
-  -- another move leaves the price
-  within_price : (x : ℕ) (mine : Bool) → IsFitting setup older move → is_raise move.act ≡ false → (move.street == street) ≡ true → (move.seat == x) ≡ mine → chips_after x ≤ max (chips_before x) (price setup older street)
-  within_price x true fits calm there is =
-      let same : price setup older move.street ≡ price setup older street = ap (price setup older) (eqb-true move.street street there) in
+  -- another move leaves the current bet as it was
+  within_current_bet : (x : ℕ) (mine : Bool) → IsFitting setup older move → is_raise move.act ≡ false → (move.street == street) ≡ true → (move.seat == x) ≡ mine → chips_after x ≤ max (chips_before x) (current_bet setup older street)
+  within_current_bet x true fits calm there is =
+      let same : current_bet setup older move.street ≡ current_bet setup older street = ap (current_bet setup older) (eqb-true move.street street there) in
       omega (arith, added_by x true there is, from_here x fits there is, fits.stays calm, same)
-  within_price x false fits calm there is = omega (arith, added_by x false there is)
+  within_current_bet x false fits calm there is = omega (arith, added_by x false there is)
 
-  price_stays : IsFitting setup older move → is_raise move.act ≡ false → (move.street == street) ≡ true → price setup (move ∷ older) street ≤ price setup older street
-  price_stays fits calm there =
-      let within = greatest_within chips_before chips_after (price setup older street) (λ x. within_price x (move.seat == x) fits calm there refl) (all_seats setup) in
+  current_bet_stays : IsFitting setup older move → is_raise move.act ≡ false → (move.street == street) ≡ true → current_bet setup (move ∷ older) street ≤ current_bet setup older street
+  current_bet_stays fits calm there =
+      let within = greatest_within chips_before chips_after (current_bet setup older street) (λ x. within_current_bet x (move.seat == x) fits calm there refl) (all_seats setup) in
       omega (arith, within)
 
-  -- the least full raise grows, and no raise goes further above the price
+  -- the smallest full raise grows, and no raise exceeds the current bet by more
   abbrev full_by : (full : Bool) → ℕ
   full_by full = if full then max (rise setup move older) (full_raise setup older street) else full_raise setup older street
 
@@ -167,11 +168,11 @@ module _ (setup : Setup) (older : List Move) (move : Move) (street : ℕ) where
     | inr enough ↦ omega (arith, full_at there raised true (le-leb (full_raise setup older street) (rise setup move older) enough))
   ]
 
-  -- the doubled raises of the street
+  -- the sums of the targets of the street's raises and their increases
   abbrev doubled_by : Bool → List ℕ
-  doubled_by raised = if raised then ((2 * move.to - price setup older street) ∷ doubled_raises setup older street) else doubled_raises setup older street
+  doubled_by raised = if raised then ((2 * move.to - current_bet setup older street) ∷ doubled_raises setup older street) else doubled_raises setup older street
 
-  doubled_raised : (move.street == street) ≡ true → is_raise move.act ≡ true → doubled_raises setup (move ∷ older) street ≡ (2 * move.to - price setup older street) ∷ doubled_raises setup older street
+  doubled_raised : (move.street == street) ≡ true → is_raise move.act ≡ true → doubled_raises setup (move ∷ older) street ≡ (2 * move.to - current_bet setup older street) ∷ doubled_raises setup older street
   doubled_raised there raised = ap (λ b. doubled_by (b && is_raise move.act)) there ∙ ap doubled_by raised
 
   doubled_calm : is_raise move.act ≡ false → (there : Bool) → (move.street == street) ≡ there → doubled_raises setup (move ∷ older) street ≡ doubled_raises setup older street
@@ -181,50 +182,51 @@ module _ (setup : Setup) (older : List Move) (move : Move) (street : ℕ) where
   doubled_elsewhere : (move.street == street) ≡ false → doubled_raises setup (move ∷ older) street ≡ doubled_raises setup older street
   doubled_elsewhere elsewhere = ap (λ b. doubled_by (b && is_raise move.act)) elsewhere
 
--- the price is not below the starting price, nor the least full raise below the least bet
-start_below : (setup : Setup) (moves : List Move) (street : ℕ) → starting_price setup street ≤ price setup moves street
+-- the current bet is not below the starting bet, and the smallest full raise is not below the
+-- minimum bet
+start_below : (setup : Setup) (moves : List Move) (street : ℕ) → starting_bet setup street ≤ current_bet setup moves street
 start_below setup [] street = omega arith
-start_below setup (move ∷ older) street = omega (arith, start_below setup older street, price_grows setup older move street)
+start_below setup (move ∷ older) street = omega (arith, start_below setup older street, current_bet_grows setup older move street)
 
 bet_below : (setup : Setup) (moves : List Move) (street : ℕ) → setup.min_bet ≤ full_raise setup moves street
 bet_below setup [] street = omega arith
 bet_below setup (move ∷ older) street = omega (arith, bet_below setup older street, full_grows setup older move street)
 
--- the doubled raises are within the price and a full raise
-doubled_within : (setup : Setup) (moves : List Move) (street : ℕ) → AreFitting setup moves → greatest (doubled_raises setup moves street) ≤ price setup moves street + full_raise setup moves street
+-- these sums are within the current bet plus a full raise
+doubled_within : (setup : Setup) (moves : List Move) (street : ℕ) → AreFitting setup moves → greatest (doubled_raises setup moves street) ≤ current_bet setup moves street + full_raise setup moves street
 doubled_within setup [] street fits = omega arith
 doubled_within setup (move ∷ older) street fits = by_move (move.street == street) (is_raise move.act) refl refl (doubled_within setup older street fits.1)
   where
-    grown : greatest (doubled_raises setup older street) ≤ price setup older street + full_raise setup older street → greatest (doubled_raises setup older street) ≤ price setup (move ∷ older) street + full_raise setup (move ∷ older) street
-    grown before = omega (arith, before, price_grows setup older move street, full_grows setup older move street)
+    grown : greatest (doubled_raises setup older street) ≤ current_bet setup older street + full_raise setup older street → greatest (doubled_raises setup older street) ≤ current_bet setup (move ∷ older) street + full_raise setup (move ∷ older) street
+    grown before = omega (arith, before, current_bet_grows setup older move street, full_grows setup older move street)
 
-    by_move : (there raised : Bool) → (move.street == street) ≡ there → is_raise move.act ≡ raised → greatest (doubled_raises setup older street) ≤ price setup older street + full_raise setup older street → greatest (doubled_raises setup (move ∷ older) street) ≤ price setup (move ∷ older) street + full_raise setup (move ∷ older) street
+    by_move : (there raised : Bool) → (move.street == street) ≡ there → is_raise move.act ≡ raised → greatest (doubled_raises setup older street) ≤ current_bet setup older street + full_raise setup older street → greatest (doubled_raises setup (move ∷ older) street) ≤ current_bet setup (move ∷ older) street + full_raise setup (move ∷ older) street
     by_move true true there raised before =
         let in_hand = (fits.0.raises raised).1 in
-        let same : price setup older move.street ≡ price setup older street = ap (price setup older) (eqb-true move.street street there) in
+        let same : current_bet setup older move.street ≡ current_bet setup older street = ap (current_bet setup older) (eqb-true move.street street there) in
         let reached = target_reached setup older move street fits.0 there in_hand.0 in_hand.1 in
         omega (arith, ap greatest (doubled_raised setup older move street there raised), reached, rise_within setup older move street there raised, same, grown before)
     by_move true false there raised before = omega (arith, ap greatest (doubled_calm setup older move street raised true there), grown before)
     by_move false raised there is before = omega (arith, ap greatest (doubled_elsewhere setup older move street there), grown before)
 
-floor_within : (reopens : Reopen) (setup : Setup) (moves : List Move) (street : ℕ) → AreFitting setup moves → floor reopens setup moves street ≤ price setup moves street + full_raise setup moves street
+floor_within : (reopens : Reopen) (setup : Setup) (moves : List Move) (street : ℕ) → AreFitting setup moves → floor reopens setup moves street ≤ current_bet setup moves street + full_raise setup moves street
 floor_within reopen.Full setup moves street fits = omega arith
 floor_within reopen.Always setup moves street fits = omega (arith, doubled_within setup moves street fits, start_below setup moves street, bet_below setup moves street)
 
--- and the price is below the floor
-above_start : (setup : Setup) (moves : List Move) (street : ℕ) → 1 ≤ setup.min_bet → AreFitting setup moves → price setup moves street < max (starting_price setup street + setup.min_bet) (greatest (doubled_raises setup moves street))
+-- and the current bet is below the lowest raise
+above_start : (setup : Setup) (moves : List Move) (street : ℕ) → 1 ≤ setup.min_bet → AreFitting setup moves → current_bet setup moves street < max (starting_bet setup street + setup.min_bet) (greatest (doubled_raises setup moves street))
 above_start setup [] street some fits = omega (arith, some)
 above_start setup (move ∷ older) street some fits = by_move (move.street == street) (is_raise move.act) refl refl (above_start setup older street some fits.1)
   where
-    by_move : (there raised : Bool) → (move.street == street) ≡ there → is_raise move.act ≡ raised → price setup older street < max (starting_price setup street + setup.min_bet) (greatest (doubled_raises setup older street)) → price setup (move ∷ older) street < max (starting_price setup street + setup.min_bet) (greatest (doubled_raises setup (move ∷ older) street))
+    by_move : (there raised : Bool) → (move.street == street) ≡ there → is_raise move.act ≡ raised → current_bet setup older street < max (starting_bet setup street + setup.min_bet) (greatest (doubled_raises setup older street)) → current_bet setup (move ∷ older) street < max (starting_bet setup street + setup.min_bet) (greatest (doubled_raises setup (move ∷ older) street))
     by_move true true there raised before =
         let above = (fits.0.raises raised).0 in
-        let same : price setup older move.street ≡ price setup older street = ap (price setup older) (eqb-true move.street street there) in
-        omega (arith, ap greatest (doubled_raised setup older move street there raised), price_raised setup older move street fits.0 there, above, same, before)
-    by_move true false there raised before = omega (arith, ap greatest (doubled_calm setup older move street raised true there), price_stays setup older move street fits.0 raised there, before)
-    by_move false raised there is before = omega (arith, ap greatest (doubled_elsewhere setup older move street there), price_elsewhere setup older move street there, before)
+        let same : current_bet setup older move.street ≡ current_bet setup older street = ap (current_bet setup older) (eqb-true move.street street there) in
+        omega (arith, ap greatest (doubled_raised setup older move street there raised), current_bet_raised setup older move street fits.0 there, above, same, before)
+    by_move true false there raised before = omega (arith, ap greatest (doubled_calm setup older move street raised true there), current_bet_stays setup older move street fits.0 raised there, before)
+    by_move false raised there is before = omega (arith, ap greatest (doubled_elsewhere setup older move street there), current_bet_elsewhere setup older move street there, before)
 
-floor_above : (reopens : Reopen) (setup : Setup) (moves : List Move) (street : ℕ) → 1 ≤ setup.min_bet → AreFitting setup moves → price setup moves street < floor reopens setup moves street
+floor_above : (reopens : Reopen) (setup : Setup) (moves : List Move) (street : ℕ) → 1 ≤ setup.min_bet → AreFitting setup moves → current_bet setup moves street < floor reopens setup moves street
 floor_above reopen.Full setup moves street some fits = omega (arith, some, bet_below setup moves street)
 floor_above reopen.Always setup moves street some fits = above_start setup moves street some fits
 
@@ -264,7 +266,7 @@ some_passes p first (suc count) any = elim (or_cases (p first) (list_any p (rang
   | inr later ↦ let found = some_passes p (first + 1) count later in record { seat = found.seat; low = omega (arith, found.low); high = omega (arith, found.high); passes = found.passes }
 ]
 
--- going round from any seat, some seat passes where some seat of the hand does
+-- going round from any seat, some seat passes if some seat of the hand does
 round_passes : (p : ℕ → Bool) (setup : Setup) (start : ℕ) → list_any p (all_seats setup) ≡ true → list_any p (seats_from setup start) ≡ true
 round_passes p setup start any =
     let found = some_passes p 1 setup.stacks.seats any in
@@ -275,7 +277,7 @@ round_passes p setup start any =
       | inr from ↦ or_left (list_any p first) (list_any p second) (any_in_range p start (setup.stacks.seats + 1 - start) found.seat from (omega (arith, from, found.high)) found.passes)
     ]
 
--- in a game with blinds somebody is in turn where a move is due, and it is a seat of the hand
+-- in a game with blinds, if a move is due, the player to act is a seat of the hand
 blinds_by : (opener : Opener) → is_opened_by_up_cards opener ≡ false → opener ≡ openers.Blinds
 blinds_by openers.Blinds is = refl
 blinds_by openers.LowUp is = false_true (sym is)
@@ -312,44 +314,44 @@ module _ (setup : Setup) (moves : List Move) (street : ℕ) (blinds : is_stud se
       by_last true = omega arith
       by_last false = omega arith
 
-  mover_is : (ups : UpCards) → mover setup ups moves street ≡ in_turn (find (has_to_move setup moves street) (seats_from setup (start (moves_on street moves))))
-  mover_is ups =
-      ap (λ o. mover_after setup (opener_by o setup ups moves street) moves street) (blinds_by (opener_of setup.code) blinds)
+  player_to_act_is : (ups : UpCards) → player_to_act setup ups moves street ≡ in_turn (find (has_to_move setup moves street) (seats_from setup (start (moves_on street moves))))
+  player_to_act_is ups =
+      ap (λ o. player_to_act_after setup (opener_by o setup ups moves street) moves street) (blinds_by (opener_of setup.code) blinds)
       ∙ ap (first_in_turn setup (has_to_move setup moves street)) (start_is (moves_on street moves))
 
   no_seat_found : (found : Option ℕ) → in_turn found ≡ NoSeat → found ≡ None
   no_seat_found None is = refl
   no_seat_found (Some seat) is = absurd cc
 
-  somebody : (ups : UpCards) → is_move_due setup moves street ≡ true → mover setup ups moves street ≡ NoSeat → ⊥
+  somebody : (ups : UpCards) → is_move_due setup moves street ≡ true → player_to_act setup ups moves street ≡ NoSeat → ⊥
   somebody ups due none =
       let seats = seats_from setup (start (moves_on street moves)) in
       found_among (has_to_move setup moves street) seats (round_passes (has_to_move setup moves street) setup (start (moves_on street moves)) due)
-      (no_seat_found (find (has_to_move setup moves street) seats) (sym (mover_is ups) ∙ none))
+      (no_seat_found (find (has_to_move setup moves street) seats) (sym (player_to_act_is ups) ∙ none))
 
   the_seat_found : (found : Option ℕ) (seat : ℕ) → in_turn found ≡ TheSeat seat → found ≡ Some seat
   the_seat_found None seat is = absurd cc
   the_seat_found (Some other) seat is = found_in_turn (Some other) seat is
 
-  mover_from_one : (ups : UpCards) (seat : ℕ) → mover setup ups moves street ≡ TheSeat seat → 1 ≤ seat
-  mover_from_one ups seat is =
+  player_to_act_from_one : (ups : UpCards) (seat : ℕ) → player_to_act setup ups moves street ≡ TheSeat seat → 1 ≤ seat
+  player_to_act_from_one ups seat is =
       let from = start (moves_on street moves) in
       let first = range_with_len from (setup.stacks.seats + 1 - from) in
       let second = range_with_len 1 (from - 1) in
       found_from_one (has_to_move setup moves street) (seats_from setup from) seat
       (both_from_one first second (range_from_one from (setup.stacks.seats + 1 - from) (start_from_one (moves_on street moves))) (range_from_one 1 (from - 1) (omega arith)))
-      (found_in_turn (find (has_to_move setup moves street) (seats_from setup from)) seat (sym (mover_is ups) ∙ is))
+      (found_in_turn (find (has_to_move setup moves street) (seats_from setup from)) seat (sym (player_to_act_is ups) ∙ is))
 
-  mover_in_hand : (ups : UpCards) (seat : ℕ) → mover setup ups moves street ≡ TheSeat seat → seat ≤ setup.stacks.seats
-  mover_in_hand ups seat is =
-      let able = and_parts (is_live moves seat) (nat_lt 0 (chips_left setup moves seat)) (mover_is_able setup ups moves street seat is) in
+  player_to_act_in_hand : (ups : UpCards) (seat : ℕ) → player_to_act setup ups moves street ≡ TheSeat seat → seat ≤ setup.stacks.seats
+  player_to_act_in_hand ups seat is =
+      let able = and_parts (is_live moves seat) (nat_lt 0 (chips_left setup moves seat)) (player_to_act_can_act setup ups moves street seat is) in
       let some : 0 < chips_left setup moves seat = ltb-true 0 (chips_left setup moves seat) able.1 in
       elim (cases_lt setup.stacks.seats seat) [
         | inl past ↦ absurd (let none = setup.stacks.filler (seat - 1) (omega (arith, past)) in omega (arith, some, none))
         | inr within ↦ within
       ]
 
--- a bet is due on a street of a game with blinds only where a move is
+-- on a street of a game with blinds a bet is due only if a move is
 due_by : (deal draw bring move : Bool) (street : ℕ) → Option Due
 due_by deal draw bring move street =
     if deal then Some (dues.Deal street) else if draw then Some (dues.Draw street) else if bring then Some dues.BringIn else if move then Some dues.Move else None
@@ -397,22 +399,22 @@ pub may_come_by : (kind other : Bool) → not (kind || (false && other)) ≡ fal
 may_come_by true other is = refl
 may_come_by false other is = sym is
 
--- a legal raise is of a seat of the hand
-mover_of : (setup : Setup) (moves : List Move) (named : Option ℕ) (turn : InTurn) → is_other_seat setup moves named turn ≡ false → is_undecided turn ≡ false → (turn ≡ TheSeat (actor_of named turn)) ⊎ (turn ≡ NoSeat)
-mover_of setup moves named Undecided own known = false_true (sym known)
-mover_of setup moves (Some seat) NoSeat own known = false_true (sym own)
-mover_of setup moves None NoSeat own known = inr refl
-mover_of setup moves None (TheSeat other) own known = inl refl
-mover_of setup moves (Some seat) (TheSeat other) own known = inl (ap TheSeat (sym (eqb-true seat other (not-false (seat == other) own))))
+-- a legal raise is by a seat of the hand
+player_to_act_of : (setup : Setup) (moves : List Move) (named : Option ℕ) (turn : InTurn) → is_other_seat setup moves named turn ≡ false → is_undecided turn ≡ false → (turn ≡ TheSeat (actor_of named turn)) ⊎ (turn ≡ NoSeat)
+player_to_act_of setup moves named Undecided own known = false_true (sym known)
+player_to_act_of setup moves (Some seat) NoSeat own known = false_true (sym own)
+player_to_act_of setup moves None NoSeat own known = inr refl
+player_to_act_of setup moves None (TheSeat other) own known = inl refl
+player_to_act_of setup moves (Some seat) (TheSeat other) own known = inl (ap TheSeat (sym (eqb-true seat other (not-false (seat == other) own))))
 
-target_above : (limit : Limit) (reopens : Reopen) (setup : Setup) (moves : List Move) (street seat target : ℕ) → is_fixed limit ≡ false → price setup moves street < floor reopens setup moves street → 1 ≤ setup.min_bet → price setup moves street < all_in setup moves street seat → is_target_in limit reopens setup moves street seat target ≡ true → price setup moves street < target
+target_above : (limit : Limit) (reopens : Reopen) (setup : Setup) (moves : List Move) (street seat target : ℕ) → is_fixed limit ≡ false → current_bet setup moves street < floor reopens setup moves street → 1 ≤ setup.min_bet → current_bet setup moves street < all_in setup moves street seat → is_target_in limit reopens setup moves street seat target ≡ true → current_bet setup moves street < target
 target_above limits.Fixed reopens setup moves street seat target bounded low some chips legal = false_true (sym bounded)
 target_above limits.No reopens setup moves street seat target bounded low some chips legal = elim (or_cases (nat_le (floor reopens setup moves street) target && nat_le target (all_in setup moves street seat)) (target == all_in setup moves street seat) legal) [
   | inl between ↦ omega (arith, low, leb-true (floor reopens setup moves street) target (and_parts (nat_le (floor reopens setup moves street) target) (nat_le target (all_in setup moves street seat)) between).0)
   | inr all ↦ omega (arith, chips, eqb-true target (all_in setup moves street seat) all)
 ]
-target_above limits.Pot reopens setup moves street seat target bounded low some chips legal = elim (or_cases (nat_le (price setup moves street + full_raise setup moves street) target && nat_le target (min (all_in setup moves street seat) (pot_ceiling setup moves street seat))) ((target == all_in setup moves street seat) && nat_le target (pot_ceiling setup moves street seat)) legal) [
-  | inl between ↦ omega (arith, some, bet_below setup moves street, leb-true (price setup moves street + full_raise setup moves street) target (and_parts (nat_le (price setup moves street + full_raise setup moves street) target) (nat_le target (min (all_in setup moves street seat) (pot_ceiling setup moves street seat))) between).0)
+target_above limits.Pot reopens setup moves street seat target bounded low some chips legal = elim (or_cases (nat_le (current_bet setup moves street + full_raise setup moves street) target && nat_le target (min (all_in setup moves street seat) (pot_ceiling setup moves street seat))) ((target == all_in setup moves street seat) && nat_le target (pot_ceiling setup moves street seat)) legal) [
+  | inl between ↦ omega (arith, some, bet_below setup moves street, leb-true (current_bet setup moves street + full_raise setup moves street) target (and_parts (nat_le (current_bet setup moves street + full_raise setup moves street) target) (nat_le target (min (all_in setup moves street seat) (pot_ceiling setup moves street seat))) between).0)
   | inr all ↦ omega (arith, chips, eqb-true target (all_in setup moves street seat) (and_parts (target == all_in setup moves street seat) (nat_le target (pot_ceiling setup moves street seat)) all).0)
 ]
 
@@ -424,31 +426,31 @@ fits_target reopens setup moves street seat target small big =
     ap (λ (t : ℕ). is_legal_target reopens setup moves street seat t) same ∙ greatest_is_legal reopens setup moves street seat
 
 module _ (setup : Setup) (rules : Rules) (blinds : is_stud setup.code ≡ false) (bounded : is_fixed (limit_of setup.code) ≡ false) (some : 1 ≤ setup.min_bet) (none_brought : setup.bring_in ≡ 0) where
-  -- what a legal raise tells
+  -- what follows from a legal raise
   raise_fits : (before : Past) (named : Option ℕ) (amount : Spelled) → AreFitting setup (moves_of before) → why setup rules before (said.Raise named amount) ≡ None
-      → let street = (turn setup before).0 in let seat = actor_of named (mover setup (up_cards setup.code before) (moves_of before) street) in (price setup (moves_of before) street < raise_target setup (moves_of before) street seat amount) × ((1 ≤ seat) × (seat ≤ setup.stacks.seats))
+      → let street = (turn setup before).0 in let seat = actor_of named (player_to_act setup (up_cards setup.code before) (moves_of before) street) in (current_bet setup (moves_of before) street < raise_target setup (moves_of before) street seat amount) × ((1 ≤ seat) × (seat ≤ setup.stacks.seats))
   raise_fits before named amount fits legal =
       let moves = moves_of before in
       let street = (turn setup before).0 in
       let due = (turn setup before).1 in
       let ups = up_cards setup.code before in
-      let in_turn_now = mover setup ups moves street in
+      let in_turn_now = player_to_act setup ups moves street in
       let seat = actor_of named in_turn_now in
       let target = raise_target setup moves street seat amount in
       let reasons = no_reason_holds setup rules before (said.Raise named amount) legal in
       let bet = raise_bet setup.code named amount due (may_come_by (is_due_kind setup.code due (said.Raise named amount)) (is_settled setup moves (turn setup before)) reasons.1.0) in
       let due_move = move_is_due setup before blinds bet in
       let may = not-false (may_raise setup rules moves street seat) reasons.1.1.1.1.1.1.1.1.0 in
-      let chips = ltb-true (price setup moves street) (all_in setup moves street seat) (and_parts (has_able_opponent setup moves seat) (nat_lt (price setup moves street) (all_in setup moves street seat)) (and_parts (has_able_opponent setup moves seat && nat_lt (price setup moves street) (all_in setup moves street seat)) (is_within_cap rules.caps moves street) (and_parts (has_able_opponent setup moves seat && nat_lt (price setup moves street) (all_in setup moves street seat) && is_within_cap rules.caps moves street) (is_reopened rules.reopen setup moves street seat) may).0).0).1 in
+      let chips = ltb-true (current_bet setup moves street) (all_in setup moves street seat) (and_parts (has_able_opponent setup moves seat) (nat_lt (current_bet setup moves street) (all_in setup moves street seat)) (and_parts (has_able_opponent setup moves seat && nat_lt (current_bet setup moves street) (all_in setup moves street seat)) (is_within_cap rules.caps moves street) (and_parts (has_able_opponent setup moves seat && nat_lt (current_bet setup moves street) (all_in setup moves street seat) && is_within_cap rules.caps moves street) (is_reopened rules.reopen setup moves street seat) may).0).0).1 in
       let target_legal = holds_by_both (is_legal_target rules.reopen setup moves street seat target) (nat_lt target (greatest_target setup moves street seat)) (nat_lt (greatest_target setup moves street seat) target) reasons.1.1.1.1.1.1.1.1.1.0 (fits_target rules.reopen setup moves street seat target) reasons.1.1.1.1.1.1.1.1.1.1.0 in (
         target_above (limit_of setup.code) rules.reopen setup moves street seat target bounded (floor_above rules.reopen setup moves street some fits) some chips target_legal,
-        elim (mover_of setup moves named in_turn_now reasons.1.1.0 reasons.1.1.1.1.1.1.0) [
-          | inl is ↦ (mover_from_one setup moves street blinds ups seat is, mover_in_hand setup moves street blinds ups seat is)
+        elim (player_to_act_of setup moves named in_turn_now reasons.1.1.0 reasons.1.1.1.1.1.1.0) [
+          | inl is ↦ (player_to_act_from_one setup moves street blinds ups seat is, player_to_act_in_hand setup moves street blinds ups seat is)
           | inr nobody ↦ absurd (somebody setup moves street blinds ups due_move nobody)
         ],
       )
 
-  fits_event : (before : Past) (event : Said) → AreFitting setup (moves_of before) → why setup rules before event ≡ None → AreFitting setup (moves_of (resolved_by setup (moves_of before) (turn setup before).0 (mover setup (up_cards setup.code before) (moves_of before) (turn setup before).0) event ∷ before))
+  fits_event : (before : Past) (event : Said) → AreFitting setup (moves_of before) → why setup rules before event ≡ None → AreFitting setup (moves_of (resolved_by setup (moves_of before) (turn setup before).0 (player_to_act setup (up_cards setup.code before) (moves_of before) (turn setup before).0) event ∷ before))
   fits_event before (said.Hole seat cards) fits legal = fits
   fits_event before (said.Board cards) fits legal = fits
   fits_event before (said.Discard seat cards) fits legal = fits
@@ -467,7 +469,7 @@ module _ (setup : Setup) (rules : Rules) (blinds : is_stud setup.code ≡ false)
   fits_all [] legal = tt
   fits_all (event ∷ before) legal = fits_next (past_of setup before) event (fits_all before legal.1) legal.0
 
--- no game of stud is played in no limit or pot limit
+-- no stud game is played in no limit or pot limit
 blinds_unfixed : (code : Code) → is_fixed (limit_of code) ≡ false → is_stud code ≡ false
 blinds_unfixed games.FT is = refl
 blinds_unfixed games.NT is = refl
@@ -492,10 +494,10 @@ all_fit setup rules events valid bounded legal =
     let blinds = blinds_unfixed setup.code bounded in
     fits_all setup rules blinds bounded (some_bet setup valid bounded) (no_bring setup valid blinds) events legal
 
-pub above_price : (setup : Setup) (rules : Rules) (events : List Said) → IsValid setup → is_fixed (limit_of setup.code) ≡ false → AreLegal setup rules events → (reopens : Reopen) (street : ℕ) → price setup (moves_of (past_of setup events)) street < floor reopens setup (moves_of (past_of setup events)) street
-above_price setup rules events valid bounded legal reopens street =
+pub above_current_bet : (setup : Setup) (rules : Rules) (events : List Said) → IsValid setup → is_fixed (limit_of setup.code) ≡ false → AreLegal setup rules events → (reopens : Reopen) (street : ℕ) → current_bet setup (moves_of (past_of setup events)) street < floor reopens setup (moves_of (past_of setup events)) street
+above_current_bet setup rules events valid bounded legal reopens street =
     floor_above reopens setup (moves_of (past_of setup events)) street (some_bet setup valid bounded) (all_fit setup rules events valid bounded legal)
 
-pub within_full_raise : (setup : Setup) (rules : Rules) (events : List Said) → IsValid setup → is_fixed (limit_of setup.code) ≡ false → AreLegal setup rules events → (reopens : Reopen) (street : ℕ) → floor reopens setup (moves_of (past_of setup events)) street ≤ price setup (moves_of (past_of setup events)) street + full_raise setup (moves_of (past_of setup events)) street
+pub within_full_raise : (setup : Setup) (rules : Rules) (events : List Said) → IsValid setup → is_fixed (limit_of setup.code) ≡ false → AreLegal setup rules events → (reopens : Reopen) (street : ℕ) → floor reopens setup (moves_of (past_of setup events)) street ≤ current_bet setup (moves_of (past_of setup events)) street + full_raise setup (moves_of (past_of setup events)) street
 within_full_raise setup rules events valid bounded legal reopens street =
     floor_within reopens setup (moves_of (past_of setup events)) street (all_fit setup rules events valid bounded legal)

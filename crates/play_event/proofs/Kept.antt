@@ -1,8 +1,9 @@
--- What folds, discards and shows leave of a place: its number, and what is known of it; so they make no two known cards clash.
+-- What folds, discards and shows change in a dealt card: whether it is gone, and whether it is
+-- known; so they make no two known cards clash.
 use Rattle.std.proofs.Common.{◌≡◌, ℕ, zero, suc, Bool, true, false, ◌&&◌, ◌||◌, not, inl, inr, ◌⊎◌, Option, Some, None, is_none, List, [], ◌∷◌, map, refl, sym, ◌∙◌, ap, subst, if◌then◌else◌}
 use Rattle.std.proofs.lemmas.Bool.{and_parts, and_from}
-use Rattle.list_laws.proofs.Options.{is_none_none}
-use Rattle.list_laws.proofs.Tests.{either_still, both_known, false_true}
+use Rattle.card_set.proofs.Options.{is_none_none}
+use Rattle.card_set.proofs.Tests.{either_still, both_known, false_true}
 use Rattle.card_set.specs.declared.card.Card.{Card}
 use Rattle.card_set.specs.declared.card.Slot.{Slot}
 use Rattle.card_set.specs.declared.card.Slot.TheVariants as slots
@@ -12,7 +13,8 @@ use Rattle.play_event.specs.Naming.{found_by, after_names, is_named}
 use Rattle.play_event.specs.Taken.{is_clash, may_repeat, is_gone_before, is_one_card, newly_known}
 use Rattle.play_event.specs.Laws.{IsAmong}
 
--- a place as an event left it, after so many deals: it may be gone now, and its card may be known now
+-- a dealt card as an event left it, after this number of dealt cards: it may be gone now, and it
+-- may be known now
 pub record IsKept (count : ℕ) (old new : Place) : Type 0 where
   pub number : new.number ≡ old.number
   pub past_deck : new.past_deck ≡ old.past_deck
@@ -42,21 +44,22 @@ fewer_clash m true s s' still same is = refl
 fewer_clash true false s s' still same is = false_true (still refl)
 fewer_clash false false s s' still same is = same ∙ is
 
--- two places that did not clash, and whose cards are as known as before, do not clash
+-- two dealt cards that did not clash, and that are known as they were before, do not clash
 pub clash_kept : (count : ℕ) (a b a' b' : Place) → IsKept count a a' → IsKept count b b' → a'.slot ≡ a.slot → b'.slot ≡ b.slot → is_clash a b ≡ false → is_clash a' b' ≡ false
 clash_kept count a b a' b' kept_a kept_b slot_a slot_b is =
     fewer_clash (may_repeat a b || may_repeat b a) (may_repeat a' b' || may_repeat b' a') (is_one_card a.slot b.slot) (is_one_card a'.slot b'.slot)
     (either_still (may_repeat a b) (may_repeat b a) (may_repeat a' b') (may_repeat b' a') (repeat_still count a b a' b' kept_a kept_b) (repeat_still count b a b' a' kept_b kept_a))
     (ap (λ s. is_one_card s b'.slot) slot_a ∙ ap (is_one_card a.slot) slot_b) is
 
--- each place is kept, in order
+-- each dealt card is kept, in order
 abbrev pub AreKept : ℕ → List Place → List Place → Type 0
 AreKept count [] [] = Unit {0}
 AreKept count [] (new ∷ news) = ⊥
 AreKept count (old ∷ olds) [] = ⊥
 AreKept count (old ∷ olds) (new ∷ news) = IsKept count old new × AreKept count olds news
 
--- where a place of after comes from: a place of before that it keeps, and its card is the same, or became known
+-- where a dealt card afterwards comes from: from one before that it keeps, and it is the same card,
+-- or became known
 pub record ComesFrom (count : ℕ) (before after : List Place) (new : Place) : Type 0 where
   pub old : Place
   pub among : IsAmong before old
@@ -102,7 +105,7 @@ comes_from count (old ∷ olds) (first ∷ news) kept new (inl is) =
     subst P is (comes_now count old first olds news kept.0)
 comes_from count (old ∷ olds) (first ∷ news) kept new (inr later) = comes_later count old first olds news new (comes_from count olds news kept.1 new later)
 
--- a fold keeps each place
+-- a fold keeps each dealt card
 pub held_is_there : (seat : ℕ) (place : Place) → is_held_by seat place ≡ true → place.gone_after ≡ None
 held_is_there seat place held = is_none_none place.gone_after (and_parts (is_same_owner place.owner (Some seat)) (is_none place.gone_after) held).1
 
@@ -114,7 +117,7 @@ pub fold_keeps : (seat count : ℕ) (placed : List Place) → AreKept count plac
 fold_keeps seat count [] = tt
 fold_keeps seat count (place ∷ rest) = (fold_one count place (is_held_by seat place) (held_is_there seat place), fold_keeps seat count rest)
 
--- what marks a named card: it keeps the place, and does not touch the slot
+-- what marks a named card: it keeps it, and does not change its slot
 pub record IsMark (count : ℕ) (mark : Place → Place) : Type 0 where
   pub slot : (place : Place) → (mark place).slot ≡ place.slot
   pub number : (place : Place) → (mark place).number ≡ place.number
@@ -155,7 +158,7 @@ names_covered : (count : ℕ) (mark : Place → Place) (names others : List Card
 names_covered count mark names others blanks place true is there = inl (found_kept count mark is names place.slot others blanks place refl (there refl))
 names_covered count mark names others blanks place false is there = inr refl
 
--- names keep each place, where they cover cards alone that are not gone
+-- names keep each dealt card, if they are matched only with cards that are not gone
 pub names_keep : (count : ℕ) (covers : Place → Bool) (mark : Place → Place) → IsMark count mark → ((place : Place) → covers place ≡ true → place.gone_after ≡ None) → (names others : List Card) (blanks : ℕ) (placed : List Place) → AreKept count placed (after_names covers mark names others blanks placed)
 names_keep count covers mark is there names others blanks [] = tt
 names_keep count covers mark is there names others blanks (place ∷ rest) =

@@ -1,5 +1,5 @@
 pub mod StreetLaws
-pub mod MoverLaws
+pub mod PlayerToActLaws
 pub mod ReasonLaws
 pub mod ChipLaws
 pub mod TargetLaws
@@ -21,3 +21,5 @@ pub mod DealingLaws
 pub mod SaidSoFar
 pub mod Sizes
 pub mod TracedMoves
+-- What holds of the events of a canonical script.
+pub mod Deals

@@ -1,4 +1,4 @@
--- Among some seats there is one before which no other opens.
+-- Among some seats there is one before which no other acts.
 use Rattle.std.proofs.Common.{◌≡◌, ℕ, ◌<◌, Bool, true, false, ◌&&◌, ◌||◌, ◌==◌, nat_lt, inl, inr, ◌⊎◌, List, [], ◌∷◌, refl, sym, ◌∙◌, arith}
 use Rattle.std.proofs.lemmas.Bool.{true≢false, or_left, or_right, or_from, or_cases, and_parts, and_from, lt-ltb, ltb-true, le-ltb, eqb-true, eq-eqb, and_right}
 use Rattle.card_set.specs.declared.card.Card.{Card}
@@ -8,7 +8,7 @@ use Rattle.card_set.specs.UpCards.{up_high_class, low_class}
 use Rattle.play_event.specs.declared.limit.Opener.{Opener}
 use Rattle.play_event.specs.declared.limit.Opener.TheVariants.{Blinds, LowUp, HighUp}
 use Rattle.play_event.specs.Openers.{is_lower, is_opener_before, card_stands, razz_place}
-use Rattle.list_laws.proofs.Numbers.{less_trans}
+use Rattle.card_set.proofs.Numbers.{less_trans}
 
 -- lists of heights
 lower_not : (xs : List ℕ) → is_lower xs xs ≡ false
@@ -31,7 +31,7 @@ lower_trans (x ∷ xs) (y ∷ ys) [] p q = absurd (true≢false (sym q))
 lower_trans (x ∷ xs) (y ∷ ys) (z ∷ zs) p q =
     lower_step x y z (is_lower xs ys) (is_lower ys zs) (is_lower xs zs) (lower_trans xs ys zs) (or_cases (nat_lt x y) ((x == y) && is_lower xs ys) p) (or_cases (nat_lt y z) ((y == z) && is_lower ys zs) q)
 
--- no seat opens before itself
+-- no seat acts before itself
 pub opens_not : (opener : Opener) (first : Bool) (a : List Card) → is_opener_before opener first a a ≡ false
 opens_not LowUp true a = le-ltb (card_stands deck_place a) (card_stands deck_place a) (omega arith)
 opens_not HighUp true a = le-ltb (card_stands razz_place a) (card_stands razz_place a) (omega arith)
@@ -52,7 +52,7 @@ worse_step ca cb cc l m n trans (inr x) (inr y) =
 pub worse_trans : (ca cb cc : ℕ) (l m n : Bool) → (l ≡ true → m ≡ true → n ≡ true) → (nat_lt ca cb || ((cb == ca) && l)) ≡ true → (nat_lt cb cc || ((cc == cb) && m)) ≡ true → (nat_lt ca cc || ((cc == ca) && n)) ≡ true
 worse_trans ca cb cc l m n trans p q = worse_step ca cb cc l m n trans (or_cases (nat_lt ca cb) ((cb == ca) && l) p) (or_cases (nat_lt cb cc) ((cc == cb) && m) q)
 
--- who opens before one that opens before another opens before that one
+-- if one seat acts before a second and that before a third, the first acts before the third
 pub opens_trans : (opener : Opener) (first : Bool) (a b c : List Card) → is_opener_before opener first a b ≡ true → is_opener_before opener first b c ≡ true → is_opener_before opener first a c ≡ true
 opens_trans LowUp true a b c p q = less_trans (card_stands deck_place a) (card_stands deck_place b) (card_stands deck_place c) p q
 opens_trans HighUp true a b c p q = less_trans (card_stands razz_place c) (card_stands razz_place b) (card_stands razz_place a) q p

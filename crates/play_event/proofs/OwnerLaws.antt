@@ -1,7 +1,7 @@
--- The test of one owner is true only of one owner.
+-- The test for one owner holds only for one owner.
 use Rattle.std.proofs.Common.{◌≡◌, ℕ, true, Option, Some, None, refl, ap}
 use Rattle.std.proofs.lemmas.Bool.{eqb-true, eq-eqb}
-use Rattle.list_laws.proofs.Tests.{false_true}
+use Rattle.card_set.proofs.Tests.{false_true}
 use Rattle.play_event.specs.Places.{is_same_owner}
 
 pub is_same_owner-true : (a b : Option ℕ) → is_same_owner a b ≡ true → a ≡ b

@@ -1,4 +1,5 @@
--- A script grows by the packed form of an event, and a cursor over it gives its events one after the other.
+-- A script grows by the packed form of an event, and a cursor over it gives its events one after
+-- another.
 use Rattle.std.proofs.Common.{◌≡◌, ℕ, ◌+◌, ◌<◌, ◌≤◌, List, [], ◌∷◌, ◌++◌, length, drop, slice_get, Option, Some, None, refl, sym, ◌∙◌, ap, arith, append_assoc, length-append}
 use Rattle.std.specs.Prelude.{IfNone, IfSome}
 use Rattle.std.proofs.lemmas.Option.{some_pair_parts}
@@ -10,10 +11,10 @@ use Rattle.play_event.specs.PackedReading.{event_at}
 use Rattle.play_event.specs.Said.{Numbered, numbered}
 use Rattle.play_event.specs.PackedScript.{PackedScript}
 use Rattle.play_event.specs.PackedOnce.{event_again, event_same, events_same}
-use Rattle.list_laws.proofs.Entries.{drop_first}
-use Rattle.list_laws.proofs.Lists.{not_past}
+use Rattle.card_set.proofs.Entries.{drop_first}
+use Rattle.card_set.proofs.Lists.{not_past}
 
--- where bytes are the packed form of events, they are the events of the bytes
+-- if bytes are the packed form of events, these are the events of the bytes
 pub events_are : (bytes : List ℕ) (script : PackedScript bytes) (events : List Event) → AreEvents events → bytes ≡ packed_events events → script.events ≡ events
 events_are bytes script events fit packed = events_same script.events events script.fit fit (sym script.packed ∙ packed)
 
@@ -21,11 +22,11 @@ events_are bytes script events fit packed = events_same script.events events scr
 pub unchanged_events : (bytes : List ℕ) (script : PackedScript bytes) (events : List Event) → script.events ≡ events → (others : List ℕ) → others ≡ bytes → (other : PackedScript others) → other.events ≡ events
 unchanged_events bytes script events is others same other = events_are others other script.events script.fit (same ∙ script.packed) ∙ is
 
--- the script of bytes that are the same
+-- the script of bytes that are equal
 abbrev pub kept : (bytes : List ℕ) (script : PackedScript bytes) (other : List ℕ) → other ≡ bytes → PackedScript other
 kept bytes script other same = record { events = script.events; fit = script.fit; packed = same ∙ script.packed }
 
--- ---- one event more
+-- ---- one more event
 
 pub packed_events-push : (events : List Event) (event : Event) → packed_events (events ++ event ∷ []) ≡ packed_events events ++ packed_event event
 packed_events-push [] event = append-nil (packed_event event)
@@ -36,7 +37,7 @@ pub AreEvents-push : (events : List Event) (event : Event) → AreEvents events 
 AreEvents-push [] event fit one = (one, tt)
 AreEvents-push (first ∷ rest) event fit one = (fit.0, AreEvents-push rest event fit.1 one)
 
--- the script of bytes behind which the packed form of an event was put
+-- the script of bytes to which the packed form of an event was appended
 abbrev pub pushed : (bytes : List ℕ) (script : PackedScript bytes) (event : Event) (form longer : List ℕ) → IsEvent event → form ≡ packed_event event → longer ≡ bytes ++ form → PackedScript longer
 pushed bytes script event form longer fits is grown = record {
   events = script.events ++ event ∷ [];
@@ -48,13 +49,13 @@ pushed bytes script event form longer fits is grown = record {
       ∙ sym (packed_events-push script.events event);
 }
 
--- its events are those of before and the event
+-- its events are those of before, then the event
 pub pushed_events : (bytes : List ℕ) (script : PackedScript bytes) (events : List Event) → script.events ≡ events → (event : Event) (form longer : List ℕ) → IsEvent event → form ≡ packed_event event → longer ≡ bytes ++ form → (other : PackedScript longer) → other.events ≡ events ++ event ∷ []
 pushed_events bytes script events is event form longer fits form_is grown other =
     let made = pushed bytes script event form longer fits form_is grown in
     events_are longer other (script.events ++ event ∷ []) made.fit made.packed ∙ ap (λ (l : List Event). l ++ event ∷ []) is
 
--- an event takes a byte at least
+-- an event takes at least one byte
 pub length-packed_events : (events : List Event) → length events ≤ length (packed_events events)
 unfolding packed_event
 length-packed_events [] = omega arith
@@ -86,17 +87,17 @@ begins bytes (first ∷ later) event rest fit packed read =
 pub first_read : (bytes : List ℕ) (script : PackedScript bytes) (event : Event) (rest : List ℕ) → Some (numbered event, rest) ≡ event_at bytes → Begins script.events event rest
 first_read bytes script event rest read = begins bytes script.events event rest script.fit script.packed read
 
--- the script of the bytes behind the event
+-- the script of the bytes after the event
 abbrev pub rest_script : (events : List Event) (event : Event) (rest : List ℕ) → Begins events event rest → PackedScript rest
 rest_script events event rest begun = record { events = begun.later; fit = begun.fit; packed = begun.packed }
 
--- the event that was read stands before the events of the bytes behind it
+-- the event that was read comes before the events of the bytes after it
 pub first_given : (bytes : List ℕ) (script : PackedScript bytes) (events : List Event) → script.events ≡ events → (event : Event) (rest : List ℕ) → Some (numbered event, rest) ≡ event_at bytes → (other : PackedScript rest) → events ≡ event ∷ other.events
 first_given bytes script events is event rest read other =
     let begun = first_read bytes script event rest read in
     sym is ∙ begun.is ∙ ap (λ later. event ∷ later) (sym (events_are rest other begun.later begun.fit begun.packed))
 
--- where no event is read there is none
+-- if no event is read, there is none
 nothing_left : (bytes : List ℕ) (events : List Event) → AreEvents events → bytes ≡ packed_events events → None ≡ event_at bytes → events ≡ []
 nothing_left bytes [] fit packed read = refl
 nothing_left bytes (first ∷ later) fit packed read =
@@ -107,7 +108,7 @@ none_read bytes script read = nothing_left bytes script.events script.fit script
 
 -- ---- the event at an index
 
--- a cursor that stands before the event at this index gave what it gave, and stands before what it stands before
+-- a cursor before the event at this index has given what came before it, and still has the rest
 pub record Stands {A : Type 0} (xs : List A) (index : ℕ) (found : Option A) (here rest : List A) : Type 0 where
   pub stands : here ≡ drop index xs
   pub first : IfSome found (λ x. here ≡ x ∷ rest)

@@ -1,13 +1,13 @@
--- Where an event is legal, no reason holds.
+-- If an event is legal, no reason holds.
 use Rattle.std.proofs.Common.{◌≡◌, Bool, true, false, Some, None, List, [], ◌∷◌, refl, ◌∙◌, ap, if◌then◌else◌}
-use Rattle.list_laws.proofs.Options.{some_is_none}
+use Rattle.card_set.proofs.Options.{some_is_none}
 use Rattle.play_event.specs.declared.reason.Illegal.{Illegal}
 use Rattle.play_event.specs.declared.setup.Setup.{Setup}
 use Rattle.play_event.specs.declared.setup.Rules.{Rules}
 use Rattle.play_event.specs.Said.{Said}
 use Rattle.play_event.specs.Past.{Past, moves_of}
 use Rattle.play_event.specs.Due.{turn}
-use Rattle.play_event.specs.Mover.{mover}
+use Rattle.play_event.specs.PlayerToAct.{player_to_act}
 use Rattle.play_event.specs.Table.{up_cards}
 use Rattle.play_event.specs.MoveReasons.{is_raise_too_big}
 use Rattle.play_event.specs.Reasons.{why, first_reason, all_reasons}
@@ -25,11 +25,11 @@ pub no_reason_holds : (setup : Setup) (rules : Rules) (past : Past) (event : Sai
 unfolding why
 no_reason_holds setup rules past event is = none_hold (all_reasons setup rules past (turn setup past) event) is
 
--- a legal raise goes to no more than the greatest legal target
-pub not_too_big : (setup : Setup) (rules : Rules) (past : Past) (event : Said) → why setup rules past event ≡ None → is_raise_too_big setup (moves_of past) (turn setup past).0 (mover setup (up_cards setup.code past) (moves_of past) (turn setup past).0) event ≡ false
+-- a legal raise goes at most to the highest legal target
+pub not_too_big : (setup : Setup) (rules : Rules) (past : Past) (event : Said) → why setup rules past event ≡ None → is_raise_too_big setup (moves_of past) (turn setup past).0 (player_to_act setup (up_cards setup.code past) (moves_of past) (turn setup past).0) event ≡ false
 not_too_big setup rules past event is = (no_reason_holds setup rules past event is).1.1.1.1.1.1.1.1.1.1.0
 
--- and where none holds, an event is legal
+-- and if none holds, an event is legal
 none_first : (reason : Bool × Illegal) (rest : List (Bool × Illegal)) → reason.0 ≡ false → first_reason rest ≡ None → first_reason (reason ∷ rest) ≡ None
 none_first reason rest not_this later = ap (λ b. if b then Some reason.1 else first_reason rest) not_this ∙ later
 

@@ -1,10 +1,10 @@
--- Legal events keep the places of a hand free of clashes.
+-- Legal events keep the dealt cards of a hand free of clashes.
 use Rattle.std.proofs.Common.{◌≡◌, ℕ, ◌≤◌, Bool, true, false, ◌&&◌, ◌||◌, not, inl, inr, Option, Some, None, List, [], ◌∷◌, map, filter, length, count_by, refl, sym, ◌∙◌, ap, arith, if◌then◌else◌}
 use Rattle.std.specs.List.{list_any}
 use Rattle.std.proofs.lemmas.Bool.{and_parts}
 use Rattle.std.proofs.lemmas.List.{length-append}
 use Rattle.std.proofs.lemmas.Option.{same_Some}
-use Rattle.list_laws.proofs.Options.{some_is_none}
+use Rattle.card_set.proofs.Options.{some_is_none}
 use Rattle.card_set.specs.declared.card.Card.{Card}
 use Rattle.card_set.specs.declared.card.Slot.{Slot}
 use Rattle.card_set.specs.declared.card.Slot.TheVariants as slots
@@ -17,7 +17,7 @@ use Rattle.play_event.specs.Past.{Past, moves_of}
 use Rattle.play_event.specs.Due.{turn}
 use Rattle.play_event.specs.Openers.{InTurn}
 use Rattle.card_set.specs.Known.{is_unknown, known_cards}
-use Rattle.play_event.specs.Mover.{mover}
+use Rattle.play_event.specs.PlayerToAct.{player_to_act}
 use Rattle.play_event.specs.Places.{Place, is_held_by, is_up, places_dealt, after_deal, after_fold, is_past_deck, is_in_group, folded_place, gone_now}
 use Rattle.play_event.specs.Naming.{after_discard, after_show, discarded_now, other_names, blanks_in, is_covered, is_show_of_all}
 use Rattle.play_event.specs.Table.{places_of, up_cards}
@@ -31,11 +31,11 @@ use Rattle.play_event.proofs.ReasonLaws.{no_reason_holds}
 use Rattle.play_event.proofs.Kept.{AreKept, ComesFrom, comes_from, fold_keeps, names_keep, IsMark, held_is_there}
 use Rattle.play_event.proofs.ClashLaws.{GoneWithin, kept_none_clash, deal_none_clash, among_append, are_dealt}
 
--- the places do not clash, and none was gone later than now
+-- the dealt cards do not clash, and none was gone later than now
 abbrev Safe : List Place → Type 0
 Safe placed = NoneClash placed × GoneWithin placed
 
--- kept places are as many
+-- there are as many kept cards
 kept_length : (count : ℕ) (before after : List Place) → AreKept count before after → length after ≡ length before
 kept_length count [] [] kept = refl
 kept_length count [] (new ∷ news) kept = absurd kept
@@ -129,7 +129,7 @@ event_safe : (setup : Setup) (rules : Rules) (before : Past) (event : Said) → 
 unfolding with_event
 event_safe setup rules before event legal safe =
     let street = (turn setup before).0 in
-    resolved_safe setup before street (mover setup (up_cards setup.code before) (moves_of before) street) event (no_reason_holds setup rules before event legal).1.1.1.1.0 safe
+    resolved_safe setup before street (player_to_act setup (up_cards setup.code before) (moves_of before) street) event (no_reason_holds setup rules before event legal).1.1.1.1.0 safe
 
 events_safe : (setup : Setup) (rules : Rules) (events : List Said) → AreLegal setup rules events → Safe (places_of setup.code (past_of setup events))
 events_safe setup rules [] legal = (λ a b in_a in_b differ. absurd in_a, λ place among count is. absurd among)

@@ -1,9 +1,9 @@
--- The walk over a written script finds its first illegal event, or that all are legal.
+-- The search through a written script finds its first illegal event, or that all are legal.
 use Rattle.std.proofs.Common.{◌≡◌, ℕ, ◌+◌, ◌≤◌, ◌<◌, inl, inr, Option, Some, None, List, [], ◌∷◌, length, take, drop, reverse, get_or, slice_get, option_and_then, refl, sym, ◌∙◌, ap, arith, map}
 use Rattle.std.proofs.lemmas.Bool.{cases_lt}
 use Rattle.std.proofs.lemmas.List.{drop_more, drop_all, take_more, reverse-append, take_all}
 use Rattle.std.proofs.lemmas.Option.{slice_get_within, get_or_from_slice_get, slice_get-get_or, same_Some}
-use Rattle.list_laws.proofs.Options.{some_is_none}
+use Rattle.card_set.proofs.Options.{some_is_none}
 use Rattle.play_event.specs.declared.reason.Illegal.{Illegal}
 use Rattle.play_event.specs.declared.setup.Setup.{Setup}
 use Rattle.play_event.specs.declared.setup.Rules.{Rules}
@@ -50,7 +50,7 @@ is_next script count event more left = elim (cases_lt count (length script)) [
       }
 ]
 
--- what the walk tells from a number of events on
+-- what the search reports from a number of events on
 record IsRefused (setup : Setup) (rules : Rules) (script : List Said) (count number : ℕ) (reason : Illegal) : Type 0 where
   index : ℕ
   counted : number ≡ index + 1
@@ -71,7 +71,7 @@ here_or_later setup rules script count bound here later index least most = elim 
   | inr below ↦ let same : index ≡ count = omega (arith, below, least) in ap (why_at setup rules script) same ∙ here
 ]
 
--- one step of the walk
+-- one step of the search
 walk_step : Setup → Rules → Past → ℕ → Said → List Said → Option Illegal → Option (ℕ × Illegal)
 walk_step setup rules before number event rest found = elim found [ Some reason ↦ Some (number, reason) | None ↦ illegal_event_from setup rules (with_event setup event before) (number + 1) rest ]
 
@@ -131,7 +131,7 @@ legal_from setup rules script (event ∷ more) count left is =
     legal_step setup rules script count event more (why setup rules (past_after setup script count) event) next refl
     (legal_from setup rules script more (count + 1) next.left) is
 
--- a script that the walk refuses at an event has its first illegal event there
+-- a script that the search refuses at an event has its first illegal event there
 pub refused_first : (setup : Setup) (rules : Rules) (script : List Said) (index : ℕ) (reason : Illegal) → illegal_event setup rules script ≡ Some (index + 1, reason) → IsFirstIllegal setup rules script index reason
 refused_first setup rules script index reason is =
     let found = refused_from setup rules script script 0 (index + 1) reason refl is in

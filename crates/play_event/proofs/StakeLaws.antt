@@ -1,4 +1,4 @@
--- What each seat ends with where one seat at most is live.
+-- What each seat ends with if at most one seat is live.
 use Rattle.std.proofs.Common.{◌≡◌, ℕ, ◌+◌, ◌-◌, ◌≤◌, ◌==◌, Bool, true, false, ◌&&◌, cond, if◌then◌else◌, List, [], ◌∷◌, refl, ap, ◌∙◌, subst, arith, get_or, nat_lt, map, sum, sum_by}
 use Rattle.std.specs.List.{list_any}
 use Rattle.std.proofs.lemmas.Bool.{and_from, eq-eqb, ltb-false}
@@ -11,18 +11,18 @@ use Rattle.chip_ledger.specs.RakeRow.{rake_of}
 use Rattle.chip_ledger.specs.Rakes.{HaveRakes, chips_in, less_rake, nets_of}
 use Rattle.chip_ledger.specs.Seat.{seats_of}
 use Rattle.chip_ledger.specs.SeatRow.{amount_of}
-use Rattle.list_laws.proofs.Any.{list_any-map, not_among_kept}
-use Rattle.list_laws.proofs.Sums.{sum_by-map, sum_by-plus, sum_by-same}
+use Rattle.card_set.proofs.Any.{list_any-map, not_among_kept}
+use Rattle.card_set.proofs.Sums.{sum_by-map, sum_by-plus, sum_by-same}
 use Rattle.chip_ledger.proofs.OneSeat.{passes_once, sum_of_one}
 use Rattle.chip_ledger.proofs.PotSums.{after_return_sum, stake_chips}
 use Rattle.chip_ledger.proofs.SolePot.{live_stakes, may_win-one_pot, one_pot, sole_pot}
 use Rattle.play_event.specs.declared.setup.Setup.{Setup}
 use Rattle.play_event.specs.Past.{Move}
 use Rattle.play_event.specs.Chips.{chips_left, chips_put}
-use Rattle.play_event.specs.Price.{all_chips_put}
+use Rattle.play_event.specs.CurrentBet.{all_chips_put}
 use Rattle.play_event.specs.Seats.{all_seats, is_live, live_count}
 use Rattle.play_event.specs.Stakes.{counted_put, dead_antes_of, pots_after, returned_after, shares_by_folds, stack_by_folds, stake_after, stakes_after}
-use Rattle.list_laws.proofs.Tests.{if_same}
+use Rattle.card_set.proofs.Tests.{if_same}
 
 -- as many stakes are live as seats
 live_stakes-after : (setup : Setup) (moves : List Move) → live_stakes (stakes_after setup moves) ≡ live_count setup moves
@@ -62,7 +62,7 @@ counted_by true put ante seats within =
     omega (arith, sum-map ante seats, sum-map put seats, both, whole)
 counted_by false put ante seats within = omega (arith, sum-map put seats)
 
--- the counted and the dead chips are all that were put
+-- the counted and the dead chips are all that were put in
 pub all_counted : (setup : Setup) (moves : List Move) → stake_chips (stakes_after setup moves) + dead_antes_of setup ≡ all_chips_put setup moves
 all_counted setup moves =
     let each : stake_chips (stakes_after setup moves) ≡ sum_by (counted_put setup moves) (all_seats setup) =
@@ -70,7 +70,7 @@ all_counted setup moves =
     ap (λ n. n + dead_antes_of setup) each
     ∙ counted_by setup.dead_antes (chips_put setup moves) (amount_of setup.antes) (all_seats setup) (λ n. omega arith)
 
--- all that returns, returns to the last live seat
+-- all returned chips go to the last live seat
 all_returned : (setup : Setup) (moves : List Move) (seat : ℕ)
     → live_count setup moves ≤ 1
     → 1 ≤ seat
@@ -86,7 +86,7 @@ all_returned setup moves seat few low high live =
     nothing k true is not = absurd (not is)
     nothing k false is not = ap (λ b. if b then (stake_after setup moves k).chips - greatest_other (stakes_after setup moves) k else 0) is
 
--- the shares of the one pot, where it has chips
+-- the shares of the one pot, if it has chips
 shares_of_pot : (rakes : RakeRow) (pot : PlainPot) (seat : ℕ) (has : Bool)
     → sum_by (λ share. share seat) (map whole_share (nets_of rakes (cond has (pot ∷ []) [])))
     ≡ cond has (whole_share (less_rake (rake_of rakes 1) pot) seat) 0
@@ -125,7 +125,7 @@ first_of : (has : Bool) (pot : PlainPot) → chips_in (cond has (pot ∷ []) [])
 first_of true pot = refl
 first_of false pot = refl
 
--- the last live seat ends with all that was put besides, less the rake
+-- the last live seat ends with its stack and all that the others put in, minus the rake
 pub last_stack : (setup : Setup) (moves : List Move) (seat : ℕ)
     → live_count setup moves ≤ 1
     → 1 ≤ seat

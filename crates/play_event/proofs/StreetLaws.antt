@@ -3,7 +3,7 @@ use Rattle.std.proofs.Common.{◌≡◌, ℕ, zero, suc, ◌+◌, ◌-◌, ◌�
 use Rattle.std.specs.Option.{option_map}
 use Rattle.std.proofs.lemmas.Bool.{cases_lt, true≢false}
 use Rattle.std.proofs.lemmas.Option.{same_Some}
-use Rattle.list_laws.proofs.Options.{some_is_none}
+use Rattle.card_set.proofs.Options.{some_is_none}
 use Rattle.play_event.specs.declared.reason.Due.{Due}
 use Rattle.play_event.specs.declared.reason.Due.TheVariants as dues
 use Rattle.play_event.specs.declared.setup.Setup.{Setup}
@@ -16,7 +16,7 @@ use Rattle.play_event.specs.Laws.{IsFirstStreet}
 use Rattle.play_event.specs.declared.code.Code.{Code}
 use Rattle.play_event.specs.declared.code.Code.TheVariants as games
 
--- the first of so many streets on which something is due
+-- the first of a number of streets on which something is due
 found_step : (on : ℕ → Option Due) (rest street found : ℕ) (due : Due) (here : Option Due) → on street ≡ here → (first_due on rest (street + 1) ≡ Some (found, due) → IsFirstStreet on (street + 1) found due) → found_or (option_map (λ d. (street, d)) here) (first_due on rest (street + 1)) ≡ Some (found, due) → IsFirstStreet on street found due
 found_step on rest street found due (Some first) here later is =
     let same : (street, first) ≡ (found, due) = same_Some (street, first) (found, due) is in
@@ -43,7 +43,7 @@ street_found on zero street found due is = absurd (some_is_none (sym is))
 street_found on (suc rest) street found due is =
     found_step on rest street found due (on street) refl (street_found on rest (street + 1) found due) is
 
--- and where it is the first such street among so many, it is found
+-- and if it is the first such street among them, it is found
 first_here : (on : ℕ → Option Due) (rest street found : ℕ) (due : Due) → on street ≡ Some due → street ≡ found → first_due on (suc rest) street ≡ Some (found, due)
 first_here on rest street found due here same =
     ap (λ o. found_or (option_map (λ d. (street, d)) o) (first_due on rest (street + 1))) here ∙ ap (λ n. Some (n, due)) same
@@ -67,7 +67,7 @@ pub shown_unfinished : (b : Bool) → is_unfinished (if b then dues.Show else du
 shown_unfinished true = refl
 shown_unfinished false = refl
 
--- what is due by the first street on which something is
+-- what is due, from the first street on which something is
 turn_by : (setup : Setup) (past : Past) (over : Bool) (found : Option (ℕ × Due)) → ℕ × Due
 turn_by setup past over found = if over then (newest_street past, dues.Over) else unwrap_or found (street_count setup.code, showdown setup past)
 
@@ -92,7 +92,7 @@ first_is_due setup past street due more first within =
     ap (λ b. if b then here else unwrap_or (first_due (due_on setup past) (street_count setup.code + 1 - newest_street past) (newest_street past)) (street_count setup.code, showdown setup past)) more
     ∙ ap (λ o. unwrap_or o (street_count setup.code, showdown setup past)) (first_street (due_on setup past) (street_count setup.code + 1 - newest_street past) (newest_street past) street due first (omega (arith, first.reached, within)))
 
--- a game has five streets at most
+-- a game has at most five streets
 pub few_streets : (code : Code) → street_count code ≤ 5
 few_streets games.FT = omega arith
 few_streets _ = omega arith

@@ -1,4 +1,5 @@
--- The least and the greatest legal target are legal, in each limit, and no legal target is outside them.
+-- The lowest and the highest legal target are legal, in each limit, and no legal target is outside
+-- them.
 use Rattle.std.proofs.Common.{◌≡◌, ℕ, ◌+◌, ◌<◌, ◌≤◌, Bool, true, false, ◌&&◌, ◌||◌, ◌==◌, nat_lt, nat_le, min, max, if◌then◌else◌, inl, inr, List, [], ◌∷◌, Option, Some, None, refl, sym, ap, ◌∙◌, arith}
 use Rattle.std.specs.List.{list_any}
 use Rattle.std.proofs.lemmas.Bool.{cases_lt, lt-ltb, ltb-true, le-leb, leb-true, eq-eqb, eqb-true, and_parts, and_from, or_left, or_right, or_cases, true≢false}
@@ -11,7 +12,7 @@ use Rattle.play_event.specs.declared.limit.Limit.TheVariants as limits
 use Rattle.play_event.specs.Streets.{limit_of, unit}
 use Rattle.play_event.specs.Past.{Move}
 use Rattle.play_event.specs.Chips.{all_in}
-use Rattle.play_event.specs.Price.{price, full_raise, full_bet}
+use Rattle.play_event.specs.CurrentBet.{current_bet, full_raise, full_bet}
 use Rattle.play_event.specs.Targets.{floor, pot_ceiling, full_targets, smallest, is_target_in, least_target_in, greatest_target_in, is_legal_target, least_target, greatest_target, is_legal_by, least_by, greatest_by}
 use Rattle.play_event.specs.TurnTargets.{AreTargets}
 
@@ -21,13 +22,13 @@ full_list first None = first ∷ []
 full_list first (Some other) = first ∷ other ∷ []
 
 abbrev any_full : ℕ → List ℕ → Bool
-any_full t fulls = list_any (λ full. t == full) fulls
+any_full t full_raise_targets = list_any (λ full. t == full) full_raise_targets
 
-fixed_full : (fulls : List ℕ) (t all_in floor least ceiling : ℕ) → any_full t fulls ≡ true → t ≤ all_in → is_legal_by limits.Fixed floor least all_in ceiling fulls t ≡ true
-fixed_full fulls t all_in floor least ceiling any within = or_left (any_full t fulls && nat_le t all_in) ((t == all_in) && nat_lt t (greatest fulls)) (and_from (any_full t fulls) (nat_le t all_in) any (le-leb t all_in within))
+fixed_full : (full_raise_targets : List ℕ) (t all_in floor least ceiling : ℕ) → any_full t full_raise_targets ≡ true → t ≤ all_in → is_legal_by limits.Fixed floor least all_in ceiling full_raise_targets t ≡ true
+fixed_full full_raise_targets t all_in floor least ceiling any within = or_left (any_full t full_raise_targets && nat_le t all_in) ((t == all_in) && nat_lt t (greatest full_raise_targets)) (and_from (any_full t full_raise_targets) (nat_le t all_in) any (le-leb t all_in within))
 
-fixed_all_in : (fulls : List ℕ) (t all_in floor least ceiling : ℕ) → t ≡ all_in → t < greatest fulls → is_legal_by limits.Fixed floor least all_in ceiling fulls t ≡ true
-fixed_all_in fulls t all_in floor least ceiling is less = or_right (any_full t fulls && nat_le t all_in) ((t == all_in) && nat_lt t (greatest fulls)) (and_from (t == all_in) (nat_lt t (greatest fulls)) (eq-eqb t all_in is) (lt-ltb t (greatest fulls) less))
+fixed_all_in : (full_raise_targets : List ℕ) (t all_in floor least ceiling : ℕ) → t ≡ all_in → t < greatest full_raise_targets → is_legal_by limits.Fixed floor least all_in ceiling full_raise_targets t ≡ true
+fixed_all_in full_raise_targets t all_in floor least ceiling is less = or_right (any_full t full_raise_targets && nat_le t all_in) ((t == all_in) && nat_lt t (greatest full_raise_targets)) (and_from (t == all_in) (nat_lt t (greatest full_raise_targets)) (eq-eqb t all_in is) (lt-ltb t (greatest full_raise_targets) less))
 
 first_full : (t a : ℕ) (rest : List ℕ) → t ≡ a → any_full t (a ∷ rest) ≡ true
 first_full t a rest is = or_left (t == a) (any_full t rest) (eq-eqb t a is)
@@ -142,21 +143,21 @@ module _ (all_in floor least ceiling : ℕ) where
         (omega (arith, same), omega (arith, same, under))
   ]
 
-  -- the ends of the legal targets, whatever the limit, where the full targets are these
-  pub record Ends (limit : Limit) (fulls : List ℕ) : Type 0 where
-    pub at_least : is_legal_by limit floor least all_in ceiling fulls (least_by limit floor least all_in fulls) ≡ true
-    pub at_most : is_legal_by limit floor least all_in ceiling fulls (greatest_by limit all_in ceiling fulls) ≡ true
-    pub within : (t : ℕ) → is_legal_by limit floor least all_in ceiling fulls t ≡ true → (least_by limit floor least all_in fulls ≤ t) × (t ≤ greatest_by limit all_in ceiling fulls)
+  -- the ends of the legal targets, whatever the limit, if these are the full targets
+  pub record Ends (limit : Limit) (full_raise_targets : List ℕ) : Type 0 where
+    pub at_least : is_legal_by limit floor least all_in ceiling full_raise_targets (least_by limit floor least all_in full_raise_targets) ≡ true
+    pub at_most : is_legal_by limit floor least all_in ceiling full_raise_targets (greatest_by limit all_in ceiling full_raise_targets) ≡ true
+    pub within : (t : ℕ) → is_legal_by limit floor least all_in ceiling full_raise_targets t ≡ true → (least_by limit floor least all_in full_raise_targets ≤ t) × (t ≤ greatest_by limit all_in ceiling full_raise_targets)
 
   pub ends : (limit : Limit) (a : ℕ) (other : Option ℕ) → least ≤ ceiling → Ends limit (full_list a other)
   ends limits.No a other under = record { at_least = no_limit_least; at_most = no_limit_greatest; within = no_limit_within }
   ends limits.Pot a other under = record { at_least = pot_least under; at_most = pot_greatest under; within = pot_within }
   ends limits.Fixed a other under = record { at_least = least_full a other; at_most = greatest_full a other; within = fixed_within a other }
 
-full_ends : (all_in floor least ceiling : ℕ) (limit : Limit) (price size above : ℕ) (first second : Bool) → least ≤ ceiling → Ends all_in floor least ceiling limit (if first then (size ∷ []) else ((price + size) ∷ (if second then (above ∷ []) else [])))
-full_ends all_in floor least ceiling limit price size above true second under = ends all_in floor least ceiling limit size None under
-full_ends all_in floor least ceiling limit price size above false true under = ends all_in floor least ceiling limit (price + size) (Some above) under
-full_ends all_in floor least ceiling limit price size above false false under = ends all_in floor least ceiling limit (price + size) None under
+full_ends : (all_in floor least ceiling : ℕ) (limit : Limit) (current_bet size above : ℕ) (first second : Bool) → least ≤ ceiling → Ends all_in floor least ceiling limit (if first then (size ∷ []) else ((current_bet + size) ∷ (if second then (above ∷ []) else [])))
+full_ends all_in floor least ceiling limit current_bet size above true second under = ends all_in floor least ceiling limit size None under
+full_ends all_in floor least ceiling limit current_bet size above false true under = ends all_in floor least ceiling limit (current_bet + size) (Some above) under
+full_ends all_in floor least ceiling limit current_bet size above false false under = ends all_in floor least ceiling limit (current_bet + size) None under
 
 -- the amounts that bound the targets of a seat
 module _ (reopens : Reopen) (setup : Setup) (moves : List Move) (street seat : ℕ) where
@@ -164,7 +165,7 @@ module _ (reopens : Reopen) (setup : Setup) (moves : List Move) (street seat : �
   the_floor = floor reopens setup moves street
 
   abbrev the_least : ℕ
-  the_least = price setup moves street + full_raise setup moves street
+  the_least = current_bet setup moves street + full_raise setup moves street
 
   abbrev the_all_in : ℕ
   the_all_in = all_in setup moves street seat
@@ -172,44 +173,44 @@ module _ (reopens : Reopen) (setup : Setup) (moves : List Move) (street seat : �
   abbrev the_ceiling : ℕ
   the_ceiling = pot_ceiling setup moves street seat
 
-  abbrev the_fulls : List ℕ
-  the_fulls = full_targets setup moves street
+  abbrev the_full_raise_targets : List ℕ
+  the_full_raise_targets = full_targets setup moves street
 
-  plain_target : (limit : Limit) (target : ℕ) → is_target_in limit reopens setup moves street seat target ≡ is_legal_by limit the_floor the_least the_all_in the_ceiling the_fulls target
+  plain_target : (limit : Limit) (target : ℕ) → is_target_in limit reopens setup moves street seat target ≡ is_legal_by limit the_floor the_least the_all_in the_ceiling the_full_raise_targets target
   plain_target limits.No target = refl
   plain_target limits.Pot target = refl
   plain_target limits.Fixed target = refl
 
-  plain_least : (limit : Limit) → least_target_in limit reopens setup moves street seat ≡ least_by limit the_floor the_least the_all_in the_fulls
+  plain_least : (limit : Limit) → least_target_in limit reopens setup moves street seat ≡ least_by limit the_floor the_least the_all_in the_full_raise_targets
   plain_least limits.No = refl
   plain_least limits.Pot = refl
   plain_least limits.Fixed = refl
 
-  plain_greatest : (limit : Limit) → greatest_target_in limit setup moves street seat ≡ greatest_by limit the_all_in the_ceiling the_fulls
+  plain_greatest : (limit : Limit) → greatest_target_in limit setup moves street seat ≡ greatest_by limit the_all_in the_ceiling the_full_raise_targets
   plain_greatest limits.No = refl
   plain_greatest limits.Pot = refl
   plain_greatest limits.Fixed = refl
 
-  these_ends : (limit : Limit) → Ends the_all_in the_floor the_least the_ceiling limit the_fulls
-  these_ends limit = full_ends the_all_in the_floor the_least the_ceiling limit (price setup moves street) (unit setup street) (full_bet setup moves street + unit setup street) (nat_lt (price setup moves street) (unit setup street)) (nat_lt (price setup moves street) (full_bet setup moves street + unit setup street)) (omega arith)
+  these_ends : (limit : Limit) → Ends the_all_in the_floor the_least the_ceiling limit the_full_raise_targets
+  these_ends limit = full_ends the_all_in the_floor the_least the_ceiling limit (current_bet setup moves street) (unit setup street) (full_bet setup moves street + unit setup street) (nat_lt (current_bet setup moves street) (unit setup street)) (nat_lt (current_bet setup moves street) (full_bet setup moves street + unit setup street)) (omega arith)
 
   least_in : (limit : Limit) → is_target_in limit reopens setup moves street seat (least_target_in limit reopens setup moves street seat) ≡ true
   least_in limit =
       ap (λ (t : ℕ). is_target_in limit reopens setup moves street seat t) (plain_least limit)
-      ∙ plain_target limit (least_by limit the_floor the_least the_all_in the_fulls)
+      ∙ plain_target limit (least_by limit the_floor the_least the_all_in the_full_raise_targets)
       ∙ (these_ends limit).at_least
 
   greatest_in : (limit : Limit) → is_target_in limit reopens setup moves street seat (greatest_target_in limit setup moves street seat) ≡ true
   greatest_in limit =
       ap (λ (t : ℕ). is_target_in limit reopens setup moves street seat t) (plain_greatest limit)
-      ∙ plain_target limit (greatest_by limit the_all_in the_ceiling the_fulls)
+      ∙ plain_target limit (greatest_by limit the_all_in the_ceiling the_full_raise_targets)
       ∙ (these_ends limit).at_most
 
   none_outside : (limit : Limit) (target : ℕ) → is_target_in limit reopens setup moves street seat target ≡ true → (least_target_in limit reopens setup moves street seat ≤ target) × (target ≤ greatest_target_in limit setup moves street seat)
   none_outside limit target legal =
       let bounds = (these_ends limit).within target (sym (plain_target limit target) ∙ legal) in
-      let low : least_by limit the_floor the_least the_all_in the_fulls ≤ target = bounds.0 in
-      let high : target ≤ greatest_by limit the_all_in the_ceiling the_fulls = bounds.1 in
+      let low : least_by limit the_floor the_least the_all_in the_full_raise_targets ≤ target = bounds.0 in
+      let high : target ≤ greatest_by limit the_all_in the_ceiling the_full_raise_targets = bounds.1 in
       (omega (arith, low, plain_least limit), omega (arith, high, plain_greatest limit))
 
 pub greatest_is_legal : (reopens : Reopen) (setup : Setup) (moves : List Move) (street seat : ℕ) → is_legal_target reopens setup moves street seat (greatest_target setup moves street seat) ≡ true

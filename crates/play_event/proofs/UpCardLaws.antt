@@ -1,7 +1,7 @@
--- The tests by which up-cards open agree with the orders of up-cards.
+-- The tests by which up-cards decide who acts first agree with the orders of up-cards.
 use Rattle.std.proofs.Common.{◌≡◌, ℕ, ◌<◌, ◌==◌, true, ◌&&◌, ◌||◌, nat_lt, inl, inr, ◌⊎◌, List, [], ◌∷◌}
 use Rattle.std.proofs.lemmas.Bool.{or_cases, or_left, or_right, and_parts, and_from, ltb-true, lt-ltb, eqb-true, eq-eqb}
-use Rattle.list_laws.proofs.Tests.{false_true}
+use Rattle.card_set.proofs.Tests.{false_true}
 use Rattle.card_set.specs.declared.card.Card.{Card}
 use Rattle.card_set.specs.Classes.{IsLower}
 use Rattle.card_set.specs.Ranks.{high_ace, low_ace, ranks_of}

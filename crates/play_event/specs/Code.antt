@@ -1,4 +1,4 @@
--- How the code of a game is spelled.
+-- The code of a game, as it is written.
 use Rattle.std.specs.Prelude.{ℕ, List, codes}
 use Rattle.play_event.specs.declared.code.Code.{Code}
 use Rattle.play_event.specs.declared.code.Code.TheVariants as games

@@ -9,41 +9,41 @@ use Rattle.play_event.specs.declared.setup.Setup.{Setup}
 use Rattle.play_event.specs.Games.{street_count}
 use Rattle.play_event.specs.Streets.{is_stud}
 use Rattle.play_event.specs.Past.{Past, Move, Act, moves_of, moves_on, newest_street, is_raise, is_bring_in}
-use Rattle.play_event.specs.Seats.{is_able, all_seats, live_count, able_count}
-use Rattle.play_event.specs.Price.{price, owed}
+use Rattle.play_event.specs.Seats.{can_act, all_seats, live_count, able_count}
+use Rattle.play_event.specs.CurrentBet.{current_bet, to_call}
 use Rattle.play_event.specs.Dealing.{is_deal_due, is_draw_due}
 use Rattle.play_event.specs.Showing.{is_show_due}
 
--- a seat has moved on this street since the price last rose there: at the event that raised it or
--- after
-abbrev pub has_moved_since_rise : Setup → List Move → ℕ → ℕ → Bool
-has_moved_since_rise setup [] street seat = false
-has_moved_since_rise setup (move ∷ before) street seat =
+-- a seat has acted on this street since the current bet last rose: it made that bet or raise, or
+-- acted after it
+abbrev pub has_acted_since_raise : Setup → List Move → ℕ → ℕ → Bool
+has_acted_since_raise setup [] street seat = false
+has_acted_since_raise setup (move ∷ before) street seat =
     if move.street == street
     then (move.seat == seat)
-    || (nat_le move.to (price setup before street)
-    && has_moved_since_rise setup before street seat)
-    else has_moved_since_rise setup before street seat
+    || (nat_le move.to (current_bet setup before street)
+    && has_acted_since_raise setup before street seat)
+    else has_acted_since_raise setup before street seat
 
--- a seat has a move to make: it is able, has not moved since the price rose, and owes chips or has
--- an able opponent
+-- a seat has a move to make: it is live with chips left, has not acted since the current bet rose,
+-- and has chips to call or an opponent who is live with chips left
 abbrev pub has_to_move : Setup → List Move → ℕ → ℕ → Bool
 has_to_move setup moves street seat =
-    is_able setup moves seat
-    && (if has_moved_since_rise setup moves street seat
+    can_act setup moves seat
+    && (if has_acted_since_raise setup moves street seat
     then false
-    else (nat_lt 0 (owed setup moves street seat) || nat_le 2 (able_count setup moves)))
+    else (nat_lt 0 (to_call setup moves street seat) || nat_le 2 (able_count setup moves)))
 
--- a move is due: some seat has one to make
+-- a move is due: some seat has a move to make
 abbrev pub is_move_due : Setup → List Move → ℕ → Bool
 is_move_due setup moves street = list_any (has_to_move setup moves street) (all_seats setup)
 
--- a bring-in, a bet or a raise opens the betting
+-- the act opens the betting: it is a bring-in, a bet or a raise
 abbrev pub has_opened_betting : Act → Bool
 has_opened_betting act = is_raise act || is_bring_in act
 
--- a bring-in is due: on the first street of stud, with two able seats or more, before any bring-in
--- or raise
+-- a bring-in is due: on the first street of stud, if at least two live seats have chips left,
+-- before any bring-in or raise
 abbrev pub is_bring_in_due : Setup → List Move → ℕ → Bool
 is_bring_in_due setup moves street =
     is_stud setup.code && (street == 1) && nat_le 2 (able_count setup moves)
@@ -58,12 +58,13 @@ due_on setup past street =
     else if is_move_due setup (moves_of past) street then Some dues.Move
     else None
 
--- the first where there is one, else the second
+-- the first if there is one, otherwise the second
 abbrev pub found_or : Option (ℕ × Due) → Option (ℕ × Due) → Option (ℕ × Due)
 found_or (Some first) second = Some first
 found_or None second = second
 
--- the first of so many streets, from this one on, on which something is due, and what that is
+-- the first street, of this number of streets from this one on, on which something is due, and what
+-- that is
 abbrev pub first_due : (ℕ → Option Due) → ℕ → ℕ → Option (ℕ × Due)
 first_due on zero street = None
 first_due on (suc rest) street =
@@ -73,8 +74,8 @@ first_due on (suc rest) street =
 abbrev pub showdown : Setup → Past → Due
 showdown setup past = if is_show_due setup past then dues.Show else dues.Over
 
--- What is due, and on which street: on the street of the past, or on the first one after it that
--- has something due. After the last street it is the showdown. With one live seat nothing is due.
+-- What is due, and on which street: on the current street, or else on the first later one on which
+-- something is due. After the last street it is the showdown. With one live seat nothing is due.
 unfoldable pub turn : Setup → Past → ℕ × Due
 turn setup past =
     if nat_le (live_count setup (moves_of past)) 1 then (newest_street past, dues.Over)
@@ -92,7 +93,7 @@ is_unfinished dues.Move = true
 is_unfinished dues.Show = false
 is_unfinished dues.Over = false
 
--- no betting is left on the last street
+-- the betting of the last street is over
 abbrev pub is_after_betting : Due → Bool
 is_after_betting dues.Show = true
 is_after_betting dues.Over = true
@@ -101,13 +102,13 @@ is_after_betting (dues.Draw street) = false
 is_after_betting dues.BringIn = false
 is_after_betting dues.Move = false
 
--- an able seat owes chips
+-- a live seat with chips left has chips to call
 abbrev pub has_able_seat_to_call : Setup → List Move → ℕ → Bool
 has_able_seat_to_call setup moves street =
-    list_any (λ seat. is_able setup moves seat && nat_lt 0 (owed setup moves street seat))
+    list_any (λ seat. can_act setup moves seat && nat_lt 0 (to_call setup moves street seat))
     (all_seats setup)
 
--- the hand is settled: two or more seats are live, and no betting can come any more
+-- the hand is settled: at least two seats are live, and no more betting can come
 abbrev pub is_settled : Setup → List Move → ℕ × Due → Bool
 is_settled setup moves now =
     nat_le 2 (live_count setup moves)

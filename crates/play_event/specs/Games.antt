@@ -1,5 +1,5 @@
--- The eleven games: deck, limit, who opens, the cards and what may be chosen of them, how many
--- seats there may be, and the streets with their cards and bet sizes.
+-- The eleven games: deck, limit, who acts first, how many cards there are and which make a hand,
+-- the most seats, and the streets with their cards and bet sizes.
 use Rattle.std.specs.Prelude.{ℕ, ◌+◌, ◌-◌, Bool, true, false, List, [], ◌∷◌, length, slice_get}
 use Rattle.std.specs.Option.{option_map_or}
 use Rattle.card_set.specs.declared.pick.Pick.{Pick}
@@ -14,9 +14,9 @@ use Rattle.play_event.specs.declared.street.Size.{Size}
 use Rattle.play_event.specs.declared.street.Size.TheVariants as sizes
 use Rattle.play_event.specs.declared.street.Street.{Street}
 
--- a game: its deck, limit and opener; the cards of a seat and of the board at the end, which of
--- them count, and whether half of each pot goes to the best low hand; the most seats, and the
--- streets
+-- a game: its deck, its limit and who acts first; the cards of a seat and of the board at the end,
+-- and which of them make a hand; whether half of each pot goes to the best low hand; the most
+-- seats; and the streets
 pub record Game : Type 0 where
   pub deck : ℕ
   pub limit : Limit
@@ -28,11 +28,11 @@ pub record Game : Type 0 where
   pub seats : ℕ
   pub streets : List Street
 
--- a street that deals so many hole cards
+-- a street that deals this number of hole cards
 abbrev pub hole_street : ℕ → Size → Street
 hole_street cards size = record { down = cards; up = 0; board = 0; draws = false; size = size }
 
--- a street that deals so many cards to the board
+-- a street that deals this number of cards to the board
 abbrev pub board_street : ℕ → Size → Street
 board_street cards size = record { down = 0; up = 0; board = cards; draws = false; size = size }
 
@@ -49,7 +49,7 @@ abbrev pub flop_streets : ℕ → Size → Size → List Street
 flop_streets cards early late =
     hole_street cards early ∷ board_street 3 early ∷ board_street 1 late ∷ board_street 1 late ∷ []
 
--- stud: two down and one up, three times one up, and one down
+-- stud: two cards down and one up, three times one up, and one down
 abbrev pub stud_streets : List Street
 stud_streets =
     stud_street 2 1 sizes.Small ∷ stud_street 0 1 sizes.Small ∷ stud_street 0 1 sizes.Big
@@ -61,9 +61,9 @@ draw_streets cards =
     hole_street cards sizes.Small ∷ draw_street sizes.Small ∷ draw_street sizes.Big
     ∷ draw_street sizes.Big ∷ []
 
--- hold'em and Omaha, in a row: the deck, the limit, a seat's hole cards, which of hole and board
--- cards count, whether a low hand takes half, and the bets of the first two streets and of the last
--- two
+-- a row of the table for hold'em and Omaha: the deck, the limit, a seat's hole cards, which hole
+-- and board cards make a hand, whether a low hand gets half, and the bet sizes of the first two
+-- streets and of the last two
 abbrev pub flop_game : ℕ → Limit → ℕ → Pick → Bool → Size → Size → Game
 flop_game deck limit hole pick split early late =
     record {
@@ -78,7 +78,7 @@ flop_game deck limit hole pick split early late =
       streets = flop_streets hole early late;
     }
 
--- stud and razz, in a row: whose up-cards open, and whether a low hand takes half
+-- a row of the table for stud and razz: whose up-cards act first, and whether a low hand gets half
 abbrev pub stud_game : Opener → Bool → Game
 stud_game opener split =
     record {
@@ -93,7 +93,7 @@ stud_game opener split =
       streets = stud_streets;
     }
 
--- games with draws, in a row: the limit, a seat's hole cards, and the streets
+-- a row of the table for draw games: the limit, a seat's hole cards, and the streets
 abbrev pub draw_game : Limit → ℕ → List Street → Game
 draw_game limit hole streets =
     record {
@@ -123,12 +123,12 @@ game_of games.N2L1D =
 game_of games.F2L3D = draw_game limits.Fixed 5 (draw_streets 5)
 game_of games.FB = draw_game limits.Fixed 4 (draw_streets 4)
 
--- what the street with this number, from 1, deals to each live seat
+-- how many hole cards the street with this number, from 1, deals to each live seat
 abbrev pub hole_cards_on : Code → ℕ → ℕ
 hole_cards_on code street =
     option_map_or (λ s. s.down + s.up) (slice_get (game_of code).streets (street - 1)) 0
 
--- what the street with this number deals to the board
+-- how many cards the street with this number deals to the board
 abbrev pub board_cards_on : Code → ℕ → ℕ
 board_cards_on code street =
     option_map_or (λ s. s.board) (slice_get (game_of code).streets (street - 1)) 0

@@ -1,4 +1,6 @@
--- What is said of a hand, how it is packed, and the rules of play.
+-- What is said of a hand, how it is packed, the rules of play, traces and canonical scripts.
+
+-- What a notation says of a hand, how it is packed, and the rules of play.
 pub mod Code
 pub mod Games
 pub mod Streets
@@ -11,12 +13,12 @@ pub mod PackedOnce
 pub mod Past
 pub mod Chips
 pub mod Seats
-pub mod Price
+pub mod CurrentBet
 pub mod Dealing
 pub mod Showing
 pub mod Due
 pub mod Openers
-pub mod Mover
+pub mod PlayerToAct
 pub mod Amounts
 pub mod Targets
 pub mod Raising
@@ -40,3 +42,9 @@ pub mod HistoryRules
 pub mod Rows
 pub mod Laws
 pub mod Ranges
+-- What a trace keeps of a hand except its shares, its canonical script, and scripts played to their
+-- end.
+pub mod TraceCore
+pub mod CanonScript
+pub mod PlayedScript
+pub mod Tidy

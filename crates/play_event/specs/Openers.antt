@@ -1,4 +1,4 @@
--- Who opens a street: by the blinds, or by the up-cards of the able seats.
+-- Who acts first on a street: by the blinds, or by the up-cards of the live seats with chips left.
 use Rattle.std.specs.Prelude.{ℕ, ◌+◌, ◌*◌, Bool, true, false, ◌&&◌, ◌||◌, ◌==◌, nat_lt, not, if◌then◌else◌, List, [], ◌∷◌, map, filter, find, reverse, unwrap_or, Option, Some, None}
 use Rattle.std.specs.List.{list_any}
 use Rattle.card_set.specs.declared.card.Card.{Card}
@@ -14,15 +14,15 @@ use Rattle.play_event.specs.declared.limit.Opener.{Opener}
 use Rattle.play_event.specs.declared.limit.Opener.TheVariants as openers
 use Rattle.play_event.specs.Streets.{opener_of}
 use Rattle.play_event.specs.Past.{Move}
-use Rattle.play_event.specs.Seats.{all_seats, is_able}
+use Rattle.play_event.specs.Seats.{all_seats, can_act}
 
--- whose turn it is: no seat's, a seat's, or not known where an up-card that decides it is unknown
+-- the player to act: no seat, a seat, or not known because an up-card that decides it is unknown
 pub data InTurn : Type 0 where
   NoSeat : InTurn
   TheSeat : ℕ → InTurn
   Undecided : InTurn
 
--- a seat that was looked for, as the one whose turn it is
+-- the player to act, if the seat that was looked for exists
 abbrev pub in_turn : Option ℕ → InTurn
 in_turn (Some seat) = TheSeat seat
 in_turn None = NoSeat
@@ -31,15 +31,15 @@ in_turn None = NoSeat
 abbrev pub UpCards : Type 0
 UpCards = ℕ → List Slot
 
--- the seat after this one, going round
+-- the next seat, going round the table
 abbrev pub seat_after : Setup → ℕ → ℕ
 seat_after setup seat = if seat == setup.stacks.seats then 1 else seat + 1
 
--- the greatest blind that is named
+-- the largest blind, in full
 abbrev pub greatest_blind : Setup → ℕ
 greatest_blind setup = greatest (map (amount_of setup.blinds) (all_seats setup))
 
--- the last of the seats with the greatest blind
+-- the last seat with the largest blind
 abbrev pub last_big_blind : Setup → ℕ
 last_big_blind setup =
     unwrap_or
@@ -47,47 +47,47 @@ last_big_blind setup =
     (reverse (all_seats setup)))
     0
 
--- Who opens a street of a game with blinds. The first street is opened by the seat after the
--- greatest blind, the last of equal ones, and with two seats by p2; a later street by p1.
+-- Who acts first on a street of a game with blinds. On the first street it is the seat after the
+-- largest blind, the last of equal ones, and heads-up p2; on a later street p1.
 abbrev pub blinds_opener : Setup → ℕ → ℕ
 blinds_opener setup street =
     if street == 1
     then (if setup.stacks.seats == 2 then 2 else seat_after setup (last_big_blind setup))
     else 1
 
--- where a single up-card stands: the first card counts
+-- the place of a single up-card in the order of cards; of several, the first counts
 abbrev pub card_stands : (Card → ℕ) → List Card → ℕ
 card_stands stands [] = 0
 card_stands stands (card ∷ rest) = stands card
 
--- where a card stands in razz: the ace is low, and suits break ties
+-- the place of an up-card in razz: the ace is low, and suits break ties
 abbrev pub razz_place : Card → ℕ
 razz_place card = 4 * low_ace card.rank + suits_before card.suit
 
--- at the first place where the lists differ the left one is lower
+-- where the lists first differ, the left one is lower
 abbrev pub is_lower : List ℕ → List ℕ → Bool
 is_lower [] others = false
 is_lower (height ∷ rest) [] = false
 is_lower (height ∷ rest) (other ∷ others) =
     nat_lt height other || ((height == other) && is_lower rest others)
 
--- up-cards are weaker, the ace high: their class is, or it is the same and the first rank that
--- differs is lower
+-- up-cards are weaker, with the ace high: their class is weaker, or it is the same and the first
+-- rank that differs is lower
 abbrev pub is_weaker_up_high : List Card → List Card → Bool
 is_weaker_up_high a b =
     nat_lt (up_high_class b) (up_high_class a)
     || ((up_high_class a == up_high_class b)
     && is_lower (ranks_of high_ace a) (ranks_of high_ace b))
 
--- up-cards are weaker in razz: their class is, or it is the same and the first rank that differs is
--- higher
+-- up-cards are weaker in razz: their class is weaker, or it is the same and the first rank that
+-- differs is higher
 abbrev pub is_weaker_low : List Card → List Card → Bool
 is_weaker_low a b =
     nat_lt (low_class b) (low_class a)
     || ((low_class a == low_class b) && is_lower (ranks_of low_ace b) (ranks_of low_ace a))
 
--- The up-cards of one seat open before those of another. The first street is opened by the lowest
--- card, in razz by the highest; a later street by the best cards, in razz by the lowest.
+-- The up-cards of one seat act before those of another. On the first street the lowest card acts
+-- first, in razz the highest; on a later street the best cards act first, in razz the lowest.
 abbrev pub is_opener_before : Opener → Bool → List Card → List Card → Bool
 is_opener_before openers.LowUp true a b =
     nat_lt (card_stands deck_place a) (card_stands deck_place b)
@@ -97,11 +97,11 @@ is_opener_before openers.LowUp false a b = is_weaker_up_high b a
 is_opener_before openers.HighUp false a b = is_weaker_low b a
 is_opener_before openers.Blinds first a b = false
 
--- the able seats
+-- the seats that are live with chips left
 abbrev pub able_seats : Setup → List Move → List ℕ
-able_seats setup moves = filter (is_able setup moves) (all_seats setup)
+able_seats setup moves = filter (can_act setup moves) (all_seats setup)
 
--- the first of the able seats before which no other opens
+-- the first seat, of those that are live with chips left, before which no other one acts
 abbrev pub up_cards_opener : Setup → UpCards → List Move → ℕ → Option ℕ
 up_cards_opener setup ups moves street =
     find
@@ -114,12 +114,12 @@ up_cards_opener setup ups moves street =
     (able_seats setup moves)))
     (able_seats setup moves)
 
--- an up-card of an able seat is unknown
+-- an up-card of a live seat with chips left is unknown
 abbrev pub has_unknown_up_card : Setup → UpCards → List Move → Bool
 has_unknown_up_card setup ups moves =
     list_any (λ seat. list_any is_unknown (ups seat)) (able_seats setup moves)
 
--- who opens a street
+-- who acts first on a street
 abbrev pub opener_by : Opener → Setup → UpCards → List Move → ℕ → InTurn
 opener_by openers.Blinds setup ups moves street = TheSeat (blinds_opener setup street)
 opener_by openers.LowUp setup ups moves street =

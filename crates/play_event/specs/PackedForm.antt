@@ -13,15 +13,15 @@ use Rattle.play_event.specs.declared.event.Kind.TheVariants as kinds
 use Rattle.play_event.specs.declared.event.Spelled.{Spelled}
 use Rattle.play_event.specs.declared.event.Spelled.TheVariants as spelled
 
--- the number of an action: four bytes, the highest first
+-- the number of an action: four bytes, the most significant first
 abbrev pub at_bytes : ℕ → List ℕ
 at_bytes number = to_be_bytes w32 number
 
--- chips: eight bytes, the highest first
+-- chips: eight bytes, the most significant first
 abbrev pub chips_bytes : ℕ → List ℕ
 chips_bytes chips = to_be_bytes w64 chips
 
--- an actor: the number of its seat, or 0 where none is named
+-- an actor: the number of its seat, or 0 if none is named
 abbrev pub actor_byte : Option Seat → ℕ
 actor_byte None = 0
 actor_byte (Some seat) = seat.number
@@ -30,21 +30,21 @@ actor_byte (Some seat) = seat.number
 abbrev pub card_byte : Card → ℕ
 card_byte card = deck_place card + 1
 
--- a slot: its card, or 0 where that is unknown
+-- a slot: its card, or 0 if that is unknown
 abbrev pub slot_byte : Slot → ℕ
 slot_byte (slots.Known card) = card_byte card
 slot_byte slots.Unknown = 0
 
--- bytes behind their count
+-- bytes after their count
 abbrev pub counted : List ℕ → List ℕ
 counted bytes = length bytes ∷ bytes
 
--- the chips that a call is said to add: a flag, 1 where they are stated, and then the chips
+-- the chips that a call is stated to add: a flag, 1 if they are stated, and then the chips
 abbrev pub stated_bytes : Option ℕ → List ℕ
 stated_bytes None = 0 ∷ []
 stated_bytes (Some chips) = 1 ∷ chips_bytes chips
 
--- the amount of a raise: the number of its spelling, and its chips where it has some
+-- the amount of a raise: the number of the way it is written, and its chips if it has some
 abbrev pub amount_bytes : Spelled → List ℕ
 amount_bytes (spelled.To chips) = 1 ∷ chips_bytes chips
 amount_bytes (spelled.Added chips) = 2 ∷ chips_bytes chips
@@ -79,7 +79,7 @@ kind_bytes (kinds.Muck seat) = seat.number ∷ []
 unfoldable pub packed_event : Event → List ℕ
 packed_event event = kind_byte event.kind ∷ at_bytes event.at ++ kind_bytes event.kind
 
--- events, one after the other
+-- events, one after another
 abbrev pub packed_events : List Event → List ℕ
 packed_events [] = []
 packed_events (event ∷ rest) = packed_event event ++ packed_events rest

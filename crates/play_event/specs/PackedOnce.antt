@@ -1,4 +1,4 @@
--- What is packed is read back, so no two lists of events have one packed form.
+-- What is packed can be read back, so no two lists of events have the same packed form.
 -- This is a proof: no reader needs it.
 use Rattle.std.proofs.Common.{◌≡◌, ℕ, ◌-◌, ◌/◌, ◌%◌, ◌^◌, ◌<◌, ◌≤◌, false, ltb, List, [], ◌∷◌, ◌++◌, length, map, slice_get, unwrap_or, Option, Some, None, IfSome, refl, sym, ◌∙◌, ap, subst, arith, nat_eq, length-append}
 use Rattle.std.specs.Int.{Width, w32, w64, byte_len, from_be_bytes, to_be_bytes}
@@ -70,7 +70,7 @@ each_again read byte again (x ∷ xs) =
     ap (λ first. first ∷ map read (map byte xs)) (again x)
     ∙ ap (λ rest. x ∷ rest) (each_again read byte again xs)
 
--- a counted row is read, and what stands behind it is left
+-- a counted row is read, and the bytes after it are left
 counted_again : (row rest : List ℕ) → length row ≤ 7
     → counted_at (counted row ++ rest) ≡ Some (row, rest)
 unfolding counted_at
@@ -129,7 +129,7 @@ actor_again (Some seat) rest =
     let named : nat_eq seat.number 0 ≡ false = grind (arith, seat.first) in
     rw (named, seat_within seat) refl
 
--- numbers below the limit take so many bytes, and are read again from them
+-- numbers below the limit take this number of bytes, and are read back from them
 pub record IsWide (width : Width) (limit : ℕ) : Type 0 where
   pub len : (n : ℕ) → length (to_be_bytes width n) ≡ byte_len width
   pub again : (n : ℕ) → n < limit → from_be_bytes width (to_be_bytes width n) ≡ n
@@ -142,7 +142,7 @@ wide32 = record { len = λ n. refl; again = from_be_bytes-to_be_bytes_4 }
 wide64 : IsWide w64 (2 ^ 64)
 wide64 = record { len = λ n. refl; again = from_be_bytes-to_be_bytes_8 }
 
--- a number of so many bits
+-- a number of this number of bits
 number_again : (width : Width) (limit : ℕ) → IsWide width limit → (n : ℕ) (rest : List ℕ)
     → n < limit → number_at width (to_be_bytes width n ++ rest) ≡ Some (n, rest)
 unfolding number_at
@@ -163,14 +163,14 @@ chips_again : (chips : ℕ) (rest : List ℕ) → chips < 2 ^ 64
     → number_at w64 (to_be_bytes w64 chips ++ rest) ≡ Some (chips, rest)
 chips_again = number_again w64 (2 ^ 64) wide64
 
--- stated chips, where they are stated
+-- stated chips, if they are stated
 stated_again : (stated : Option ℕ) (rest : List ℕ) → IfSome stated (λ chips. chips < 2 ^ 64)
     → stated_at (stated_bytes stated ++ rest) ≡ Some (stated, rest)
 unfolding stated_at
 stated_again None rest fits = refl
 stated_again (Some chips) rest fits = rw (chips_again chips rest fits) refl
 
--- an amount in its spelling
+-- an amount as it is written
 amount_again : (amount : Spelled) (rest : List ℕ) → AmountFits amount
     → amount_at (amount_bytes amount ++ rest) ≡ Some (amount, rest)
 unfolding amount_at
@@ -203,7 +203,7 @@ kind_again (kinds.Show seat cards) rest fits =
     refl
 kind_again (kinds.Muck seat) rest fits = rw (seat_again seat rest) refl
 
--- an event is read back, whatever stands behind it
+-- an event is read back, whatever bytes come after it
 pub event_again : (event : Event) (rest : List ℕ) → IsEvent event
     → event_at (packed_event event ++ rest) ≡ Some (numbered event, rest)
 unfolding event_at packed_event
@@ -214,9 +214,9 @@ event_again event rest fits =
     )
     refl
 
--- ---- what is said of an event is the event
+-- ---- events that say the same are the same
 
--- actors with the same name are one
+-- actors with the same name are the same
 actor_same : (a b : Option Seat) → seat_named a ≡ seat_named b → a ≡ b
 actor_same None None same = refl
 actor_same None (Some seat) same = absurd cc
@@ -224,7 +224,7 @@ actor_same (Some seat) None same = absurd cc
 actor_same (Some seat) (Some other) same =
     let number : seat.number ≡ other.number = cc in cc (seat_same seat other number)
 
--- kinds that say the same are one
+-- kinds that say the same are the same
 kind_same : (a b : Kind) → kind_said a ≡ kind_said b → a ≡ b
 kind_same (kinds.Hole seat cards) (kinds.Hole other others) same =
     let number : seat.number ≡ other.number = cc in
@@ -264,14 +264,14 @@ kind_same (kinds.Muck seat) (kinds.Muck other) same =
     let number : seat.number ≡ other.number = cc in cc (seat_same seat other number)
 kind_same (kinds.Muck seat) _ same = absurd cc
 
--- events with one number that say the same are one
+-- events with the same number that say the same are the same
 pub event_same : (a b : Event) → numbered a ≡ numbered b → a ≡ b
 event_same a b same =
     let at : a.at ≡ b.at = ap (λ (n : ℕ × Said). n.0) same in
     let kind : a.kind ≡ b.kind = kind_same a.kind b.kind (ap (λ (n : ℕ × Said). n.1) same) in
     ap (λ n. record { at = n; kind = a.kind }) at ∙ ap (λ k. record { at = b.at; kind = k }) kind
 
--- lists of events with one packed form are one
+-- lists of events with the same packed form are the same
 pub events_same : (a b : List Event) → AreEvents a → AreEvents b → packed_events a ≡ packed_events b
     → a ≡ b
 unfolding packed_event
@@ -289,9 +289,9 @@ events_same (event ∷ rest) (other ∷ others) fit fits same =
     ap (λ first. first ∷ rest) (event_same event other parts.0)
     ∙ ap (λ later. other ∷ later) (events_same rest others fit.1 fits.1 parts.1)
 
--- ---- the events of packed bytes are one list
+-- ---- packed bytes have only one list of events
 
--- what holds of an amount, of stated chips, of a kind and of events holds in one way
+-- the facts of an amount, of stated chips, of a kind and of events hold in only one way
 AmountFits-prop : (amount : Spelled) → IsProp (AmountFits amount)
 AmountFits-prop (spelled.To chips) = le_prop
 AmountFits-prop (spelled.Added chips) = le_prop
@@ -322,7 +322,7 @@ AreEvents-prop (event ∷ rest) = ×_prop (IsEvent-prop event) (AreEvents-prop r
 Kept : List ℕ → List Event → Type 0
 Kept bytes events = AreEvents events × (bytes ≡ packed_events events)
 
--- bytes keep events in one way
+-- bytes keep events in only one way
 Kept-prop : (bytes : List ℕ) (events : List Event) → IsProp (Kept bytes events)
 unfolding Kept
 Kept-prop bytes events = hlevel (AreEvents-prop events, props)
@@ -332,7 +332,7 @@ script_of : (bytes : List ℕ) (events : List Event) → Kept bytes events → P
 unfolding Kept
 script_of bytes events kept = record { events = events; fit = kept.0; packed = kept.1 }
 
--- bytes are the packed form of one list of events
+-- bytes are the packed form of at most one list of events
 pub one_script : (bytes : List ℕ) → IsProp (PackedScript bytes)
 unfolding Kept script_of
 one_script bytes a b =

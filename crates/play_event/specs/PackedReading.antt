@@ -1,5 +1,4 @@
--- What packed bytes say, read from left to right: what stands at their front, and the bytes behind
--- it.
+-- Reads packed bytes from left to right: what is at their front, and the bytes after it.
 use Rattle.std.specs.Prelude.{ℕ, ◌-◌, ◌==◌, ◌&&◌, nat_le, nat_lt, if◌then◌else◌, List, [], ◌∷◌, length, map, take, drop, Option, Some, None}
 use Rattle.std.specs.Int.{Width, w32, w64, byte_len, from_be_bytes}
 use Rattle.card_set.specs.declared.card.Card.{Card}
@@ -11,7 +10,7 @@ use Rattle.play_event.specs.declared.event.Spelled.TheVariants as spelled
 use Rattle.play_event.specs.Said as said
 use Rattle.play_event.specs.Said.{Said, Numbered}
 
--- what comes of a value that is there; of none, none
+-- a function applied to a value that is there; `None` if it is not
 infixl 10 ◌>>=◌
 abbrev pub ◌>>=◌ : {A B : Type 0} → Option A → (A → Option B) → Option B
 None >>= next = None
@@ -22,13 +21,13 @@ abbrev pub byte_at : List ℕ → Option (ℕ × List ℕ)
 byte_at [] = None
 byte_at (byte ∷ rest) = Some (byte, rest)
 
--- a number of so many bytes, the highest first
+-- a number of this number of bytes, the most significant first
 unfoldable pub number_at : Width → List ℕ → Option (ℕ × List ℕ)
 number_at width bytes =
     if nat_lt (length bytes) (byte_len width) then None
     else Some (from_be_bytes width (take (byte_len width) bytes), drop (byte_len width) bytes)
 
--- up to seven bytes behind their count
+-- up to seven bytes after their count
 unfoldable pub counted_at : List ℕ → Option (List ℕ × List ℕ)
 counted_at bytes = do
   count ← byte_at bytes
@@ -36,7 +35,7 @@ counted_at bytes = do
       then Some (take count.0 count.1, drop count.0 count.1)
       else None
 
--- the seat with this number, where a hand has such a seat
+-- the seat with this number, if a hand can have it
 abbrev pub seat_numbered : ℕ → Option ℕ
 seat_numbered number = if nat_le 1 number && nat_le number 10 then Some number else None
 
@@ -47,7 +46,7 @@ seat_at bytes = do
   seat ← seat_numbered number.0
   Some (seat, number.1)
 
--- an actor, who may be unnamed
+-- an actor, who may be left out
 unfoldable pub actor_at : List ℕ → Option (Option ℕ × List ℕ)
 actor_at bytes = do
   number ← byte_at bytes
@@ -63,19 +62,19 @@ card_of byte = card_placed (byte - 1)
 abbrev pub slot_of : ℕ → Slot
 slot_of byte = if byte == 0 then slots.Unknown else slots.Known (card_of byte)
 
--- up to seven slots behind their count
+-- up to seven slots after their count
 unfoldable pub slots_at : List ℕ → Option (List Slot × List ℕ)
 slots_at bytes = do
   row ← counted_at bytes
   Some (map slot_of row.0, row.1)
 
--- up to seven cards behind their count
+-- up to seven cards after their count
 unfoldable pub cards_at : List ℕ → Option (List Card × List ℕ)
 cards_at bytes = do
   row ← counted_at bytes
   Some (map card_of row.0, row.1)
 
--- the chips of a call, which may be unstated
+-- the chips of a call, which may be left out
 unfoldable pub stated_at : List ℕ → Option (Option ℕ × List ℕ)
 stated_at bytes = do
   flag ← byte_at bytes
@@ -98,7 +97,7 @@ amount_at bytes = do
         chips.1,
       ))
 
--- what an event of the kind with this number says of an actor
+-- what an event of the kind with this number says of a player who may be left out
 unfoldable pub move_at : ℕ → Option ℕ → List ℕ → Option (Said × List ℕ)
 move_at number actor bytes =
     if number == 3 then Some (said.Fold actor, bytes)

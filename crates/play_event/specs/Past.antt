@@ -1,16 +1,17 @@
--- The past of a hand is the list of its resolved events, the newest first. Nothing else is state.
+-- The past of a hand is the list of its events as they took place, the newest first. The hand has
+-- no other state.
 use Rattle.std.specs.Prelude.{ℕ, Bool, true, false, ◌==◌, nat_lt, List, [], ◌∷◌, filter}
 use Rattle.card_set.specs.declared.card.Card.{Card}
 use Rattle.card_set.specs.declared.card.Slot.{Slot}
 
--- what a seat did with its turn
+-- what a player did when it was his turn
 pub data Act : Type 0 where
   Folded : Act
   Called : Act
   Raised : Act
   BroughtIn : Act
 
--- a move, with the chips that its seat had put on the street before it and after it
+-- a move, with the chips that its seat had put in on the street before it and after it
 pub record Move : Type 0 where
   pub street : ℕ
   pub seat : ℕ
@@ -18,7 +19,7 @@ pub record Move : Type 0 where
   pub from : ℕ
   pub to : ℕ
 
--- an event as it took place: on a street, and for a seat or the board
+-- an event as it took place: on a street, and by a seat or on the board
 pub data Resolved : Type 0 where
   Dealt : (street seat : ℕ) → List Slot → Resolved
   Boarded : (street : ℕ) → List Card → Resolved
@@ -40,7 +41,7 @@ street_of (Discarded street seat cards) = street
 street_of (Shown street seat cards) = street
 street_of (Mucked street seat) = street
 
--- the street of the newest event, and before any event the first
+-- the street of the newest event, or the first street before any event
 abbrev pub newest_street : Past → ℕ
 newest_street [] = 1
 newest_street (event ∷ before) = street_of event

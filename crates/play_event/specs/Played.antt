@@ -1,4 +1,4 @@
--- What the rows of a trace say: moves and places with plain numbers for seats.
+-- What the rows of a trace say: moves and dealt cards, with plain numbers for seats.
 use Rattle.std.specs.Prelude.{◌≡◌}
 use Rattle.std.specs.Option.{option_map}
 use Rattle.play_event.specs.declared.played.Act as rows
@@ -29,8 +29,8 @@ move_said move =
       unit_to = move.unit_to;
     }
 
--- a row says where a card lies: whose it is, its street, the card as far as it is known, and the
--- draw that discarded it
+-- a row says of a dealt card: whose it is, its street, the card, if it is known, and the draw that
+-- discarded it
 pub record IsPlace (row : places.Place) (place : TracedPlace) : Type 0 where
   pub owner : option_map (λ seat. seat.number) row.owner ≡ place.owner
   pub street : row.street ≡ place.street

@@ -1,5 +1,4 @@
--- What an event of a canonical script may say: seats of the hand, cards that an event may have, and
--- chips that may be stated.
+-- The ranges of the events of a canonical script: seats of the hand, numbers of cards, and chips.
 use Rattle.std.specs.Prelude.{ℕ, ◌≤◌, length, Some, None}
 use Rattle.chip_ledger.specs.declared.numbers.TheConstants.{MOST_CHIPS}
 use Rattle.play_event.specs.declared.event.Spelled.TheVariants as spelled
@@ -7,10 +6,10 @@ use Rattle.play_event.specs.Said as said
 use Rattle.play_event.specs.Said.{Said}
 use Rattle.chip_ledger.specs.Seat.{IsSeatOf}
 
--- An event of a canonical script in a hand with so many seats. Its seat is one of the hand. A deal
--- to a seat has one card to seven, one to the board one to five; a discard has five at most, and
--- none where the seat stands pat; a show has one to seven. A call states nothing, and a raise goes
--- to chips that may be stated.
+-- An event of a canonical script in a hand with this number of seats. Its seat is one of the hand.
+-- A deal to a seat has one to seven cards, a deal to the board one to five; a discard has at most
+-- five, and none if the seat stands pat; a show has one to seven. A call states no chips, and a
+-- raise names its target, which is at most the greatest amount that a hand may have.
 abbrev pub IsInRange : ℕ → Said → Type 0
 IsInRange seats (said.Hole seat slots) =
     IsSeatOf seats seat × (1 ≤ length slots) × (length slots ≤ 7)

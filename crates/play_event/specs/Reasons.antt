@@ -13,7 +13,7 @@ use Rattle.play_event.specs.Said.{Said}
 use Rattle.play_event.specs.Past.{Past, moves_of}
 use Rattle.play_event.specs.Due.{turn, is_settled}
 use Rattle.play_event.specs.Openers.{InTurn}
-use Rattle.play_event.specs.Mover.{mover}
+use Rattle.play_event.specs.PlayerToAct.{player_to_act}
 use Rattle.play_event.specs.Places.{Place}
 use Rattle.play_event.specs.Table.{places_of, up_cards}
 use Rattle.play_event.specs.CardReasons.{is_owed_nothing, is_next_to_draw, may_show, is_wrong_count, is_card_taken, is_not_held}
@@ -24,7 +24,7 @@ abbrev pub first_reason : List (Bool × Illegal) → Option Illegal
 first_reason [] = None
 first_reason (reason ∷ rest) = if reason.0 then Some reason.1 else first_reason rest
 
--- no event is due any more
+-- the hand is over: no event is due
 abbrev pub is_over : Due → Bool
 is_over dues.Over = true
 is_over (dues.Deal street) = false
@@ -33,17 +33,17 @@ is_over dues.BringIn = false
 is_over dues.Move = false
 is_over dues.Show = false
 
--- an event is the first show or muck of a live seat: it may come where one seat is live
+-- an event is the first show or muck of a live seat: it may come even if only one seat is live
 abbrev pub is_first_show : Setup → Past → Said → Bool
 is_first_show setup past (said.Show seat cards) = may_show setup past seat
 is_first_show setup past (said.Muck seat) = may_show setup past seat
 is_first_show setup past _ = false
 
--- the hand is over, or over but for the show or muck of its one live seat
+-- the hand is over, unless the event is the show or muck of its one live seat
 abbrev pub is_hand_over : Setup → Past → Due → Said → Bool
 is_hand_over setup past due event = is_over due && not (is_first_show setup past event)
 
--- which kinds of event may come where this is due
+-- which kinds of event may come when this is due
 abbrev pub is_due_kind : Code → Due → Said → Bool
 is_due_kind code (dues.Deal street) (said.Hole seat cards) = nat_lt 0 (hole_cards_on code street)
 is_due_kind code (dues.Deal street) (said.Board cards) = nat_lt 0 (board_cards_on code street)
@@ -65,13 +65,13 @@ abbrev pub is_show : Said → Bool
 is_show (said.Show seat cards) = true
 is_show _ = false
 
--- an event of this kind may come: what is due asks for it, or it is a show and the hand is settled
+-- an event of this kind may come: it is due, or it is a show and the hand is settled
 abbrev pub may_come : Setup → Past → ℕ × Due → Said → Bool
 may_come setup past now event =
     is_due_kind setup.code now.1 event || (is_show event && is_settled setup (moves_of past) now)
 
--- the seat may not do it now: it is not its turn, it is owed no card, it does not draw next, or it
--- has nothing to show
+-- the seat may not do this now: it is not the player to act, is due no card, is not the next to
+-- draw, or has nothing to show
 abbrev pub is_wrong_seat : Setup → Past → ℕ → InTurn → Said → Bool
 is_wrong_seat setup past street in_turn (said.Hole seat cards) =
     is_owed_nothing setup past street seat
@@ -89,8 +89,8 @@ is_wrong_seat setup past street in_turn (said.Discard seat cards) =
 is_wrong_seat setup past street in_turn (said.Show seat cards) = not (may_show setup past seat)
 is_wrong_seat setup past street in_turn (said.Muck seat) = not (may_show setup past seat)
 
--- the reasons of a kind that may come, on this street, where the places are these and so is the
--- seat in turn
+-- the remaining reasons for an event of a kind that may come, on this street, with these dealt
+-- cards and this player to act
 abbrev pub reasons_by : Setup → Rules → Past → ℕ → InTurn → List Place → Said
     → List (Bool × Illegal)
 reasons_by setup rules past street in_turn placed event =
@@ -107,11 +107,12 @@ reasons_by setup rules past street in_turn placed event =
     ∷ amount_row setup moves street in_turn event
     ∷ []
 
--- the reasons of a kind that may come, on this street
+-- the remaining reasons for an event of a kind that may come, on this street
 abbrev pub later_reasons : Setup → Rules → Past → ℕ → Said → List (Bool × Illegal)
 later_reasons setup rules past street event =
     reasons_by setup rules past street
-    (mover setup (up_cards setup.code past) (moves_of past) street) (places_of setup.code past)
+    (player_to_act setup (up_cards setup.code past) (moves_of past) street)
+    (places_of setup.code past)
     event
 
 -- The twelve reasons in their order: the hand is over, an event of this kind may not come, and then
@@ -122,6 +123,6 @@ all_reasons setup rules past now event =
     ∷ (not (may_come setup past now event), reasons.WrongKind)
     ∷ later_reasons setup rules past now.0 event
 
--- why an event is illegal after this past, if it is
+-- why an event is illegal after this past, or `None` if it is legal
 unfoldable pub why : Setup → Rules → Past → Said → Option Illegal
 why setup rules past event = first_reason (all_reasons setup rules past (turn setup past) event)

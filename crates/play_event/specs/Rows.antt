@@ -1,4 +1,4 @@
--- Rows of amounts made of a list, for hands that are written out.
+-- Rows of amounts made from lists, for hands that are written out.
 use Rattle.std.specs.Prelude.{◌≡◌, ℕ, zero, suc, ◌-◌, ◌≤◌, Bool, ◌&&◌, nat_le, List, [], ◌∷◌, ◌++◌, length, replicate, slice_index, IsTrue}
 use Rattle.std.specs.List.{list_all}
 use Rattle.std.proofs.Common.{arith, refl, length-append}
@@ -13,7 +13,7 @@ is_row amounts =
     nat_le 2 (length amounts)
     && (nat_le (length amounts) 10 && list_all (λ amount. nat_le amount MOST_AMOUNT) amounts)
 
--- the amounts and the fillers behind them
+-- the amounts, and zeros after them up to ten
 abbrev pub filled : List ℕ → List ℕ
 filled amounts = amounts ++ replicate (10 - length amounts) 0
 
@@ -23,7 +23,7 @@ zeros zero k = refl
 zeros (suc n) zero = refl
 zeros (suc n) (suc k) = zeros n k
 
--- amounts and the fillers behind them are no more than a row may hold
+-- amounts with zeros after them are no more than a row may hold
 pub within : (amounts : List ℕ) (n : ℕ)
     → IsTrue (list_all (λ amount. nat_le amount MOST_AMOUNT) amounts) → (k : ℕ)
     → slice_index (amounts ++ replicate n 0) k ≤ MOST_AMOUNT
@@ -38,14 +38,14 @@ within (amount ∷ rest) n all (suc k) =
     (list_all (λ other. nat_le other MOST_AMOUNT) rest) all).1
     k
 
--- behind the amounts stands 0
+-- after the amounts there are zeros
 pub behind : (amounts : List ℕ) (n k : ℕ) → length amounts ≤ k
     → slice_index (amounts ++ replicate n 0) k ≡ 0
 behind [] n k late = zeros n k
 behind (amount ∷ rest) n zero late = absurd (omega (arith, late))
 behind (amount ∷ rest) n (suc k) late = behind rest n k (omega (arith, late))
 
--- amounts and fillers are ten
+-- amounts and zeros are ten together
 pub whole : (amounts : List ℕ) → length amounts ≤ 10 → length (filled amounts) ≡ 10
 whole amounts few =
     omega (

@@ -10,7 +10,7 @@ use Rattle.play_event.specs.declared.event.Kind.{Kind}
 use Rattle.play_event.specs.declared.event.Kind.TheVariants as kinds
 use Rattle.play_event.specs.declared.event.Spelled.{Spelled}
 
--- what happened; a move may leave its seat unsaid
+-- what happened; a move may leave out its seat
 pub data Said : Type 0 where
   Hole : ℕ → List Slot → Said
   Board : List Card → Said
@@ -22,7 +22,7 @@ pub data Said : Type 0 where
   Show : ℕ → List Card → Said
   Muck : ℕ → Said
 
--- the number of a seat that is named, if one is
+-- the number of the seat that is named, if one is
 abbrev pub seat_named : Option Seat → Option ℕ
 seat_named actor = option_map (λ seat. seat.number) actor
 

@@ -10,14 +10,14 @@ use Rattle.play_event.specs.Past as past
 use Rattle.play_event.specs.Past.{Past, Resolved, Move, Act, moves_of}
 use Rattle.play_event.specs.Chips.{street_chips}
 use Rattle.play_event.specs.Due.{turn, is_unfinished}
-use Rattle.play_event.specs.Mover.{mover}
+use Rattle.play_event.specs.PlayerToAct.{player_to_act}
 use Rattle.play_event.specs.Amounts.{call_target, raise_target, bring_in_target}
 use Rattle.play_event.specs.Openers.{InTurn}
 use Rattle.play_event.specs.Table.{up_cards}
 use Rattle.play_event.specs.MoveReasons.{actor_of}
 use Rattle.play_event.specs.Reasons.{why}
 
--- a move of a seat to a target
+-- a move by a seat to a target
 abbrev pub move_to : Setup → List Move → ℕ → ℕ → Act → ℕ → Resolved
 move_to setup moves street seat act target =
     past.Moved
@@ -29,7 +29,7 @@ move_to setup moves street seat act target =
       to = target;
     })
 
--- an event as it takes place on a street, after these moves, where the seat in turn is this
+-- an event as it takes place on a street after these moves, with this player to act
 abbrev pub resolved_by : Setup → List Move → ℕ → InTurn → Said → Resolved
 resolved_by setup moves street in_turn (said.Hole seat cards) = past.Dealt street seat cards
 resolved_by setup moves street in_turn (said.Board cards) = past.Boarded street cards
@@ -53,9 +53,9 @@ resolved_by setup moves street in_turn (said.Muck seat) = past.Mucked street sea
 abbrev pub resolved_on : Setup → Past → ℕ → Said → Resolved
 resolved_on setup before street event =
     resolved_by setup (moves_of before) street
-    (mover setup (up_cards setup.code before) (moves_of before) street) event
+    (player_to_act setup (up_cards setup.code before) (moves_of before) street) event
 
--- the past with one event more
+-- the past after one more event
 unfoldable pub with_event : Setup → Said → Past → Past
 with_event setup event before = resolved_on setup before (turn setup before).0 event ∷ before
 
@@ -64,7 +64,7 @@ abbrev pub past_of : Setup → List Said → Past
 past_of setup [] = []
 past_of setup (event ∷ before) = with_event setup event (past_of setup before)
 
--- the past of a script's first events, so many of them
+-- the past after the first events of a script, this number of them
 abbrev pub past_after : Setup → List Said → ℕ → Past
 past_after setup script count = past_of setup (reverse (take count script))
 
@@ -73,12 +73,12 @@ abbrev pub why_at : Setup → Rules → List Said → ℕ → Option Illegal
 why_at setup rules script index =
     option_and_then (why setup rules (past_after setup script index)) (slice_get script index)
 
--- a script has no illegal event: each is legal after those before it
+-- no event of a script is illegal: each is legal after those before it
 abbrev pub HasNoIllegalEvent : Setup → Rules → List Said → Type 0
 HasNoIllegalEvent setup rules script =
     (index : ℕ) → index < length script → why_at setup rules script index ≡ None
 
--- the events before this one are legal, and this one is illegal for the reason
+-- the events before this one are legal, and this one is illegal for this reason
 pub record IsFirstIllegal (setup : Setup) (rules : Rules) (script : List Said) (index : ℕ)
     (reason : Illegal) : Type 0 where
   pub legal_before : (earlier : ℕ) → earlier < index → why_at setup rules script earlier ≡ None
@@ -92,7 +92,8 @@ has_early_end setup script = is_unfinished (turn setup (past_after setup script 
 abbrev pub past_at_end : Setup → List Said → Past
 past_at_end setup script = past_of setup (reverse script)
 
--- the first illegal event of a script, counted from the given number on, and why it is
+-- the number of the first illegal event of a script, counted from the given number on, and the
+-- reason
 abbrev pub illegal_event_from : Setup → Rules → Past → ℕ → List Said → Option (ℕ × Illegal)
 illegal_event_from setup rules past number [] = None
 illegal_event_from setup rules past number (event ∷ rest) =
@@ -101,6 +102,6 @@ illegal_event_from setup rules past number (event ∷ rest) =
       | None ↦ illegal_event_from setup rules (with_event setup event past) (number + 1) rest
     ]
 
--- the first illegal event of a script, counted from 1, and why it is
+-- the number of the first illegal event of a script, counted from 1, and the reason
 abbrev pub illegal_event : Setup → Rules → List Said → Option (ℕ × Illegal)
 illegal_event setup rules script = illegal_event_from setup rules [] 1 script

@@ -1,4 +1,4 @@
--- The up-cards and the hand of a seat, in their rows.
+-- The up-cards and the held cards of a seat, in their rows.
 use Rattle.std.specs.Prelude.{ℕ, ◌-◌, List}
 use Rattle.card_set.specs.declared.card.Slot.{Slot}
 use Rattle.play_event.specs.declared.up_cards.UpRow.{UpRow}
@@ -9,6 +9,6 @@ use Rattle.play_event.specs.SlotRows.{slots_at}
 abbrev pub ups_of : UpRow → ℕ → List Slot
 ups_of row n = slots_at row.cards (n - 1)
 
--- the hand of seat number n
+-- the held cards of seat number n
 abbrev pub slots_of_hand : HandRow → ℕ → List Slot
 slots_of_hand row n = slots_at row.hands (n - 1)

@@ -15,8 +15,8 @@ abbrev pub is_live : List Move → ℕ → Bool
 is_live moves seat = not (list_any (λ move. is_fold move.act && (move.seat == seat)) moves)
 
 -- a seat is able to act: it is live and has chips left
-abbrev pub is_able : Setup → List Move → ℕ → Bool
-is_able setup moves seat = is_live moves seat && nat_lt 0 (chips_left setup moves seat)
+abbrev pub can_act : Setup → List Move → ℕ → Bool
+can_act setup moves seat = is_live moves seat && nat_lt 0 (chips_left setup moves seat)
 
 -- the seats of the hand
 abbrev pub all_seats : Setup → List ℕ
@@ -26,6 +26,6 @@ all_seats setup = seats_of setup.stacks.seats
 abbrev pub live_count : Setup → List Move → ℕ
 live_count setup moves = count_by (is_live moves) (all_seats setup)
 
--- how many seats are able
+-- how many seats are able to act
 abbrev pub able_count : Setup → List Move → ℕ
-able_count setup moves = count_by (is_able setup moves) (all_seats setup)
+able_count setup moves = count_by (can_act setup moves) (all_seats setup)

@@ -31,11 +31,11 @@ has_shown past seat = list_any (is_show_of seat) past
 abbrev pub has_mucked : Past → ℕ → Bool
 has_mucked past seat = list_any (is_muck_of seat) past
 
--- a seat has still to show or muck: it is live and did neither
+-- a seat still has to show or muck: it is live and has done neither
 abbrev pub has_to_show : Past → ℕ → Bool
 has_to_show past seat =
     is_live (moves_of past) seat && not (has_shown past seat || has_mucked past seat)
 
--- some seat has still to show or muck
+-- some seat still has to show or muck
 abbrev pub is_show_due : Setup → Past → Bool
 is_show_due setup past = list_any (has_to_show past) (all_seats setup)

@@ -1,4 +1,4 @@
--- The stakes of a hand after its moves: what of each seat's chips counts, what is returned, the
+-- The stakes of a hand after its moves: how much of each seat's chips counts, what is returned, the
 -- pots, and what a seat ends with.
 use Rattle.std.specs.Prelude.{ℕ, ◌+◌, List, map, sum_by}
 use Rattle.chip_ledger.specs.Pots.{PlainPot, Stake, counted, dead_chips, pots_of, returned, whole_share}
@@ -9,7 +9,7 @@ use Rattle.play_event.specs.Past.{Move}
 use Rattle.play_event.specs.Chips.{chips_put, chips_left}
 use Rattle.play_event.specs.Seats.{is_live, all_seats}
 
--- the chips of a seat that count: all that it put, but for its ante where antes are dead
+-- the chips of a seat that count: all that it put in, without its ante if antes are dead
 abbrev pub counted_put : Setup → List Move → ℕ → ℕ
 counted_put setup moves seat =
     counted setup.dead_antes (chips_put setup moves seat) (amount_of setup.antes seat)
@@ -23,7 +23,7 @@ stake_after setup moves seat =
 abbrev pub stakes_after : Setup → List Move → List Stake
 stakes_after setup moves = map (stake_after setup moves) (all_seats setup)
 
--- the dead antes of all seats together
+-- the dead antes of all seats, in total
 abbrev pub dead_antes_of : Setup → ℕ
 dead_antes_of setup = dead_chips setup.dead_antes (map (amount_of setup.antes) (all_seats setup))
 
@@ -35,19 +35,19 @@ returned_after setup moves seat = returned (stakes_after setup moves) (stake_aft
 abbrev pub pots_after : Setup → List Move → List PlainPot
 pots_after setup moves = pots_of (stakes_after setup moves) (dead_antes_of setup)
 
--- what is left of the pots to be shared: each less its rake
+-- what is shared of the pots: each pot minus its rake
 abbrev pub nets_after : Setup → List Move → List PlainPot
 nets_after setup moves = nets_of setup.rakes (pots_after setup moves)
 
 -- what a seat ends with: the chips that it has left, what is returned to it, and its shares of the
--- pots, where these are what each seat gets of each pot
+-- pots, given what each seat gets of each pot
 abbrev pub finishing_stack : Setup → List Move → List (ℕ → ℕ) → ℕ → ℕ
 finishing_stack setup moves shares seat =
     chips_left setup moves seat
     + (returned_after setup moves seat + sum_by (λ share. share seat) shares)
 
--- the shares of a hand that is won by folds: the net of each pot goes to the last live seat, which
--- alone may win it
+-- the shares of a hand that is won by folds: each pot minus its rake goes to the last live seat,
+-- the only one that may win it
 abbrev pub shares_by_folds : Setup → List Move → List (ℕ → ℕ)
 shares_by_folds setup moves = map whole_share (nets_after setup moves)
 

@@ -1,5 +1,5 @@
--- What is read from a game's table: its limit, who opens, its deck, and what a street deals, draws
--- and bets.
+-- What is read from a game's table: its limit, who acts first, its deck, and what a street deals,
+-- draws and bets.
 use Rattle.std.specs.Prelude.{ℕ, ◌-◌, Bool, true, false, slice_get}
 use Rattle.std.specs.Option.{option_map_or}
 use Rattle.play_event.specs.declared.code.Code.{Code}
@@ -11,11 +11,11 @@ use Rattle.play_event.specs.declared.street.Size.{Size}
 use Rattle.play_event.specs.declared.street.Size.TheVariants as sizes
 use Rattle.play_event.specs.Games.{game_of}
 
--- what bounds a raise
+-- the limit of the game
 abbrev pub limit_of : Code → Limit
 limit_of code = (game_of code).limit
 
--- who moves first
+-- who acts first
 abbrev pub opener_of : Code → Opener
 opener_of code = (game_of code).opener
 
@@ -28,7 +28,7 @@ abbrev pub down_cards_on : Code → ℕ → ℕ
 down_cards_on code street =
     option_map_or (λ s. s.down) (slice_get (game_of code).streets (street - 1)) 0
 
--- how many it deals face up
+-- how many cards it deals face up
 abbrev pub up_cards_on : Code → ℕ → ℕ
 up_cards_on code street =
     option_map_or (λ s. s.up) (slice_get (game_of code).streets (street - 1)) 0
@@ -49,16 +49,17 @@ chips_of_size setup sizes.Small = setup.small_bet
 chips_of_size setup sizes.Big = setup.big_bet
 chips_of_size setup sizes.Least = setup.min_bet
 
--- the unit of a street: the small or big bet in fixed limit, and the least bet in the other limits
+-- the bet size of a street: the small or big bet in fixed limit, and the minimum bet in the other
+-- limits
 abbrev pub unit : Setup → ℕ → ℕ
 unit setup street = chips_of_size setup (size_on setup.code street)
 
--- games without blinds begin with a bring-in: those that are opened by up-cards
+-- up-cards decide who acts first: in games that begin with a bring-in and have no blinds
 abbrev pub is_opened_by_up_cards : Opener → Bool
 is_opened_by_up_cards openers.Blinds = false
 is_opened_by_up_cards openers.LowUp = true
 is_opened_by_up_cards openers.HighUp = true
 
--- the game is a game of stud
+-- the game is a stud game
 abbrev pub is_stud : Code → Bool
 is_stud code = is_opened_by_up_cards (opener_of code)

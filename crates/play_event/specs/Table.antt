@@ -1,4 +1,4 @@
--- The cards on the table after a past: the places of its deals, as discards, folds and shows left
+-- The cards on the table after a past: its dealt cards, as discards, folds and shows have left
 -- them.
 use Rattle.std.specs.Prelude.{if◌then◌else◌, List, [], ◌∷◌, Some, None}
 use Rattle.card_set.specs.Known.{known_slots}
@@ -8,7 +8,7 @@ use Rattle.play_event.specs.Openers.{UpCards}
 use Rattle.play_event.specs.Places.{Place, after_deal, after_fold, up_slots}
 use Rattle.play_event.specs.Naming.{after_discard, after_show}
 
--- the places after one event more
+-- the dealt cards after one more event
 abbrev pub places_after : Code → Resolved → List Place → List Place
 places_after code (Dealt street seat cards) placed = after_deal code (Some seat) street cards placed
 places_after code (Boarded street cards) placed =
@@ -19,7 +19,7 @@ places_after code (Discarded street seat cards) placed = after_discard street se
 places_after code (Shown street seat cards) placed = after_show code seat cards placed
 places_after code (Mucked street seat) placed = placed
 
--- the places of a past, in the order of dealing
+-- the dealt cards of a past, in the order of dealing
 abbrev pub places_of : Code → Past → List Place
 places_of code [] = []
 places_of code (event ∷ before) = places_after code event (places_of code before)

@@ -16,7 +16,7 @@ use Rattle.play_event.specs.Seats.{all_seats}
 abbrev pub IsSize : ℕ → Type 0
 IsSize chips = (1 ≤ chips) × (chips ≤ MOST_CHIPS)
 
--- a bet size that the game uses, or one that it does not use, which is 0
+-- a bet size of at least one chip if the game uses it, and otherwise 0
 abbrev pub IsSizeWhere : Bool → ℕ → Type 0
 IsSizeWhere true chips = IsSize chips
 IsSizeWhere false chips = chips ≡ 0
@@ -31,7 +31,7 @@ is_fixed limits.No = false
 abbrev pub has_antes : Setup → Bool
 has_antes setup = list_any (λ seat. nat_lt 0 (amount_of setup.antes seat)) (all_seats setup)
 
--- a setup is that of a hand; a row has two seats at least by itself
+-- a setup is that of a hand; a row has at least two seats by its type
 pub record IsValid (setup : Setup) : Type 0 where
   pub same_antes : setup.antes.seats ≡ setup.stacks.seats
   pub same_blinds : setup.blinds.seats ≡ setup.stacks.seats

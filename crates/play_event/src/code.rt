@@ -1,4 +1,4 @@
-//! Eleven games are known, each by its code.
+//! The eleven games that are known, each by its code.
 ghost use Rattle.std.specs.Prelude.{◌≡◌, ◌≤◌, IfSome, IfNone};
 ghost use Rattle.play_event.specs.declared.code.Code.{Code};
 ghost use Rattle.play_event.specs.Code.{code_text};
@@ -19,11 +19,11 @@ pub enum Code {
     NS,
     /// Pot-limit Omaha.
     PO,
-    /// Fixed-limit Omaha eight-or-better, spelled `FO/8`.
+    /// Fixed-limit Omaha eight-or-better, written `FO/8`.
     FO8,
     /// Fixed-limit seven card stud.
     F7S,
-    /// Fixed-limit seven card stud eight-or-better, spelled `F7S/8`.
+    /// Fixed-limit seven card stud eight-or-better, written `F7S/8`.
     F7S8,
     /// Fixed-limit razz.
     FR,
@@ -36,7 +36,7 @@ pub enum Code {
 }
 
 impl Code {
-    /// The game with this code, or `None` where the text is none of the eleven.
+    /// The game with this code, or `None` if the text is not one of the eleven codes.
     pub fn read(text: &str) -> Option<Code>
         ensures read { IfSome result (λ code. code_text code ≡ text.now) }
         ensures none { IfNone result ((code : Code) → code_text code ≡ text.now → ⊥) }
@@ -57,7 +57,7 @@ impl Code {
         }
     }
 
-    /// The code as it is spelled.
+    /// The code as it is written.
     pub fn text(self) -> &'static str
         ensures { result.now ≡ code_text self }
     {
@@ -76,7 +76,7 @@ impl Code {
         }
     }
 
-    /// What bounds the bets and raises of the game.
+    /// The limit on bets and raises in the game.
     pub fn limit(self) -> Limit
         ensures { result ≡ limit_of self }
     {

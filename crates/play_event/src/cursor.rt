@@ -1,4 +1,4 @@
-//! A cursor goes over the events of a script, from the first to the last.
+//! Goes over the events of a script, from the first to the last.
 ghost use Rattle.play_event.specs.PackedScript.{PackedScript};
 ghost use Rattle.play_event.specs.PackedOnce.{one_script};
 
@@ -6,8 +6,8 @@ use crate::event::Event;
 use crate::unpacking::read_event;
 use std::marker::Model;
 
-/// The events of a script that were not given yet, in order. It borrows the script's bytes and
-/// takes no memory.
+/// The events of a script that are still to come, in order. It borrows the script's bytes and
+/// allocates nothing.
 #[derive(Debug, Drop)]
 pub struct Cursor<'a> {
     bytes: &'a [u8],
@@ -29,7 +29,7 @@ impl<'a> Cursor<'a> {
     ghost use Rattle.play_event.specs.EventNumbers.{AreEvents};
     ghost use Rattle.play_event.specs.PackedForm.{packed_events};
 
-    /// A cursor over the events whose packed form the bytes are.
+    /// A cursor over the events whose packed form is `bytes`.
     pub(crate) fn new(bytes: &'a [u8]) -> Self
         requires { PackedScript bytes.now }
         ensures { (events : List Event)
@@ -38,7 +38,7 @@ impl<'a> Cursor<'a> {
         Cursor { bytes }
     }
 
-    /// The next event, or `None` where all were given.
+    /// The next event, or `None` after the last.
     pub fn next(&mut self) -> Option<Event>
         ensures first { IfSome result (λ event. self.old ≡ event ∷ self.new) }
         ensures end { IfNone result ((self.old ≡ []) × (self.new ≡ [])) }

@@ -1,21 +1,21 @@
-//! An event is one thing that happened in a hand, as its notation says it.
+//! An event is one thing that happened in a hand, as its notation reports it.
 use card_set::{CardRow, SlotRow};
 use chip_ledger::Seat;
 
-/// How the amount of a bet or raise is spelled, in chips.
+/// How the amount of a bet or raise is written, in chips.
 #[derive(Clone, Copy, Debug, PartialEq, Eq)]
 pub enum Spelled {
-    /// To so many chips of this street.
+    /// To this number of chips on this street.
     To(u64),
-    /// So many chips more.
+    /// This number of chips more.
     Added(u64),
-    /// To so many chips of the whole hand.
+    /// To this number of chips over the whole hand.
     HandTotal(u64),
-    /// By the one size that the limit allows.
+    /// By the one bet size of the street.
     Unit,
 }
 
-/// What happened. An event without actor is of the seat whose turn it is.
+/// What happened. An event without an actor is by the player to act.
 #[derive(Clone, Copy, Debug, PartialEq, Eq)]
 pub enum Kind {
     /// Hole cards for a seat.
@@ -30,7 +30,7 @@ pub enum Kind {
     Fold {
         actor: Option<Seat>,
     },
-    /// A check or call, and the chips that it is said to add.
+    /// A check or call, and the chips that it is stated to add.
     Call {
         actor: Option<Seat>,
         stated: Option<u64>,
@@ -57,7 +57,7 @@ pub enum Kind {
     },
 }
 
-/// An event, and the number of its action in the notation from 1, or 0 where no action says it.
+/// An event, and the number of its action in the notation from 1, or 0 if no action states it.
 #[derive(Clone, Copy, Debug, PartialEq, Eq)]
 pub struct Event {
     pub at: u32,

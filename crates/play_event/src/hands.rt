@@ -1,4 +1,4 @@
-//! A row has the cards that each of up to ten seats holds, and none past the last seat.
+//! The cards that each of up to ten seats holds.
 ghost use Rattle.std.specs.Prelude.{◌≡◌, ◌≢◌, ℕ, ◌≤◌, [], length};
 ghost use Rattle.card_set.specs.Row.{slots_of};
 ghost use Rattle.play_event.specs.SlotRows.{slots_at};
@@ -6,7 +6,8 @@ ghost use Rattle.play_event.specs.SlotRows.{slots_at};
 use card_set::SlotRow;
 use chip_ledger::Seat;
 
-/// The cards that each seat holds. The first seat's are at index 0.
+/// The cards that each seat holds. The first seat's are at index 0; past the last seat there are
+/// none.
 #[derive(Clone, Copy, Debug, PartialEq, Eq)]
 pub struct HandRow {
     pub seats: u8,
@@ -19,7 +20,7 @@ pub struct HandRow {
 impl HandRow {
     ghost use Rattle.play_event.specs.SeatSlots.{slots_of_hand};
 
-    /// A row of so many seats, each without cards.
+    /// A row of `seats` seats, each without cards.
     pub fn new(seats: u8) -> Self
         requires { seats ≤ 10 }
         ensures seats { result.seats ≡ seats }
@@ -32,7 +33,7 @@ impl HandRow {
         }
     }
 
-    /// The seat's cards; past the last seat none.
+    /// The seat's cards; past the last seat, no cards.
     pub fn get(&self, seat: Seat) -> SlotRow
         ensures { slots_of result ≡ slots_of_hand self.now seat.number }
     {

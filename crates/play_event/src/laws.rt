@@ -1,4 +1,4 @@
-//! Laws of play that a reader expects, proved over the definitions.
+//! Laws of play that a reader expects, proved from the definitions.
 ghost use Rattle.std.specs.Prelude.{◌≡◌, ℕ, ◌+◌, ◌≤◌, ◌<◌, ◌↔◌, true, false, List, Some, None, nat_le};
 ghost use Rattle.card_set.specs.declared.card.Card.{Card};
 ghost use Rattle.card_set.specs.UpCards.{IsWeakerUpHigh, IsWeakerLow};
@@ -14,21 +14,21 @@ ghost use Rattle.play_event.specs.Chips.{chips_put, chips_left, all_in};
 ghost use Rattle.play_event.specs.Due.{turn, due_on, has_to_move, is_unfinished};
 ghost use Rattle.play_event.specs.Games.{street_count};
 ghost use Rattle.play_event.specs.Laws.{IsFirstStreet, NoneHold, AreLegal, AreLegalUnfixed, IsInTurn, NoneClash, moves_by, spelled_out};
-ghost use Rattle.play_event.specs.Mover.{mover};
+ghost use Rattle.play_event.specs.PlayerToAct.{player_to_act};
 ghost use Rattle.play_event.specs.Openers.{UpCards, TheSeat, is_weaker_up_high, is_weaker_low};
 ghost use Rattle.play_event.specs.Past.{Past, Move, moves_of, newest_street};
-ghost use Rattle.play_event.specs.Price.{price, full_raise};
+ghost use Rattle.play_event.specs.CurrentBet.{current_bet, full_raise};
 ghost use Rattle.play_event.specs.Reasons.{why, all_reasons};
 ghost use Rattle.play_event.specs.Said.{Said, Raise};
 ghost use Rattle.play_event.specs.Scripts.{past_of, with_event, HasNoIllegalEvent, IsFirstIllegal, illegal_event};
-ghost use Rattle.play_event.specs.Seats.{is_able, live_count};
+ghost use Rattle.play_event.specs.Seats.{can_act, live_count};
 ghost use Rattle.play_event.specs.Table.{places_of};
 ghost use Rattle.play_event.specs.Targets.{floor, is_legal_target, least_target, greatest_target};
 ghost use Rattle.play_event.specs.TurnTargets.{AreTargets, has_targets};
 ghost use Rattle.play_event.specs.ValidSetup.{IsValid};
 
-/// What is due is due on the first street, from that of the past on, on which something is. The
-/// function does nothing: its contract is a law.
+/// What is due is due on the earliest street, not before the newest so far, on which anything is
+/// due. The function does nothing: its contract is a law.
 pub fn law_of_streets()
     ensures due_is_first { (setup : Setup) (past : Past) (street : ℕ) (due : Due)
         → turn setup past ≡ (street, due) → is_unfinished due ≡ true
@@ -39,16 +39,17 @@ pub fn law_of_streets()
         → street ≤ street_count setup.code → turn setup past ≡ (street, due) }
 {}
 
-/// The seat whose turn it is has a move to make, and so is able.
+/// The player to act has a move to make, and so is live and has chips left.
 pub fn law_of_movers()
     ensures has_to_move { (setup : Setup) (ups : UpCards) (moves : List Move) (street seat : ℕ)
-        → mover setup ups moves street ≡ TheSeat seat → has_to_move setup moves street seat ≡ true }
-    ensures is_able { (setup : Setup) (ups : UpCards) (moves : List Move) (street seat : ℕ)
-        → mover setup ups moves street ≡ TheSeat seat → is_able setup moves seat ≡ true }
+        → player_to_act setup ups moves street ≡ TheSeat seat → has_to_move setup moves street seat
+        ≡ true }
+    ensures can_act { (setup : Setup) (ups : UpCards) (moves : List Move) (street seat : ℕ)
+        → player_to_act setup ups moves street ≡ TheSeat seat → can_act setup moves seat ≡ true }
 {}
 
-/// After legal events no seat has put more than its stack, and what it put and what it has left are
-/// the stack.
+/// After legal events no seat has put in more than its stack, and what it put in plus what it has
+/// left is the stack.
 pub fn law_of_chips()
     ensures puts_within { (setup : Setup) (rules : Rules) (events : List Said) (seat : ℕ)
         → IsValid setup → AreLegal setup rules events
@@ -59,7 +60,7 @@ pub fn law_of_chips()
         + chips_left setup (moves_by setup events) seat ≡ amount_of setup.stacks seat }
 {}
 
-/// The least and the greatest legal target are legal, in each limit, and no legal target is outside
+/// The lowest and the highest legal target are legal, in each limit, and no legal target is outside
 /// them; so a seat that may raise has a target.
 pub fn law_of_targets()
     ensures { (setup : Setup) (rules : Rules) (moves : List Move) (street seat : ℕ)
@@ -68,8 +69,8 @@ pub fn law_of_targets()
         (greatest_target setup moves street seat) (all_in setup moves street seat) }
 {}
 
-/// A raise of a named seat is legal only if the seat in turn has targets, and a raise of the seat
-/// in turn to a legal target is legal.
+/// A raise by a named seat is legal only if the player to act has legal targets, and a raise by the
+/// player to act to a legal target is legal.
 pub fn law_of_raises()
     ensures only { (setup : Setup) (rules : Rules) (past : Past) (seat : ℕ) (amount : Spelled)
         → why setup rules past (Raise (Some seat) amount) ≡ None
@@ -80,27 +81,27 @@ pub fn law_of_raises()
         → why setup rules past (Raise (Some seat) (spelled.To target)) ≡ None }
 {}
 
-/// In no limit and pot limit the least raise that is not all-in goes above the price, and no
-/// further above it than a full raise, also if betting always reopens.
+/// In no limit and pot limit the lowest raise that is not all-in goes above the current bet, and by
+/// at most a full raise, even if betting always reopens.
 pub fn law_of_floors()
-    ensures above_price { (setup : Setup) (rules : Rules) (events : List Said)
+    ensures above_current_bet { (setup : Setup) (rules : Rules) (events : List Said)
         → AreLegalUnfixed setup rules events → (reopens : Reopen) (street : ℕ)
-        → price setup (moves_by setup events) street
+        → current_bet setup (moves_by setup events) street
         < floor reopens setup (moves_by setup events) street }
     ensures within_full_raise { (setup : Setup) (rules : Rules) (events : List Said)
         → AreLegalUnfixed setup rules events → (reopens : Reopen) (street : ℕ)
         → floor reopens setup (moves_by setup events) street
-        ≤ price setup (moves_by setup events) street
+        ≤ current_bet setup (moves_by setup events) street
         + full_raise setup (moves_by setup events) street }
 {}
 
-/// The tests by which up-cards open a street agree with the orders of up-cards.
+/// The tests by which up-cards decide who opens a street agree with the orders of up-cards.
 pub fn law_of_up_cards()
     ensures high { (a b : List Card) → (is_weaker_up_high a b ≡ true) ↔ IsWeakerUpHigh a b }
     ensures low { (a b : List Card) → (is_weaker_low a b ≡ true) ↔ IsWeakerLow a b }
 {}
 
-/// Where an event is legal, none of the twelve reasons holds, and where none holds it is legal.
+/// If an event is legal, none of the twelve reasons holds; and if none holds, it is legal.
 pub fn law_of_reasons()
     ensures none_holds { (setup : Setup) (rules : Rules) (past : Past) (event : Said)
         → why setup rules past event ≡ None
@@ -110,15 +111,15 @@ pub fn law_of_reasons()
         → why setup rules past event ≡ None }
 {}
 
-/// No legal event makes two places clash: after legal events no two bear one card, but where one
-/// was gone before the other was dealt past the deck.
+/// No legal event makes two dealt cards clash: after legal events no two known cards are the same,
+/// unless one was discarded or folded before the other was dealt past the deck.
 pub fn law_of_places()
     ensures { (setup : Setup) (rules : Rules) (events : List Said) → AreLegal setup rules events
         → NoneClash (places_of setup.code (past_of setup events)) }
 {}
 
-/// The walk by which hands that are written out are computed tells the first illegal event of a
-/// script, or that it has none.
+/// The computation that the worked hands use finds the first illegal event of a script, or that
+/// there is none.
 pub fn law_of_scripts()
     ensures refused { (setup : Setup) (rules : Rules) (script : List Said)
         → (index : ℕ) (reason : Illegal)
@@ -128,8 +129,8 @@ pub fn law_of_scripts()
         → illegal_event setup rules script ≡ None → HasNoIllegalEvent setup rules script }
 {}
 
-/// A raise without actor, however it is spelled, has the reason and the outcome of a raise of the
-/// seat in turn to the target that the spelling has.
+/// A raise without an actor, however its amount is written, has the same reason and the same
+/// outcome as a raise by the player to act to the target that is written.
 pub fn law_of_spellings()
     ensures same_reason { (setup : Setup) (rules : Rules) (past : Past) (seat : ℕ)
         → (amount : Spelled) → IsInTurn setup past seat

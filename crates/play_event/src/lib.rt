@@ -1,10 +1,11 @@
-//! What is said of a hand: its setup, its rules, and the script of its events; and the rules of
-//! play.
+//! What is said of a hand: its setup, its rules, and the script of its events; the rules of play;
+//! what the trace of a hand keeps, and its canonical script.
 #![tactic(auto)]
 
 mod code;
 mod cursor;
 mod event;
+mod hand_limits;
 mod hands;
 mod laws;
 mod limit;
@@ -22,6 +23,7 @@ mod up_cards;
 pub use code::Code;
 pub use cursor::Cursor;
 pub use event::{Event, Kind, Spelled};
+pub use hand_limits::{MOST_MOVES, MOST_OTHER_EVENTS};
 pub use hands::HandRow;
 pub use laws::{
     law_of_chips, law_of_floors, law_of_movers, law_of_places, law_of_raises, law_of_reasons,

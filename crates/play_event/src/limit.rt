@@ -1,23 +1,23 @@
-//! What bounds a raise, and who moves first.
+//! The limits on raises, and who acts first.
 
-/// What bounds a bet or raise.
+/// The limit on bets and raises.
 #[derive(Clone, Copy, Debug, PartialEq, Eq, Hash)]
 pub enum Limit {
-    /// Fixed limit: bets have the size of the street.
+    /// Fixed limit: bets are of the street's size.
     Fixed,
-    /// Pot limit: at most as many chips as the pot would hold after a call.
+    /// Pot limit: a raise of at most the chips that the pot would hold after a call.
     Pot,
     /// No limit: at most the chips of the seat.
     No,
 }
 
-/// Who moves first on the first street.
+/// Who acts first on the first street.
 #[derive(Clone, Copy, Debug, PartialEq, Eq, Hash)]
 pub enum Opener {
-    /// The seat after the greatest blind.
+    /// The seat after the largest blind.
     Blinds,
-    /// The seat with the lowest up-card, which brings it in.
+    /// The seat with the lowest up-card, which posts the bring-in.
     LowUp,
-    /// The seat with the highest up-card, which brings it in.
+    /// The seat with the highest up-card, which posts the bring-in.
     HighUp,
 }

@@ -1,10 +1,10 @@
-//! The bytes of one event lie on the stack until all of them are there.
+//! A buffer on the stack for the bytes of one event, until they are complete.
 ghost use Rattle.std.specs.Prelude.{◌≡◌, ◌+◌, ◌<◌, ◌≤◌, [], ◌∷◌, ◌++◌, length, OnOk, OnErr};
 
 use card_set::Memory;
 use std::marker::Model;
 
-/// The bytes of a packed event so far. Fifteen are the most: those of a raise or a call with chips.
+/// The bytes of a packed event so far, at most fifteen: those of a raise, or of a call with chips.
 #[derive(Drop)]
 pub(crate) struct PackedEvent {
     bytes: [u8; 15],
@@ -22,7 +22,7 @@ impl Model for PackedEvent {
 }
 
 impl PackedEvent {
-    /// No bytes yet.
+    /// A buffer without bytes.
     pub(crate) fn new() -> Self
         ensures { result ≡ [] }
     {
@@ -32,7 +32,7 @@ impl PackedEvent {
         }
     }
 
-    /// Puts bytes behind the others, in order.
+    /// Appends bytes, in order.
     pub(crate) fn extend(&mut self, bytes: &[u8])
         requires { length self.old + length bytes.now ≤ 15 }
         ensures { self.new ≡ self.old ++ bytes.now }
@@ -42,7 +42,7 @@ impl PackedEvent {
         self.len = end;
     }
 
-    /// Puts a byte behind the others.
+    /// Appends a byte.
     pub(crate) fn push(&mut self, byte: u8)
         requires { length self.old < 15 }
         ensures { self.new ≡ self.old ++ byte ∷ [] }
@@ -51,8 +51,8 @@ impl PackedEvent {
         self.len += 1;
     }
 
-    /// Puts the bytes so far behind those of a script. All fifteen are copied and the rest is cut
-    /// off again, since a copy of a fixed size needs no call.
+    /// Appends these bytes to a script. All fifteen are copied and the rest is cut off again,
+    /// because a copy of a fixed size needs no call.
     pub(crate) fn append_to(&self, script: &mut Vec<u8>) -> Result<(), Memory>
         ensures appended { OnOk result (script.new.items ≡ script.old.items ++ self.now) }
         ensures unchanged { OnErr result (script.new.items ≡ script.old.items) }

@@ -1,28 +1,27 @@
-//! An event is packed into at most fifteen bytes, before any of them goes to a script.
+//! Packs an event into at most fifteen bytes, before any of them is appended to a script.
 ghost use Rattle.std.specs.Prelude.{◌≡◌, ◌+◌, ◌<◌, ◌≤◌, List, ◌∷◌, ◌++◌, length, map, OnErr, OnOk};
 ghost use Rattle.std.specs.Int.{w64, to_be_bytes};
 ghost use Rattle.play_event.specs.declared.event.Event.{Event};
 ghost use Rattle.play_event.specs.EventNumbers.{ChipsFit, IsEvent, AreEvents};
 ghost use Rattle.play_event.specs.PackedForm.{actor_byte, card_byte, slot_byte, counted, kind_byte, kind_bytes, packed_event, packed_events};
 
-use card_set::Memory;
 use crate::event::{Event, Kind, Spelled};
 use crate::packed_event::PackedEvent;
-use card_set::{Card, Slot, place_in_deck};
+use card_set::{Card, Memory, Slot, place_in_deck};
 use chip_ledger::Seat;
 
-// So many bytes are enough for the events of most hands.
+// Enough bytes for the events of most hands.
 const USUAL_BYTES: usize = 72;
 
-/// No two lists of events have one packed form, so it loses nothing. The function does nothing:
-/// its contract is a law. Numbers of events fit their types, and a clause has to say so.
+/// No two lists of events have the same packed form, so packing loses nothing. The function does
+/// nothing: its contract is a law. It requires that the numbers of events fit their types.
 pub fn law_of_packing()
     ensures { (a b : List Event)
         → AreEvents a → AreEvents b → packed_events a ≡ packed_events b → a ≡ b }
 {}
 
-/// Puts the packed form of the event behind those of others. Without memory for it nothing changes.
-/// Before the first one there is made room for the events of most hands.
+/// Appends the packed form of the event to a script. If memory runs out, nothing changes. Before
+/// the first event it reserves room for the events of most hands.
 #[tactic(auto, unfolding(crate::specs::PackedForm::packed_event))]
 pub(crate) fn append(script: &mut Vec<u8>, event: Event) -> Result<(), Memory>
     ensures appended { OnOk result (script.new.items ≡ script.old.items ++ packed_event event) }
@@ -55,7 +54,7 @@ fn number_of_kind(kind: Kind) -> u8
     }
 }
 
-// What an event of this kind says, behind the number of its action.
+// Appends what an event of this kind says, after the number of its action.
 fn pack_kind(packed: &mut PackedEvent, kind: Kind)
     requires { length packed.old ≤ 5 }
     ensures packed { packed.new ≡ packed.old ++ kind_bytes kind }
@@ -106,7 +105,7 @@ fn number_of_actor(actor: Option<Seat>) -> u8
     }
 }
 
-// A byte, and chips behind it.
+// A byte, followed by chips.
 fn with_chips(first: u8, chips: u64) -> [u8; 9]
     ensures { result ≡ first ∷ to_be_bytes w64 chips }
 {
@@ -114,7 +113,7 @@ fn with_chips(first: u8, chips: u64) -> [u8; 9]
     [first, a, b, c, d, e, f, g, h]
 }
 
-// The numbers of slots, behind how many there are.
+// Appends how many slots there are, and then their numbers.
 fn pack_slots(packed: &mut PackedEvent, slots: &[Slot])
     requires room { length packed.old ≤ 6 }
     requires few { length slots.now ≤ 7 }
@@ -135,7 +134,7 @@ fn number_of_slot(slot: Slot) -> u8
     }
 }
 
-// The numbers of cards, behind how many there are.
+// Appends how many cards there are, and then their numbers.
 fn pack_cards(packed: &mut PackedEvent, cards: &[Card])
     requires room { length packed.old ≤ 6 }
     requires few { length cards.now ≤ 7 }

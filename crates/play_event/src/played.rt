@@ -1,9 +1,8 @@
-//! What was played, as the trace of a hand keeps it: a move with its amounts, and the place of a
-//! dealt card.
+//! What was played, as the trace of a hand keeps it: a move with its amounts, and a dealt card.
 use card_set::Slot;
 use chip_ledger::Seat;
 
-/// What a seat did with its turn.
+/// What a player did when it was his turn.
 #[derive(Clone, Copy, Debug, PartialEq, Eq)]
 pub enum Act {
     Fold,
@@ -14,33 +13,33 @@ pub enum Act {
     BringIn,
 }
 
-/// A move. Its amounts are chips of its street, antes not counted.
+/// A move. Its amounts are chips put in on its street, not counting antes.
 #[derive(Clone, Copy, Debug, PartialEq, Eq)]
 pub struct Move {
-    /// From 1.
+    /// The street, from 1.
     pub street: u8,
     pub seat: Seat,
     pub act: Act,
-    /// What the seat had put before.
+    /// The seat's chips on the street before the move.
     pub from: u64,
-    /// What it had put after.
+    /// The seat's chips on the street after the move.
     pub to: u64,
-    /// The most that any seat had put before.
+    /// The current bet before the move: the most that any seat had put in on the street.
     pub price: u64,
-    /// Whether it is a raise that needs rules by which betting always reopens.
+    /// Whether it is a raise that is legal only if betting always reopens.
     pub closed: bool,
-    /// Where a raise by the unit would have gone, in fixed limit; else 0.
+    /// The target of a raise by the street's bet size, in fixed limit; else 0.
     pub unit_to: u64,
 }
 
 /// A dealt card.
 #[derive(Clone, Copy, Debug, PartialEq, Eq)]
 pub struct Place {
-    /// The seat, or `None` for the board.
+    /// The seat that it was dealt to, or `None` for the board.
     pub owner: Option<Seat>,
-    /// From 1.
+    /// The street on which it was dealt, from 1.
     pub street: u8,
     pub slot: Slot,
-    /// The street of the draw that discarded it, or 0.
+    /// The street on which it was discarded, or 0.
     pub gone: u8,
 }

@@ -10,35 +10,35 @@ pub enum Due {
     BringIn,
     /// A fold, check, call, bet or raise.
     Move,
-    /// Each live seat shows or mucks.
+    /// Each live seat shows or mucks its cards.
     Show,
     /// Nothing: the hand is over.
     Over,
 }
 
-/// Why an event is illegal. Where several reasons hold, the first in this order is the reason.
+/// Why an event is illegal. If several reasons hold, the first in this order is reported.
 #[derive(Clone, Copy, Debug, PartialEq, Eq)]
 pub enum Illegal {
     /// The hand is over.
     HandOver,
     /// An event of this kind may not come now.
     WrongKind,
-    /// The named seat may not do it now.
+    /// The named seat may not do this now.
     WrongSeat,
     /// Too many cards, or too few.
     WrongCount,
-    /// A card lies elsewhere already, or the deck lacks it.
+    /// A card is already out, or is not in the deck.
     CardTaken,
     /// A card is named that the seat does not hold.
     NotHeld,
-    /// An up-card that decides whose turn it is has not been seen.
+    /// An up-card that decides who acts first is not known.
     UpCardUnknown,
-    /// A fold where nothing is owed.
+    /// A fold when there is nothing to call.
     NothingToCall,
     /// The seat may not raise.
     RaiseClosed,
     RaiseTooSmall,
     RaiseTooBig,
-    /// A call states other chips than it adds.
+    /// A call states another number of chips than it adds.
     AmountDiffers { stated: u64, due: u64 },
 }

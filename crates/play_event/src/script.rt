@@ -1,4 +1,4 @@
-//! A script is the list of a hand's events, in the order in which they happened, kept packed.
+//! The list of a hand's events, in the order in which they happened, packed.
 ghost use Rattle.std.specs.Prelude.{◌≡◌, length};
 ghost use Rattle.play_event.specs.PackedScript.{PackedScript};
 ghost use Rattle.play_event.specs.PackedOnce.{one_script};
@@ -6,11 +6,11 @@ ghost use Rattle.play_event.specs.PackedOnce.{one_script};
 use crate::cursor::Cursor;
 use crate::event::Event;
 use crate::packing::append;
-use card_set::Memory;
+use card_set::{MOST_ROOM, Memory, list_with_room};
 use std::alloc::Global;
 use std::marker::Model;
 
-// Few events take more bytes.
+// Few events take more bytes than this.
 const USUAL_EVENT_BYTES: usize = 12;
 
 /// The events of a hand, in order. They take six to fifteen bytes each.
@@ -35,7 +35,7 @@ impl Script {
     ghost use Rattle.std.specs.Prelude.{◌≡◌, ◌<◌, [], ◌∷◌, ◌++◌, length, slice_get, Some, IfOk, OnOk, OnErr};
     ghost use Rattle.play_event.specs.PackedForm.{packed_events};
 
-    /// Puts an event after the others. Without memory for it the script stays as it was.
+    /// Appends an event. If memory runs out, the script stays as it was.
     pub fn push(&mut self, event: Event) -> Result<(), Memory>
         ensures pushed { OnOk result (self.new ≡ self.old ++ event ∷ []) }
         ensures unchanged { OnErr result (self.new ≡ self.old) }
@@ -45,8 +45,8 @@ impl Script {
         Ok(())
     }
 
-    /// The event at this index, from 0. Ask first that the index is below `len`. It walks from the
-    /// first event on: who wants one event after the other goes by `cursor`.
+    /// The event at this index, from 0. Ask first that the index is below `len`. It scans from the
+    /// first event: use `cursor` to go through all events.
     pub fn get(&self, index: usize) -> Event
         requires { index < length self.now }
         ensures { slice_get self.now index ≡ Some result }
@@ -75,13 +75,16 @@ impl Script {
         }
     }
 
-    /// A script without events, and with room for about so many, so that it need not move as they
-    /// come. More of them find room, too.
+    /// A script without events and with room for about this many, so that it need not be moved as
+    /// they come. It can still take more.
     pub fn with_room(alloc: Global, events: usize) -> Result<Self, Memory>
         ensures { IfOk result (λ script. script ≡ []) }
     {
         Ok(Script {
-            bytes: Vec::with_capacity(alloc, events.saturating_mul(USUAL_EVENT_BYTES))?,
+            bytes: list_with_room(
+                alloc,
+                events.saturating_mul(USUAL_EVENT_BYTES).min(MOST_ROOM),
+            )?,
             count: 0,
         })
     }
@@ -93,7 +96,7 @@ impl Script {
         self.count
     }
 
-    /// The packed forms of the events, one after the other.
+    /// The packed forms of the events, in order.
     pub fn packed(&self) -> &[u8]
         ensures { result.now ≡ packed_events self.now }
     {

@@ -1,17 +1,17 @@
-//! What the stakes of a hand come to, proved over the definitions.
+//! What each seat ends with in a hand that is won by folds, proved from the definitions.
 ghost use Rattle.std.specs.Prelude.{◌≡◌, ℕ, ◌+◌, ◌≤◌, true, false, List};
 ghost use Rattle.chip_ledger.specs.RakeRow.{rake_of};
 ghost use Rattle.chip_ledger.specs.Rakes.{HaveRakes};
 ghost use Rattle.play_event.specs.declared.setup.Setup.{Setup};
 ghost use Rattle.play_event.specs.Past.{Move};
 ghost use Rattle.play_event.specs.Chips.{chips_left};
-ghost use Rattle.play_event.specs.Price.{all_chips_put};
+ghost use Rattle.play_event.specs.CurrentBet.{all_chips_put};
 ghost use Rattle.play_event.specs.Seats.{is_live, live_count};
 ghost use Rattle.play_event.specs.Stakes.{pots_after, stack_by_folds};
 
-/// In a hand that is won by folds a seat ends with its stack less what it put. The last live seat
-/// ends with all that was put besides, less the rake of the one pot that there is. The function
-/// does nothing: its contract is a law.
+/// In a hand that is won by folds, a seat that folded ends with its stack minus what it put in. The
+/// last live seat ends with its stack plus what the others put in, minus the rake of the only pot.
+/// The function does nothing: its contract is a law.
 pub fn law_of_folds()
     ensures folded { (setup : Setup) (moves : List Move) (seat : ℕ)
         → live_count setup moves ≤ 1 → is_live moves seat ≡ false

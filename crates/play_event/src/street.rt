@@ -1,13 +1,13 @@
 //! What a street deals, whether it draws, and how large its bets are.
 
-/// The size of a street's bets.
+/// The bet size of a street.
 #[derive(Clone, Copy, Debug, PartialEq, Eq, Hash)]
 pub enum Size {
     /// The small bet of fixed limit.
     Small,
     /// The big bet of fixed limit.
     Big,
-    /// The least bet of no limit and pot limit.
+    /// The minimum bet of no limit and pot limit.
     Least,
 }
 

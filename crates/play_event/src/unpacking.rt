@@ -1,4 +1,4 @@
-//! Packed bytes are read from left to right: an event at their front, and the bytes behind it.
+//! Reads packed bytes from left to right: the event at their front, and the bytes after it.
 ghost use Rattle.std.specs.Prelude.{◌≡◌, ◌≤◌, ◌&&◌, length, Option, Some, None, IfSome};
 ghost use Rattle.std.specs.Option.{option_map};
 ghost use Rattle.std.specs.Int.{w32, w64};
@@ -10,7 +10,8 @@ use crate::event::{Event, Kind, Spelled};
 use card_set::{Card, CardRow, Slot, SlotRow, card_placed};
 use chip_ledger::Seat;
 
-/// The event at the front of the bytes and the bytes behind it, or `None` where no event begins so.
+/// The event at the front of the bytes and the bytes after it, or `None` if the bytes do not begin
+/// with an event.
 #[tactic(auto, unfolding(crate::specs::PackedReading::event_at))]
 pub(crate) fn read_event(bytes: &[u8]) -> Option<(Event, &[u8])>
     ensures { option_map (λ read. (numbered read.0, read.1.now)) result ≡ event_at bytes.now }
@@ -56,7 +57,7 @@ fn read_kind(number: u8, bytes: &[u8]) -> Option<(Kind, &[u8])>
     }
 }
 
-// An actor, who may be unnamed.
+// An actor, who may be left out.
 #[tactic(auto, unfolding(crate::specs::PackedReading::actor_at))]
 fn read_actor(bytes: &[u8]) -> Option<(Option<Seat>, &[u8])>
     ensures { option_map (λ read. (seat_named read.0, read.1.now)) result ≡ actor_at bytes.now }
@@ -69,7 +70,7 @@ fn read_actor(bytes: &[u8]) -> Option<(Option<Seat>, &[u8])>
     Some((Some(seat), rest))
 }
 
-// What an event of the kind with this number says of an actor.
+// What an event of the kind with this number says of a player who may be left out.
 #[tactic(auto, unfolding(crate::specs::PackedReading::move_at))]
 fn read_move(number: u8, actor: Option<Seat>, bytes: &[u8]) -> Option<(Kind, &[u8])>
     ensures { option_map (λ read. (kind_said read.0, read.1.now)) result
@@ -90,7 +91,7 @@ fn read_move(number: u8, actor: Option<Seat>, bytes: &[u8]) -> Option<(Kind, &[u
     }
 }
 
-// The chips of a call, which may be unstated.
+// The chips of a call, which may be left out.
 #[tactic(auto, unfolding(crate::specs::PackedReading::stated_at))]
 fn read_stated(bytes: &[u8]) -> Option<(Option<u64>, &[u8])>
     ensures { option_map (λ read. (read.0, read.1.now)) result ≡ stated_at bytes.now }
@@ -207,7 +208,7 @@ fn read_cards(bytes: &[u8]) -> Option<(CardRow, &[u8])>
     Some((row, rest))
 }
 
-// Up to seven bytes that stand behind their count.
+// Up to seven bytes, after their count.
 #[tactic(auto, unfolding(crate::specs::PackedReading::counted_at))]
 fn read_counted(bytes: &[u8]) -> Option<(&[u8], &[u8])>
     ensures row { option_map (λ read. (read.0.now, read.1.now)) result ≡ counted_at bytes.now }
@@ -231,7 +232,7 @@ fn read_byte(bytes: &[u8]) -> Option<(u8, &[u8])>
     }
 }
 
-// The card of a byte from 1 to 52.
+// The card with this number, from 1 to 52.
 fn card_named(byte: u8) -> Card
     ensures { result ≡ card_of byte }
 {

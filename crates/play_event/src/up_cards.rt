@@ -1,4 +1,4 @@
-//! A row has the up-cards of each of up to ten seats, and none past the last seat.
+//! The up-cards of each of up to ten seats.
 ghost use Rattle.std.specs.Prelude.{◌≡◌, ◌≢◌, ℕ, ◌≤◌, [], length};
 ghost use Rattle.card_set.specs.Row.{slots_of};
 ghost use Rattle.play_event.specs.SlotRows.{slots_at};
@@ -6,7 +6,7 @@ ghost use Rattle.play_event.specs.SlotRows.{slots_at};
 use card_set::SlotRow;
 use chip_ledger::Seat;
 
-/// The up-cards of each seat. The first seat's are at index 0.
+/// The up-cards of each seat. The first seat's are at index 0; past the last seat there are none.
 #[derive(Clone, Copy, Debug, PartialEq, Eq)]
 pub struct UpRow {
     pub seats: u8,
@@ -19,7 +19,7 @@ pub struct UpRow {
 impl UpRow {
     ghost use Rattle.play_event.specs.SeatSlots.{ups_of};
 
-    /// A row of so many seats, each without up-cards.
+    /// A row of `seats` seats, each without up-cards.
     pub fn new(seats: u8) -> Self
         requires { seats ≤ 10 }
         ensures seats { result.seats ≡ seats }
@@ -32,7 +32,7 @@ impl UpRow {
         }
     }
 
-    /// The seat's up-cards; past the last seat none.
+    /// The seat's up-cards; past the last seat, no cards.
     pub fn get(&self, seat: Seat) -> SlotRow
         ensures { slots_of result ≡ ups_of self.now seat.number }
     {

@@ -1,4 +1,4 @@
--- Betting that is closed on a street stays closed there under moves of other streets.
+-- Betting that is closed on a street stays closed under moves of other streets.
 use Rattle.std.proofs.Common.{◌≡◌, ◌≢◌, ℕ, ◌+◌, ◌-◌, ◌≤◌, Bool, true, false, ◌&&◌, ◌||◌, ◌==◌, not, nat_lt, nat_le, inl, inr, List, ◌∷◌, map, refl, sym, ◌∙◌, ap, if◌then◌else◌}
 use Rattle.std.specs.List.{list_any}
 use Rattle.std.proofs.lemmas.Bool.{and_parts, and_from, and_right, ne_eqb, false_from_ne_true, both_ways, or_left, or_cases, or_right}
@@ -6,34 +6,34 @@ use Rattle.play_event.specs.declared.setup.Setup.{Setup}
 use Rattle.play_event.specs.Streets.{is_stud}
 use Rattle.play_event.specs.Past.{Past, Resolved, Move, Dealt, Boarded, Moved, Discarded, Shown, Mucked, moves_of, moves_on, street_of}
 use Rattle.play_event.specs.Chips.{chips_added, brought}
-use Rattle.play_event.specs.Seats.{is_able, all_seats, able_count}
-use Rattle.play_event.specs.Price.{price, owed}
+use Rattle.play_event.specs.Seats.{can_act, all_seats, able_count}
+use Rattle.play_event.specs.CurrentBet.{current_bet, to_call}
 use Rattle.chip_ledger.specs.Greatest.{greatest}
-use Rattle.play_event.specs.Due.{has_to_move, has_moved_since_rise, is_move_due, is_bring_in_due, has_opened_betting}
-use Rattle.list_laws.proofs.Tests.{and_group, false_true}
+use Rattle.play_event.specs.Due.{has_to_move, has_acted_since_raise, is_move_due, is_bring_in_due, has_opened_betting}
+use Rattle.card_set.proofs.Tests.{and_group, false_true}
 use Rattle.play_laws.proofs.DueAtEvents.{IsNotDue}
 use Rattle.play_laws.proofs.SettledStreets.{deal_still, draw_still, is_discard_on}
-use Rattle.list_laws.proofs.Any.{none_still}
+use Rattle.card_set.proofs.Any.{none_still}
 use Rattle.play_event.proofs.StillAble.{able_still}
-use Rattle.list_laws.proofs.Counting.{counts_fewer}
-use Rattle.list_laws.proofs.Numbers.{two_still}
+use Rattle.card_set.proofs.Counting.{counts_fewer}
+use Rattle.card_set.proofs.Numbers.{two_still}
 
--- no move makes more seats able
+-- no move increases the number of seats that can act
 pub able_fewer : (setup : Setup) (move : Move) (moves : List Move) → able_count setup (move ∷ moves) ≤ able_count setup moves
-able_fewer setup move moves = counts_fewer (is_able setup (move ∷ moves)) (is_able setup moves) (able_still setup move moves) (all_seats setup)
+able_fewer setup move moves = counts_fewer (can_act setup (move ∷ moves)) (can_act setup moves) (able_still setup move moves) (all_seats setup)
 
 -- the street's moves are the same
 pub other_moves : (move : Move) (moves : List Move) (street : ℕ) → move.street ≢ street → moves_on street (move ∷ moves) ≡ moves_on street moves
 other_moves move moves street differ = ap (λ b. if b then (move ∷ moves_on street moves) else moves_on street moves) (ne_eqb move.street street differ)
 
--- what is owed on a street is changed by moves of that street alone
-pub owed_same : (setup : Setup) (move : Move) (moves : List Move) (street seat : ℕ) → move.street ≢ street → owed setup (move ∷ moves) street seat ≡ owed setup moves street seat
+-- what is owed on a street is changed only by moves of that street
+pub owed_same : (setup : Setup) (move : Move) (moves : List Move) (street seat : ℕ) → move.street ≢ street → to_call setup (move ∷ moves) street seat ≡ to_call setup moves street seat
 owed_same setup move moves street seat differ =
     ap (λ l. greatest (map (λ other. brought setup street other + chips_added other l) (all_seats setup)) - (brought setup street seat + chips_added seat l)) (other_moves move moves street differ)
 
-moved_same : (setup : Setup) (move : Move) (moves : List Move) (street seat : ℕ) → move.street ≢ street → has_moved_since_rise setup (move ∷ moves) street seat ≡ has_moved_since_rise setup moves street seat
+moved_same : (setup : Setup) (move : Move) (moves : List Move) (street seat : ℕ) → move.street ≢ street → has_acted_since_raise setup (move ∷ moves) street seat ≡ has_acted_since_raise setup moves street seat
 moved_same setup move moves street seat differ =
-    ap (λ b. if b then ((move.seat == seat) || (nat_le move.to (price setup moves street) && has_moved_since_rise setup moves street seat)) else has_moved_since_rise setup moves street seat) (ne_eqb move.street street differ)
+    ap (λ b. if b then ((move.seat == seat) || (nat_le move.to (current_bet setup moves street) && has_acted_since_raise setup moves street seat)) else has_acted_since_raise setup moves street seat) (ne_eqb move.street street differ)
 
 has_to_by : (able before_able moved : Bool) (owes : ℕ) (less more : ℕ) → (able ≡ true → before_able ≡ true) → less ≤ more → (able && (if moved then false else (nat_lt 0 owes || nat_le 2 less))) ≡ true → (before_able && (if moved then false else (nat_lt 0 owes || nat_le 2 more))) ≡ true
 has_to_by false before_able moved owes less more both on is = false_true is
@@ -44,12 +44,12 @@ has_to_by true before_able false owes less more both on is =
       | inr two ↦ or_right (nat_lt 0 owes) (nat_le 2 more) (two_still less more on two)
     ])
 
--- who has to move on a street after a move of another one had to before it
+-- a seat that has to move on a street after a move of another street had to before it
 pub has_to_still : (setup : Setup) (move : Move) (moves : List Move) (street seat : ℕ) → move.street ≢ street → has_to_move setup (move ∷ moves) street seat ≡ true → has_to_move setup moves street seat ≡ true
 has_to_still setup move moves street seat differ is =
-    has_to_by (is_able setup (move ∷ moves) seat) (is_able setup moves seat) (has_moved_since_rise setup moves street seat) (owed setup moves street seat) (able_count setup (move ∷ moves)) (able_count setup moves) (able_still setup move moves seat) (able_fewer setup move moves)
-    (sym (ap (λ b. is_able setup (move ∷ moves) seat && (if b then false else (nat_lt 0 (owed setup (move ∷ moves) street seat) || nat_le 2 (able_count setup (move ∷ moves))))) (moved_same setup move moves street seat differ)
-    ∙ ap (λ o. is_able setup (move ∷ moves) seat && (if has_moved_since_rise setup moves street seat then false else (nat_lt 0 o || nat_le 2 (able_count setup (move ∷ moves))))) (owed_same setup move moves street seat differ)) ∙ is)
+    has_to_by (can_act setup (move ∷ moves) seat) (can_act setup moves seat) (has_acted_since_raise setup moves street seat) (to_call setup moves street seat) (able_count setup (move ∷ moves)) (able_count setup moves) (able_still setup move moves seat) (able_fewer setup move moves)
+    (sym (ap (λ b. can_act setup (move ∷ moves) seat && (if b then false else (nat_lt 0 (to_call setup (move ∷ moves) street seat) || nat_le 2 (able_count setup (move ∷ moves))))) (moved_same setup move moves street seat differ)
+    ∙ ap (λ o. can_act setup (move ∷ moves) seat && (if has_acted_since_raise setup moves street seat then false else (nat_lt 0 o || nat_le 2 (able_count setup (move ∷ moves))))) (owed_same setup move moves street seat differ)) ∙ is)
 
 -- betting that is closed on a street is not opened by a move of another one
 pub move_still : (setup : Setup) (move : Move) (moves : List Move) (street : ℕ) → move.street ≢ street → is_move_due setup moves street ≡ false → is_move_due setup (move ∷ moves) street ≡ false

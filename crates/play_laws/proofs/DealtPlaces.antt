@@ -9,12 +9,12 @@ use Rattle.play_event.specs.Past.{Move, moves_before}
 use Rattle.play_event.specs.Places.{Place, is_in_group, is_past_deck, places_dealt, after_deal}
 use Rattle.play_event.specs.Taken.{is_gone_before}
 use Rattle.play_event.specs.Laws.{IsAmong}
-use Rattle.list_laws.proofs.Tests.{false_true}
+use Rattle.card_set.proofs.Tests.{false_true}
 use Rattle.play_event.proofs.ClashLaws.{among_append}
 use Rattle.play_laws.specs.LegalPlaces.{has_owner_folded, is_gone_by, PlacesLaw}
 use Rattle.play_laws.proofs.QuietEvents.{folded_back, folded_own, folded_first}
 use Rattle.play_laws.proofs.PlaceGroups.{more_count}
-use Rattle.list_laws.proofs.Options.{some_is_none}
+use Rattle.card_set.proofs.Options.{some_is_none}
 
 -- a card that was dealt now
 pub record IsNew (dealt_to : Option ℕ) (on : ℕ) (is_late : Bool) (least most : ℕ) (place : Place) : Type 0 where

@@ -1,4 +1,4 @@
--- The cards of a seat that the draw of a street took are as many as the seat discarded there.
+-- The draw of a street took as many cards from a seat as the seat discarded there.
 use Rattle.std.proofs.Common.{◌≡◌, ℕ, ◌≤◌, ◌<◌, Bool, true, false, ◌&&◌, ◌||◌, ◌==◌, not, inl, inr, Option, Some, None, List, [], ◌∷◌, ◌++◌, map, filter, length, count_by, refl, sym, ◌∙◌, ap, arith, if◌then◌else◌}
 use Rattle.std.proofs.lemmas.Bool.{and_parts, and_from, and_right, eqb-true, ne_eqb, cases_Bool}
 use Rattle.std.proofs.lemmas.List.{append-nil}
@@ -19,7 +19,7 @@ use Rattle.play_event.specs.Table.{places_of}
 use Rattle.play_event.specs.Taken.{may_repeat, is_gone_before, is_one_card}
 use Rattle.play_event.specs.Scripts.{with_event, past_of}
 use Rattle.play_event.specs.Laws.{IsAmong, AreLegal, NoneClash}
-use Rattle.list_laws.proofs.Tests.{and_swap, false_true}
+use Rattle.card_set.proofs.Tests.{and_swap, false_true}
 use Rattle.play_event.proofs.SafePlaces.{none_clash}
 use Rattle.play_laws.specs.PastLaws.{PastLaw}
 use Rattle.play_laws.proofs.DueAtEvents.{Reaches, turn_reaches}
@@ -34,7 +34,7 @@ use Rattle.play_laws.proofs.DrawnDiscards.{covers_hand}
 use Rattle.play_laws.proofs.DealtPlaces.{are_new}
 use Rattle.play_laws.proofs.NamedCounts.{AllApart, IsMarking, discard_count}
 
--- cards that are held at one time differ
+-- cards that are held at the same time differ
 held_apart : (seat : ℕ) (placed : List Place) → NoneClash placed → AreRising placed → AllApart (filter (is_held_by seat) placed)
 held_apart seat placed none up = all_apart (filter (is_held_by seat) placed) (rising_filter (is_held_by seat) placed up) (λ place among. passed (is_held_by seat) placed place among)
   where
@@ -147,7 +147,7 @@ out_step setup before at _ past law come (discards who cards no_deal draw next f
           omega (arith, counts street seat some, ap (λ b. if b then length cards else 0) here, discard_count (is_out_of street seat) at who cards placed marking (held_apart who placed apart up) held)
     ]
 
--- after legal events each seat's places discarded on a street are as many as it discarded there
+-- after legal events each seat has as many places discarded on a street as it discarded cards there
 pub out_counts : (setup : Setup) (rules : Rules) (events : List Said) → AreLegal setup rules events → OutCounts setup (past_of setup events)
 unfolding with_event
 out_counts setup rules [] legal = λ street seat some. refl

@@ -8,13 +8,13 @@ use Rattle.play_event.specs.Streets.{has_draw}
 use Rattle.play_event.specs.Past.{Past, Resolved, Move, Dealt, Boarded, Moved, Discarded, Shown, Mucked, moves_of, newest_street, street_of, is_fold, moves_before}
 use Rattle.play_event.specs.Seats.{is_live, all_seats, live_count}
 use Rattle.play_event.specs.Dealing.{is_deal_due, is_draw_due, hole_cards_dealt, board_cards_dealt, hole_cards_owed, board_cards_owed, cards_owed, replacements_owed, has_drawn, next_to_draw}
-use Rattle.list_laws.proofs.Tests.{false_true}
+use Rattle.card_set.proofs.Tests.{false_true}
 use Rattle.play_laws.specs.PastLaws.{AreReached, has_move, PastLaw, DoneLaw, is_played_on}
 use Rattle.play_laws.proofs.DueAtEvents.{Reaches, IsNotDue, not_due}
 use Rattle.play_laws.proofs.LegalEvents.{Stepped, deals, boards, moves, discards, shows, mucks}
-use Rattle.list_laws.proofs.NumbersOfRange.{at_range, find_none}
+use Rattle.card_set.proofs.NumbersOfRange.{at_range, find_none}
 use Rattle.play_event.proofs.StillAble.{still_live}
-use Rattle.list_laws.proofs.Counting.{counts_fewer}
+use Rattle.card_set.proofs.Counting.{counts_fewer}
 
 -- an event takes place on the street of the turn
 pub on_street : (setup : Setup) (before : Past) (at : ℕ) (event : Resolved) → Stepped setup before at event → street_of event ≡ at
@@ -25,7 +25,7 @@ on_street setup before at _ (discards seat cards no_deal draw next few free held
 on_street setup before at _ (shows seat cards may free) = refl
 on_street setup before at _ (mucks seat may) = refl
 
--- moves before a street are the same, where the event is on it or later
+-- moves before a street are the same if the event is on it or later
 pub before_same : (event : Resolved) (before : Past) (street : ℕ) → street ≤ street_of event → moves_before street (moves_of (event ∷ before)) ≡ moves_before street (moves_of before)
 before_same (Moved move) before street on = ap (λ b. if b then (move ∷ moves_before street (moves_of before)) else moves_before street (moves_of before)) (le-ltb move.street street on)
 before_same (Dealt owner seat cards) before street on = refl
@@ -48,7 +48,7 @@ none_before setup before at street law come some less = elim (cases_lt street (n
   | inr late ↦ not_due setup before street (come.quiet street late less)
 ]
 
--- who is live was live before a street
+-- a seat that is live was live before a street
 pub live_before : (list : List Move) (street seat : ℕ) → is_live list seat ≡ true → is_live (moves_before street list) seat ≡ true
 live_before [] street seat is = refl
 live_before (move ∷ rest) street seat is = by_street (nat_lt move.street street) (live_before rest street seat (still_live move rest seat is))
@@ -114,21 +114,21 @@ done_or_live setup before at street seat _ past law come (moves move no_deal no_
     reached [] all = tt
     reached (first ∷ rest) all = (omega (arith, all.0, come.on, on), reached rest all.1)
 
--- where no deal is due each live seat has its cards of the street
+-- if no deal is due each live seat has its cards of the street
 pub live_dealt : (setup : Setup) (before : Past) (street seat : ℕ) → is_deal_due setup before street ≡ false → is_live (moves_of before) seat ≡ true → 1 ≤ seat → seat ≤ setup.stacks.seats → hole_cards_on setup.code street ≤ hole_cards_dealt before street seat
 live_dealt setup before street seat is live least most =
     let parts = or_parts (list_any (λ seat. nat_lt 0 (hole_cards_owed setup before street seat)) (all_seats setup)) (nat_lt 0 (board_cards_owed setup before street)) is in
     let none : hole_cards_owed setup before street seat ≤ 0 = ltb-false 0 (hole_cards_owed setup before street seat) (at_range (λ seat. nat_lt 0 (hole_cards_owed setup before street seat)) 1 setup.stacks.seats seat parts.0 least (omega (arith, most))) in
     omega (arith, none, ap (λ b. if b then hole_cards_on setup.code street - hole_cards_dealt before street seat else 0) live)
 
--- where no draw is due each live seat has drawn
+-- if no draw is due each live seat has drawn
 pub live_drawn : (setup : Setup) (before : Past) (street seat : ℕ) → has_draw setup.code street ≡ true → is_draw_due setup before street ≡ false → is_live (moves_of before) seat ≡ true → 1 ≤ seat → seat ≤ setup.stacks.seats → has_drawn before street seat ≡ true
 live_drawn setup before street seat draws_there is live least most =
     let inside : (is_some (next_to_draw setup before street) || list_any (λ seat. nat_lt 0 (replacements_owed before street seat)) (all_seats setup)) ≡ false = sym (ap (λ b. b && (is_some (next_to_draw setup before street) || list_any (λ seat. nat_lt 0 (replacements_owed before street seat)) (all_seats setup))) draws_there) ∙ is in
     let none = find_none (λ seat. is_live (moves_of before) seat && not (has_drawn before street seat)) 1 setup.stacks.seats seat (or_parts (is_some (next_to_draw setup before street)) (list_any (λ seat. nat_lt 0 (replacements_owed before street seat)) (all_seats setup)) inside).0 least (omega (arith, most)) in
     not-false (has_drawn before street seat) (sym (ap (λ b. b && not (has_drawn before street seat)) live) ∙ none)
 
--- dealt cards do not shrink, and who drew has drawn
+-- the cards dealt do not become fewer, and a seat that drew has drawn
 pub dealt_more : (before : Past) (event : Resolved) (street seat : ℕ) → hole_cards_dealt before street seat ≤ hole_cards_dealt (event ∷ before) street seat
 dealt_more before (Dealt on owner cards) street seat = omega arith
 dealt_more before (Boarded on cards) street seat = omega arith
@@ -137,7 +137,7 @@ dealt_more before (Discarded on owner cards) street seat = omega arith
 dealt_more before (Shown on owner cards) street seat = omega arith
 dealt_more before (Mucked on owner) street seat = omega arith
 
--- who has drawn has drawn later too
+-- a seat that has drawn has still drawn later
 pub drawn_still : (before : Past) (event : Resolved) (street seat : ℕ) → has_drawn before street seat ≡ true → has_drawn (event ∷ before) street seat ≡ true
 drawn_still before (Discarded on owner cards) street seat is = or_right ((on == street) && (owner == seat)) (has_drawn before street seat) is
 drawn_still before (Dealt on owner cards) street seat is = is
@@ -146,7 +146,7 @@ drawn_still before (Moved move) street seat is = is
 drawn_still before (Shown on owner cards) street seat is = is
 drawn_still before (Mucked on owner) street seat is = is
 
--- who is live before a street with one event more, was so
+-- a seat that is live before a street with one more event was live before it
 pub is_live_at_start : (event : Resolved) (before : Past) (street seat : ℕ) → is_live (moves_before street (moves_of (event ∷ before))) seat ≡ true → is_live (moves_before street (moves_of before)) seat ≡ true
 is_live_at_start (Dealt on owner cards) before street seat is = is
 is_live_at_start (Boarded on cards) before street seat is = is
@@ -159,7 +159,7 @@ is_live_at_start (Moved move) before street seat is = by_street (nat_lt move.str
     by_street true it = still_live move (moves_before street (moves_of before)) seat it
     by_street false it = it
 
--- no more than the street deals
+-- at most what the street deals
 pub most_dealt : (setup : Setup) (before : Past) (at : ℕ) (event : Resolved) → Stepped setup before at event → ((street seat : ℕ) → has_draw setup.code street ≡ false → hole_cards_dealt before street seat ≤ hole_cards_on setup.code street) → (street seat : ℕ) → has_draw setup.code street ≡ false → hole_cards_dealt (event ∷ before) street seat ≤ hole_cards_on setup.code street
 most_dealt setup before at _ (boards cards due some few free) law street seat no_draw = law street seat no_draw
 most_dealt setup before at _ (moves move no_deal none on) law street seat no_draw = law street seat no_draw
@@ -191,7 +191,7 @@ most_board setup before at _ (boards cards due some few free) law street = elim 
   | inl here ↦ omega (arith, ap (λ b. if b then length cards else 0) here, some, few, ap (λ a. board_cards_owed setup before a) (eqb-true at street here))
 ]
 
--- an event that is played is played by two live seats or more
+-- an event other than a show is played with two or more live seats
 pub played_several : (setup : Setup) (before : Past) (at street : ℕ) (event : Resolved) → Stepped setup before at event → (nat_le (live_count setup (moves_of before)) 1 ≡ true → is_played_on street event ≡ true → ⊥) → is_played_on street event ≡ true → nat_le (live_count setup (moves_before street (moves_of before))) 1 ≡ false
 played_several setup before at street event step never plays =
     lt-leb (live_count setup (moves_before street (moves_of before))) 1 (omega (arith, more, counts_fewer (is_live (moves_of before)) (is_live (moves_before street (moves_of before))) (live_before (moves_of before) street) (all_seats setup)))

@@ -18,7 +18,7 @@ use Rattle.play_event.specs.Reasons.{why, is_due_kind}
 use Rattle.play_event.specs.Scripts.{with_event, past_of, resolved_on}
 use Rattle.play_event.specs.Laws.{AreLegal}
 use Rattle.play_event.proofs.ReasonLaws.{no_reason_holds}
-use Rattle.list_laws.proofs.Tests.{false_true}
+use Rattle.card_set.proofs.Tests.{false_true}
 use Rattle.play_laws.specs.PastLaws.{PastLaw, DoneLaw, is_played_on}
 use Rattle.play_laws.proofs.DueAtEvents.{Reaches, IsNotDue, turn_reaches}
 use Rattle.play_laws.proofs.LegalEvents.{Stepped, stepped}
@@ -37,7 +37,7 @@ over_turn setup before one =
 not_over : (setup : Setup) (before : Past) (event : Said) → nat_le (live_count setup (moves_of before)) 1 ≡ true → is_due_kind setup.code (turn setup before).1 event ≡ true → is_due_kind setup.code dues.Over event ≡ true
 not_over setup before event one kind = sym (ap (λ d. is_due_kind setup.code d event) (over_turn setup before one)) ∙ kind
 
--- an event that is no show or muck is legal only where two or more seats are live
+-- an event that is no show or muck is legal only if two or more seats are live
 pub several_now : (setup : Setup) (rules : Rules) (before : Past) (street : ℕ) (event : Said) → why setup rules before event ≡ None → nat_le (live_count setup (moves_of before)) 1 ≡ true → is_played_on street (resolved_on setup before (turn setup before).0 event) ≡ true → ⊥
 several_now setup rules before street (said.Hole seat cards) legal one plays = both_ways false refl (not_over setup before (said.Hole seat cards) one (may_come_by (is_due_kind setup.code (turn setup before).1 (said.Hole seat cards)) false (no_reason_holds setup rules before (said.Hole seat cards) legal).1.0))
 several_now setup rules before street (said.Board cards) legal one plays = both_ways false refl (not_over setup before (said.Board cards) one (may_come_by (is_due_kind setup.code (turn setup before).1 (said.Board cards)) false (no_reason_holds setup rules before (said.Board cards) legal).1.0))
@@ -67,7 +67,7 @@ on_more : (newest street : ℕ) (before : Past) → newest ≤ street → AreOn 
 on_more newest street [] most on = tt
 on_more newest street (event ∷ before) most on = (omega (arith, most, on.0), on_more newest street before most on.1)
 
--- an event of a street stands no later than the newest street
+-- an event of a street is not later than the newest street
 pub played_on : (newest street : ℕ) (before : Past) → AreOn newest before → list_any (is_played_on street) before ≡ true → street ≤ newest
 played_on newest street [] on is = false_true is
 played_on newest street (event ∷ before) on is = elim (or_cases (is_played_on street event) (list_any (is_played_on street) before) is) [
@@ -75,7 +75,7 @@ played_on newest street (event ∷ before) on is = elim (or_cases (is_played_on 
   | inr earlier ↦ played_on newest street before on.1 earlier
 ]
 
--- the laws with one event more
+-- the laws with one more event
 earlier_still : (setup : Setup) (before : Past) (at : ℕ) (event : Resolved) → DoneLaw setup before → Reaches setup before at → street_of event ≡ at → (street : ℕ) → 1 ≤ street → street < street_of event → IsNotDue setup (event ∷ before) street
 earlier_still setup before at event law come on street some less =
     not_due_still setup before event street (λ same. omega (arith, same, less)) (none_before setup before at street law come some (omega (arith, on, less)))

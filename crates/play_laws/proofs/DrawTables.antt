@@ -9,7 +9,7 @@ use Rattle.play_event.specs.declared.setup.Setup.{Setup}
 use Rattle.play_event.specs.Games.{board_cards_on, game_of, hole_cards_on}
 use Rattle.play_event.specs.declared.street.Street.{Street}
 use Rattle.play_event.specs.Streets.{has_draw}
-use Rattle.list_laws.proofs.Tests.{false_true}
+use Rattle.card_set.proofs.Tests.{false_true}
 
 is_odd : Street → Bool
 is_odd s = s.draws && not ((s.down + s.up == 0) && (s.board == 0))

@@ -13,7 +13,7 @@ use Rattle.play_event.specs.Places.{Place, is_same_owner, is_in_group, is_past_d
 use Rattle.play_event.specs.Naming.{after_discard, after_show, other_names, blanks_in, is_covered, is_show_of_all}
 use Rattle.play_event.specs.Table.{places_of}
 use Rattle.play_event.specs.Laws.{IsAmong}
-use Rattle.list_laws.proofs.Tests.{false_true}
+use Rattle.card_set.proofs.Tests.{false_true}
 use Rattle.play_event.proofs.ClashLaws.{among_append}
 use Rattle.std.proofs.lemmas.Option.{same_Some}
 use Rattle.play_laws.specs.LegalPlaces.{has_owner_folded}
@@ -63,7 +63,7 @@ fold_not_out seat_folding count street seat (first ∷ rest) place (inl same) is
 fold_not_out seat_folding count street seat (first ∷ rest) place (inr later) is =
     let it = fold_not_out seat_folding count street seat rest place later is in (it.0, (inr it.1.0, it.1.1))
 
--- who has a card that was discarded on a street has drawn there
+-- a seat with a card that was discarded on a street has drawn there
 pub out_drawn : (code : Code) (before : Past) (street seat : ℕ) (place : Place) → IsAmong (places_of code before) place → IsOut street seat place → has_drawn before street seat ≡ true
 out_drawn code [] street seat place among is = absurd among
 out_drawn code (Dealt on owner cards ∷ before) street seat place among is = out_drawn code before street seat place (new_not_out code (Some owner) on cards (places_of code before) street seat place among is) is

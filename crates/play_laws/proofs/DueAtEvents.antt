@@ -9,7 +9,7 @@ use Rattle.play_event.specs.Past.{Past, moves_of, newest_street}
 use Rattle.play_event.specs.Seats.{live_count}
 use Rattle.play_event.specs.Dealing.{is_deal_due, is_draw_due}
 use Rattle.play_event.specs.Due.{turn, due_on, first_due, found_or, showdown, is_bring_in_due, is_move_due, is_unfinished}
-use Rattle.list_laws.proofs.Options.{some_is_none}
+use Rattle.card_set.proofs.Options.{some_is_none}
 use Rattle.std.proofs.lemmas.Option.{same_Some}
 use Rattle.play_event.proofs.StreetLaws.{street_found, due_is_first}
 use Rattle.play_event.proofs.DueStreets.{none_found}
@@ -46,11 +46,11 @@ not_due_by setup before street false false true d is_a is_b is_c is_d is = absur
 not_due_by setup before street false false false true is_a is_b is_c is_d is = absurd (some_is_none is)
 not_due_by setup before street false false false false is_a is_b is_c is_d is = record { no_deal = is_a; no_draw = is_b; no_bring = is_c; no_move = is_d }
 
--- where nothing is due on a street, neither deal nor draw, bring-in nor move is
+-- if nothing is due on a street, no deal, draw, bring-in or move is
 pub not_due : (setup : Setup) (before : Past) (street : ℕ) → due_on setup before street ≡ None → IsNotDue setup before street
 not_due setup before street is = not_due_by setup before street (is_deal_due setup before street) (is_draw_due setup before street) (is_bring_in_due setup (moves_of before) street) (is_move_due setup (moves_of before) street) refl refl refl refl is
 
--- the turn: on the street of the past or a later one, and nothing is due in between
+-- the turn: on the street of the past or a later one, with nothing due in between
 pub record Reaches (setup : Setup) (before : Past) (street : ℕ) : Type 0 where
   pub on : newest_street before ≤ street
   pub within : street ≤ street_count setup.code
@@ -82,7 +82,7 @@ pub turn_reaches : (setup : Setup) (before : Past) → newest_street before ≤ 
 unfolding turn
 turn_reaches setup before most = reaches_by setup before (nat_le (live_count setup (moves_of before)) 1) (first_due (due_on setup before) (street_count setup.code + 1 - newest_street before) (newest_street before)) most refl
 
--- what is due, where the turn is that of a deal, a draw, a bring-in or a move
+-- what is due if the turn is that of a deal, a draw, a bring-in or a move
 pub unfinished_due : (setup : Setup) (before : Past) (due : Due) → (turn setup before).1 ≡ due → is_unfinished due ≡ true → IsDue setup before (turn setup before).0 due
 unfinished_due setup before due is unfinished =
     let first = due_is_first setup before (turn setup before).0 due (ap (λ d. ((turn setup before).0, d)) is) unfinished in

@@ -12,27 +12,27 @@ use Rattle.play_event.specs.Games.{game_of}
 use Rattle.play_event.specs.declared.street.Street.{Street}
 use Rattle.play_event.specs.Streets.{has_draw, up_cards_on, down_cards_on, opener_of}
 use Rattle.play_event.specs.Past.{Past, Move, moves_of, moves_on, newest_street}
-use Rattle.play_event.specs.Seats.{is_live, is_able}
+use Rattle.play_event.specs.Seats.{is_live, can_act}
 use Rattle.play_event.specs.Dealing.{has_drawn}
 use Rattle.play_event.specs.Due.{has_to_move}
 use Rattle.play_event.specs.Openers.{InTurn, NoSeat, TheSeat, Undecided, in_turn, UpCards, opener_by, up_cards_opener, has_unknown_up_card}
 use Rattle.card_set.specs.Known.{is_unknown}
-use Rattle.play_event.specs.Mover.{mover, mover_after, first_in_turn, next_in_turn}
+use Rattle.play_event.specs.PlayerToAct.{player_to_act, player_to_act_after, first_in_turn, next_in_turn}
 use Rattle.play_event.specs.Places.{Place, is_same_owner, is_held_by, is_up}
 use Rattle.play_event.specs.Table.{places_of, up_cards}
 use Rattle.play_event.specs.Laws.{IsAmong}
-use Rattle.list_laws.proofs.Tests.{false_true}
+use Rattle.card_set.proofs.Tests.{false_true}
 use Rattle.play_laws.specs.LegalPlaces.{has_owner_folded}
 use Rattle.play_laws.specs.PastLaws.{has_move, PastLaw}
 use Rattle.play_laws.proofs.LegalPlaces.{PlacesOf}
-use Rattle.play_laws.proofs.MoverUps.{SameUps, mover_same}
-use Rattle.play_laws.proofs.MovesLaw.{is_up_by, ups_by, IsMover, free, shown}
+use Rattle.play_laws.proofs.PlayerToActUps.{SameUps, player_to_act_same}
+use Rattle.play_laws.proofs.MovesLaw.{is_up_by, ups_by, IsPlayerToAct, free, shown}
 use Rattle.play_laws.proofs.DrawnDiscards.{out_drawn}
 use Rattle.play_event.proofs.OwnerLaws.{is_same_owner-true}
-use Rattle.list_laws.proofs.Options.{none_some}
-use Rattle.list_laws.proofs.NumbersOfRange.{none_kept_passes}
+use Rattle.card_set.proofs.Options.{none_some}
+use Rattle.card_set.proofs.NumbersOfRange.{none_kept_passes}
 
--- where somebody has moved on the street, who moves is told by the moves alone
+-- if somebody has moved on the street, the moves alone decide whose turn it is
 some_on : (street : ℕ) (list : List Move) → has_move street list ≡ true → (first : Move) × ((rest : List Move) × (moves_on street list ≡ first ∷ rest))
 some_on street [] is = false_true is
 some_on street (move ∷ rest) is = by_street (move.street == street) (some_on street rest) is
@@ -41,18 +41,18 @@ some_on street (move ∷ rest) is = by_street (move.street == street) (some_on s
     by_street true later it = (move, (moves_on street rest, refl))
     by_street false later it = later it
 
-moved_free : (setup : Setup) (ups others : UpCards) (list : List Move) (street seat : ℕ) → has_move street list ≡ true → mover setup ups list street ≡ TheSeat seat → mover setup others list street ≡ TheSeat seat
+moved_free : (setup : Setup) (ups others : UpCards) (list : List Move) (street seat : ℕ) → has_move street list ≡ true → player_to_act setup ups list street ≡ TheSeat seat → player_to_act setup others list street ≡ TheSeat seat
 moved_free setup ups others list street seat has is =
     let some = some_on street list has in
     let by = λ (l : List Move) (o : InTurn). first_in_turn setup (has_to_move setup list street) (next_in_turn setup o l) in
     ap (λ l. by l (opener_by (opener_of setup.code) setup others list street)) some.1.1 ∙ (sym (ap (λ l. by l (opener_by (opener_of setup.code) setup ups list street)) some.1.1) ∙ is)
 
 -- in games with blinds, too
-blinds_free : (setup : Setup) (ups others : UpCards) (list : List Move) (street seat : ℕ) → opener_of setup.code ≡ openers.Blinds → mover setup ups list street ≡ TheSeat seat → mover setup others list street ≡ TheSeat seat
+blinds_free : (setup : Setup) (ups others : UpCards) (list : List Move) (street seat : ℕ) → opener_of setup.code ≡ openers.Blinds → player_to_act setup ups list street ≡ TheSeat seat → player_to_act setup others list street ≡ TheSeat seat
 blinds_free setup ups others list street seat opener is =
-    ap (λ o. mover_after setup (opener_by o setup others list street) list street) opener ∙ (sym (ap (λ o. mover_after setup (opener_by o setup ups list street) list street) opener) ∙ is)
+    ap (λ o. player_to_act_after setup (opener_by o setup others list street) list street) opener ∙ (sym (ap (λ o. player_to_act_after setup (opener_by o setup ups list street) list street) opener) ∙ is)
 
--- else the up-cards of able seats are known
+-- otherwise the up-cards of seats that can act are known
 no_moves_on : (street : ℕ) (list : List Move) → has_move street list ≡ false → moves_on street list ≡ []
 no_moves_on street [] is = refl
 no_moves_on street (move ∷ rest) is =
@@ -69,22 +69,22 @@ unfolding is_one_seat
 decided_by setup ups list street seat true found is = false_true (ap is_one_seat is)
 decided_by setup ups list street seat false found is = refl
 
-decided : (opener : Opener) (setup : Setup) (ups : UpCards) (list : List Move) (street seat : ℕ) → has_move street list ≡ false → mover_after setup (opener_by opener setup ups list street) list street ≡ TheSeat seat → (opener ≡ openers.Blinds) ⊎ (has_unknown_up_card setup ups list ≡ false)
+decided : (opener : Opener) (setup : Setup) (ups : UpCards) (list : List Move) (street seat : ℕ) → has_move street list ≡ false → player_to_act_after setup (opener_by opener setup ups list street) list street ≡ TheSeat seat → (opener ≡ openers.Blinds) ⊎ (has_unknown_up_card setup ups list ≡ false)
 decided openers.Blinds setup ups list street seat none is = inl refl
 decided openers.LowUp setup ups list street seat none is =
     inr (decided_by setup ups list street seat (has_unknown_up_card setup ups list) (up_cards_opener setup ups list street) (sym (ap (λ l. first_in_turn setup (has_to_move setup list street) (next_in_turn setup (opener_by openers.LowUp setup ups list street) l)) (no_moves_on street list none)) ∙ is))
 decided openers.HighUp setup ups list street seat none is =
     inr (decided_by setup ups list street seat (has_unknown_up_card setup ups list) (up_cards_opener setup ups list street) (sym (ap (λ l. first_in_turn setup (has_to_move setup list street) (next_in_turn setup (opener_by openers.HighUp setup ups list street) l)) (no_moves_on street list none)) ∙ is))
 
--- the seat in turn by the up-cards of able seats is so by the places
-pub is_mover : (setup : Setup) (placed : List Place) (ups : UpCards) (list : List Move) (street seat : ℕ) → SameUps setup list (ups_by setup.code placed street) ups → mover setup ups list street ≡ TheSeat seat → IsMover setup placed list street seat
-is_mover setup placed ups list street seat same is = elim (cases_Bool (has_move street list)) [
+-- the player to act by the up-cards of seats that can act is the player to act by the places
+pub is_player_to_act : (setup : Setup) (placed : List Place) (ups : UpCards) (list : List Move) (street seat : ℕ) → SameUps setup list (ups_by setup.code placed street) ups → player_to_act setup ups list street ≡ TheSeat seat → IsPlayerToAct setup placed list street seat
+is_player_to_act setup placed ups list street seat same is = elim (cases_Bool (has_move street list)) [
   | inl has ↦ free (λ others. moved_free setup ups others list street seat has is)
   | inr none ↦ elim (decided (opener_of setup.code) setup ups list street seat none is) [
     | inl blinds ↦ free (λ others. blinds_free setup ups others list street seat blinds is)
     | inr known ↦ shown
-        (λ other least most able. ap (list_any is_unknown) (same other least most able) ∙ none_kept_passes (is_able setup list) (λ seat. list_any is_unknown (ups seat)) 1 setup.stacks.seats other known least (omega (arith, most)) able)
-        (mover_same setup list street (ups_by setup.code placed street) ups same ∙ is)
+        (λ other least most able. ap (list_any is_unknown) (same other least most able) ∙ none_kept_passes (can_act setup list) (λ seat. list_any is_unknown (ups seat)) 1 setup.stacks.seats other known least (omega (arith, most)) able)
+        (player_to_act_same setup list street (ups_by setup.code placed street) ups same ∙ is)
   ]
 ]
 
@@ -130,7 +130,7 @@ up_by false none up early there is = refl
 up_by true none false early there is = sym (and_right none false refl)
 up_by true none true early there is = is ∙ sym (ap (λ b. b && true) (there refl refl))
 
--- the up-cards of an able seat are those of its places
+-- the up-cards of a seat that can act are those of its places
 pub ups_now : (setup : Setup) (before : Past) (at seat : ℕ) → PastLaw setup before → PlacesOf setup before → newest_street before ≤ at → ((street other : ℕ) → has_drawn before street other ≡ true → has_draw setup.code street ≡ true) → is_live (moves_of before) seat ≡ true → ups_by setup.code (places_of setup.code before) at seat ≡ up_cards setup.code before seat
 ups_now setup before at seat past law on drew live =
     ap (map (λ (p : Place). p.slot)) (same_filter (is_up_by setup.code at seat) (λ place. is_held_by seat place && is_up setup.code place) (places_of setup.code before) (λ place among.
@@ -144,7 +144,7 @@ ups_now setup before at seat past law on drew live =
         (drew place.discarded seat (out_drawn setup.code before place.discarded seat place among (owner, (refl, omega (arith, ltb-true 0 place.discarded out)))))))
         (ap (has_owner_folded (moves_of before)) owner ∙ not_from_true (is_live (moves_of before) seat) live))
 
--- where no place passes none is kept
+-- if no place passes, none is kept
 pub none_pass : (p : Place → Bool) (places : List Place) → ((place : Place) → IsAmong places place → p place ≡ false) → filter p places ≡ []
 none_pass p [] pass = refl
 none_pass p (first ∷ rest) pass = ap (λ b. if b then (first ∷ filter p rest) else filter p rest) (pass first (inl refl)) ∙ none_pass p rest (λ place among. pass place (inr among))

@@ -11,16 +11,16 @@ use Rattle.play_event.specs.Streets.{is_stud}
 use Rattle.play_event.specs.Said as said
 use Rattle.play_event.specs.Said.{Said}
 use Rattle.play_event.specs.Past.{Past, Resolved, Move, Moved, moves_of, moves_on, Discarded, Shown, Dealt, Mucked, Boarded}
-use Rattle.play_event.specs.Seats.{is_able, all_seats, able_count, live_count}
-use Rattle.play_event.specs.Price.{owed, price}
-use Rattle.play_event.specs.Due.{turn, has_to_move, has_moved_since_rise, is_bring_in_due, has_opened_betting}
+use Rattle.play_event.specs.Seats.{can_act, all_seats, able_count, live_count}
+use Rattle.play_event.specs.CurrentBet.{to_call, current_bet}
+use Rattle.play_event.specs.Due.{turn, has_to_move, has_acted_since_raise, is_bring_in_due, has_opened_betting}
 use Rattle.play_event.specs.Openers.{InTurn, TheSeat}
 use Rattle.play_event.specs.Table.{places_of}
 use Rattle.play_event.specs.Places.{Place}
 use Rattle.play_event.specs.Reasons.{why, is_due_kind}
 use Rattle.play_event.specs.Scripts.{with_event, past_of, resolved_on, resolved_by}
 use Rattle.play_event.specs.Laws.{AreLegal}
-use Rattle.list_laws.proofs.Tests.{and_group, false_true}
+use Rattle.card_set.proofs.Tests.{and_group, false_true}
 use Rattle.play_event.proofs.ReasonLaws.{no_reason_holds}
 use Rattle.play_laws.specs.PastLaws.{has_move}
 use Rattle.play_laws.proofs.ClosedBetting.{able_fewer, other_moves}
@@ -30,10 +30,10 @@ use Rattle.play_laws.proofs.LegalEvents.{stepped}
 use Rattle.play_laws.proofs.DueAtEvents.{turn_reaches}
 use Rattle.play_laws.proofs.LegalPlaces.{legal_past}
 use Rattle.play_laws.proofs.DonePasts.{several_now}
-use Rattle.play_laws.proofs.FittingSteps.{HasMovers, FitsIf, fit_move, moves_step}
-use Rattle.play_laws.proofs.Movers.{mover_found}
+use Rattle.play_laws.proofs.FittingSteps.{HavePlayersToAct, FitsIf, fit_move, moves_step}
+use Rattle.play_laws.proofs.PlayersToAct.{player_to_act_found}
 use Rattle.play_event.proofs.FloorLaws.{may_come_by}
-use Rattle.list_laws.proofs.Any.{any_from_length, list_any-weaker}
+use Rattle.card_set.proofs.Any.{any_from_length, list_any-weaker}
 
 -- a bring-in is due only before any move of the first street
 record IsBring (setup : Setup) (list : List Move) (street : ℕ) : Type 0 where
@@ -70,7 +70,7 @@ made_act setup older street turn_is _ move (bring_said named) kind is = sym (ap 
     acts : Resolved → Bool
     acts event = elim event [ Moved m ↦ has_opened_betting m.act | Dealt s o c ↦ true | Boarded s c ↦ true | Discarded s o c ↦ true | Shown s o c ↦ true | Mucked s o ↦ true ]
 
--- a move on the first street of a hand in which a bring-in was due brings chips in
+-- on the first street of a hand in which a bring-in was due, every move puts chips in
 opened_by : (setup : Setup) (rules : Rules) (placed : List Place) (older : List Move) (move : Move) (due : Due) (fits : FitsMove setup rules placed older move) → fits.due ≡ due → IsBetDue setup older move.street due → is_bring_in_due setup older move.street ≡ true → has_opened_betting move.act ≡ true
 opened_by setup rules placed older move _ fits same (move_now no_bring so) bring = false_true (sym no_bring ∙ bring)
 opened_by setup rules placed older move _ fits same (bring_first so) bring =
@@ -96,28 +96,28 @@ no_first setup rules placed (move ∷ older) street law bring = elim (cases_Bool
 ]
 
 -- nobody has moved there
-none_moved : (setup : Setup) (list : List Move) (street seat : ℕ) → has_move street list ≡ false → has_moved_since_rise setup list street seat ≡ false
+none_moved : (setup : Setup) (list : List Move) (street seat : ℕ) → has_move street list ≡ false → has_acted_since_raise setup list street seat ≡ false
 none_moved setup [] street seat none = refl
 none_moved setup (move ∷ older) street seat none =
     let parts = or_parts (move.street == street) (has_move street older) none in
-    ap (λ b. if b then ((move.seat == seat) || (nat_le move.to (price setup older street) && has_moved_since_rise setup older street seat)) else has_moved_since_rise setup older street seat) parts.0
+    ap (λ b. if b then ((move.seat == seat) || (nat_le move.to (current_bet setup older street) && has_acted_since_raise setup older street seat)) else has_acted_since_raise setup older street seat) parts.0
     ∙ none_moved setup older street seat parts.1
 
 to_bring : (setup : Setup) (rules : Rules) (placed : List Place) (list : List Move) (street : ℕ) → MovesLaw setup rules placed list → is_bring_in_due setup list street ≡ true → list_any (has_to_move setup list street) (all_seats setup) ≡ true
 to_bring setup rules placed list street law is =
     let bring = bring_parts setup list street is in
     let none = no_first setup rules placed list street law bring in
-    list_any-weaker (is_able setup list) (has_to_move setup list street)
-    (λ seat able. and_from (is_able setup list seat) (if has_moved_since_rise setup list street seat then false else (nat_lt 0 (owed setup list street seat) || nat_le 2 (able_count setup list))) able
-    (ap (λ b. if b then false else (nat_lt 0 (owed setup list street seat) || nat_le 2 (able_count setup list))) (none_moved setup list street seat none)
-    ∙ or_right (nat_lt 0 (owed setup list street seat)) (nat_le 2 (able_count setup list)) (le-leb 2 (able_count setup list) bring.two)))
+    list_any-weaker (can_act setup list) (has_to_move setup list street)
+    (λ seat able. and_from (can_act setup list seat) (if has_acted_since_raise setup list street seat then false else (nat_lt 0 (to_call setup list street seat) || nat_le 2 (able_count setup list))) able
+    (ap (λ b. if b then false else (nat_lt 0 (to_call setup list street seat) || nat_le 2 (able_count setup list))) (none_moved setup list street seat none)
+    ∙ or_right (nat_lt 0 (to_call setup list street seat)) (nat_le 2 (able_count setup list)) (le-leb 2 (able_count setup list) bring.two)))
     (all_seats setup)
-    (any_from_length (is_able setup list) (all_seats setup) (omega (arith, bring.two, length-filter (is_able setup list) (all_seats setup))))
+    (any_from_length (can_act setup list) (all_seats setup) (omega (arith, bring.two, length-filter (can_act setup list) (all_seats setup))))
 
--- where a bring-in or a move is due some seat is in turn, or it is not known which
-pub has_movers : (setup : Setup) (rules : Rules) → HasMovers setup rules
-has_movers setup rules placed list ups street _ law (bring_first so) = mover_found setup ups list street (to_bring setup rules placed list street law so)
-has_movers setup rules placed list ups street _ law (move_now no_bring so) = mover_found setup ups list street so
+-- if a bring-in or a move is due it is some seat's turn, or it is not known whose
+pub has_movers : (setup : Setup) (rules : Rules) → HavePlayersToAct setup rules
+has_movers setup rules placed list ups street _ law (bring_first so) = player_to_act_found setup ups list street (to_bring setup rules placed list street law so)
+has_movers setup rules placed list ups street _ law (move_now no_bring so) = player_to_act_found setup ups list street so
 
 -- the moves of a legal past
 some_now : (setup : Setup) (rules : Rules) (before : Past) (event : Said) → why setup rules before event ≡ None → IsMoveSaid event → (street : ℕ) → nat_le (live_count setup (moves_of before)) 1 ≡ false

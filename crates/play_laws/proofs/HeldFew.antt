@@ -19,7 +19,7 @@ use Rattle.play_event.specs.Laws.{AreLegal, IsAmong}
 use Rattle.play_laws.proofs.LegalPlaces.{legal_past, group_count, LegalPast}
 use Rattle.play_laws.proofs.DonePasts.{legal_done}
 use Rattle.play_laws.proofs.DiscardCounts.{is_out_of, out_counts}
-use Rattle.list_laws.proofs.Tests.{false_true, one_if}
+use Rattle.card_set.proofs.Tests.{false_true, one_if}
 
 -- the hole cards of the first streets
 unfoldable pub first_holes : List Street → ℕ → ℕ
@@ -38,7 +38,7 @@ unfolding first_holes
 no_holes [] = refl
 no_holes (s ∷ rest) = refl
 
--- one street more
+-- one more street
 pub one_more : (streets : List Street) (count : ℕ) → first_holes streets (suc count) ≡ first_holes streets count + option_map_or (λ s. s.down + s.up) (slice_get streets count) 0
 unfolding first_holes
 one_more [] count = refl
@@ -74,7 +74,7 @@ holes_seven code street some = omega (arith, one_more (game_of code).streets (st
 abbrev pub is_held_at : ℕ → ℕ → Place → Bool
 is_held_at seat street place = is_same_owner place.owner (Some seat) && (nat_lt place.street street && not (nat_lt 0 place.discarded && nat_lt place.discarded street))
 
--- tests that pass no more
+-- tests that pass no more often
 pub less_step : (p q : Place → Bool) (place : Place) (rest : List Place) (a b : Bool) → (a ≡ true → b ≡ true) → length (filter p rest) ≤ length (filter q rest) → length (if a then (place ∷ filter p rest) else filter p rest) ≤ length (if b then (place ∷ filter q rest) else filter q rest)
 less_step p q place rest true true less later = omega (arith, later)
 less_step p q place rest true false less later = false_true (less refl)
@@ -92,7 +92,7 @@ none_pass p [] none = refl
 none_pass p (place ∷ rest) none =
     ap (λ b. length (if b then (place ∷ filter p rest) else filter p rest)) (none place (inl refl)) ∙ none_pass p rest (λ other among. none other (inr among))
 
--- what is held next, and what was discarded, are what was held and what was dealt
+-- what is held next plus what was discarded is what was held plus what was dealt
 
 four : (a b c d : Bool) (w x y z : Bool) → a ≡ w → b ≡ x → c ≡ y → d ≡ z → one_if w + one_if x ≡ one_if y + one_if z → one_if a + one_if b ≡ one_if c + one_if d
 four a b c d w x y z p q r s is = omega (arith, ap one_if p, ap one_if q, ap one_if r, ap one_if s, is)
@@ -161,7 +161,7 @@ sum_step p q r t place rest a b c d is later = omega (arith, is, later, counted 
     counted p place rest true = omega arith
     counted p place rest false = omega arith
 
--- what a seat holds after a street and discarded there is what it held and was dealt
+-- what a seat holds after a street plus what it discarded there is what it held and was dealt
 pub balance : (seat street : ℕ) (placed : List Place) → 1 ≤ street → ((place : Place) → IsAmong placed place → 0 < place.discarded → place.street < place.discarded) → length (filter (is_held_at seat (street + 1)) placed) + length (filter (is_out_of street seat) placed) ≡ length (filter (is_held_at seat street) placed) + length (filter (is_in_group (Some seat) street) placed)
 balance seat street [] some after = refl
 balance seat street (place ∷ rest) some after =

@@ -14,7 +14,7 @@ use Rattle.play_event.specs.Due.{turn}
 use Rattle.play_event.specs.Places.{Place, is_in_group, is_past_deck, places_dealt, after_deal, is_held_by, folded_place, after_fold, gone_now}
 use Rattle.play_event.specs.Naming.{after_discard, after_show, discarded_now, other_names, blanks_in, is_covered, is_show_of_all}
 use Rattle.play_event.specs.Table.{places_of}
-use Rattle.play_event.specs.Taken.{is_foreign, is_in_deck, has_taken_card, is_taken, has_misplaced_card, is_misplaced, newly_known, has_repeat, is_clash, is_borne_by}
+use Rattle.play_event.specs.Taken.{is_not_in_deck, is_in_deck, has_taken_card, is_taken, has_misplaced_card, is_misplaced, newly_known, has_repeat, is_clash, slot_is_card}
 use Rattle.play_event.specs.Scripts.{with_event, past_of}
 use Rattle.play_event.specs.Laws.{IsAmong, AreLegal}
 use Rattle.play_event.proofs.Kept.{AreKept, ComesFrom, comes_from, names_keep, held_is_there}
@@ -29,16 +29,16 @@ use Rattle.std.specs.Option.{is_some}
 
 -- known cards are in the deck
 abbrev pub AreInDeck : Code → List Place → Type 0
-AreInDeck code placed = (place : Place) → IsAmong placed place → is_foreign code place.slot ≡ false
+AreInDeck code placed = (place : Place) → IsAmong placed place → is_not_in_deck code place.slot ≡ false
 
-taken_deck : (code : Code) (placed : List Place) (late : Bool) (slot : Slot) → is_taken code placed late slot ≡ false → is_foreign code slot ≡ false
-taken_deck code placed late (slots.Known card) free = (or_parts (not (is_in_deck code card)) (list_any (λ place. not (late && is_some place.gone_after) && is_borne_by card place.slot) placed) free).0
+taken_deck : (code : Code) (placed : List Place) (late : Bool) (slot : Slot) → is_taken code placed late slot ≡ false → is_not_in_deck code slot ≡ false
+taken_deck code placed late (slots.Known card) free = (or_parts (not (is_in_deck code card)) (list_any (λ place. not (late && is_some place.gone_after) && slot_is_card card place.slot) placed) free).0
 taken_deck code placed late slots.Unknown free = refl
 
 dealt_deck : (code : Code) (placed : List Place) (taking : Bool) (owner : Option ℕ) (street : ℕ) (late : Bool) (index number : ℕ) (cards : List Slot) → list_any (is_taken code placed taking) cards ≡ false → AreInDeck code (places_dealt owner street late index number cards)
 dealt_deck code placed taking owner street late index number [] free place among = absurd among
 dealt_deck code placed taking owner street late index number (slot ∷ rest) free place (inl same) =
-    ap (λ (p : Place). is_foreign code p.slot) (sym same) ∙ taken_deck code placed taking slot (or_parts (is_taken code placed taking slot) (list_any (is_taken code placed taking) rest) free).0
+    ap (λ (p : Place). is_not_in_deck code p.slot) (sym same) ∙ taken_deck code placed taking slot (or_parts (is_taken code placed taking slot) (list_any (is_taken code placed taking) rest) free).0
 dealt_deck code placed taking owner street late index number (slot ∷ rest) free place (inr later) =
     dealt_deck code placed taking owner street late (index + 1) (number + 1) rest (or_parts (is_taken code placed taking slot) (list_any (is_taken code placed taking) rest) free).1 place later
 
@@ -53,17 +53,17 @@ deal_deck code owner street cards placed free deck place among =
 kept_deck : (code : Code) (count : ℕ) (olds news : List Place) → AreKept count olds news → has_misplaced_card code olds news ≡ false → AreInDeck code olds → AreInDeck code news
 kept_deck code count olds news kept fits deck place among = by_known (comes_from count olds news kept place among)
   where
-    by_known : ComesFrom count olds news place → is_foreign code place.slot ≡ false
+    by_known : ComesFrom count olds news place → is_not_in_deck code place.slot ≡ false
     by_known from = elim (from.known) [
-      | inl same ↦ ap (is_foreign code) same ∙ deck from.old from.among
-      | inr fresh ↦ (or_parts (is_foreign code place.slot) (list_any (λ other. not (other.number == place.number) && is_clash place other) news) (not_at (is_misplaced code news) (newly_known olds news) place fits fresh)).0
+      | inl same ↦ ap (is_not_in_deck code) same ∙ deck from.old from.among
+      | inr fresh ↦ (or_parts (is_not_in_deck code place.slot) (list_any (λ other. not (other.number == place.number) && is_clash place other) news) (not_at (is_misplaced code news) (newly_known olds news) place fits fresh)).0
     ]
 
 fold_deck : (code : Code) (seat count : ℕ) (placed : List Place) → AreInDeck code placed → AreInDeck code (map (folded_place seat count) placed)
 fold_deck code seat count [] deck place among = absurd among
-fold_deck code seat count (first ∷ rest) deck place (inl same) = ap (λ (p : Place). is_foreign code p.slot) (sym same) ∙ (one (is_held_by seat first) ∙ deck first (inl refl))
+fold_deck code seat count (first ∷ rest) deck place (inl same) = ap (λ (p : Place). is_not_in_deck code p.slot) (sym same) ∙ (one (is_held_by seat first) ∙ deck first (inl refl))
   where
-    one : (b : Bool) → is_foreign code (if b then gone_now count first else first).slot ≡ is_foreign code first.slot
+    one : (b : Bool) → is_not_in_deck code (if b then gone_now count first else first).slot ≡ is_not_in_deck code first.slot
     one true = refl
     one false = refl
 fold_deck code seat count (first ∷ rest) deck place (inr later) = fold_deck code seat count rest (λ other among. deck other (inr among)) place later

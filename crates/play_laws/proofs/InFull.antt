@@ -1,4 +1,4 @@
--- Events in full are legal as the events are, and leave their past.
+-- Events in full are legal if the events are, and leave the same past.
 use Rattle.std.proofs.Common.{◌≡◌, ◌↔◌, List, [], ◌∷◌, refl, sym, ◌∙◌, ap}
 use Rattle.play_event.specs.Laws.{AreLegal}
 use Rattle.play_event.specs.Openers.{InTurn, NoSeat, TheSeat, Undecided}
@@ -55,13 +55,13 @@ full_past : (setup : Setup) (past : Past) (event : Said) → with_event setup (i
 full_past setup past event =
     target_past setup past (with_turn (in_turn_after setup past) event) ∙ turn_past setup past event (in_turn_after setup past) refl
 
--- so events in full leave one past
+-- so events in full leave the same past
 pub all_past : (setup : Setup) (events : List Said) → past_of setup (all_in_full setup events) ≡ past_of setup events
 all_past setup [] = refl
 all_past setup (event ∷ before) =
     ap (with_event setup (in_full setup (past_of setup before) event)) (all_past setup before) ∙ full_past setup (past_of setup before) event
 
--- and are legal together
+-- and are legal if and only if the events are
 pub all_legal : (setup : Setup) (rules : Rules) (events : List Said) → AreLegal setup rules events ↔ AreLegal setup rules (all_in_full setup events)
 all_legal setup rules [] = ((λ legal. legal), (λ legal. legal))
 all_legal setup rules (event ∷ before) =
@@ -73,6 +73,6 @@ all_legal setup rules (event ∷ before) =
       (λ legal. (sym here ∙ legal.0, rest.1 legal.1)),
     )
 
--- scripts that are one in full leave one past
+-- scripts that are the same in full leave the same past
 pub one_past : (setup : Setup) (events others : List Said) → all_in_full setup events ≡ all_in_full setup others → past_of setup events ≡ past_of setup others
 one_past setup events others same = sym (all_past setup events) ∙ (ap (past_of setup) same ∙ all_past setup others)

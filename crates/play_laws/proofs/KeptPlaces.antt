@@ -8,7 +8,7 @@ use Rattle.play_event.specs.Past.{Move, moves_before}
 use Rattle.play_event.specs.Places.{Place}
 use Rattle.play_event.specs.Taken.{is_gone_before}
 use Rattle.play_event.specs.Laws.{IsAmong}
-use Rattle.list_laws.proofs.Tests.{false_true}
+use Rattle.card_set.proofs.Tests.{false_true}
 use Rattle.play_laws.specs.LegalPlaces.{has_owner_folded, is_gone_by, PlacesLaw}
 use Rattle.play_laws.proofs.PlaceChanges.{HowGone, stays, out, folds, IsChange, AreChanged}
 use Rattle.std.proofs.lemmas.Option.{same_Some}
@@ -36,7 +36,7 @@ same_length count street seat [] (new ∷ news) changed = absurd changed
 same_length count street seat (old ∷ olds) [] changed = absurd changed
 same_length count street seat (old ∷ olds) (new ∷ news) changed = ap suc (same_length count street seat olds news changed.1)
 
--- counts do not fall
+-- counts do not decrease
 grown_step : (p : Place → Bool) (old new : Place) (olds news : List Place) (a b : Bool) → (a ≡ true → b ≡ true) → length (filter p olds) ≤ length (filter p news) → length (if a then (old ∷ filter p olds) else filter p olds) ≤ length (if b then (new ∷ filter p news) else filter p news)
 grown_step p old new olds news true true both later = omega (arith, later)
 grown_step p old new olds news true false both later = false_true (both refl)
@@ -63,7 +63,7 @@ pub record IsQuietEvent (code : Code) (moves after : List Move) (newest street s
   pub gone_is : (new : Place) → IsAmong news new → is_some new.gone_after ≡ (nat_lt 0 new.discarded || has_owner_folded after new.owner)
   pub out_after : (new : Place) → IsAmong news new → 0 < new.discarded → new.street < new.discarded
 
--- the discarded stay
+-- discarded places stay discarded
 out_still : (old new : Place) (count street seat : ℕ) → IsChange count street seat old new → (old.gone_after ≡ None → old.discarded ≡ 0) → 0 < old.discarded → new.discarded ≡ old.discarded
 out_still old new count street seat change none some = by_how change.how
   where

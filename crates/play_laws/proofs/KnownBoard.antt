@@ -13,7 +13,7 @@ use Rattle.play_event.specs.Naming.{after_discard, after_show}
 use Rattle.play_event.specs.Table.{places_of}
 use Rattle.play_event.specs.Scripts.{past_of, with_event}
 use Rattle.play_event.specs.Laws.{AreLegal, IsAmong}
-use Rattle.list_laws.proofs.Options.{some_is_none}
+use Rattle.card_set.proofs.Options.{some_is_none}
 use Rattle.play_event.proofs.ClashLaws.{among_append}
 use Rattle.play_laws.proofs.LegalEvents.{Stepped, stepped, deals, boards, mucks, shows, discards, moves}
 use Rattle.play_laws.proofs.DealtPlaces.{are_new}

@@ -1,4 +1,4 @@
--- Up-cards of a street that were known stay as they are.
+-- Up-cards of a street that were known stay unchanged.
 use Rattle.std.proofs.Common.{◌≡◌, ℕ, zero, suc, ◌<◌, Bool, true, false, ◌&&◌, nat_lt, nat_le, inl, inr, Option, Some, List, [], ◌∷◌, ◌++◌, map, filter, length, count_by, refl, sym, ◌∙◌, ap, arith, if◌then◌else◌}
 use Rattle.std.specs.List.{list_any}
 use Rattle.std.proofs.lemmas.Bool.{or_parts, and_right, lt-leb}
@@ -15,20 +15,20 @@ use Rattle.card_set.specs.Known.{is_unknown, known_cards}
 use Rattle.play_event.specs.Places.{Place, is_same_owner, is_in_group, is_up, is_past_deck, places_dealt, after_deal, is_held_by, folded_place, gone_now}
 use Rattle.play_event.specs.Naming.{after_names, after_discard, after_show, discarded_now, other_names, blanks_in, is_covered, is_show_of_all, found_by, is_named}
 use Rattle.play_event.specs.Laws.{IsAmong}
-use Rattle.list_laws.proofs.Tests.{false_true}
-use Rattle.play_laws.proofs.MoverUps.{mover_same}
+use Rattle.card_set.proofs.Tests.{false_true}
+use Rattle.play_laws.proofs.PlayerToActUps.{player_to_act_same}
 use Rattle.play_laws.proofs.DealtPlaces.{are_new}
-use Rattle.play_laws.proofs.MovesLaw.{is_up_by, ups_by, IsMover, free, shown, FitsMove, MovesLaw}
+use Rattle.play_laws.proofs.MovesLaw.{is_up_by, ups_by, IsPlayerToAct, free, shown, FitsMove, MovesLaw}
 use Rattle.play_event.specs.Streets.{up_cards_on, down_cards_on}
 
--- places that lie where they lay, and whose known cards are the same
+-- the new place has the same owner and street as the old, and the same card if that was known
 pub record IsSureOf (old new : Place) : Type 0 where
   pub owner : new.owner ≡ old.owner
   pub street : new.street ≡ old.street
   pub index : new.index ≡ old.index
   pub slot : is_unknown old.slot ≡ false → new.slot ≡ old.slot
 
--- places stand as they stood, and what was known of them is known
+-- places are where they were, and what was known of them is known
 abbrev pub AreSureOf : List Place → List Place → Type 0
 AreSureOf [] [] = Unit {0}
 AreSureOf [] (new ∷ news) = ⊥
@@ -42,7 +42,7 @@ sure_maybe : (place other : Place) (b : Bool) → IsSureOf place other → IsSur
 sure_maybe place other true sure = sure
 sure_maybe place other false sure = sure_same place
 
--- what marks a place without touching where it lies or its card
+-- a mark changes neither where a place is nor its card
 record IsPlain (mark : Place → Place) : Type 0 where
   owner : (place : Place) → (mark place).owner ≡ place.owner
   street : (place : Place) → (mark place).street ≡ place.street
@@ -96,7 +96,7 @@ ups_step old new olds news true false same sure later known = false_true (sym sa
 ups_step old new olds news false true same sure later known = false_true same
 ups_step old new olds news false false same sure later known = later known
 
--- up-cards of a seat that were known stay as they are
+-- up-cards of a seat that were known stay unchanged
 pub ups_sure : (code : Code) (street seat : ℕ) (olds news : List Place) → AreSureOf olds news → list_any is_unknown (ups_by code olds street seat) ≡ false → ups_by code news street seat ≡ ups_by code olds street seat
 ups_sure code street seat [] [] sure known = refl
 ups_sure code street seat [] (new ∷ news) sure known = absurd sure
@@ -121,17 +121,17 @@ ups_deal code street seat owner on cards placed later =
     ∙ ap (λ l. filter (is_up_by code street seat) placed ++ l) (none_up code street seat news (λ place among. omega (arith, later, (are_new owner on late (count_by (is_in_group owner on) placed) (length placed) cards place among).street)))
     ∙ append-nil (filter (is_up_by code street seat) placed))
 
--- so who moved is told as before
-pub mover_still : (setup : Setup) (olds news : List Place) (older : List Move) (street seat : ℕ) → ((other : ℕ) → list_any is_unknown (ups_by setup.code olds street other) ≡ false → ups_by setup.code news street other ≡ ups_by setup.code olds street other) → IsMover setup olds older street seat → IsMover setup news older street seat
-mover_still setup olds news older street seat same (free by) = free by
-mover_still setup olds news older street seat same (shown known by) =
+-- so whose turn it was is unchanged
+pub player_to_act_still : (setup : Setup) (olds news : List Place) (older : List Move) (street seat : ℕ) → ((other : ℕ) → list_any is_unknown (ups_by setup.code olds street other) ≡ false → ups_by setup.code news street other ≡ ups_by setup.code olds street other) → IsPlayerToAct setup olds older street seat → IsPlayerToAct setup news older street seat
+player_to_act_still setup olds news older street seat same (free by) = free by
+player_to_act_still setup olds news older street seat same (shown known by) =
     shown (λ other least most able. ap (list_any is_unknown) (same other (known other least most able)) ∙ known other least most able)
-    (mover_same setup older street (ups_by setup.code news street) (ups_by setup.code olds street) (λ other least most able. same other (known other least most able)) ∙ by)
+    (player_to_act_same setup older street (ups_by setup.code news street) (ups_by setup.code olds street) (λ other least most able. same other (known other least most able)) ∙ by)
 
--- a move that fits goes on fitting where known up-cards stay
+-- a move that fits still fits if known up-cards are unchanged
 pub fits_still : (setup : Setup) (rules : Rules) (olds news : List Place) (older : List Move) (move : Move) → ((other : ℕ) → list_any is_unknown (ups_by setup.code olds move.street other) ≡ false → ups_by setup.code news move.street other ≡ ups_by setup.code olds move.street other) → FitsMove setup rules olds older move → FitsMove setup rules news older move
 fits_still setup rules olds news older move same fits =
-    record { several = fits.several; due = fits.due; is_due = fits.is_due; event = fits.event; is_move = fits.is_move; in_turn = mover_still setup olds news older move.street move.seat same fits.in_turn; none = fits.none; place = fits.place }
+    record { several = fits.several; due = fits.due; is_due = fits.is_due; event = fits.event; is_move = fits.is_move; in_turn = player_to_act_still setup olds news older move.street move.seat same fits.in_turn; none = fits.none; place = fits.place }
 
 -- all moves are on streets before a deal
 abbrev pub AreBefore : ℕ → List Move → Type 0
@@ -144,7 +144,7 @@ moves_sure setup rules olds news [] sure law = tt
 moves_sure setup rules olds news (move ∷ older) sure law =
     (fits_still setup rules olds news older move (λ other known. ups_sure setup.code move.street other olds news sure known) law.0, moves_sure setup rules olds news older sure law.1)
 
--- and a deal of a later street leaves them fitting
+-- and they still fit after a deal of a later street
 pub moves_deal : (setup : Setup) (rules : Rules) (owner : Option ℕ) (on : ℕ) (cards : List Slot) (placed : List Place) (list : List Move) → AreBefore on list → MovesLaw setup rules placed list → MovesLaw setup rules (after_deal setup.code owner on cards placed) list
 moves_deal setup rules owner on cards placed [] early law = tt
 moves_deal setup rules owner on cards placed (move ∷ older) early law = (

@@ -1,4 +1,4 @@
--- What a legal event tells of the past before it.
+-- What a legal event implies about the past before it.
 use Rattle.std.proofs.Common.{◌≡◌, ℕ, zero, suc, ◌≤◌, true, false, ◌==◌, nat_lt, inl, inr, ◌⊎◌, Option, Some, None, List, map, length, refl, sym, arith}
 use Rattle.std.proofs.lemmas.Bool.{or_parts, not-false, ltb-false}
 use Rattle.card_set.specs.declared.card.Slot.{Slot}
@@ -21,13 +21,13 @@ use Rattle.play_event.specs.CardReasons.{is_seat, is_wrong_deal, may_show, is_no
 use Rattle.play_event.specs.Reasons.{why, is_due_kind}
 use Rattle.play_event.specs.Scripts.{resolved_on}
 use Rattle.play_event.proofs.ReasonLaws.{no_reason_holds}
-use Rattle.list_laws.proofs.Tests.{false_true, first_holds}
+use Rattle.card_set.proofs.Tests.{false_true, first_holds}
 use Rattle.play_laws.proofs.DueAtEvents.{IsDue, deal, draw, bring, move, unfinished_due}
 use Rattle.play_event.proofs.FloorLaws.{may_come_by, bet_unfinished}
-use Rattle.list_laws.proofs.Options.{next_number}
+use Rattle.card_set.proofs.Options.{next_number}
 use Rattle.play_event.specs.TurnTargets.{is_bet_due}
 
--- what an event tells, by its kind
+-- what an event implies, by its kind
 pub data Stepped (setup : Setup) (before : Past) (street : ℕ) : Resolved → Type 0 where
   deals : (seat : ℕ) (cards : List Slot) → (is_deal_due setup before street ≡ true) ⊎ ((is_deal_due setup before street ≡ false) × (is_draw_due setup before street ≡ true)) → is_seat setup seat ≡ true → 1 ≤ length cards → length cards ≤ cards_owed setup before street seat → has_taken_card setup.code (places_of setup.code before) street cards ≡ false → Stepped setup before street (Dealt street seat cards)
   boards : (cards : List Card) → is_deal_due setup before street ≡ true → 1 ≤ length cards → length cards ≤ board_cards_owed setup before street → has_taken_card setup.code (places_of setup.code before) street (map (λ card. slots.Known card) cards) ≡ false → Stepped setup before street (Boarded street cards)
@@ -94,7 +94,7 @@ bet_by setup before _ (move no_deal no_draw no_bring so) is = (no_deal, no_draw)
 move_by : (setup : Setup) (before : Past) → is_bet_due (turn setup before).1 ≡ true → (is_deal_due setup before (turn setup before).0 ≡ false) × (is_draw_due setup before (turn setup before).0 ≡ false)
 move_by setup before is = bet_by setup before (turn setup before).1 (unfinished_due setup before (turn setup before).1 refl (bet_unfinished (turn setup before).1 is)) is
 
--- a fold may come only where a bring-in or a move is due
+-- a fold may come only when a bring-in or a move is due
 pub fold_kind : (setup : Setup) (named : Option ℕ) (due : Due) → is_due_kind setup.code due (said.Fold named) ≡ true → is_bet_due due ≡ true
 fold_kind setup named dues.Move is = refl
 fold_kind setup named dues.BringIn is = false_true is
@@ -140,7 +140,7 @@ count_by owed count is =
     some zero is = false_true (sym is)
     some (suc n) is = omega arith
 
--- a legal event tells the facts of its kind
+-- a legal event implies the facts of its kind
 pub stepped : (setup : Setup) (rules : Rules) (before : Past) (event : Said) → why setup rules before event ≡ None → Stepped setup before (turn setup before).0 (resolved_on setup before (turn setup before).0 event)
 stepped setup rules before (said.Hole seat cards) legal =
     let none = no_reason_holds setup rules before (said.Hole seat cards) legal in

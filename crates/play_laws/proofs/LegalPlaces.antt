@@ -22,7 +22,7 @@ use Rattle.play_event.specs.Table.{places_of}
 use Rattle.play_event.specs.CardReasons.{is_seat}
 use Rattle.play_event.specs.Scripts.{with_event, past_of}
 use Rattle.play_event.specs.Laws.{IsAmong, AreLegal}
-use Rattle.list_laws.proofs.Tests.{false_true, if_and_swap}
+use Rattle.card_set.proofs.Tests.{false_true, if_and_swap}
 use Rattle.play_laws.specs.LegalPlaces.{has_owner_folded, PlacesLaw}
 use Rattle.play_laws.proofs.PlaceChanges.{IsChange, AreChanged}
 use Rattle.play_laws.specs.PastLaws.{AreReached, has_move, PastLaw}
@@ -37,14 +37,14 @@ use Rattle.play_event.proofs.DealingLaws.{dealt_group, some_street, undrawn_none
 same_group : (owner : Option ℕ) (street count draw seat : ℕ) (old new : Place) → IsChange count draw seat old new → is_in_group owner street new ≡ is_in_group owner street old
 same_group owner street count draw seat old new change = ap (λ o. is_same_owner o owner && (new.street == street)) change.owner ∙ ap (λ s. is_same_owner old.owner owner && (s == street)) change.street
 
--- filters that pass a place before and after a change alike
+-- filters that pass a place before a change if and only if they pass it after
 pub group_step : (old new : Place) (olds news : List Place) (a b : Bool) → a ≡ b → length news ≡ length olds → length (if a then (new ∷ news) else news) ≡ length (if b then (old ∷ olds) else olds)
 group_step old new olds news true true same later = ap suc later
 group_step old new olds news true false same later = false_true (sym same)
 group_step old new olds news false true same later = false_true same
 group_step old new olds news false false same later = later
 
--- a change keeps how many cards an owner has of a street
+-- a change keeps the number of cards that an owner has of a street
 pub changed_group : (owner : Option ℕ) (street count draw seat : ℕ) (olds news : List Place) → AreChanged count draw seat olds news → length (filter (is_in_group owner street) news) ≡ length (filter (is_in_group owner street) olds)
 changed_group owner street count draw seat [] [] changed = refl
 changed_group owner street count draw seat [] (new ∷ news) changed = absurd changed
@@ -85,19 +85,19 @@ group_count code (Shown on owner cards ∷ before) street seat =
     ∙ group_count code before street seat
 group_count code (Mucked on owner ∷ before) street seat = group_count code before street seat
 
--- a place among those that pass makes their number one at least
+-- if a place is among those that pass, there is at least one
 some_at : (p : Place → Bool) (first place : Place) (rest : List Place) (b : Bool) → p first ≡ b → p place ≡ true → ((first ≡ place) ⊎ (1 ≤ length (filter p rest))) → 1 ≤ length (if b then (first ∷ filter p rest) else filter p rest)
 some_at p first place rest true here is in_it = omega arith
 some_at p first place rest false here is (inl same) = false_true (sym here ∙ (ap p same ∙ is))
 some_at p first place rest false here is (inr more) = more
 
--- where a place passes one or more do
+-- if a place passes, one or more do
 pub some_passes : (p : Place → Bool) (placed : List Place) (place : Place) → IsAmong placed place → p place ≡ true → 1 ≤ length (filter p placed)
 some_passes p [] place among is = absurd among
 some_passes p (first ∷ rest) place (inl same) is = some_at p first place rest (p first) refl is (inl same)
 some_passes p (first ∷ rest) place (inr later) is = some_at p first place rest (p first) refl is (inr (some_passes p rest place later is))
 
--- all moves are before a street that has none
+-- all moves are before a street that has no move
 all_before : (newest street : ℕ) (list : List Move) → AreReached newest list → newest ≤ street → has_move street list ≡ false → moves_before street list ≡ list
 all_before newest street [] reached on none = refl
 all_before newest street (move ∷ rest) reached on none =

@@ -1,4 +1,4 @@
--- A script has no illegal event exactly where its events, the newest first, are legal one by one.
+-- A script has no illegal event if and only if its events, newest first, are legal one by one.
 use Rattle.std.proofs.Common.{◌≡◌, ℕ, zero, suc, ◌+◌, ◌-◌, ◌<◌, ◌≤◌, ◌↔◌, List, [], ◌∷◌, get_or, length, option_and_then, reverse, take, sym, ◌∙◌, ap, subst, arith}
 use Rattle.std.proofs.Math.Seq.{take-suc}
 use Rattle.std.proofs.lemmas.List.{reverse-append, take_all}
@@ -14,7 +14,7 @@ use Rattle.play_event.specs.declared.setup.Setup.{Setup}
 event_at : List Said → ℕ → Said
 event_at script index = get_or script index (Board [])
 
--- one event more, the newest first
+-- one more event, the newest first
 one_more : (script : List Said) (count : ℕ) → count < length script → reverse (take (suc count) script) ≡ event_at script count ∷ reverse (take count script)
 unfolding event_at
 one_more script count within =
@@ -44,7 +44,7 @@ first_of_legal setup rules script legal (suc left) count whole =
     let P : List Said → Type 0 = AreLegal setup rules in
     (subst P (one_more script count (omega (arith, whole))) (first_of_legal setup rules script legal left (suc count) (omega (arith, whole)))).1
 
--- one way and the other
+-- both directions
 pub legal_script : (setup : Setup) (rules : Rules) (script : List Said) → HasNoIllegalEvent setup rules script ↔ AreLegal setup rules (reverse script)
 legal_script setup rules script = (
   (λ none. let P : List Said → Type 0 = λ l. AreLegal setup rules (reverse l) in subst P (take_all (length script) script (omega arith)) (first_legal setup rules script none (length script) (omega arith))),

@@ -1,7 +1,20 @@
--- Laws of legal pasts: what is due, whose turn it is, and how cards lie.
+-- What is due in a hand, street by street.
+pub mod StreetTables
+pub mod Later
+pub mod TurnAfter
+pub mod Walk
+pub mod Unsettled
+pub mod CardTurns
+pub mod Showdown
+pub mod LegalCards
+pub mod AtStart
+pub mod DueStreets
+pub mod Groups
+pub mod LiveSeats
+-- Laws of legal pasts: what is due, whose turn it is, and where the cards are.
 pub mod DueAtEvents
 pub mod MoveKinds
-pub mod MoverUps
+pub mod PlayerToActUps
 pub mod NamedCounts
 pub mod NamedMoves
 pub mod PlaceChanges
@@ -12,7 +25,7 @@ pub mod UnknownCards
 pub mod ClosedBetting
 pub mod KeptPlaces
 pub mod LegalEvents
-pub mod Movers
+pub mod PlayersToAct
 pub mod MovesLaw
 pub mod BettingDue
 pub mod DoneKept
@@ -39,3 +52,11 @@ pub mod DrawTables
 pub mod HeldFew
 pub mod InFull
 pub mod ResolvedMoves
+-- What is on the table when a contested hand ends.
+pub mod AllDone
+pub mod StreetSplits
+pub mod WholeHands
+pub mod WholeBoards
+pub mod ApartCards
+pub mod Different
+pub mod DealtOnce

@@ -1,4 +1,4 @@
--- The four kinds of moves: whether a move may come is told by its kind.
+-- The four kinds of moves: its kind decides whether a move may come.
 use Rattle.std.proofs.Common.{◌≡◌, ℕ, Option, refl}
 use Rattle.play_event.specs.Reasons.{is_due_kind}
 use Rattle.play_event.specs.Said as said
@@ -15,14 +15,14 @@ pub data IsMoveSaid : Said → Type 0 where
   raise_said : (named : Option ℕ) (amount : Spelled) → IsMoveSaid (said.Raise named amount)
   bring_said : (named : Option ℕ) → IsMoveSaid (said.BringIn named)
 
--- two moves are of one kind
+-- two moves are of the same kind
 pub data AreAlike : Said → Said → Type 0 where
   folds : (named other : Option ℕ) → AreAlike (said.Fold named) (said.Fold other)
   calls : (named other stated states : Option ℕ) → AreAlike (said.Call named stated) (said.Call other states)
   raises : (named other : Option ℕ) (amount amounts : Spelled) → AreAlike (said.Raise named amount) (said.Raise other amounts)
   brings : (named other : Option ℕ) → AreAlike (said.BringIn named) (said.BringIn other)
 
--- where one may come the other may
+-- if one may come, the other may
 pub alike_kind : (code : Code) (due : Due) (event other : Said) → AreAlike event other → is_due_kind code due event ≡ is_due_kind code due other
 alike_kind code (dues.Deal street) _ _ (folds named other) = refl
 alike_kind code (dues.Draw street) _ _ (folds named other) = refl

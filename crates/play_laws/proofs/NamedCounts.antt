@@ -12,9 +12,9 @@ use Rattle.play_event.specs.Naming.{without, other_names, is_named, found_by, af
 use Rattle.play_event.specs.Taken.{is_one_card}
 use Rattle.play_event.specs.CardReasons.{has_no_place}
 use Rattle.play_event.specs.Laws.{IsAmong}
-use Rattle.list_laws.proofs.Tests.{false_true, one_if}
+use Rattle.card_set.proofs.Tests.{false_true, one_if}
 
--- no later place bears the card of an earlier one
+-- no later place has the card of an earlier one
 abbrev pub AllApart : List Place → Type 0
 AllApart [] = Unit {0}
 AllApart (first ∷ rest) = ((later : Place) → IsAmong rest later → is_one_card first.slot later.slot ≡ false) × AllApart rest
@@ -28,7 +28,7 @@ drop_length card (name ∷ rest) named = by_first (is_same_card card name) refl 
     by_first true same it later = refl
     by_first false same it later = ap suc (later it)
 
--- a card that is not named is no name less
+-- removing a card that is not named removes no name
 pub keep_length : (card : Card) (names : List Card) → is_named card names ≡ false → without (slots.Known card) names ≡ names
 keep_length card [] named = refl
 keep_length card (name ∷ rest) named = by_first (is_same_card card name) named (keep_length card rest)
@@ -57,7 +57,7 @@ count_same : (card : Card) (names : List Card) (places : List Place) → ((later
 count_same card names [] apart = refl
 count_same card names (place ∷ rest) apart = omega (arith, one_same card names place.slot (apart place (inl refl)), count_same card names rest (λ other among. apart other (inr among)))
 
--- the names are those of known places and the others
+-- the names are those of known places, and the others
 pub names_split : (places : List Place) (names : List Card) → AllApart places → length names ≡ named_count names places + length (other_names places names)
 names_split [] names apart = omega arith
 names_split (place ∷ rest) names apart = by_slot place.slot refl (λ more. names_split rest more apart.1)
@@ -150,13 +150,13 @@ count_step covers out mark names place rest (slots.Known card) others blanks tru
     by_named false named =
         omega (arith, same_more out place rest (after_names covers mark names others blanks rest) (named_count names (filter covers rest) + (length others + blanks)) (later others blanks (omega (arith, few, ap unknown_one here))), ap (named_one names) here, ap {B = ℕ} (λ b. if b then 1 else 0) named)
 
--- names and blanks mark as many places as they are
+-- as many places are marked as there are names and blanks
 pub names_marked : (covers out : Place → Bool) (mark : Place → Place) (names others : List Card) (blanks : ℕ) (placed : List Place) → IsMarking covers out mark placed → length others + blanks ≤ unknown_count (filter covers placed) → length (filter out (after_names covers mark names others blanks placed)) ≡ length (filter out placed) + (named_count names (filter covers placed) + (length others + blanks))
 names_marked covers out mark names others blanks [] is few = omega (arith, few)
 names_marked covers out mark names others blanks (place ∷ rest) is few =
     count_step covers out mark names place rest place.slot others blanks (covers place) refl refl is (λ os n fits. names_marked covers out mark names os n rest (marking_rest covers out mark place rest is) fits) few
 
--- a discard marks as many places as it names
+-- as many places are marked as the discard names
 known_and_blank : (cards : List Slot) → length cards ≡ length (known_cards cards) + length (filter is_unknown cards)
 known_and_blank [] = refl
 known_and_blank (slots.Known card ∷ rest) = omega (arith, known_and_blank rest)

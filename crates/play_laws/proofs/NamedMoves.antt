@@ -1,4 +1,5 @@
--- A move that is legal is legal as the canonical script says it, after each past with the same moves, turn and mover.
+-- A legal move is legal as the canonical script says it, after each past with the same moves, turn
+-- and player to act.
 use Rattle.std.proofs.Common.{◌≡◌, ℕ, Bool, true, false, ◌&&◌, ◌||◌, not, Option, Some, None, List, [], ◌∷◌, refl, sym, ◌∙◌, ap, ◌==◌}
 use Rattle.std.proofs.lemmas.Bool.{eqb-true, not-false}
 use Rattle.play_event.specs.declared.code.Code.{Code}
@@ -14,8 +15,8 @@ use Rattle.play_event.specs.Past.{Past, Move, moves_of}
 use Rattle.play_event.specs.Amounts.{raise_target}
 use Rattle.play_event.specs.Due.{turn}
 use Rattle.play_event.specs.Openers.{InTurn, TheSeat}
-use Rattle.play_event.specs.Mover.{mover}
-use Rattle.play_event.specs.Price.{owed}
+use Rattle.play_event.specs.PlayerToAct.{player_to_act}
+use Rattle.play_event.specs.CurrentBet.{to_call}
 use Rattle.play_event.specs.Raising.{may_raise}
 use Rattle.play_event.specs.Table.{up_cards}
 use Rattle.play_event.specs.MoveReasons.{actor_of, is_other_seat, is_undecided, has_nothing_to_call, is_raise_closed, is_raise_too_small, is_raise_too_big, is_below_targets, is_above_targets, amount_row}
@@ -23,7 +24,7 @@ use Rattle.play_event.specs.Reasons.{why, first_reason, is_over, is_due_kind}
 use Rattle.play_event.specs.Scripts.{resolved_by}
 use Rattle.play_event.specs.Laws.{NoneHold}
 use Rattle.play_laws.proofs.MoveKinds.{IsMoveSaid, alike_kind, bring_said, brings, call_said, calls, fold_said, folds, raise_said, raises}
-use Rattle.list_laws.proofs.Numbers.{not_other}
+use Rattle.card_set.proofs.Numbers.{not_other}
 
 -- the seat that a move names
 abbrev pub named_in : Said → Option ℕ
@@ -33,7 +34,7 @@ named_in (said.Raise named amount) = named
 named_in (said.BringIn named) = named
 named_in _ = None
 
--- the reasons of a move: they read moves, what is due, and who is in turn
+-- the reasons against a move: they depend on the moves, what is due, and whose turn it is
 abbrev pub move_reasons : Setup → Rules → List Move → ℕ × Due → InTurn → Said → List (Bool × Illegal)
 move_reasons setup rules moves now in_turn event =
     (is_over now.1 && true, reasons.HandOver)
@@ -50,15 +51,15 @@ move_reasons setup rules moves now in_turn event =
     ∷ amount_row setup moves now.0 in_turn event
     ∷ []
 
--- why a move is illegal is read from them alone
-pub why_move : (setup : Setup) (rules : Rules) (before : Past) (event : Said) → IsMoveSaid event → why setup rules before event ≡ first_reason (move_reasons setup rules (moves_of before) (turn setup before) (mover setup (up_cards setup.code before) (moves_of before) (turn setup before).0) event)
+-- why a move is illegal depends on them alone
+pub why_move : (setup : Setup) (rules : Rules) (before : Past) (event : Said) → IsMoveSaid event → why setup rules before event ≡ first_reason (move_reasons setup rules (moves_of before) (turn setup before) (player_to_act setup (up_cards setup.code before) (moves_of before) (turn setup before).0) event)
 unfolding why
 why_move setup rules before _ (fold_said named) = refl
 why_move setup rules before _ (call_said named stated) = refl
 why_move setup rules before _ (raise_said named amount) = refl
 why_move setup rules before _ (bring_said named) = refl
 
--- a move as the canonical script says it: its seat is named, and a raise is spelled by its target
+-- a move as the canonical script says it: its seat is named, and a raise states its target
 abbrev pub named_move : Setup → List Move → ℕ → ℕ → Said → Said
 named_move setup moves street seat (said.Fold named) = said.Fold (Some seat)
 named_move setup moves street seat (said.Call named stated) = said.Call (Some seat) None
@@ -66,14 +67,14 @@ named_move setup moves street seat (said.Raise named amount) = said.Raise (Some 
 named_move setup moves street seat (said.BringIn named) = said.BringIn (Some seat)
 named_move setup moves street seat event = event
 
--- what may come is told by the kind of the move
+-- the kind of the move decides whether it may come
 same_kind : (code : Code) (due : Due) (setup : Setup) (moves : List Move) (street seat : ℕ) (event : Said) → IsMoveSaid event → is_due_kind code due (named_move setup moves street seat event) ≡ is_due_kind code due event
 same_kind code due setup moves street seat _ (fold_said named) = alike_kind code due _ _ (folds (Some seat) named)
 same_kind code due setup moves street seat _ (call_said named stated) = alike_kind code due _ _ (calls (Some seat) named None stated)
 same_kind code due setup moves street seat _ (raise_said named amount) = alike_kind code due _ _ (raises (Some seat) named (spelled.To (raise_target setup moves street seat amount)) amount)
 same_kind code due setup moves street seat _ (bring_said named) = alike_kind code due _ _ (brings (Some seat) named)
 
--- who is named is in turn
+-- it is the turn of the seat that is named
 pub same_actor : (setup : Setup) (moves : List Move) (named : Option ℕ) (seat : ℕ) → is_other_seat setup moves named (TheSeat seat) ≡ false → actor_of named (TheSeat seat) ≡ seat
 same_actor setup moves None seat is = refl
 same_actor setup moves (Some other) seat is = eqb-true other seat (not-false (other == seat) is)
@@ -81,7 +82,7 @@ same_actor setup moves (Some other) seat is = eqb-true other seat (not-false (ot
 named_kind : (setup : Setup) (moves : List Move) (now : ℕ × Due) (seat : ℕ) (event : Said) → IsMoveSaid event → not (is_due_kind setup.code now.1 event || false) ≡ false → not (is_due_kind setup.code now.1 (named_move setup moves now.0 seat event) || false) ≡ false
 named_kind setup moves now seat event is kind = ap (λ b. not (b || false)) (same_kind setup.code now.1 setup moves now.0 seat event is) ∙ kind
 
--- a move without a reason has none as the canonical script says it
+-- if there is no reason against a move, there is none against it as the canonical script says it
 pub named_none : (setup : Setup) (rules : Rules) (moves : List Move) (now : ℕ × Due) (seat : ℕ) (event : Said) → IsMoveSaid event → NoneHold (move_reasons setup rules moves now (TheSeat seat) event) → NoneHold (move_reasons setup rules moves now (TheSeat seat) (named_move setup moves now.0 seat event))
 named_none setup rules moves now seat _ (fold_said named) none =
     let actor = same_actor setup moves named seat none.1.1.0 in (
@@ -98,7 +99,7 @@ named_none setup rules moves now seat _ (fold_said named) none =
                 refl,
                 (
                   refl,
-                  (ap (λ a. not rules.free_fold && (owed setup moves now.0 a == 0)) (sym actor) ∙ none.1.1.1.1.1.1.1.0, (refl, (refl, (refl, (refl, tt))))),
+                  (ap (λ a. not rules.free_fold && (to_call setup moves now.0 a == 0)) (sym actor) ∙ none.1.1.1.1.1.1.1.0, (refl, (refl, (refl, (refl, tt))))),
                 ),
               ),
             ),
@@ -147,7 +148,7 @@ named_none setup rules moves now seat _ (raise_said named amount) none =
       ),
     )
 
--- and it takes place alike
+-- and it takes place in the same way
 pub named_place : (setup : Setup) (moves : List Move) (street seat : ℕ) (event : Said) → IsMoveSaid event → is_other_seat setup moves (named_in event) (TheSeat seat) ≡ false → resolved_by setup moves street (TheSeat seat) (named_move setup moves street seat event) ≡ resolved_by setup moves street (TheSeat seat) event
 named_place setup moves street seat _ (fold_said named) same = ap (λ a. resolved_by setup moves street (TheSeat a) (said.Fold (Some a))) (sym (same_actor setup moves named seat same))
 named_place setup moves street seat _ (call_said named stated) same = ap (λ a. resolved_by setup moves street (TheSeat a) (said.Call (Some a) None)) (sym (same_actor setup moves named seat same))

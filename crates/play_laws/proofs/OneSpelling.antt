@@ -1,4 +1,4 @@
--- A move without actor is that of the seat in turn, and of a raise nothing counts but its target.
+-- A move that names no actor is a move of the player to act, and of a raise only its target counts.
 use Rattle.std.proofs.Common.{◌≡◌, ℕ, Bool, true, false, ◌&&◌, ◌||◌, not, Option, Some, None, List, [], ◌∷◌, refl, sym, ◌∙◌, ap}
 use Rattle.play_event.specs.Due.{turn}
 use Rattle.play_event.specs.Laws.{IsInTurn}
@@ -20,7 +20,7 @@ use Rattle.play_event.specs.declared.setup.Setup.{Setup}
 use Rattle.play_laws.specs.Spellings.{in_turn_after, target_after, with_actor}
 use Rattle.play_laws.proofs.MoveKinds.{AreAlike, IsMoveSaid, alike_kind, bring_said, brings, call_said, calls, fold_said, folds, raise_said, raises}
 use Rattle.play_laws.proofs.NamedMoves.{named_in, why_move}
-use Rattle.list_laws.proofs.Numbers.{not_other}
+use Rattle.card_set.proofs.Numbers.{not_other}
 
 -- why a move is illegal, by whether its kind may come and whether it names another seat
 abbrev refused : Setup → Rules → List Move → ℕ × Due → InTurn → Said → Bool → Bool → Option Illegal
@@ -40,7 +40,8 @@ refused setup rules moves now in_turn event comes other =
     ∷ amount_row setup moves now.0 in_turn event
     ∷ [])
 
--- two moves of one kind, one by the seat in turn and one that names no seat, are illegal for one reason
+-- two moves of one kind, one naming the player to act and one naming no seat, are illegal for the
+-- same reason
 by_seat : (setup : Setup) (rules : Rules) (past : Past) (seat : ℕ) (event other : Said) → IsMoveSaid event → IsMoveSaid other → AreAlike event other → IsInTurn setup past seat
     → named_in event ≡ Some seat → named_in other ≡ None
     → ((comes is_other : Bool) → refused setup rules (moves_of past) (turn setup past) (TheSeat seat) event comes is_other ≡ refused setup rules (moves_of past) (turn setup past) (TheSeat seat) other comes is_other)
@@ -59,7 +60,7 @@ by_seat setup rules past seat event other one two alike is named unnamed same =
     ∙ (sym (ap (λ t. refused setup rules moves now t other (is_due_kind setup.code now.1 other) (is_other_seat setup moves (named_in other) t)) is)
     ∙ sym (why_move setup rules past other two))))))))
 
--- naming the seat in turn changes no reason
+-- naming the player to act changes no reason
 pub same_reason : (setup : Setup) (rules : Rules) (past : Past) (seat : ℕ) (event : Said) → IsInTurn setup past seat → why setup rules past (with_actor seat event) ≡ why setup rules past event
 same_reason setup rules past seat (said.Fold None) is =
     by_seat setup rules past seat (said.Fold (Some seat)) (said.Fold None) (fold_said (Some seat)) (fold_said None) (folds (Some seat) None) is refl refl (λ comes other. refl)
@@ -118,7 +119,7 @@ raise_refused setup rules moves now in_turn named comes target =
     ∷ (false, reasons.AmountDiffers 0 0)
     ∷ [])
 
--- raises to one target are illegal for one reason
+-- raises to the same target are illegal for the same reason
 pub equal_reason : (setup : Setup) (rules : Rules) (past : Past) (named : Option ℕ) (amount other : Spelled) → target_after setup past named amount ≡ target_after setup past named other → why setup rules past (said.Raise named amount) ≡ why setup rules past (said.Raise named other)
 equal_reason setup rules past named amount other same =
     let moves = moves_of past in
@@ -129,7 +130,7 @@ equal_reason setup rules past named amount other same =
     ∙ (ap (raise_refused setup rules moves now in_turn named (is_due_kind setup.code now.1 (said.Raise named other))) same
     ∙ sym (why_move setup rules past (said.Raise named other) (raise_said named other))))
 
--- and take place alike
+-- and take place in the same way
 pub equal_past : (setup : Setup) (past : Past) (named : Option ℕ) (amount other : Spelled) → target_after setup past named amount ≡ target_after setup past named other → with_event setup (said.Raise named amount) past ≡ with_event setup (said.Raise named other) past
 unfolding with_event
 equal_past setup past named amount other same =

@@ -1,11 +1,12 @@
--- A play that is legal under the rules of one notation is legal under those of another, where each of its moves suits these.
+-- A play that is legal under the rules of one notation is legal under those of another if each of
+-- its moves suits these.
 use Rattle.std.proofs.Common.{◌≡◌, ℕ, ◌+◌, ◌-◌, ◌≤◌, Bool, true, false, ◌&&◌, ◌==◌, not, nat_le, nat_lt, inl, inr, None, List, [], ◌∷◌, refl, sym, ◌∙◌, ap, arith}
 use Rattle.std.proofs.lemmas.Bool.{and_from, and_parts, le-leb, leb-true, ne_eqb, not-false, not_from_true, or_cases, or_left, or_parts, or_right}
 use Rattle.play_event.specs.Due.{turn}
 use Rattle.play_event.specs.Laws.{AreLegal, NoneHold}
 use Rattle.play_event.specs.MoveReasons.{actor_of}
 use Rattle.play_event.specs.Past.{Boarded, Dealt, Discarded, Move, Moved, Mucked, Past, Resolved, Shown, is_fold, is_raise, moves_of}
-use Rattle.play_event.specs.Price.{full_raise, price}
+use Rattle.play_event.specs.CurrentBet.{full_raise, current_bet}
 use Rattle.play_event.specs.Raising.{has_able_opponent, is_closed, is_reopened, is_within_cap}
 use Rattle.play_event.specs.Reasons.{why}
 use Rattle.play_event.specs.Said as said
@@ -24,15 +25,15 @@ use Rattle.play_event.specs.declared.setup.Rules.{Rules}
 use Rattle.play_event.specs.declared.setup.Setup.{Setup}
 use Rattle.play_event.proofs.FloorLaws.{within_full_raise}
 use Rattle.play_event.proofs.ReasonLaws.{none_found, none_hold}
-use Rattle.list_laws.proofs.Tests.{false_true}
+use Rattle.card_set.proofs.Tests.{false_true}
 use Rattle.play_laws.specs.Spellings.{in_turn_after}
 use Rattle.play_laws.proofs.MoveKinds.{fold_said, raise_said}
 use Rattle.play_laws.proofs.NamedMoves.{move_reasons, why_move}
 
--- a move suits rules: a fold pays for something where folds are not free, and a raise is within the caps and, where full
--- raises alone reopen the betting, is not closed
+-- a move suits rules: if a fold needs a bet to fold to, it has one; a raise is within the caps; and
+-- if only full raises reopen the betting, the betting was open to it
 pub record IsSuited (others : Rules) (setup : Setup) (older : List Move) (move : Move) : Type 0 where
-  pub folds : is_fold move.act ≡ true → others.free_fold ≡ false → nat_le (price setup older move.street) move.from ≡ false
+  pub folds : is_fold move.act ≡ true → others.free_fold ≡ false → nat_le (current_bet setup older move.street) move.from ≡ false
   pub caps : is_raise move.act ≡ true → is_within_cap others.caps older move.street ≡ true
   pub reopens : is_raise move.act ≡ true → others.reopen ≡ reopens.Full → is_closed setup older move.street move.seat move.to ≡ false
 
@@ -58,13 +59,13 @@ event_suited others setup (Discarded street seat cards) before all = (tt, all)
 event_suited others setup (Shown street seat cards) before all = (tt, all)
 event_suited others setup (Mucked street seat) before all = (tt, all)
 
--- a fold that pays for something is none with nothing to call
-paid : (free : Bool) (price from : ℕ) → (free ≡ false → nat_le price from ≡ false) → (not free && (price - from == 0)) ≡ false
-paid true price from pays = refl
-paid false price from pays = ne_eqb (price - from) 0 (λ none. false_true (sym (pays refl) ∙ le-leb price from (omega (arith, none))))
+-- a fold that has a bet to fold to is not a fold with nothing to call
+paid : (free : Bool) (current_bet from : ℕ) → (free ≡ false → nat_le current_bet from ≡ false) → (not free && (current_bet - from == 0)) ≡ false
+paid true current_bet from pays = refl
+paid false current_bet from pays = ne_eqb (current_bet - from) 0 (λ none. false_true (sym (pays refl) ∙ le-leb current_bet from (omega (arith, none))))
 
--- where betting always reopens, each target is legal that is where full raises alone reopen it
-always_legal : (limit : Limit) (reopen : Reopen) (setup : Setup) (moves : List Move) (street seat target : ℕ) → (is_fixed limit ≡ false → floor reopens.Always setup moves street ≤ price setup moves street + full_raise setup moves street) → is_target_in limit reopen setup moves street seat target ≡ true → is_target_in limit reopens.Always setup moves street seat target ≡ true
+-- if betting always reopens, each target is legal that is legal if only full raises reopen it
+always_legal : (limit : Limit) (reopen : Reopen) (setup : Setup) (moves : List Move) (street seat target : ℕ) → (is_fixed limit ≡ false → floor reopens.Always setup moves street ≤ current_bet setup moves street + full_raise setup moves street) → is_target_in limit reopen setup moves street seat target ≡ true → is_target_in limit reopens.Always setup moves street seat target ≡ true
 always_legal limits.Pot reopen setup moves street seat target low is = is
 always_legal limits.Fixed reopen setup moves street seat target low is = is
 always_legal limits.No reopens.Always setup moves street seat target low is = is
@@ -73,16 +74,16 @@ always_legal limits.No reopens.Full setup moves street seat target low is = elim
       let parts = and_parts (nat_le (floor reopens.Full setup moves street) target) (nat_le target (all_in setup moves street seat)) within in
       or_left (nat_le (floor reopens.Always setup moves street) target && nat_le target (all_in setup moves street seat)) (target == all_in setup moves street seat)
       (and_from (nat_le (floor reopens.Always setup moves street) target) (nat_le target (all_in setup moves street seat))
-      (le-leb (floor reopens.Always setup moves street) target (omega (arith, low refl, leb-true (price setup moves street + full_raise setup moves street) target parts.0))) parts.1)
+      (le-leb (floor reopens.Always setup moves street) target (omega (arith, low refl, leb-true (current_bet setup moves street + full_raise setup moves street) target parts.0))) parts.1)
   | inr all ↦ or_right (nat_le (floor reopens.Always setup moves street) target && nat_le target (all_in setup moves street seat)) (target == all_in setup moves street seat) all
 ]
 
--- what a raise that is not closed is, where full raises alone reopen the betting
+-- what a raise that is not closed is, if only full raises reopen the betting
 record IsOpen (reopen : Reopen) (setup : Setup) (moves : List Move) (street seat target : ℕ) (was : Reopen) : Type 0 where
   reopened : is_reopened reopen setup moves street seat ≡ true
   legal : is_legal_target was setup moves street seat target ≡ true → is_legal_target reopen setup moves street seat target ≡ true
 
-is_open : (reopen was : Reopen) (setup : Setup) (moves : List Move) (street seat target : ℕ) → (is_fixed (limit_of setup.code) ≡ false → floor reopens.Always setup moves street ≤ price setup moves street + full_raise setup moves street) → (reopen ≡ reopens.Full → is_closed setup moves street seat target ≡ false) → IsOpen reopen setup moves street seat target was
+is_open : (reopen was : Reopen) (setup : Setup) (moves : List Move) (street seat target : ℕ) → (is_fixed (limit_of setup.code) ≡ false → floor reopens.Always setup moves street ≤ current_bet setup moves street + full_raise setup moves street) → (reopen ≡ reopens.Full → is_closed setup moves street seat target ≡ false) → IsOpen reopen setup moves street seat target was
 is_open reopens.Always was setup moves street seat target low unclosed = record {
   reopened = refl;
   legal = always_legal (limit_of setup.code) was setup moves street seat target low;
@@ -105,9 +106,9 @@ may_still opponent above cap cap' free free' may is_cap is_open =
     let first = and_parts (opponent && above) cap all.0 in
     not_from_true (opponent && above && cap' && free') (and_from (opponent && above && cap') free' (and_from (opponent && above) cap' first.0 is_cap) is_open)
 
--- an event that is legal under some rules is so under others that it suits
+-- an event that is legal under some rules is legal under others that it suits
 legal_again : (setup : Setup) (rules others : Rules) (before : Past) (event : Said)
-    → (is_fixed (limit_of setup.code) ≡ false → floor reopens.Always setup (moves_of before) (turn setup before).0 ≤ price setup (moves_of before) (turn setup before).0 + full_raise setup (moves_of before) (turn setup before).0)
+    → (is_fixed (limit_of setup.code) ≡ false → floor reopens.Always setup (moves_of before) (turn setup before).0 ≤ current_bet setup (moves_of before) (turn setup before).0 + full_raise setup (moves_of before) (turn setup before).0)
     → why setup rules before event ≡ None → IsSuitedEvent others setup (moves_of before) (resolved_on setup before (turn setup before).0 event) → why setup others before event ≡ None
 unfolding why
 legal_again setup rules others before (said.Hole seat cards) low legal suits = legal
@@ -122,7 +123,7 @@ legal_again setup rules others before (said.Fold named) low legal suits =
     let now = turn setup before in
     let in_turn = in_turn_after setup before in
     let none = none_hold (move_reasons setup rules moves now in_turn (said.Fold named)) (sym (why_move setup rules before (said.Fold named) (fold_said named)) ∙ legal) in
-    let pays = paid others.free_fold (price setup moves now.0) (street_chips setup moves now.0 (actor_of named in_turn)) (suits.folds refl) in
+    let pays = paid others.free_fold (current_bet setup moves now.0) (street_chips setup moves now.0 (actor_of named in_turn)) (suits.folds refl) in
     let again : NoneHold (move_reasons setup others moves now in_turn (said.Fold named)) = (none.0, (none.1.0, (none.1.1.0, (refl, (refl, (refl, (none.1.1.1.1.1.1.0, (pays, (refl, (refl, (refl, (refl, tt)))))))))))) in
     why_move setup others before (said.Fold named) (fold_said named) ∙ none_found (move_reasons setup others moves now in_turn (said.Fold named)) again
 legal_again setup rules others before (said.Raise named amount) low legal suits =
@@ -134,7 +135,7 @@ legal_again setup rules others before (said.Raise named amount) low legal suits 
     let none = none_hold (move_reasons setup rules moves now in_turn (said.Raise named amount)) (sym (why_move setup rules before (said.Raise named amount) (raise_said named amount)) ∙ legal) in
     let late = none.1.1.1.1.1.1.1.1 in
     let it = is_open others.reopen rules.reopen setup moves now.0 seat target low (suits.reopens refl) in
-    let may = may_still (has_able_opponent setup moves seat) (nat_lt (price setup moves now.0) (all_in setup moves now.0 seat)) (is_within_cap rules.caps moves now.0) (is_within_cap others.caps moves now.0) (is_reopened rules.reopen setup moves now.0 seat) (is_reopened others.reopen setup moves now.0 seat) late.0 (suits.caps refl) it.reopened in
+    let may = may_still (has_able_opponent setup moves seat) (nat_lt (current_bet setup moves now.0) (all_in setup moves now.0 seat)) (is_within_cap rules.caps moves now.0) (is_within_cap others.caps moves now.0) (is_reopened rules.reopen setup moves now.0 seat) (is_reopened others.reopen setup moves now.0 seat) late.0 (suits.caps refl) it.reopened in
     let above = still_above (is_legal_target rules.reopen setup moves now.0 seat target) (is_legal_target others.reopen setup moves now.0 seat target) (nat_lt target (greatest_target setup moves now.0 seat)) it.legal late.1.0 in
     let again : NoneHold (move_reasons setup others moves now in_turn (said.Raise named amount)) = (none.0, (none.1.0, (none.1.1.0, (refl, (refl, (refl, (none.1.1.1.1.1.1.0, (refl, (may, (above, (late.1.1.0, (refl, tt)))))))))))) in
     why_move setup others before (said.Raise named amount) (raise_said named amount) ∙ none_found (move_reasons setup others moves now in_turn (said.Raise named amount)) again

@@ -13,9 +13,9 @@ use Rattle.play_laws.proofs.DueAtEvents.{Reaches, not_due}
 use Rattle.play_laws.proofs.LegalEvents.{Stepped, deals, boards, moves, discards, shows, mucks}
 use Rattle.play_laws.proofs.SettledStreets.{deal_still, draw_still, is_discard_on, replaced_still, none_owed}
 use Rattle.std.specs.Option.{is_some}
-use Rattle.list_laws.proofs.NumbersOfRange.{found_in_range}
+use Rattle.card_set.proofs.NumbersOfRange.{found_in_range}
 
--- on another street than that of the turn no seat is owed cards for its discards
+-- on a street other than that of the turn no seat is owed cards for its discards
 pub owed_elsewhere : (setup : Setup) (before : Past) (at street seat : ℕ) → PastLaw setup before → Reaches setup before at → 1 ≤ seat → seat ≤ setup.stacks.seats → street ≢ at → replacements_owed before street seat ≡ 0
 owed_elsewhere setup before at street seat law come least most other = elim (cases_eq street (newest_street before)) [
   | inr differ ↦ law.owed_now street seat least most differ
@@ -28,7 +28,7 @@ owed_elsewhere setup before at street seat law come least most other = elim (cas
     below : street ≡ newest_street before → street < at
     below same = elim (cases_lt street at) [ inl less ↦ less | inr more ↦ absurd (other (omega (arith, more, same, come.on))) ]
 
--- and where a move is due none is owed cards at all
+-- and when a move is due none is owed cards at all
 owed_none : (setup : Setup) (before : Past) (at street seat : ℕ) → PastLaw setup before → Reaches setup before at → is_draw_due setup before at ≡ false → 1 ≤ seat → seat ≤ setup.stacks.seats → replacements_owed before street seat ≡ 0
 owed_none setup before at street seat law come no_draw least most = elim (cases_eq street at) [
   | inr differ ↦ owed_elsewhere setup before at street seat law come least most differ
@@ -38,14 +38,14 @@ owed_none setup before at street seat law come no_draw least most = elim (cases_
   ]
 ]
 
--- who draws next is a live seat of the hand that did not draw on the street
+-- the seat that draws next is a live seat of the hand that has not drawn on the street
 pub record DrawsNext (setup : Setup) (before : Past) (street seat : ℕ) : Type 0 where
   pub live : is_live (moves_of before) seat ≡ true
   pub undrawn : has_drawn before street seat ≡ false
   pub least : 1 ≤ seat
   pub most : seat ≤ setup.stacks.seats
 
--- who is next to draw is live and has not drawn
+-- who draws next is live and has not drawn
 pub is_next_to_draw : (setup : Setup) (before : Past) (street seat : ℕ) → next_to_draw setup before street ≡ Some seat → DrawsNext setup before street seat
 is_next_to_draw setup before street seat is =
     let it = found_in_range (λ seat. is_live (moves_of before) seat && not (has_drawn before street seat)) 1 setup.stacks.seats seat is in
@@ -57,7 +57,7 @@ pub reached_more : (newest street : ℕ) (list : List Move) → newest ≤ stree
 reached_more newest street [] on all = tt
 reached_more newest street (move ∷ rest) on all = (omega (arith, on, all.0), reached_more newest street rest on all.1)
 
--- no draw is begun on a street that does not draw
+-- no draw begins on a street without draws
 pub drawing : (setup : Setup) (before : Past) (street : ℕ) → is_draw_due setup before street ≡ true → has_draw setup.code street ≡ true
 drawing setup before street is = (and_parts (has_draw setup.code street) (is_some (next_to_draw setup before street) || list_any (λ seat. nat_lt 0 (replacements_owed before street seat)) (all_seats setup)) is).0
 
@@ -73,7 +73,7 @@ unmoved_deal setup before street law (inr is) = unmoved_by setup before street l
 done_still : (setup : Setup) (before : Past) (event : Resolved) (street : ℕ) → is_discard_on street event ≡ false → (is_deal_due setup before street ≡ false) × (is_draw_due setup before street ≡ false) → (is_deal_due setup (event ∷ before) street ≡ false) × (is_draw_due setup (event ∷ before) street ≡ false)
 done_still setup before event street no_discard done = (deal_still setup before event street done.0, draw_still setup before event street no_discard done.1)
 
--- the fields that are alike for events other than moves and discards
+-- what stays the same for events other than moves and discards
 still_owed : (setup : Setup) (before : Past) (event : Resolved) (at street seat : ℕ) → PastLaw setup before → Reaches setup before at → is_discard_on street event ≡ false → 1 ≤ seat → seat ≤ setup.stacks.seats → street ≢ at → replacements_owed (event ∷ before) street seat ≡ 0
 still_owed setup before event at street seat law come no_discard least most other =
     omega (arith, replaced_still before event street seat no_discard, owed_elsewhere setup before at street seat law come least most other)

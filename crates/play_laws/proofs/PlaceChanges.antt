@@ -2,13 +2,14 @@
 use Rattle.std.specs.Prelude.{◌≡◌, ℕ, List, [], ◌∷◌, Some, None}
 use Rattle.play_event.specs.Places.{Place}
 
--- how a place is gone after an event that deals nothing: as before; discarded now by a seat on a street; or folded now by a seat
+-- how a place is gone after an event that deals nothing: as before; discarded now by a seat on a
+-- street; or folded now by a seat
 pub data HowGone (count street seat : ℕ) (old new : Place) : Type 0 where
   stays : new.gone_after ≡ old.gone_after → new.discarded ≡ old.discarded → HowGone count street seat old new
   out : old.gone_after ≡ None → new.gone_after ≡ Some count → new.discarded ≡ street → old.owner ≡ Some seat → HowGone count street seat old new
   folds : old.gone_after ≡ None → new.gone_after ≡ Some count → new.discarded ≡ old.discarded → old.owner ≡ Some seat → HowGone count street seat old new
 
--- a place stays what it was but for how it is gone
+-- a place is unchanged except for how it is gone
 pub record IsChange (count draw seat : ℕ) (old new : Place) : Type 0 where
   pub owner : new.owner ≡ old.owner
   pub street : new.street ≡ old.street

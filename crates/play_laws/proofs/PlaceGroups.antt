@@ -1,4 +1,5 @@
--- Places with rising numbers, the places that pass a filter, and the cards of an owner on a street.
+-- Places with ascending numbers, the places that pass a filter, and the cards of an owner on a
+-- street.
 use Rattle.std.proofs.Common.{◌≡◌, ℕ, ◌+◌, ◌≤◌, Bool, true, false, inl, inr, Option, List, [], ◌∷◌, ◌++◌, map, filter, length, count_by, refl, sym, ◌∙◌, ap, arith, if◌then◌else◌, ◌<◌}
 use Rattle.std.proofs.lemmas.List.Sums.{length-filter}
 use Rattle.card_set.specs.declared.card.Slot.{Slot}
@@ -10,7 +11,7 @@ abbrev pub AreRising : List Place → Type 0
 AreRising [] = Unit {0}
 AreRising (first ∷ rest) = ((later : Place) → IsAmong rest later → first.number < later.number) × AreRising rest
 
--- so a number tells its place
+-- so a number determines its place
 pub one_number : (placed : List Place) (a b : Place) → AreRising placed → IsAmong placed a → IsAmong placed b → a.number ≡ b.number → a ≡ b
 one_number [] a b rising in_a in_b same = absurd in_a
 one_number (first ∷ rest) a b rising (inl is_a) (inl is_b) same = sym is_a ∙ is_b
@@ -37,7 +38,7 @@ rising_at : (p : Place → Bool) (first : Place) (rest : List Place) (b : Bool) 
 rising_at p first rest true rising later = (λ other among. rising.0 other (passed p rest other among).among, later)
 rising_at p first rest false rising later = later
 
--- a filter keeps numbers rising
+-- a filter keeps numbers ascending
 pub rising_filter : (p : Place → Bool) (placed : List Place) → AreRising placed → AreRising (filter p placed)
 rising_filter p [] rising = tt
 rising_filter p (first ∷ rest) rising = rising_at p first rest (p first) rising (rising_filter p rest rising.1)
@@ -51,7 +52,7 @@ abbrev pub AreIndexed : ℕ → List Place → Type 0
 AreIndexed index [] = Unit {0}
 AreIndexed index (first ∷ rest) = (first.index ≡ index) × AreIndexed (index + 1) rest
 
--- counts grow
+-- counts do not decrease
 more_step : (p : Place → Bool) (first : Place) (rest more : List Place) (b : Bool) → length (filter p rest) ≤ length (filter p (rest ++ more)) → length (if b then (first ∷ filter p rest) else filter p rest) ≤ length (if b then (first ∷ filter p (rest ++ more)) else filter p (rest ++ more))
 more_step p first rest more true later = omega (arith, later)
 more_step p first rest more false later = later
@@ -60,6 +61,6 @@ more_length : (p : Place → Bool) (places more : List Place) → length (filter
 more_length p [] more = omega arith
 more_length p (first ∷ rest) more = more_step p first rest more (p first) (more_length p rest more)
 
--- more places pass in a longer list
+-- a longer list has at least as many places that pass
 pub more_count : (p : Place → Bool) (places more : List Place) → count_by p places ≤ count_by p (places ++ more)
 more_count p places more = omega (arith, length-filter p places, length-filter p (places ++ more), more_length p places more)

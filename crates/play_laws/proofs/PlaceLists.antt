@@ -1,5 +1,5 @@
--- What holds of the places of every legal past as a list: numbers and indices count up, cards are in the deck, and of a
--- seat's unknown cards those dealt first are discarded first.
+-- What holds of the places of every legal past as a list: numbers and indices count up, cards are
+-- in the deck, and of a seat's unknown cards those dealt first are discarded first.
 use Rattle.std.proofs.Common.{◌≡◌, ℕ, zero, suc, ◌+◌, ◌≤◌, Bool, true, false, ◌&&◌, ◌==◌, inl, inr, Option, Some, None, List, [], ◌∷◌, ◌++◌, map, filter, length, count_by, refl, sym, ◌∙◌, ap, subst, arith, if◌then◌else◌}
 use Rattle.std.proofs.lemmas.Bool.{and_parts, eqb-true}
 use Rattle.std.proofs.lemmas.List.Sums.{length-filter}
@@ -15,7 +15,7 @@ use Rattle.play_event.specs.Places.{Place, is_same_owner, is_in_group, is_past_d
 use Rattle.play_event.specs.Naming.{after_names, after_discard, after_show, other_names, blanks_in, is_covered, is_show_of_all, found_by, is_named}
 use Rattle.play_event.specs.Table.{places_of}
 use Rattle.play_event.specs.Laws.{IsAmong}
-use Rattle.list_laws.proofs.Tests.{false_true}
+use Rattle.card_set.proofs.Tests.{false_true}
 use Rattle.play_event.proofs.ClashLaws.{among_append}
 use Rattle.play_laws.specs.LegalPlaces.{OutFirst, UnknownsFirst}
 use Rattle.play_laws.specs.PastLaws.{PastLaw}
@@ -40,7 +40,7 @@ numbered_above number [] place numbered among = absurd among
 numbered_above number (first ∷ rest) place numbered (inl same) = omega (arith, numbered.0, ap (λ (p : Place). p.number) same)
 numbered_above number (first ∷ rest) place numbered (inr later) = omega (arith, numbered_above (number + 1) rest place numbered.1 later)
 
--- numbers that count up rise
+-- numbers that count up are ascending
 pub rising : (number : ℕ) (placed : List Place) → AreNumbered number placed → AreRising placed
 rising number [] numbered = tt
 rising number (first ∷ rest) numbered = (λ later among. omega (arith, numbered.0, numbered_above (number + 1) rest later numbered.1 among), rising (number + 1) rest numbered.1)
@@ -121,7 +121,7 @@ dealt_indexed owner to street on late index number (slot ∷ rest) false here =
         ap (λ c. if c then (record { owner = to; street = on; index = index; number = number; slot = slot; past_deck = late; gone_after = None; discarded = 0 } ∷ filter (is_in_group owner street) (places_dealt to on late (index + 1) (number + 1) rest)) else filter (is_in_group owner street) (places_dealt to on late (index + 1) (number + 1) rest)) here
         ∙ not_mine owner to street on late (index + 1) (number + 1) rest here
 
--- where the deal is not of the group, the index does not matter
+-- if the deal is not of the group, the index does not matter
 other_indexed : (owner to : Option ℕ) (street on : ℕ) (late : Bool) (index other number : ℕ) (cards : List Slot) (b : Bool) → (is_same_owner to owner && (on == street)) ≡ b → (b ≡ true → index ≡ other) → AreIndexed other (filter (is_in_group owner street) (places_dealt to on late index number cards))
 other_indexed owner to street on late index other number cards true here same =
     let P : ℕ → Type 0 = λ i. AreIndexed i (filter (is_in_group owner street) (places_dealt to on late index number cards)) in

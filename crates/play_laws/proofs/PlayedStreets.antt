@@ -1,5 +1,5 @@
--- What a legal and complete past guarantees of the streets that it came to: their cards are dealt and drawn in full, and
--- their betting was closed before the next street.
+-- What a legal and complete past guarantees of the streets that it reached: their cards are dealt
+-- and drawn in full, and their betting was closed before the next street.
 use Rattle.std.proofs.Common.{◌≡◌, ℕ, ◌+◌, ◌-◌, ◌≤◌, ◌<◌, Bool, true, false, ◌==◌, nat_lt, nat_le, inl, inr, ◌⊎◌, Option, Some, None, List, [], ◌∷◌, map, filter, length, refl, sym, ◌∙◌, ap, subst, arith, if◌then◌else◌}
 use Rattle.std.specs.List.{list_any}
 use Rattle.std.proofs.lemmas.Bool.{or_parts, or_cases, and_parts, both_ways, cases_Bool, cases_lt, ltb-false, leb-true, leb-false, eqb-true, not_from_false}
@@ -19,7 +19,7 @@ use Rattle.play_event.specs.Places.{Place, is_in_group, is_same_owner, after_fol
 use Rattle.play_event.specs.Naming.{after_discard, after_show, other_names, blanks_in, is_covered, is_show_of_all}
 use Rattle.play_event.specs.Table.{places_of}
 use Rattle.play_event.specs.Laws.{IsAmong}
-use Rattle.list_laws.proofs.Tests.{false_true}
+use Rattle.card_set.proofs.Tests.{false_true}
 use Rattle.play_event.proofs.StreetLaws.{street_found}
 use Rattle.play_laws.specs.LegalPlaces.{has_owner_folded}
 use Rattle.play_laws.specs.PastLaws.{has_move, PastLaw, DoneLaw, AreReached}
@@ -33,9 +33,9 @@ use Rattle.play_laws.proofs.DiscardCounts.{is_out_of}
 use Rattle.play_event.proofs.OwnerLaws.{is_same_owner-true}
 use Rattle.std.proofs.lemmas.List.{length-map}
 use Rattle.play_event.proofs.DueStreets.{none_found}
-use Rattle.list_laws.proofs.Counting.{some_gone}
+use Rattle.card_set.proofs.Counting.{some_gone}
 
--- what is due on a street leaves a script unfinished
+-- a script is unfinished if something is due on a street
 due_open : (setup : Setup) (before : Past) (street : ℕ) (due : Due) → IsDue setup before street due → is_unfinished due ≡ true
 due_open setup before street _ (deal so) = refl
 due_open setup before street _ (draw no_deal so) = refl
@@ -56,7 +56,7 @@ contested_end setup before several finished within =
     ended_by setup before (first_due (due_on setup before) (street_count setup.code + 1 - newest_street before) (newest_street before)) refl
     (ap (λ b. is_unfinished (turned_by setup before b (first_due (due_on setup before) (street_count setup.code + 1 - newest_street before) (newest_street before))).1) (sym several) ∙ finished) within
 
--- a hand came to a street: two seats or more were live when it began
+-- a hand reached a street: two or more seats were live when it began
 abbrev pub IsReached : Setup → List Move → ℕ → Type 0
 IsReached setup list street = nat_le (live_count setup (moves_before street list)) 1 ≡ false
 
@@ -73,7 +73,7 @@ pub record IsDone (setup : Setup) (before : Past) (street : ℕ) : Type 0 where
   pub no_deal : is_deal_due setup before street ≡ false
   pub no_draw : is_draw_due setup before street ≡ false
 
--- a street that a complete hand came to is done
+-- a street that a complete hand reached is done
 pub reached_done : (setup : Setup) (before : Past) (street : ℕ) → PastLaw setup before → DoneLaw setup before → is_unfinished (turn setup before).1 ≡ false → 1 ≤ street → street ≤ street_count setup.code → IsReached setup (moves_of before) street → IsDone setup before street
 reached_done setup before street past done finished some most reached = elim (cases_Bool (nat_le (live_count setup (moves_of before)) 1)) [
   | inl one ↦ elim (reached_or_move setup before street past one reached) [
@@ -133,7 +133,7 @@ board_count code (Shown on owner cards ∷ before) street =
     ∙ board_count code before street
 board_count code (Mucked on owner ∷ before) street = board_count code before street
 
--- the cards of a street that the hand came to
+-- the cards of a street that the hand reached
 pub hole_group : (setup : Setup) (before : Past) (street seat : ℕ) → DoneLaw setup before → IsDone setup before street → has_draw setup.code street ≡ false → 1 ≤ street → 1 ≤ seat → seat ≤ setup.stacks.seats → is_live (moves_before street (moves_of before)) seat ≡ true → length (group_of (places_of setup.code before) street (Some seat)) ≡ hole_cards_on setup.code street
 hole_group setup before street seat done is no_draw some least most live =
     omega (arith, group_count setup.code before street seat, done.dealt_most street seat no_draw, done.dealt street seat some least most is.no_deal live)
@@ -151,7 +151,7 @@ folded_group setup before street seat law folded = none_of (group_of (places_of 
     none_of [] never = refl
     none_of (first ∷ rest) never = absurd (never first (inl refl))
 
--- on a street that draws each seat has as many new cards as it discarded
+-- on a street with a draw each seat has as many new cards as it discarded
 pub draw_group : (setup : Setup) (before : Past) (street seat : ℕ) → PastLaw setup before → IsDone setup before street → ((street seat : ℕ) → 1 ≤ street → length (filter (is_out_of street seat) (places_of setup.code before)) ≡ cards_discarded before street seat) → has_draw setup.code street ≡ true → 1 ≤ street → 1 ≤ seat → seat ≤ setup.stacks.seats → length (group_of (places_of setup.code before) street (Some seat)) ≡ length (filter (is_out_of street seat) (places_of setup.code before))
 draw_group setup before street seat past is counts draws_there some least most =
     omega (arith, group_count setup.code before street seat, counts street seat some, past.drawn_count street seat draws_there, none_owed setup before street seat draws_there is.no_draw least most)

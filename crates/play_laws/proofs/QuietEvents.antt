@@ -11,15 +11,15 @@ use Rattle.play_event.specs.Seats.{is_live, is_fold_of}
 use Rattle.play_event.specs.Places.{Place, is_same_owner, is_held_by, folded_place, gone_now, after_fold}
 use Rattle.play_event.specs.Naming.{found_by, after_names, discarded_now, is_named}
 use Rattle.play_event.specs.Laws.{IsAmong}
-use Rattle.list_laws.proofs.Tests.{false_true}
+use Rattle.card_set.proofs.Tests.{false_true}
 use Rattle.play_event.proofs.Kept.{held_is_there}
 use Rattle.play_laws.specs.LegalPlaces.{has_owner_folded, PlacesLaw}
 use Rattle.play_laws.proofs.PlaceChanges.{HowGone, stays, out, folds, IsChange, AreChanged}
 use Rattle.play_laws.proofs.KeptPlaces.{change_law}
 use Rattle.play_event.proofs.OwnerLaws.{is_same_owner-true}
-use Rattle.list_laws.proofs.Options.{some_or_none}
+use Rattle.card_set.proofs.Options.{some_or_none}
 
--- who folded has folded with one move more
+-- who has folded has folded after one more move
 pub folded_first : (move : Move) (moves : List Move) (owner : Option ℕ) → has_owner_folded moves owner ≡ true → has_owner_folded (move ∷ moves) owner ≡ true
 folded_first move moves None is = is
 folded_first move moves (Some seat) is =
@@ -33,7 +33,7 @@ folded_more move moves by owner is = by_street (nat_lt move.street by)
     by_street true = folded_first move (moves_before by moves) owner is
     by_street false = is
 
--- who has folded by a move more, folded before, or by it
+-- who has folded after one more move folded before, or by it
 folded_either : (move : Move) (moves : List Move) (owner : Option ℕ) → has_owner_folded (move ∷ moves) owner ≡ true → (has_owner_folded moves owner ≡ true) ⊎ ((is_fold move.act ≡ true) × (owner ≡ Some move.seat))
 folded_either move moves None is = inl is
 folded_either move moves (Some seat) is = elim (or_cases (is_fold_of seat move) (list_any (is_fold_of seat) moves) (not-false (is_fold_of seat move || list_any (is_fold_of seat) moves) (not-true (is_live (move ∷ moves) seat) is))) [
@@ -41,7 +41,7 @@ folded_either move moves (Some seat) is = elim (or_cases (is_fold_of seat move) 
   | inr before ↦ inl (ap not (not_from_true (list_any (is_fold_of seat) moves) before))
 ]
 
--- who has folded with a further move folded before, or by it
+-- who has folded after a further move folded before, or by it
 pub folded_back : (move : Move) (moves : List Move) (by : ℕ) (owner : Option ℕ) → has_owner_folded (moves_before by (move ∷ moves)) owner ≡ true → (has_owner_folded (moves_before by moves) owner ≡ true) ⊎ ((is_fold move.act ≡ true) × ((owner ≡ Some move.seat) × (move.street < by)))
 folded_back move moves by owner = by_street (nat_lt move.street by) refl
   where
@@ -62,7 +62,7 @@ pub data HowMarked (covers : Place → Bool) (count draw : ℕ) (old new : Place
   kept : new.gone_after ≡ old.gone_after → new.discarded ≡ old.discarded → HowMarked covers count draw old new
   marked : covers old ≡ true → new.gone_after ≡ Some count → new.discarded ≡ draw → HowMarked covers count draw old new
 
--- a place as a discard or a show leaves it: as it was, or discarded now
+-- a place after a discard or a show: unchanged, or discarded now
 pub record IsMarked (covers : Place → Bool) (count draw : ℕ) (old new : Place) : Type 0 where
   pub owner : new.owner ≡ old.owner
   pub street : new.street ≡ old.street
@@ -122,7 +122,7 @@ show_step covers other count draw names others blanks place rest true later =
     (show_found other count draw names place.slot others blanks place, later (found_by (λ (p : Place). p) names place.slot others blanks place).others (found_by (λ (p : Place). p) names place.slot others blanks place).blanks)
 show_step covers other count draw names others blanks place rest false later = (marked_same other count draw place, later others blanks)
 
--- for the cover that covers nothing
+-- for a cover without places
 abbrev pub is_nothing : Place → Bool
 is_nothing place = false
 
@@ -140,14 +140,14 @@ marked_how covers count draw seat old new there (marked covered now on) = out (t
 marked_change : (covers : Place → Bool) (count draw seat : ℕ) (old new : Place) → (covers old ≡ true → (old.gone_after ≡ None) × (old.owner ≡ Some seat)) → IsMarked covers count draw old new → IsChange count draw seat old new
 marked_change covers count draw seat old new there is = record { owner = is.owner; street = is.street; number = is.number; past_deck = is.past_deck; how = marked_how covers count draw seat old new there is.how }
 
--- places that are marked are changed by no deal
+-- places that are marked are not changed by a deal
 pub marked_changed : (covers : Place → Bool) (count draw seat : ℕ) (olds news : List Place) → ((old : Place) → covers old ≡ true → (old.gone_after ≡ None) × (old.owner ≡ Some seat)) → AreMarked covers count draw olds news → AreChanged count draw seat olds news
 marked_changed covers count draw seat [] [] there is = tt
 marked_changed covers count draw seat [] (new ∷ news) there is = absurd is
 marked_changed covers count draw seat (old ∷ olds) [] there is = absurd is
 marked_changed covers count draw seat (old ∷ olds) (new ∷ news) there is = (marked_change covers count draw seat old new (there old) is.0, marked_changed covers count draw seat olds news there is.1)
 
--- and what is gone is told as before
+-- and what is gone is decided as before
 gone_how : (code : Code) (moves : List Move) (newest : ℕ) (covers : Place → Bool) (count draw : ℕ) (placed : List Place) (old new : Place) → PlacesLaw code moves newest placed → IsAmong placed old → 1 ≤ draw → new.owner ≡ old.owner → HowMarked covers count draw old new → is_some new.gone_after ≡ (nat_lt 0 new.discarded || has_owner_folded moves new.owner)
 gone_how code moves newest covers count draw placed old new law among some owner (kept gone same) =
     ap is_some gone ∙ law.gone_is old among ∙ ap (λ d. nat_lt 0 d || has_owner_folded moves old.owner) (sym same) ∙ ap (λ o. nat_lt 0 new.discarded || has_owner_folded moves o) (sym owner)
@@ -202,7 +202,7 @@ fold_change seat count draw place false held = record { owner = refl; street = r
 pub held_parts : (seat : ℕ) (place : Place) → is_held_by seat place ≡ true → (place.gone_after ≡ None) × (place.owner ≡ Some seat)
 held_parts seat place held = (held_is_there seat place held, is_same_owner-true place.owner (Some seat) (and_parts (is_same_owner place.owner (Some seat)) (is_none place.gone_after) held).0)
 
--- a fold changes places by no deal
+-- a fold changes places without a deal
 pub fold_changed : (seat count draw : ℕ) (placed : List Place) → AreChanged count draw seat placed (map (folded_place seat count) placed)
 fold_changed seat count draw [] = tt
 fold_changed seat count draw (place ∷ rest) = (fold_change seat count draw place (is_held_by seat place) (held_parts seat place), fold_changed seat count draw rest)
@@ -275,7 +275,7 @@ fold_law code move moves newest placed law fold on some =
       out_after = out_folds code moves newest (length placed) move.seat placed placed law (λ old among. among);
     })
 
--- a move that is no fold changes who has folded nowhere
+-- a move that is no fold does not change who has folded
 pub other_before : (move : Move) (moves : List Move) (by : ℕ) (owner : Option ℕ) → is_fold move.act ≡ false → has_owner_folded (moves_before by (move ∷ moves)) owner ≡ has_owner_folded (moves_before by moves) owner
 other_before move moves by owner is = by_street (nat_lt move.street by)
   where

@@ -1,7 +1,7 @@
 -- What passes for a seat of the hand passes for some seat.
 use Rattle.std.proofs.Common.{◌≡◌, ℕ, ◌≤◌, Bool, true, arith}
 use Rattle.std.specs.List.{list_any}
-use Rattle.list_laws.proofs.NumbersOfRange.{any_in_range}
+use Rattle.card_set.proofs.NumbersOfRange.{any_in_range}
 use Rattle.play_event.specs.declared.setup.Setup.{Setup}
 use Rattle.play_event.specs.Seats.{all_seats}
 

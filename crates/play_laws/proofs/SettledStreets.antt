@@ -8,13 +8,13 @@ use Rattle.play_event.specs.Streets.{has_draw}
 use Rattle.play_event.specs.Past.{Past, Resolved, Move, Dealt, Boarded, Moved, Discarded, Shown, Mucked, moves_of, is_fold}
 use Rattle.play_event.specs.Seats.{is_live, all_seats}
 use Rattle.play_event.specs.Dealing.{is_deal_due, is_draw_due, hole_cards_dealt, has_drawn, hole_cards_owed, board_cards_owed, replacements_owed, next_to_draw}
-use Rattle.list_laws.proofs.Tests.{false_true, if_not_both}
-use Rattle.list_laws.proofs.Any.{none_still}
-use Rattle.list_laws.proofs.Finding.{none_found_still}
-use Rattle.list_laws.proofs.NumbersOfRange.{at_range}
-use Rattle.list_laws.proofs.Numbers.{none_below}
+use Rattle.card_set.proofs.Tests.{false_true, if_not_both}
+use Rattle.card_set.proofs.Any.{none_still}
+use Rattle.card_set.proofs.Finding.{none_found_still}
+use Rattle.card_set.proofs.NumbersOfRange.{at_range}
+use Rattle.card_set.proofs.Numbers.{none_below}
 
--- hole cards owed do not grow
+-- hole cards owed do not increase
 owed_less : (folded before : Bool) (owed : ℕ) → (if not (folded || before) then owed else 0) ≤ (if not before then owed else 0)
 owed_less true true owed = omega arith
 owed_less true false owed = omega arith
@@ -25,7 +25,7 @@ less_dealt : (live : Bool) (on more dealt : ℕ) → (if live then on - (more + 
 less_dealt true on more dealt = omega arith
 less_dealt false on more dealt = omega arith
 
--- no event makes a seat be owed more hole cards of a street
+-- no event makes a seat owed more hole cards of a street
 pub hole_owed_still : (setup : Setup) (before : Past) (event : Resolved) (street seat : ℕ) → hole_cards_owed setup (event ∷ before) street seat ≤ hole_cards_owed setup before street seat
 hole_owed_still setup before (Dealt on owner cards) street seat = less_dealt (is_live (moves_of before) seat) (hole_cards_on setup.code street) (if (on == street) && (owner == seat) then length cards else 0) (hole_cards_dealt before street seat)
 hole_owed_still setup before (Boarded on cards) street seat = omega arith
@@ -99,7 +99,7 @@ draw_still setup before event street no_discard is =
     (none_found_still (λ seat. is_live (moves_of before) seat && not (has_drawn before street seat)) (λ seat. is_live (moves_of (event ∷ before)) seat && not (has_drawn (event ∷ before) street seat)) (all_seats setup) (to_draw_still before event street))
     (none_still (λ seat. nat_lt 0 (replacements_owed before street seat)) (λ seat. nat_lt 0 (replacements_owed (event ∷ before) street seat)) (all_seats setup) (λ seat. none_below (replacements_owed before street seat) (replacements_owed (event ∷ before) street seat) (replaced_still before event street seat no_discard))) is
 
--- where no draw is due no replacement is owed
+-- if no draw is due no replacement is owed
 pub none_owed : (setup : Setup) (before : Past) (street seat : ℕ) → has_draw setup.code street ≡ true → is_draw_due setup before street ≡ false → 1 ≤ seat → seat ≤ setup.stacks.seats → replacements_owed before street seat ≡ 0
 none_owed setup before street seat draws is least most =
     let inside : (is_some (next_to_draw setup before street) || list_any (λ seat. nat_lt 0 (replacements_owed before street seat)) (all_seats setup)) ≡ false = sym (ap (λ b. b && (is_some (next_to_draw setup before street) || list_any (λ seat. nat_lt 0 (replacements_owed before street seat)) (all_seats setup))) draws) ∙ is in

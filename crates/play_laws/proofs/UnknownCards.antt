@@ -7,10 +7,10 @@ use Rattle.card_set.specs.Known.{is_unknown}
 use Rattle.play_event.specs.Places.{Place}
 use Rattle.play_event.specs.Naming.{found_by, after_names, discarded_now, is_named}
 use Rattle.play_event.specs.Laws.{IsAmong}
-use Rattle.list_laws.proofs.Tests.{false_true}
+use Rattle.card_set.proofs.Tests.{false_true}
 use Rattle.play_laws.specs.LegalPlaces.{OutFirst, UnknownsFirst}
 
--- what a place is after the names: as it was, or covered and discarded, or known
+-- a place after the names: unchanged, or covered and discarded, or known
 data Became (covers : Place → Bool) (street count : ℕ) (old new : Place) : Type 0 where
   as_it_was : new ≡ old → Became covers street count old new
   discarded : covers old ≡ true → new ≡ discarded_now street count old → Became covers street count old new
@@ -53,7 +53,7 @@ came_from covers street count names others blanks [] new among = absurd among
 came_from covers street count names others blanks (first ∷ rest) new among =
     from_step covers street count names others blanks first rest new (covers first) refl (λ os n. came_from covers street count names os n rest new) among
 
--- where no name and no blank is left, what is unknown stays as it was
+-- if no name and no blank is left, what is unknown is unchanged
 left_step : (covers : Place → Bool) (street count : ℕ) (names : List Card) (first : Place) (rest : List Place) (new : Place) (slot : Slot) (c : Bool) → first.slot ≡ slot → is_unknown new.slot ≡ true → (IsAmong (after_names covers (discarded_now street count) names [] 0 rest) new → IsAmong rest new) → IsAmong (if c then (let found = found_by (discarded_now street count) names slot [] 0 first in found.place ∷ after_names covers (discarded_now street count) names found.others found.blanks rest) else (first ∷ after_names covers (discarded_now street count) names [] 0 rest)) new → IsAmong (first ∷ rest) new
 left_step covers street count names first rest new slot false here unknown later (inl is) = inl is
 left_step covers street count names first rest new slot false here unknown later (inr among) = inr (later among)
@@ -71,8 +71,8 @@ left_alone covers street count names [] new unknown among = absurd among
 left_alone covers street count names (first ∷ rest) new unknown among =
     left_step covers street count names first rest new first.slot (covers first) refl unknown (left_alone covers street count names rest new unknown) among
 
--- what the cover of a seat's discard guarantees: a covered card is the seat's and not discarded; another card of the seat
--- was discarded on an earlier street
+-- what the cover of a seat's discard guarantees: a covered card is the seat's and not discarded;
+-- another card of the seat was discarded on an earlier street
 pub record CoversHand (covers : Place → Bool) (seat street : ℕ) (placed : List Place) : Type 0 where
   pub held : (place : Place) → IsAmong placed place → covers place ≡ true → (place.owner ≡ Some seat) × (place.discarded ≡ 0)
   pub gone_after : (place : Place) → IsAmong placed place → covers place ≡ false → place.owner ≡ Some seat → (0 < place.discarded) × (place.discarded < street)
@@ -80,7 +80,7 @@ pub record CoversHand (covers : Place → Bool) (seat street : ℕ) (placed : Li
 hand_rest : (covers : Place → Bool) (seat street : ℕ) (first : Place) (rest : List Place) → CoversHand covers seat street (first ∷ rest) → CoversHand covers seat street rest
 hand_rest covers seat street first rest hand = record { held = λ place among. hand.held place (inr among); gone_after = λ place among. hand.gone_after place (inr among) }
 
--- the first place as it was
+-- the first place is unchanged
 first_same : (covers : Place → Bool) (seat street count : ℕ) (first : Place) (rest : List Place) → covers first ≡ false → CoversHand covers seat street (first ∷ rest) → ((second : Place) → IsAmong rest second → OutFirst first second) → (second : Place) → CameFrom covers street count rest second → OutFirst first second
 first_same covers seat street count first rest not_covered hand before second from = by_how from.old from.among from.how
   where
@@ -121,7 +121,7 @@ unknowns_step covers seat street count names slots.Unknown [] zero first rest tr
 unknowns_step covers seat street count names slots.Unknown [] (suc blanks) first rest true here covered hand before later =
     (λ second among. first_out covers seat street count first rest (hand.held first (inl refl) covered).1 before second (came_from covers street count names [] blanks rest second among), later [] blanks)
 
--- a discard keeps the unknown cards of a seat going in the order of dealing
+-- a discard keeps the unknown cards of a seat in the order of dealing
 pub discard_unknowns : (covers : Place → Bool) (seat street count : ℕ) (names others : List Card) (blanks : ℕ) (placed : List Place) → CoversHand covers seat street placed → UnknownsFirst placed → UnknownsFirst (after_names covers (discarded_now street count) names others blanks placed)
 discard_unknowns covers seat street count names others blanks [] hand before = tt
 discard_unknowns covers seat street count names others blanks (first ∷ rest) hand before =

@@ -1,5 +1,5 @@
--- The order of a trace's places keeps the order of dealing for each owner: so of a seat's unknown cards those that stand
--- first are discarded first in that order too.
+-- The order of a trace's places keeps the order of dealing for each owner: so of a seat's unknown
+-- cards, those that come first are discarded first in that order too.
 use Rattle.std.proofs.Common.{◌≡◌, ℕ, zero, suc, ◌+◌, ◌≤◌, ◌<◌, Bool, true, false, inl, inr, Option, Some, None, List, [], ◌∷◌, ◌++◌, map, filter, length, count_by, refl, ap, subst, arith, if◌then◌else◌}
 use Rattle.std.specs.List.{flat_map, range_with_len}
 use Rattle.card_set.specs.declared.card.Slot.{Slot}
@@ -29,13 +29,13 @@ abbrev pub AreSorted : List Place → Type 0
 AreSorted [] = Unit {0}
 AreSorted (first ∷ rest) = ((later : Place) → IsAmong rest later → first.street ≤ later.street) × AreSorted rest
 
--- a place with the same card, owner and street stood there before
+-- a place with the same card, owner and street was there before
 pub record SureFrom (olds : List Place) (new : Place) : Type 0 where
   pub old : Place
   pub among : IsAmong olds old
   pub sure : IsSureOf old new
 
--- each place of later ones comes from such a one
+-- each place of later streets comes from such a place
 pub sure_from : (olds news : List Place) (new : Place) → AreSureOf olds news → IsAmong news new → SureFrom olds new
 sure_from [] [] new sure among = absurd among
 sure_from [] (first ∷ news) new sure among = absurd sure
@@ -82,7 +82,7 @@ sorted_step setup before at _ law come (moves move no_deal no_draw on) sorted = 
     by_fold true = sorted_sure (places_of setup.code before) (after_fold move.seat (places_of setup.code before)) (fold_sure move.seat (length (places_of setup.code before)) (places_of setup.code before)) sorted
     by_fold false = sorted
 
--- after legal events places stand in the order of their streets
+-- after legal events places are in the order of their streets
 pub legal_sorted : (setup : Setup) (rules : Rules) (events : List Said) → AreLegal setup rules events → AreSorted (places_of setup.code (past_of setup events))
 unfolding with_event
 legal_sorted setup rules [] legal = tt
@@ -91,7 +91,7 @@ legal_sorted setup rules (event ∷ events) legal =
     let it = legal_past setup rules events legal.1 in
     sorted_step setup before (turn setup before).0 _ it.places (turn_reaches setup before it.past.within) (stepped setup rules before event legal.0) (legal_sorted setup rules events legal.1)
 
--- an earlier street has smaller numbers, and smaller numbers stand first
+-- an earlier street has smaller numbers, and smaller numbers come first
 pub street_number : (placed : List Place) (a b : Place) → AreRising placed → AreSorted placed → IsAmong placed a → IsAmong placed b → a.street < b.street → a.number < b.number
 street_number [] a b up sorted in_a in_b less = absurd in_a
 street_number (first ∷ rest) a b up sorted (inl is_a) (inl is_b) less = absurd (omega (arith, less, ap (λ (p : Place). p.street) is_a, ap (λ (p : Place). p.street) is_b))
@@ -99,7 +99,7 @@ street_number (first ∷ rest) a b up sorted (inl is_a) (inr in_b) less = omega 
 street_number (first ∷ rest) a b up sorted (inr in_a) (inl is_b) less = absurd (omega (arith, less, sorted.0 a in_a, ap (λ (p : Place). p.street) is_b))
 street_number (first ∷ rest) a b up sorted (inr in_a) (inr in_b) less = street_number rest a b up.1 sorted.1 in_a in_b less
 
--- of two unknown cards of a seat the one with the lower number goes first
+-- of two unknown cards of a seat the one with the lower number comes first
 pub number_out : (placed : List Place) (a b : Place) → AreRising placed → UnknownsFirst placed → IsAmong placed a → IsAmong placed b → a.number < b.number → OutFirst a b
 number_out [] a b up before in_a in_b less = absurd in_a
 number_out (first ∷ rest) a b up before (inl is_a) (inl is_b) less = absurd (omega (arith, less, ap (λ (p : Place). p.number) is_a, ap (λ (p : Place). p.number) is_b))

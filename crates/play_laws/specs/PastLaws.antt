@@ -34,8 +34,9 @@ IsStreetDone setup before street =
     (is_deal_due setup before street ≡ false)
     × ((is_draw_due setup before street ≡ false) × IsBettingClosed setup (moves_of before) street)
 
--- What holds of a legal past: its newest street is one of the game and no move is of a later one; a
--- street with a move has its cards; and what was discarded was replaced, but on the newest street.
+-- What holds of a legal past: its newest street is one of the game and no move is on a later one; a
+-- street with a move has its cards; and what was discarded was replaced, except on the newest
+-- street.
 pub record PastLaw (setup : Setup) (before : Past) : Type 0 where
   pub within : newest_street before ≤ street_count setup.code
   pub since : 1 ≤ newest_street before
@@ -51,7 +52,7 @@ pub record PastLaw (setup : Setup) (before : Past) : Type 0 where
   pub folded_owed : (street seat : ℕ) → 1 ≤ seat → seat ≤ setup.stacks.seats
       → is_live (moves_of before) seat ≡ false → replacements_owed before street seat ≡ 0
 
--- an event that is no show or muck takes place on a street
+-- an event other than a show or muck takes place on this street
 abbrev pub is_played_on : ℕ → Resolved → Bool
 is_played_on street (Dealt on seat cards) = on == street
 is_played_on street (Boarded on cards) = on == street
@@ -64,9 +65,10 @@ is_played_on street (Mucked on seat) = false
 abbrev pub is_live_at_start : Past → ℕ → ℕ → Bool
 is_live_at_start before street seat = is_live (moves_before street (moves_of before)) seat
 
--- What is done in a legal past: nothing is due on earlier streets, their betting was closed before
--- the next one began, and where no deal or draw is due each seat that was live there has its cards
--- and has drawn; and a street with events other than shows began with two live seats or more.
+-- What is done in a legal past: nothing is due on earlier streets; their betting was closed before
+-- the next one began; if no deal or draw is due, each seat that was live when the street began has
+-- its cards and has drawn; and a street with events other than shows began with two or more live
+-- seats.
 pub record DoneLaw (setup : Setup) (before : Past) : Type 0 where
   pub earlier : (street : ℕ) → 1 ≤ street → street < newest_street before
       → IsStreetDone setup before street

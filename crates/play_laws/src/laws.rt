@@ -9,15 +9,15 @@ ghost use Rattle.play_event.specs.declared.setup.Setup.{Setup};
 ghost use Rattle.play_laws.specs.LegalPlaces.{AreLawful, PlacesLaw, UnknownsFirst, places_by};
 ghost use Rattle.play_laws.specs.PastLaws.{DoneLaw, PastLaw};
 
-/// A script has no illegal event exactly where its events, the newest first, are legal one by one.
-/// The function does nothing: its contract is a law.
+/// A script has no illegal event if and only if its events, newest first, are legal one by one. The
+/// function does nothing: its contract is a law.
 pub fn law_of_legal_scripts()
     ensures { (setup : Setup) (rules : Rules) (script : List Said)
         → HasNoIllegalEvent setup rules script ↔ AreLegal setup rules (reverse script) }
 {}
 
-/// After legal events: where the hand stands, what each draw and fold leaves owed, and that earlier
-/// streets are done.
+/// After legal events: the street that the hand has reached, what each draw and fold leaves owed,
+/// and that earlier streets are done.
 pub fn law_of_legal_pasts()
     ensures past { (setup : Setup) (rules : Rules) (events : List Said)
         → AreLegal setup rules events → PastLaw setup (past_of setup events) }
@@ -25,8 +25,8 @@ pub fn law_of_legal_pasts()
         → AreLegal setup rules events → DoneLaw setup (past_of setup events) }
 {}
 
-/// After legal events: how the cards lie, which of them are gone and since when, and that of a
-/// seat's unknown cards those dealt first are discarded first.
+/// After legal events: where the cards are, which of them are gone and since when; and of a seat's
+/// unknown cards, those dealt first are discarded first.
 pub fn law_of_legal_places()
     ensures places { (setup : Setup) (rules : Rules) (events : List Said)
         → AreLegal setup rules events

@@ -1,4 +1,4 @@
-//! One play, however it is spelled.
+//! Laws of events that say the same in different ways.
 ghost use Rattle.std.specs.Prelude.{◌≡◌, ◌↔◌, ℕ, List, Option};
 ghost use Rattle.play_event.specs.Laws.{AreLegal, IsInTurn};
 ghost use Rattle.play_event.specs.Past.{Past};
@@ -10,8 +10,8 @@ ghost use Rattle.play_event.specs.declared.setup.Rules.{Rules};
 ghost use Rattle.play_event.specs.declared.setup.Setup.{Setup};
 ghost use Rattle.play_laws.specs.Spellings.{all_in_full, target_after, with_actor};
 
-/// A move without actor is that of the seat in turn: to name this seat changes neither why the move
-/// is illegal nor what takes place. The function does nothing: its contract is a law.
+/// A move that names no actor is a move of the player to act: naming this seat changes neither why
+/// the move is illegal nor what takes place. The function does nothing: its contract is a law.
 pub fn law_of_actors()
     ensures same_reason { (setup : Setup) (rules : Rules) (past : Past) (seat : ℕ) (event : Said)
         → IsInTurn setup past seat
@@ -21,8 +21,8 @@ pub fn law_of_actors()
         → with_event setup (with_actor seat event) past ≡ with_event setup event past }
 {}
 
-/// However a raise is spelled, and whether it names its seat or not, its target alone tells why it
-/// is illegal and what takes place.
+/// However a raise is written, and whether or not it names its seat, its target alone decides why
+/// it is illegal and what takes place.
 pub fn law_of_equal_targets()
     ensures same_reason { (setup : Setup) (rules : Rules) (past : Past) (named : Option ℕ)
         → (amount other : Spelled)
@@ -34,9 +34,9 @@ pub fn law_of_equal_targets()
         → with_event setup (Raise named amount) past ≡ with_event setup (Raise named other) past }
 {}
 
-/// A script in full names the seat of each move, and says of each raise to how many chips of the
-/// street it goes. It is legal exactly where the script is, and leaves its past; so two scripts
-/// that are one in full leave one past.
+/// A script in full names the seat of each move and states the target of each raise in chips of the
+/// street. It is legal if and only if the script is, and leaves the same past; so two scripts that
+/// are the same in full leave the same past.
 pub fn law_of_full_spellings()
     ensures legal { (setup : Setup) (rules : Rules) (events : List Said)
         → AreLegal setup rules events ↔ AreLegal setup rules (all_in_full setup events) }

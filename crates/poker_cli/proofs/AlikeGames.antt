@@ -1,4 +1,4 @@
--- Games that are said alike are one.
+-- Games that the definitions see as equal are equal.
 use Rattle.std.proofs.Common.{◌≡◌, ℕ, ◌-◌, Bool, true, false, List, length, get_or, Option, sym, subst, ap, ◌∙◌, arith}
 use Rattle.std.proofs.Props.{props}
 use Rattle.std.proofs.lemmas.List.{get_or-take, length-take-le}
@@ -11,7 +11,7 @@ use Rattle.acpc_game.specs.GameView.{game_in}
 use Rattle.acpc_game.specs.Games.{are_chips, has_fitting_sizes}
 use Rattle.chip_ledger.specs.SeatRow.{amounts_in}
 
--- rows with the same amounts are one row
+-- rows with the same amounts are equal
 rows_same : (a b : SeatRow) → amounts_in a ≡ amounts_in b → a ≡ b
 rows_same a b same =
     let seats : a.seats ≡ b.seats =
@@ -24,7 +24,7 @@ rows_same a b same =
     ∙ ap (λ (amounts : List ℕ). get_or amounts (n - 1) 0) same
     ∙ get_or-take b.seats b.amounts (n - 1) 0 (omega (arith, first, last, seats)))
 
--- a game is what its file says
+-- a game is the one that its file gives
 record KeptGame (no_limit : Bool) (stacks blinds : SeatRow) (small big : ℕ) : Type 0 where
   one_row : blinds.seats ≡ stacks.seats
   few : are_chips (amounts_in stacks) ≡ true

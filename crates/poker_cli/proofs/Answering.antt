@@ -1,15 +1,17 @@
--- The answer to what a source has left, where it tells that, and how a run ends with it.
+-- The answer to what a source has left, if the source shows it, and how a run ends with this
+-- answer.
 use Rattle.std.proofs.Common.{◌≡◌, ◌⊎◌, ℕ, ◌<◌, suc, true, List, [], length, Option, Some, None, IfOk, IfSome, Result, Ok, Err, refl, subst, sym, inl, inr, arith}
 use Rattle.std.proofs.Math.ListN.{replicate}
 use Rattle.std.proofs.lemmas.List.{length-replicate}
 use Rattle.acpc_game.specs.declared.game.Game.{Game}
-use Rattle.acpc_text.specs.declared.fault.AcpcFault.{AcpcFault}
-use Rattle.acpc_text.specs.declared.fault.AcpcFault.TheVariants as in_acpc
+use Rattle.acpc_game.specs.declared.fault.AcpcFault.{AcpcFault}
+use Rattle.acpc_game.specs.declared.fault.AcpcFault.TheVariants as in_acpc
+use Rattle.card_set.specs.Refusal.{WasRefused}
 use Rattle.command_words.specs.Words.{Load, Plain, Request, Under, Compare}
 use Rattle.command_words.specs.declared.request.Logs.{Logs}
 use Rattle.poker_cli.specs.declared.task.Task.{Task}
 use Rattle.convert_core.specs.Conversion.{IsConversion as IsConverting, IsConverted, IsPlaysRefusal, IsReadFault, ReadAsRefused}
-use Rattle.convert_core.specs.Faults.{is_want_in_acpc, is_want_in_ohh, is_want_in_phh, is_want_of_memory}
+use Rattle.convert_core.specs.Faults.{is_out_of_memory_in_acpc, is_out_of_memory_in_ohh, is_out_of_memory_in_phh, is_out_of_memory}
 use Rattle.convert_core.specs.declared.convert_fault.ConvertFault.{ConvertFault}
 use Rattle.convert_core.specs.declared.convert_fault.ConvertFault.TheVariants as convert_faults
 use Rattle.convert_core.specs.declared.refusal.Refusal.{Refusal}
@@ -24,17 +26,17 @@ use Rattle.phh_reading.specs.declared.fault.PhhFault.{PhhFault}
 use Rattle.phh_reading.specs.declared.fault.PhhFault.TheVariants as in_phh
 use Rattle.poker_cli.specs.Answer.{Answer, Files, GivesGame, GivesNoGame, IsAnswer, IsAnswerBy, IsAnswerIn, IsAnswerTo, IsAnswerUnder, IsJudgement, IsToldOf, IsWritten, done, most_input, to_excess, to_fault, to_refusal}
 use Rattle.poker_cli.specs.Answer as answers
-use Rattle.poker_cli.specs.Lacking.{IsLackTold, Lacks}
+use Rattle.poker_cli.specs.Lacking.{IsGameFileErrorTold, Lacks}
 use Rattle.poker_cli.specs.Told.{answer_told}
 use Rattle.poker_cli.specs.declared.answer.Answer as made
-use Rattle.poker_cli.specs.declared.no_answer.NoAnswer.{NoAnswer}
-use Rattle.poker_cli.specs.declared.games.Lack.{Lack}
-use Rattle.poker_cli.specs.declared.games.Lack.TheVariants as lacks
+use Rattle.poker_cli.specs.declared.no_answer.NoAnswerError.{NoAnswerError}
+use Rattle.poker_cli.specs.declared.games.GameFileError.{GameFileError}
+use Rattle.poker_cli.specs.declared.games.GameFileError.TheVariants as lacks
 use Rattle.poker_cli.specs.Run.{AsksForFile, Ends, EndsLeaving, IsFileMissing, IsGameMissing, IsOwn, LacksFile, MayEnd, OfBytes, ReadsHands, Sinks, TellsLine, Writes, WhereTold, line_of}
 use Rattle.poker_cli.specs.declared.status.Status.{Status}
 use Rattle.poker_cli.specs.declared.status.Status.TheVariants as statuses
 use Rattle.poker_cli.specs.declared.task.Format.{Format}
-use Rattle.poker_cli.specs.Ways.{way_under}
+use Rattle.poker_cli.specs.Ways.{job_under}
 
 -- the bytes that were read are those that the source had left
 pub answer_within : (task : Task) (reader : Format) (left : Option (List ℕ)) (bytes : List ℕ) (answer : Answer)
@@ -42,20 +44,20 @@ pub answer_within : (task : Task) (reader : Format) (left : Option (List ℕ)) (
 answer_within task reader (Some left) bytes answer all is = subst (λ (l : List ℕ). IsAnswer task reader l answer) all is
 answer_within task reader None bytes answer all is = (bytes, is)
 
--- what a source gave that tells more bytes than are read, or none
+-- a source that shows that it has more bytes than the limit, or does not show its bytes
 pub beyond : (n : ℕ) (left : Option (List ℕ)) (P : List ℕ → Type 0) → IfSome left (λ l. n < length l)
     → ((bytes : List ℕ) → n < length bytes → P bytes) → OfBytes left P
 beyond n (Some left) P many each = each left many
 beyond n None P many each = let long : List ℕ = replicate (suc n) 0 in (long, each long (omega (arith, length-replicate {A = ℕ} (suc n) 0)))
 
--- more bytes than are read
+-- more bytes than the limit
 pub answer_beyond : (task : Task) (reader : Format) (left : Option (List ℕ)) (answer : Answer)
     → IfSome left (λ l. most_input < length l) → answer ≡ to_excess → OfBytes left (λ l. IsAnswer task reader l answer)
 answer_beyond task reader left answer many is =
     beyond most_input left _ many (λ bytes more. subst (λ (a : Answer). IsAnswer task reader bytes a) (sym is) (answers.TooLong more))
 
--- want of memory is not told as a fault
-history_memory : (fault : PhhFault) (answer : Answer) → to_fault (formats.Phh fault) ≡ Some answer → is_want_in_phh fault ≡ true → ⊥
+-- running out of memory is not reported as a fault
+history_memory : (fault : PhhFault) (answer : Answer) → to_fault (formats.Phh fault) ≡ Some answer → is_out_of_memory_in_phh fault ≡ true → ⊥
 history_memory (in_phh.Memory memory) answer told memory = cc (told)
 history_memory in_phh.Text answer told memory = cc (memory)
 history_memory (in_phh.MissingField hand key) answer told memory = cc (memory)
@@ -68,7 +70,7 @@ history_memory (in_phh.ListLength hand key) answer told memory = cc (memory)
 history_memory (in_phh.BadAction hand key) answer told memory = cc (memory)
 history_memory (in_phh.TooMany quantity hand key) answer told memory = cc (memory)
 
-tree_memory : (fault : OhhFault) (answer : Answer) → to_fault (formats.Ohh fault) ≡ Some answer → is_want_in_ohh fault ≡ true → ⊥
+tree_memory : (fault : OhhFault) (answer : Answer) → to_fault (formats.Ohh fault) ≡ Some answer → is_out_of_memory_in_ohh fault ≡ true → ⊥
 tree_memory (in_ohh.Memory memory) answer told memory = cc (told)
 tree_memory (in_ohh.Text hand) answer told memory = cc (memory)
 tree_memory (in_ohh.MissingMember hand path) answer told memory = cc (memory)
@@ -83,7 +85,7 @@ tree_memory (in_ohh.BadPost hand path) answer told memory = cc (memory)
 tree_memory (in_ohh.RakePlace hand path) answer told memory = cc (memory)
 tree_memory (in_ohh.TooMany quantity hand path) answer told memory = cc (memory)
 
-log_memory : (fault : AcpcFault) (answer : Answer) → to_fault (formats.Acpc fault) ≡ Some answer → is_want_in_acpc fault ≡ true → ⊥
+log_memory : (fault : AcpcFault) (answer : Answer) → to_fault (formats.Acpc fault) ≡ Some answer → is_out_of_memory_in_acpc fault ≡ true → ⊥
 log_memory (in_acpc.Memory memory) answer told memory = cc (told)
 log_memory (in_acpc.LineShape line byte) answer told memory = cc (memory)
 log_memory (in_acpc.BadBetting line byte) answer told memory = cc (memory)
@@ -95,15 +97,15 @@ log_memory (in_acpc.UnsupportedGame line byte) answer told memory = cc (memory)
 log_memory (in_acpc.AmountLimit line byte) answer told memory = cc (memory)
 log_memory (in_acpc.TooMany quantity line byte) answer told memory = cc (memory)
 
-no_memory : (fault : FormatFault) (answer : Answer) → to_fault fault ≡ Some answer → is_want_of_memory fault ≡ true → ⊥
+no_memory : (fault : FormatFault) (answer : Answer) → to_fault fault ≡ Some answer → is_out_of_memory fault ≡ true → ⊥
 no_memory (formats.Phh fault) answer told memory = history_memory fault answer told memory
 no_memory (formats.Ohh fault) answer told memory = tree_memory fault answer told memory
 no_memory (formats.Acpc fault) answer told memory = log_memory fault answer told memory
 
 module _ (Say : List Record → Type 0) (HaveFault : FormatFault → Type 0) where
   module _ (IsMade : List Play → Answer → Type 0) (answer : Answer) where
-    -- bytes do not read
-    pub answer_unread : (fault : FormatFault) → (is_want_of_memory fault ≡ true) ⊎ HaveFault fault → to_fault fault ≡ Some answer
+    -- bytes that cannot be read
+    pub answer_unread : (fault : FormatFault) → (is_out_of_memory fault ≡ true) ⊎ HaveFault fault → to_fault fault ≡ Some answer
         → IsAnswerTo Say HaveFault IsMade answer
     answer_unread fault (inl memory) told = absurd (no_memory fault answer told memory)
     answer_unread fault (inr have) told = answers.Unread fault have answer told
@@ -120,7 +122,7 @@ module _ (Say : List Record → Type 0) (HaveFault : FormatFault → Type 0) whe
     answer_unplayed (convert_faults.Unspelled number fact) is told = absurd is
     answer_unplayed (convert_faults.Memory memory) is told = absurd told
 
-  -- bytes that do not read have no hands
+  -- bytes that cannot be read have no hands
   pub answer_wrong : (IsMade : List Play → Answer → Type 0) (answer : Answer) (fault : ConvertFault) → IsReadFault HaveFault fault
       → IsToldOf fault answer → IsAnswerTo Say HaveFault IsMade answer
   answer_wrong IsMade answer (convert_faults.Format fault) have told = answers.Unread fault have answer told
@@ -136,7 +138,7 @@ module _ (Say : List Record → Type 0) (HaveFault : FormatFault → Type 0) whe
   not_judged answer (convert_faults.Memory memory) have told = absurd told
 
   module _ (unspelled : Play → Option Unspelled) (Spell Back : List Play → List ℕ → Type 0) (answer : Answer) where
-    -- bytes are not converted
+    -- bytes that cannot be converted
     pub answer_unconverted : {X : Type 0} (view : X → List ℕ) (fault : ConvertFault) → IsConverting Say HaveFault unspelled Spell Back view (Err fault)
         → IsToldOf fault answer → IsAnswerTo Say HaveFault (IsWritten unspelled Spell Back) answer
     answer_unconverted view (convert_faults.Format fault) have told = answers.Unread fault have answer told
@@ -146,7 +148,7 @@ module _ (Say : List Record → Type 0) (HaveFault : FormatFault → Type 0) whe
         (subst (IsWritten unspelled Spell Back is.plays) (sym told) (answers.NotSpelled number fact is.first))
     answer_unconverted view (convert_faults.Memory memory) is told = absurd told
 
-    -- or they are
+    -- bytes that can be converted
     pub answer_converted : (output : List ℕ) → IsConverted Say unspelled Spell Back output → answer ≡ done output
         → IsAnswerTo Say HaveFault (IsWritten unspelled Spell Back) answer
     answer_converted output is same =
@@ -161,7 +163,7 @@ pub ends_with : (request : Request) (files : Files) (bytes : List ℕ) (out diag
     → Ends request files bytes out diag status
 ends_with request files bytes out diag answer statuses.Usage is own ends written line = subst IsOwn ends own
 ends_with request files bytes out diag answer statuses.ReadFault is own ends written line = absurd (subst IsOwn ends own)
-ends_with request files bytes out diag answer statuses.Memory is own ends written line = tt
+ends_with request files bytes out diag answer statuses.Memory is own ends written line = absurd (subst IsOwn ends own)
 ends_with request files bytes out diag answer statuses.ShelfFault is own ends written line = absurd (subst IsOwn ends own)
 ends_with request files bytes out diag answer statuses.Done is own ends written line =
     record { answer = answer; to_input = is; ends = ends; written = written; line = line }
@@ -184,17 +186,17 @@ ends_with request files bytes out diag answer statuses.FileMissing is own ends w
 ends_with request files bytes out diag answer statuses.BadGame is own ends written line =
     record { answer = answer; to_input = is; ends = ends; written = written; line = line }
 
--- what follows of bytes, where they are told or not
+-- what follows for bytes, whether the source shows them or not
 pub bytes_told : (left : Option (List ℕ)) (P Q : List ℕ → Type 0) → ((bytes : List ℕ) → P bytes → Q bytes) → OfBytes left P → OfBytes left Q
 bytes_told (Some bytes) P Q more is = more bytes is
 bytes_told None P Q more is = (is.0, more is.0 is.1)
 
--- of all bytes
+-- what holds of all bytes
 pub of_all : (left : Option (List ℕ)) (P : List ℕ → Type 0) → ((bytes : List ℕ) → P bytes) → OfBytes left P
 of_all (Some bytes) P each = each bytes
 of_all None P each = ([], each [])
 
--- what follows of files and bytes, where they are told
+-- what follows for files and bytes, if they are shown
 pub where_told : (request : Request) (left : Option (List ℕ)) (told : Option Files) (P Q : Files → List ℕ → Type 0)
     → ((files : Files) (bytes : List ℕ) → P files bytes → Q files bytes) → WhereTold request left told P → WhereTold request left told Q
 where_told (Load seed hands) left told P Q more is = more _ _ is
@@ -204,7 +206,7 @@ where_told (Under name logs) left None P Q more is = tt
 where_told (Compare sides file notes) left (Some files) P Q more is = bytes_told left _ _ (more files) is
 where_told (Compare sides file notes) left None P Q more is = tt
 
--- of all files and bytes
+-- what holds of all files and bytes
 pub always_told : (request : Request) (left : Option (List ℕ)) (told : Option Files) (P : Files → List ℕ → Type 0)
     → ((files : Files) (bytes : List ℕ) → P files bytes) → WhereTold request left told P
 always_told (Load seed hands) left told P each = each _ _
@@ -214,7 +216,7 @@ always_told (Under name logs) left None P each = tt
 always_told (Compare sides file notes) left (Some files) P each = of_all left _ (each files)
 always_told (Compare sides file notes) left None P each = tt
 
--- the input is read where no file lacks
+-- the input is read if no file is missing
 pub read_told : (request : Request) (left : Option (List ℕ)) (told : Option Files) → ReadsHands request → (LacksFile request told → ⊥)
     → WhereTold request left told (λ files bytes. ReadsHands request × (LacksFile request (Some files) → ⊥))
 read_told (Load seed hands) left told reads there = absurd reads
@@ -224,7 +226,7 @@ read_told (Under name logs) left None reads there = tt
 read_told (Compare sides file notes) left (Some files) reads there = of_all left _ (λ bytes. (reads, there))
 read_told (Compare sides file notes) left None reads there = tt
 
--- and where the answer is done and has no output, its sink is the same
+-- if the answer is done and has no output, the sink stays the same
 leaves_with : (request : Request) (files : Files) (bytes : List ℕ) (out diag : Sinks) (answer : Answer) (status : Status) (Same : Type 0)
     → IsAnswerIn request files bytes answer → IsOwn answer.status → MayEnd answer status
     → Writes out.held out.holds answer status
@@ -239,7 +241,7 @@ leaves_with request files bytes out diag answer statuses.Done Same is own ends w
 leaves_with request files bytes out diag answer status Same is own ends written line same =
     record { ends = ends_with request files bytes out diag answer status is own ends written line; unwritten = tt }
 
--- where the source tells what it has left, and the shelf its files
+-- if the source shows what it has left, and the shelf its files
 pub ends_where_told : (request : Request) (left : Option (List ℕ)) (told : Option Files) (out diag : Sinks) (answer : Answer) (status : Status) (Same : Type 0)
     → WhereTold request left told (λ files bytes. IsAnswerIn request files bytes answer)
     → IsOwn answer.status → MayEnd answer status → Writes out.held out.holds answer status
@@ -276,12 +278,12 @@ module _ (request : Request) (left : Option (List ℕ)) (told : Option Files) (o
       always_told request left told (λ files bytes. EndsLeaving request files bytes out diag statuses.ShelfFault Same)
       (λ files bytes. record { ends = asks; unwritten = tt })
 
-  pub ends_memory : WhereTold request left told (λ files bytes. EndsLeaving request files bytes out diag statuses.Memory Same)
-  ends_memory =
+  pub ends_memory : WasRefused → WhereTold request left told (λ files bytes. EndsLeaving request files bytes out diag statuses.Memory Same)
+  ends_memory refused =
       always_told request left told (λ files bytes. EndsLeaving request files bytes out diag statuses.Memory Same)
-      (λ files bytes. record { ends = tt; unwritten = tt })
+      (λ files bytes. record { ends = refused; unwritten = tt })
 
--- What is known of a status of an answer where nothing is written.
+-- What is known of the status of an answer if nothing is written.
 pub record IsTold (answer : Answer) (status : Status) (held : Option (List ℕ)) : Type 0 where
   pub no_read : status ≡ statuses.ReadFault → ⊥
   pub no_write : status ≡ statuses.WriteFault → ⊥
@@ -315,39 +317,39 @@ told_alone answer statuses.ShelfFault held same own undone = absurd own
 told_alone answer statuses.GameMissing held same own undone = absurd own
 told_alone answer statuses.FileMissing held same own undone = absurd own
 
--- where logs are under a game, the answer is by the game that its file gives
-pub game_reply : (told : Option Files) (left : Option (List ℕ)) (name : List ℕ) (logs : Logs) (game : Game) (result : Result made.Answer NoAnswer)
+-- if logs are under a game, the answer is that under the game in its file
+pub game_reply : (told : Option Files) (left : Option (List ℕ)) (name : List ℕ) (logs : Logs) (game : Game) (result : Result made.Answer NoAnswerError)
     → IfSome told (λ files. GivesGame (files name) game)
-    → IfOk result (λ answer. OfBytes left (λ bytes. IsAnswerBy (way_under game logs) bytes (answer_told answer)))
+    → IfOk result (λ answer. OfBytes left (λ bytes. IsAnswerBy (job_under game logs) bytes (answer_told answer)))
     → IfOk result (λ answer. IfSome told (λ files. OfBytes left (λ bytes. IsAnswerUnder (files name) logs bytes (answer_told answer))))
 game_reply (Some files) left name logs game (Ok answer) gives is =
     bytes_told left _ (λ bytes. IsAnswerUnder (files name) logs bytes (answer_told answer)) (λ bytes to. answers.OfInput game gives (answer_told answer) to) is
 game_reply None left name logs game (Ok answer) gives is = tt
 game_reply told left name logs game (Err why) gives is = tt
 
--- or tells what the file lacks
-pub no_game : (file : Option (List ℕ)) (lack : Lack) (answer : Answer) → Lacks file lack → IsLackTold lack answer → GivesNoGame file answer
+-- or it reports what is wrong with the file
+pub no_game : (file : Option (List ℕ)) (lack : GameFileError) (answer : Answer) → Lacks file lack → IsGameFileErrorTold lack answer → GivesNoGame file answer
 no_game file lacks.TooLong answer is told = subst (λ (a : Answer). GivesNoGame file a) (sym told) (answers.FileTooLong is.0 is.1.0 is.1.1)
 no_game file (lacks.Bad fault) answer is told =
     subst (λ (a : Answer). GivesNoGame file a) (sym told) (answers.BadGame is.0 is.1.0 is.1.1.0 fault is.1.1.1)
 
-pub lack_reply : (told : Option Files) (left : Option (List ℕ)) (name : List ℕ) (logs : Logs) (lack : Lack) (answer : Answer)
-    → IfSome told (λ files. Lacks (files name) lack) → IsLackTold lack answer
+pub game_file_error_reply : (told : Option Files) (left : Option (List ℕ)) (name : List ℕ) (logs : Logs) (lack : GameFileError) (answer : Answer)
+    → IfSome told (λ files. Lacks (files name) lack) → IsGameFileErrorTold lack answer
     → IfSome told (λ files. OfBytes left (λ bytes. IsAnswerUnder (files name) logs bytes answer))
-lack_reply (Some files) left name logs lack answer is tells =
-    of_all left (λ bytes. IsAnswerUnder (files name) logs bytes answer) (λ bytes. answers.NoGame answer (no_game (files name) lack answer is tells))
-lack_reply None left name logs lack answer is tells = tt
+game_file_error_reply (Some files) left name logs lack answer is tells =
+    of_all left (λ bytes. IsAnswerUnder (files name) logs bytes answer) (λ bytes. answers.NoGameError answer (no_game (files name) lack answer is tells))
+game_file_error_reply None left name logs lack answer is tells = tt
 
--- what is known of the files is so whatever bytes there are
+-- what is known of the files holds whatever the bytes are
 pub of_files : (left : Option (List ℕ)) (told : Option Files) (P : Files → Type 0) → IfSome told P → IfSome told (λ files. OfBytes left (λ bytes. P files))
 of_files left (Some files) P is = of_all left (λ bytes. P files) (λ bytes. is)
 of_files left None P is = tt
 
--- want of memory says nothing of files and bytes, and leaves the input
+-- running out of memory says nothing about files and bytes, and leaves the input as it was
 pub ends_unread : (said : Option Request) (left : Option (List ℕ)) (told : Option Files) (out diag : Sinks) (Same : Type 0)
     → IfSome said (λ request. WhereTold request left told (λ files bytes. EndsLeaving request files bytes out diag statuses.Memory Same))
-ends_unread None left told out diag Same = tt
-ends_unread (Some request) left told out diag Same = ends_memory request left told out diag Same
+ends_unread None left told out diag Same refused = tt
+ends_unread (Some request) left told out diag Same refused = ends_memory request left told out diag Same refused
 
 pub kept_unread : {X : Type 0} (said : Option Request) (asks : Request → Type 0) (input : X) → IfSome said (λ request. asks request → input ≡ input)
 kept_unread None asks input = tt

@@ -1,4 +1,5 @@
--- A run that compares is done exactly where both files read as legal hands and are the same, and else names their first difference.
+-- A run of `compare` ends with Done if and only if both files read as legal hands and are the same;
+-- otherwise it names their first difference.
 use Rattle.std.proofs.Common.{◌≡◌, ◌⊎◌, ◌↔◌, ℕ, zero, suc, ◌+◌, ◌-◌, ◌==◌, ◌≤◌, Bool, true, false, if◌then◌else◌, List, [], ◌∷◌, length, take, Option, Some, None, refl, sym, subst, ap, ◌∙◌, inl, inr, arith}
 use Rattle.std.specs.List.{AllByRecursion, slice_get}
 use Rattle.std.specs.Option.{option_map, option_or}
@@ -26,7 +27,7 @@ use Rattle.poker_cli.proofs.Comparisons.{by_request, compared_as, compared_legal
 use Rattle.poker_cli.proofs.Headline.{IsUnread, not_unread}
 use Rattle.poker_cli.proofs.LawfulFormats.{read_by}
 
--- two sound plays differ in nothing exactly where they are the same hand
+-- two sound plays have no difference if and only if they are the same hand
 each_same : (notes : Bool) (place : ℕ) (play other : Play) → IsSound play → IsSound other
     → (first_difference notes place play other ≡ None) ↔ IsSameHand notes place play other
 each_same true place play other sound too = same_with_notes place play other sound too
@@ -38,12 +39,12 @@ same_told notes plays others sound too = compared_as notes (IsSameHand notes) (e
 
 -- ---- the first hand that differs
 
--- the first hand that differs is that at a place, if it does, or else the first behind it
+-- the first hand that differs: the one at a place, if it does, or else the first after it
 abbrev here_or_behind : ℕ → Option PlainDifference → Option DifferentHand → Option DifferentHand
 here_or_behind place found behind =
     option_or (option_map (λ difference. record { number = place + 1; difference = difference }) found) behind
 
--- so many hands from a place on are the same, and behind them is the first that differs
+-- the hands from a place on are the same up to one, and that one is the first that differs
 record IsFirstFrom (notes : Bool) (place : ℕ) (plays others : List Play) (differs : DifferentHand) : Type 0 where
   count : ℕ
   numbered : differs.number ≡ place + count + 1
@@ -114,7 +115,7 @@ first_is notes plays others differs sound too is =
       first = subst (λ (n : ℕ). first_difference notes n found.play found.other ≡ Some differs.difference) place found.first;
     }
 
--- where no hand differs, all that both have are the same
+-- if no hand differs, all hands that both files have are the same
 so_far : (notes : Bool) (place : ℕ) (plays others : List Play) → AllByRecursion IsSound plays → AllByRecursion IsSound others
     → first_different notes place plays others ≡ None
     → AllPaired (IsSameHand notes) place (take (length others) plays) (take (length plays) others)
@@ -128,9 +129,9 @@ so_far notes place (p ∷ ps) (q ∷ qs) sound too none =
       so_far notes (place + 1) ps qs sound.1 too.1 parts.1,
     )
 
--- ---- what is told of plays
+-- ---- the answer to plays
 
--- done is told with how many hands there are
+-- done comes with the number of hands
 done_told : (found : Option DifferentHand) (hands others : ℕ) → (compared_by found hands others).status ≡ statuses.Done → compared_by found hands others ≡ to_same hands
 done_told (Some differs) hands others is = absurd (cc (is))
 done_told None hands others is = go (hands == others) is
@@ -140,7 +141,7 @@ done_told None hands others is = go (hands == others) is
     go true is = refl
     go false is = absurd (cc (is))
 
--- nothing else is told than that they are the same, or differ
+-- the answer is either that they are the same or that they differ
 done_or_differs : (found : Option DifferentHand) (hands others : ℕ)
     → ((compared_by found hands others).status ≡ statuses.Done) ⊎ ((compared_by found hands others).status ≡ statuses.Differs)
 done_or_differs (Some differs) hands others = inr refl
@@ -170,14 +171,14 @@ other_told notes plays others sound too is = go (first_different notes 0 plays o
 
 -- ---- runs
 
--- both files read as legal hands, and the answer is what is told of their plays
+-- both files read as legal hands, and the answer is that to their plays
 record IsToldOfBoth (by : Comparison) (text bytes : List ℕ) (answer : Answer) : Type 0 where
   plays : List Play
   others : List Play
   both : BothRead by text bytes plays others
   is : answer ≡ compared by.notes plays others
 
--- of an answer with this status, which is none of a file that does not read as legal hands
+-- for an answer with this status, which is not that of a file that cannot be read as legal hands
 module _ (by : Comparison) (text bytes : List ℕ) (status : Status) (read : IsUnread status → ⊥) (legal : statuses.Refused ≡ status → ⊥) where
   told_with : (plays : List Play) (answer : Answer) → length bytes ≤ most_input → ReadAsPlays (SayRecords by.from bytes) plays
       → IsComparedWith by.other by.notes text plays answer → answer.status ≡ status → IsToldOfBoth by text bytes answer
@@ -200,7 +201,7 @@ module _ (by : Comparison) (text bytes : List ℕ) (plays others : List Play) (b
   others_sound : AllByRecursion IsSound others
   others_sound = read_sound (read_by by.other) text others both.other
 
-  -- so they are the same exactly where done is told of them
+  -- they are the same if and only if the answer is done
   done_of_both : ((compared by.notes plays others).status ≡ statuses.Done) ↔ AreSame by.notes plays others
   done_of_both = same_told by.notes plays others plays_sound others_sound
 
@@ -240,7 +241,7 @@ module _ (request : Request) (by : Comparison) (files : Files) (text bytes : Lis
 
 module _ (request : Request) (by : Comparison) (files : Files) (text bytes : List ℕ) (plays others : List Play) (out diag : Sinks) (status : Status)
     (asks : AsksToCompare files request by text) (both : BothRead by text bytes plays others) where
-  -- a run ends with what is told of the plays, or a device failed, or memory ran out
+  -- a run ends with the answer to the plays, or a device failed, or memory ran out
   told_or_not : Ends request files bytes out diag status → RefusesNothing status ⊎ ((compared by.notes plays others).status ≡ status)
   told_or_not ends = legal_compares request by files text bytes plays others out diag status asks both.within both.read both.other ends
 
@@ -251,7 +252,7 @@ module _ (request : Request) (by : Comparison) (files : Files) (text bytes : Lis
       go (inl is) = is
       go (inr is) = subst RefusesNothing (sym ((done_of_both by text bytes plays others both).1 same) ∙ is) tt
 
-  -- where they are not the same no answer is done
+  -- if they are not the same, no answer is done
   never_done : (AreSame by.notes plays others → ⊥) → (answer : Answer) → IsAnswerIn request files bytes answer → answer.status ≡ statuses.Done → ⊥
   never_done other answer is done =
       let so = compared_legal by text bytes plays others answer both.within both.read both.other (by_request request files by text bytes answer asks is) in
@@ -262,7 +263,7 @@ module _ (request : Request) (by : Comparison) (files : Files) (text bytes : Lis
   fault_or_not other statuses.WriteFault ends is = absurd (never_done other ends.answer ends.to_input ends.ends.0)
   fault_or_not other statuses.ReadFault ends is = tt
   fault_or_not other statuses.ShelfFault ends is = tt
-  fault_or_not other statuses.Memory ends is = tt
+  fault_or_not other statuses.Memory ends is = is
   fault_or_not other status ends is = absurd is
 
   pub other_differs : (AreSame by.notes plays others → ⊥) → Ends request files bytes out diag status → FindsOther status

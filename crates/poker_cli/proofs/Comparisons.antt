@@ -1,5 +1,6 @@
--- A comparison has one answer, and is done exactly where the hands of both files are the same; what was converted is the same as its
--- source, and two files are the same exactly where they are converted into the same output.
+-- A comparison has one answer, and is done if and only if the hands of both files are the same; a
+-- conversion is the same as its source, and two files are the same if and only if they are
+-- converted to the same output.
 use Rattle.std.proofs.Common.{◌≡◌, ◌⊎◌, ◌↔◌, ℕ, ◌+◌, ◌≤◌, ◌==◌, Bool, true, false, if◌then◌else◌, suc, List, [], ◌∷◌, length, Option, Some, None, refl, sym, subst, ap, ap₂, ◌∙◌, arith}
 use Rattle.std.specs.List.{AllByRecursion}
 use Rattle.std.specs.Option.{option_map, option_or}
@@ -45,7 +46,7 @@ Same = AreSameHand (λ notes. notes)
 
 -- ---- the first hand that differs
 
--- of the same hands the same differs
+-- the same hands have the same difference
 same_difference : (notes : Bool) (place : ℕ) (p q o t : Play) → Same place p q → Same place o t
     → first_difference notes place p o ≡ first_difference notes place q t
 unfolding first_difference
@@ -124,7 +125,7 @@ unfolding AllPaired
 own_hands place [] = tt
 own_hands place (p ∷ ps) = (record { trace = refl; notes = refl }, own_hands (place + 1) ps)
 
--- the answer where both files read as legal hands
+-- the answer if both files read as legal hands
 with_legal : (other : Format) (notes : Bool) (file : List ℕ) (plays others : List Play) (answer : Answer) → ReadAsPlays (SayRecords other file) others
     → IsComparedWith other notes file plays answer → answer ≡ compared notes plays others
 with_legal other notes file plays others _ read (answers.OtherUnread fault have answer told) = absurd (no_fault other file read.records fault read.say have)
@@ -169,7 +170,7 @@ by_request (Compare (SidesUnder name from other) file notes) files by text bytes
     ∙ sym asks.comparison.same)
     (to_other (comparison_under game from other notes) (files file) text bytes answer asks.there asks.short to)
 
--- it lacks no game, and no file
+-- no game file and no other file is missing
 no_game_missing : (request : Request) (files : Files) (by : Comparison) (text : List ℕ) → AsksToCompare files request by text → IsGameMissing request files → ⊥
 no_game_missing (Load seed hands) files by text asks missing = asks
 no_game_missing (Plain from task) files by text asks missing = asks
@@ -184,7 +185,7 @@ no_other_missing (Under name logs) files by text asks missing = asks
 no_other_missing (Compare (PlainSides from other) file notes) files by text asks missing = let there = asks.there in cc (there, missing)
 no_other_missing (Compare (SidesUnder name from other) file notes) files by text asks missing = let there = asks.there in let none = missing.1 in cc (there, none)
 
--- a run that compares ends with the status of the comparison, where all hands of both files are legal
+-- a run of `compare` ends with the status of the comparison, if all hands of both files are legal
 pub legal_compares : (request : Request) (by : Comparison) (files : Files) (text bytes : List ℕ) (plays others : List Play)
     → (out diag : Sinks) (status : Status) → AsksToCompare files request by text → length bytes ≤ most_input
     → ReadAsPlays (SayRecords by.from bytes) plays → ReadAsPlays (SayRecords by.other text) others
@@ -196,7 +197,7 @@ legal_compares request by files text bytes plays others out diag status asks few
 
 -- ---- which hands are the same
 
--- done is what nothing differs in
+-- the answer is done if nothing differs
 done_by : (found : Option DifferentHand) (hands others : ℕ) → (compared_by found hands others).status ≡ statuses.Done → (found ≡ None) × (hands ≡ others)
 done_by (Some differs) hands others is = absurd (cc)
 done_by None hands others is = (refl, eqb-true hands others (go (hands == others) is))
@@ -210,7 +211,7 @@ by_done found hands others none same =
     ap (λ (f : Option DifferentHand). (compared_by f hands others).status) none
     ∙ ap (λ (b : Bool). (if b then to_same hands else to_other_count hands others).status) (eq-eqb hands others same)
 
--- what holds of each pair where nothing differs, and the other way
+-- what holds of each pair if nothing differs, and the converse
 paired_of_none : (notes : Bool) (P : ℕ → Play → Play → Type 0)
     → ((place : ℕ) (play other : Play) → IsSound play → IsSound other → first_difference notes place play other ≡ None → P place play other)
     → (place : ℕ) (ps qs : List Play) → AllByRecursion IsSound ps → AllByRecursion IsSound qs → first_different notes place ps qs ≡ None
@@ -266,7 +267,7 @@ module _ (from to : Format) (keep : Keep) (bytes output : List ℕ) (into : Conv
   into_sound : AllByRecursion IsSound into.plays
   into_sound = read_sound (read_by from) bytes into.plays into.can.legal
 
-  -- what the output reads as are the same hands, and with their notes, where all of these are kept
+  -- the output reads as the same hands, including their notes if all of these are kept
   again_traces : (plays others : List Play) → ReadAsPlays (SayRecords from bytes) plays → ReadAsPlays (SayRecords to output) others
       → AllPaired (λ place play other. play.trace ≡ other.trace) 0 plays others
   again_traces plays others read reads =
@@ -299,7 +300,7 @@ module _ (from to : Format) (keep : Keep) (bytes output : List ℕ) (into : Conv
       (same_but_notes plays others (read_sound (read_by from) bytes plays read) (read_sound (read_by to) output others reads)).1
       (again_traces plays others read reads)
 
-  -- the answer where the output is the other file
+  -- the answer if the output is the other file
   beside_output : (notes : Bool) (answer : Answer) → (notes ≡ true → first_refusal_in to keeps.All into.plays ≡ None)
       → IsComparison (record { from = from; other = to; notes = notes }) output bytes answer → answer.status ≡ statuses.Done
   beside_output notes _ none (answers.InputTooLong many) = let few = into.can.within in absurd (omega (arith, many, few))
@@ -318,7 +319,7 @@ module _ (from to : Format) (keep : Keep) (bytes output : List ℕ) (into : Conv
           (same_compared notes plays into.plays others others same (read_same (read_by to) output others others reads reads))
           ∙ same_again notes into.plays others into.can.legal reads none
 
-  -- and where it is the input
+  -- and if it is the input
   before_source : (notes : Bool) (answer : Answer) → (notes ≡ true → first_refusal_in to keeps.All into.plays ≡ None) → length output ≤ most_input
       → IsComparison (record { from = to; other = from; notes = notes }) bytes output answer → answer.status ≡ statuses.Done
   before_source notes _ none few (answers.InputTooLong many) = absurd (omega (arith, many, few))
@@ -339,7 +340,8 @@ module _ (from to : Format) (keep : Keep) (bytes output : List ℕ) (into : Conv
           (paired_turned (λ place play other. play.trace ≡ other.trace) (λ place play other. play.trace ≡ other.trace)
           (λ place play other same. sym same) 0 into.plays others (again_traces into.plays others into.can.legal reads))
 
--- a run that compares an output with its source, or the source with it, is done, or a device failed, or memory ran out
+-- a run that compares an output with its source, or the source with it, is done, or a device
+-- failed, or memory ran out
 pub compares_output : (request : Request) (files : Files) (from to : Format) (keep : Keep) (notes : Bool) (bytes output : List ℕ)
     → (out diag : Sinks) (status : Status) (into : ConvertsInto from to keep bytes output)
     → (notes ≡ true → first_refusal_in to keeps.All into.plays ≡ None)
@@ -364,7 +366,7 @@ compares_source request files from to keep notes bytes output out diag status in
     (λ answer is. before_source from to keep bytes output into notes answer none few (by_request request files by bytes output answer asks is))
     (no_game_missing request files by bytes asks) (no_other_missing request files by bytes asks) ends)
 
--- two files that are converted with all notes are the same exactly where their outputs are
+-- two files that are converted with all notes are the same if and only if their outputs are
 pub compares_outputs : (request : Request) (files : Files) (from other to : Format) (bytes too output written : List ℕ)
     → (out diag : Sinks) (status : Status) → ConvertsInto from to keeps.All bytes output → ConvertsInto other to keeps.All too written
     → AsksToCompare files request (record { from = from; other = other; notes = true }) too

@@ -1,4 +1,5 @@
--- Equal hands have equal answers to their conversion, an output is converted to itself, and a conversion may go by another notation.
+-- Equal hands have equal answers to their conversion, an output is converted to itself, and a
+-- conversion may go through another notation.
 use Rattle.std.proofs.Common.{◌≡◌, ◌↔◌, ℕ, ◌≤◌, List, length, Ok, Err, refl, ap₂, arith}
 use Rattle.convert_core.proofs.Conversions.{output_again, same_answers}
 use Rattle.convert_core.proofs.LawfulNotations.{never_refused}
@@ -40,7 +41,8 @@ record IsMadeOf (from to : Format) (keep : Keep) (bytes : List ℕ) (answer : An
   read : ReadAsPlays (SayRecords from bytes) plays
   made : IsConversion to keep plays answer
 
--- where the bytes are not too many, and have no fault and no refused hand, the answer is made of their plays
+-- if the bytes are within the limit, and have no fault and no refused hand, the answer is made of
+-- their plays
 made_of_plays : (from to : Format) (keep : Keep) (bytes : List ℕ) (answer : Answer) → length bytes ≤ most_input
     → ((fault : FormatFault) → HaveFault from bytes fault → ⊥) → ((number : ℕ) (why : Refusal) → ReadAsRefused (SayRecords from bytes) number why → ⊥)
     → IsAnswer (tasks.Convert to keep) from bytes answer → IsMadeOf from to keep bytes answer
@@ -91,7 +93,7 @@ answer_again from to once keep bytes answer other is done few it =
     let made = output_made from to once bytes answer.output into to keep other few it in
     again_made from to once keep bytes answer.output made.plays other into made.read made.made
 
--- ---- by way of another notation
+-- ---- through another notation
 
 module _ (from by to : Format) (keep : Keep) (bytes output : List ℕ) (into : ConvertsInto from by keeps.All bytes output) (plays others : List Play)
     (read : ReadAsPlays (SayRecords from bytes) plays) (reads : ReadAsPlays (SayRecords by output) others) where

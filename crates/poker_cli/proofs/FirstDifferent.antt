@@ -6,18 +6,18 @@ use Rattle.hand_differences.specs.FirstDifference.{PlainDifference, first_differ
 use Rattle.hand_records.specs.declared.trace.Play.{Play}
 use Rattle.poker_cli.specs.Compared.{DifferentHand, first_different}
 
--- beside nothing nothing differs
+-- if one side has no hands, nothing differs
 nothing_beside : (notes : Bool) (place : ℕ) (plays : List Play) → first_different notes place plays [] ≡ None
 unfolding first_different
 nothing_beside notes place [] = refl
 nothing_beside notes place (play ∷ plays) = refl
 
 module _ (notes : Bool) (plays others : List Play) where
-  -- of the hands from a place on
+  -- for the hands from a place on
   abbrev pub different_from : ℕ → Option DifferentHand
   different_from place = first_different notes place (drop place plays) (drop place others)
 
-  -- it is that at the place, or the first behind it
+  -- it is that at the place, or the first after it
   abbrev here_or : (place : ℕ) → Option PlainDifference → Option DifferentHand
   here_or place found =
       option_or (option_map (λ difference. record { number = place + 1; difference = difference }) found) (different_from (place + 1))

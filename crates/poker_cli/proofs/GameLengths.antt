@@ -14,11 +14,11 @@ use Rattle.acpc_game.specs.Games.{has_fitting_sizes}
 use Rattle.chip_ledger.specs.Sizes.{is_size}
 use Rattle.acpc_game.specs.SaidGames.{IsGame, are_caps}
 
--- a number behind a space
+-- a number after a space
 few_digits : (number : ℕ) → number < 2 ^ 64 → length (decimal number) ≤ 20
 few_digits number fits = length-decimal-le 20 number (omega arith) (omega (arith, fits)) fits
 
--- numbers behind spaces
+-- numbers after spaces
 few_spaced : (most : ℕ) → most < 2 ^ 64 → (numbers : List ℕ) → list_all (λ number. nat_le number most) numbers ≡ true
     → length (spaced numbers) ≤ 21 * length numbers
 few_spaced most fits [] all = omega arith

@@ -19,7 +19,7 @@ use Rattle.play_event.specs.declared.setup.Setup.{Setup}
 use Rattle.poker_cli.specs.Answer.{GivesGame, IsGameReply, done, to_game, to_unspelled}
 use Rattle.poker_cli.proofs.GameLengths.{game_length}
 
--- no hand says caps
+-- no hand states caps
 no_caps : (setup : Setup) (game : GameSaid) → game_of setup ≡ Ok game → game.caps ≡ None
 unfolding game_of
 no_caps setup game is = by_limit (no_limit_of setup.code) is
@@ -59,14 +59,14 @@ first_game play rest game text fits written =
           (game, (refl, gives_it play.trace.setup game text fits written));
     }
 
--- of all plays the first
+-- the first of all plays
 pub first_of_all : (plays : List Play) (play : Play) (game : Game) (text : List ℕ) → 0 < length plays → play ≡ get_or plays 0 play
     → game_of play.trace.setup ≡ Ok (game_in game) → text ≡ game_text (game_in game) → IsGameReply plays (done text)
 first_of_all [] play game text some is fits written = absurd (omega (arith, some))
 first_of_all (first ∷ rest) play game text some is fits written =
     first_game first rest game text (subst (λ (p : Play). game_of p.trace.setup ≡ Ok (game_in game)) is fits) written
 
--- or a fact that no game has is told
+-- or a fact that no game can have is reported
 pub first_unspelled : (play : Play) (rest : List Play) (fact : Unspelled) → game_of play.trace.setup ≡ Err fact
     → IsGameReply (play ∷ rest) (to_unspelled 1 fact)
 first_unspelled play rest fact refused =

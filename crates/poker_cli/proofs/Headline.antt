@@ -1,8 +1,8 @@
--- What a conversion ends with follows from the answer to its input.
+-- How a conversion ends follows from the answer to its input.
 use Rattle.std.proofs.Common.{◌≡◌, ◌⊎◌, ℕ, ◌≤◌, List, length, Option, Some, None, IfSome, refl, sym, subst, ap, inl, inr, arith}
 use Rattle.std.specs.Option.{option_map}
-use Rattle.acpc_text.specs.declared.fault.AcpcFault.{AcpcFault}
-use Rattle.acpc_text.specs.declared.fault.AcpcFault.TheVariants as in_acpc
+use Rattle.acpc_game.specs.declared.fault.AcpcFault.{AcpcFault}
+use Rattle.acpc_game.specs.declared.fault.AcpcFault.TheVariants as in_acpc
 use Rattle.command_words.specs.Words.{Load, Plain, Request, Under, Compare}
 use Rattle.command_words.specs.declared.request.Logs.TheVariants as logs_are
 use Rattle.poker_cli.specs.declared.task.Task.TheVariants as tasks
@@ -15,7 +15,7 @@ use Rattle.host_io.specs.Faults.{Rose}
 use Rattle.ohh_members.specs.declared.fault.MemberFaultKind.TheVariants as members
 use Rattle.ohh_reading.specs.Reading.{Wrong as WrongTree, NoText, InHand as InTree}
 use Rattle.ohh_reading.specs.Reading as in_ohh
-use Rattle.phh_fields.specs.declared.fault.FieldFaultKind.TheVariants as whats
+use Rattle.phh_reading.specs.declared.field_fault.FieldFaultKind.TheVariants as whats
 use Rattle.phh_reading.specs.Reading.{InHand, NoDocument, Wrong}
 use Rattle.phh_reading.specs.Reading as in_phh
 use Rattle.poker_cli.specs.Answer.{Answer, Files, IsAnswer, most_input, to_fault, to_wrong_acpc, to_wrong_ohh, to_wrong_phh}
@@ -30,13 +30,13 @@ use Rattle.poker_cli.specs.declared.status.Status.{Status}
 use Rattle.poker_cli.specs.declared.status.Status.TheVariants as statuses
 use Rattle.poker_cli.specs.declared.task.Format.{Format}
 use Rattle.poker_cli.specs.declared.task.Format.TheVariants as readers
-use Rattle.poker_cli.specs.declared.task.Way.{Way}
+use Rattle.poker_cli.specs.declared.task.Job.{Job}
 use Rattle.poker_cli.proofs.Answering.{where_told}
 use Rattle.poker_cli.proofs.LawfulFormats.{no_fault}
 use Rattle.poker_cli.proofs.OneAnswer.{in_way, legal_in_way, no_file_missing, no_missing}
-use Rattle.list_laws.proofs.Options.{some_more}
+use Rattle.card_set.proofs.Options.{some_more}
 
--- the status of a fault of bytes is that of bad input or of a limit
+-- the status of a fault of bytes is BadInput or Limit
 unfoldable pub IsUnread : Status → Type 0
 IsUnread statuses.BadInput = Unit {0}
 IsUnread statuses.Limit = Unit {0}
@@ -125,7 +125,7 @@ module _ (from to : Format) (keep : Keep) (bytes : List ℕ) where
     refused_so _ (answers.Read few _ (answers.Played plays read _ (answers.NotSpelled number fact is))) same told = absurd (cc (same))
     refused_so _ (answers.Read few _ (answers.Played plays read _ (answers.Spelled none output spell back))) same told = absurd (cc (same))
 
-    -- a fact without a spelling
+    -- a fact that cannot be written
     unspelled_so : (answer : Answer) → IsAnswer (tasks.Convert to keep) from bytes answer → answer.status ≡ statuses.Unspelled
         → TellsAlone out diag answer.line → NamesUnspelled from to keep bytes out diag
     unfolding IsUnread
@@ -136,7 +136,7 @@ module _ (from to : Format) (keep : Keep) (bytes : List ℕ) where
         record { within = few; number = number; fact = fact; first = record { plays = plays; read = read; first = is }; told = told }
     unspelled_so _ (answers.Read few _ (answers.Played plays read _ (answers.Spelled none output spell back))) same told = absurd (cc (same))
 
-    -- bytes that do not read
+    -- bytes that cannot be read
     bad_so : (answer : Answer) → IsAnswer (tasks.Convert to keep) from bytes answer → answer.status ≡ statuses.BadInput
         → TellsAlone out diag answer.line → NamesFault from bytes out diag statuses.BadInput
     bad_so _ (answers.TooLong many) same told = absurd (cc (same))
@@ -146,7 +146,7 @@ module _ (from to : Format) (keep : Keep) (bytes : List ℕ) where
     bad_so _ (answers.Read few _ (answers.Played plays read _ (answers.NotSpelled number fact is))) same told = absurd (cc (same))
     bad_so _ (answers.Read few _ (answers.Played plays read _ (answers.Spelled none output spell back))) same told = absurd (cc (same))
 
-    -- bytes beyond a limit
+    -- bytes over a limit
     limit_so : (answer : Answer) → IsAnswer (tasks.Convert to keep) from bytes answer → answer.status ≡ statuses.Limit
         → TellsAlone out diag answer.line → IsTooLong bytes out diag ⊎ NamesFault from bytes out diag statuses.Limit
     limit_so _ (answers.TooLong many) same told = inl (record { beyond = many; told = told })
@@ -156,7 +156,7 @@ module _ (from to : Format) (keep : Keep) (bytes : List ℕ) where
     limit_so _ (answers.Read few _ (answers.Played plays read _ (answers.NotSpelled number fact is))) same told = absurd (cc (same))
     limit_so _ (answers.Read few _ (answers.Played plays read _ (answers.Spelled none output spell back))) same told = absurd (cc (same))
 
-  -- nothing is asked of one hand
+  -- no question about one hand is asked
   never_none : (answer : Answer) → IsAnswer (tasks.Convert to keep) from bytes answer → answer.status ≡ statuses.NoSuch → ⊥
   unfolding IsUnread
   never_none _ (answers.TooLong many) same = cc (same)
@@ -174,7 +174,7 @@ module _ (from to : Format) (keep : Keep) (bytes : List ℕ) where
   never_differs _ (answers.Read few _ (answers.Played plays read _ (answers.NotSpelled number fact is))) same = cc (same)
   never_differs _ (answers.Read few _ (answers.Played plays read _ (answers.Spelled none output spell back))) same = cc (same)
 
-  -- the file of a game has no part in it
+  -- the game file has no part in it
   never_game : (answer : Answer) → IsAnswer (tasks.Convert to keep) from bytes answer → answer.status ≡ statuses.BadGame → ⊥
   unfolding IsUnread
   never_game _ (answers.TooLong many) same = cc (same)
@@ -183,24 +183,24 @@ module _ (from to : Format) (keep : Keep) (bytes : List ℕ) where
   never_game _ (answers.Read few _ (answers.Played plays read _ (answers.NotSpelled number fact is))) same = cc (same)
   never_game _ (answers.Read few _ (answers.Played plays read _ (answers.Spelled none output spell back))) same = cc (same)
 
--- where a shelf is asked for a game, a notation is that of logs
+-- if a shelf is asked for a game, a notation is that of logs
 asks_for_logs : (files : Files) (request : Request) (from to : Format) (keep : Keep) → AsksToConvert files request from to keep
     → AsksForFile request → IsOfLogs from ⊎ IsOfLogs to
 asks_for_logs files (Load seed hands) from to keep found asks = absurd found
 asks_for_logs files (Plain notation task) from to keep found asks = absurd asks
 asks_for_logs files (Under name (logs_are.Read task)) from to keep found asks =
-    let read : from ≡ readers.Acpc found.game = ap (λ (w : Way). w.reader) found.same in
+    let read : from ≡ readers.Acpc found.game = ap (λ (w : Job). w.reader) found.same in
     inl (subst IsOfLogs (sym read) tt)
 asks_for_logs files (Under name (logs_are.Viewed seat)) from to keep found asks =
-    let read : from ≡ readers.Acpc found.game = ap (λ (w : Way). w.reader) found.same in
+    let read : from ≡ readers.Acpc found.game = ap (λ (w : Job). w.reader) found.same in
     inl (subst IsOfLogs (sym read) tt)
 asks_for_logs files (Under name (logs_are.Written notation keeps)) from to keep found asks =
-    let task : tasks.Convert to keep ≡ tasks.Convert (readers.Acpc found.game) keeps = ap (λ (w : Way). w.task) found.same in
+    let task : tasks.Convert to keep ≡ tasks.Convert (readers.Acpc found.game) keeps = ap (λ (w : Job). w.task) found.same in
     let written : to ≡ readers.Acpc found.game = cc (task) in
     inr (subst IsOfLogs (sym written) tt)
 asks_for_logs files (Compare sides file notes) from to keep found asks = absurd found
 
--- What is known besides the answer of how a run left its sinks.
+-- What is known, besides the answer, about the sinks after a run.
 pub record IsLeft (out diag : Sinks) (status : Status) : Type 0 where
   pub unwritten : WritesNothing status → out.holds ≡ out.held
   pub failed : status ≡ statuses.WriteFault → Rose out.before out.now
@@ -241,7 +241,7 @@ module _ (request : Request) (files : Files) (from to : Format) (keep : Keep) (b
       limit_so from to keep bytes out diag ends.answer (in_way request files bytes (way (tasks.Convert to keep) from) ends.answer found ends.to_input) ends.ends
       (record { unwritten = left.unwritten tt; told = ends.line })
   conversion_ends statuses.ReadFault found ends left = record { unwritten = left.unwritten tt; told = left.fixed }
-  conversion_ends statuses.Memory found ends left = record { unwritten = left.unwritten tt; told = left.fixed }
+  conversion_ends statuses.Memory found ends left = (ends, record { unwritten = left.unwritten tt; told = left.fixed })
   conversion_ends statuses.ShelfFault found ends left =
       (asks_for_logs files request from to keep found ends, record { unwritten = left.unwritten tt; told = left.fixed })
   conversion_ends statuses.Usage found ends left = ends
@@ -254,7 +254,7 @@ module _ (request : Request) (files : Files) (from to : Format) (keep : Keep) (b
       never_differs from to keep bytes ends.answer (in_way request files bytes (way (tasks.Convert to keep) from) ends.answer found ends.to_input) ends.ends
   conversion_ends statuses.FileMissing found ends left = no_file_missing files request (way (tasks.Convert to keep) from) found ends
 
-  -- an input that reads as hands is not told as bad input or as a limit
+  -- an input that reads as hands is not reported as bad input or as over a limit
   conversion_reads : (status : Status) → ConversionEnds from to keep bytes out diag status → length bytes ≤ most_input
       → (records : List Record) → SayRecords from bytes records → IsOfHands status
   conversion_reads statuses.Done ends few records say = tt
@@ -262,7 +262,7 @@ module _ (request : Request) (files : Files) (from to : Format) (keep : Keep) (b
   conversion_reads statuses.Refused ends few records say = tt
   conversion_reads statuses.Unspelled ends few records say = tt
   conversion_reads statuses.ReadFault ends few records say = tt
-  conversion_reads statuses.Memory ends few records say = tt
+  conversion_reads statuses.Memory ends few records say = ends.0
   conversion_reads statuses.ShelfFault ends few records say = tt
   conversion_reads statuses.Usage ends few records say = ends
   conversion_reads statuses.GameMissing ends few records say = ends
@@ -274,7 +274,7 @@ module _ (request : Request) (files : Files) (from to : Format) (keep : Keep) (b
   conversion_reads statuses.Limit (inl ends) few records say = let beyond = ends.beyond in absurd (omega (arith, beyond, few))
   conversion_reads statuses.Limit (inr ends) few records say = no_fault from bytes records ends.fault say ends.have
 
-  -- where the hands can be converted nothing is refused
+  -- if the hands can be converted, nothing is refused
   conversion_exactly : (status : Status) → AsksToConvert files request from to keep → Ends request files bytes out diag status
       → (plays : List Play) → CanConvert from to keep bytes plays → RefusesNothing status
   conversion_exactly status found ends plays can =
@@ -287,7 +287,7 @@ module _ (request : Request) (files : Files) (from to : Format) (keep : Keep) (b
       let so = conversion_ends status found ends left in
       record { ends = so; reads = conversion_reads status so; exactly = conversion_exactly status found ends }
 
--- where the shelf tells its files
+-- if the shelf shows its files
 abbrev pub EndsTold : Option Request → Option (List ℕ) → Option Files → (out diag : Sinks) → Status → Type 0 → Type 0
 EndsTold said left told out diag status Same =
     IfSome said (λ request. WhereTold request left told (λ files bytes. EndsLeaving request files bytes out diag status Same))

@@ -8,7 +8,7 @@ use Rattle.convert_core.specs.Taking.{AreTaken}
 use Rattle.convert_core.specs.Verdicts.{Legal, Refused, Verdict, legal_plays}
 use Rattle.poker_cli.specs.Verdicts.{ArePrinted, IsJudged, each_verdict, judged_end, verdict_line}
 
--- the line of one more hand is behind the others
+-- the line of one more hand comes after the others
 each_more : (number : ℕ) (verdicts : List Verdict) (verdict : Verdict)
     → each_verdict number (verdicts ++ verdict ∷ []) ≡ each_verdict number verdicts ++ verdict_line (number + length verdicts) verdict
 unfolding each_verdict
@@ -21,7 +21,7 @@ each_more number (first ∷ rest) verdict =
     (each_more (number + 1) rest verdict ∙ ap (λ (n : ℕ). each_verdict (number + 1) rest ++ verdict_line n verdict) here)
     ∙ sym (append_assoc (verdict_line number first) (each_verdict (number + 1) rest) (verdict_line (number + length (first ∷ rest)) verdict))
 
--- behind lines of so many hands
+-- after the lines of the hands before
 one_line : (text new : List ℕ) (place : ℕ) (before : List Verdict) (verdict : Verdict)
     → text ≡ each_verdict 1 before → length before ≡ place → new ≡ text ++ verdict_line (place + 1) verdict
     → new ≡ each_verdict 1 (before ++ verdict ∷ [])
@@ -51,7 +51,7 @@ now_refused text new legal after place before hand why printed counted more same
       counted = same ∙ printed.counted ∙ sym (ap (λ (ps : List Play). length ps) (legal_same before hand why));
     }
 
--- legal hands are no more than all
+-- there are no more legal hands than hands
 pub legal_few : (verdicts : List Verdict) → length (legal_plays verdicts) ≤ length verdicts
 unfolding legal_plays
 legal_few [] = omega arith
@@ -63,7 +63,7 @@ pub none_printed : (text : List ℕ) → text ≡ [] → ArePrinted text 0 []
 unfolding each_verdict legal_plays
 none_printed text empty = record { lines = empty; counted = refl }
 
--- the last line behind those of all hands
+-- the last line after those of all hands
 pub all_printed : (records : List Record) (count hands legal : ℕ) (kept : List Play) (text new : List ℕ)
     → AreTaken true false (λ verdicts. ArePrinted text legal verdicts) records count kept → hands ≡ count
     → new ≡ text ++ judged_end legal hands → IsJudged records new

@@ -1,17 +1,17 @@
--- Each format of the program with the laws of its notation as one value, and what follows of runs.
+-- Each format of the program with the laws of its notation as one value, and what follows for runs.
 use Rattle.std.proofs.Common.{◌≡◌, ◌↔◌, ◌<◌, ℕ, List, length, None, Ok, inl, inr}
 use Rattle.std.specs.List.{AllByRecursion}
 use Rattle.acpc_reading.specs.RecordView.{rules_of}
 use Rattle.convert_core.proofs.LawfulNotations.{ReadNotation, WrittenNotation}
 use Rattle.convert_core.proofs.Conversions.{Converts, equal_outputs, output_again, same_answers}
-use Rattle.phh_format.proofs.OneForm as in_phh
-use Rattle.acpc_format.proofs.NoteFacts as facts_in_acpc
-use Rattle.acpc_format.proofs.OneForm as in_acpc
+use Rattle.convert_core.proofs.PhhOneForm as in_phh
+use Rattle.convert_core.proofs.AcpcNoteFacts as facts_in_acpc
+use Rattle.convert_core.proofs.AcpcOneForm as in_acpc
 use Rattle.hand_records.specs.SaidNotes.{SaidNotes, notes_of}
 use Rattle.convert_core.specs.SameAnswers.{AreSameAnswers}
 use Rattle.hand_records.specs.SameHands.{AreSameHand, AreSameHands, kept_notes}
-use Rattle.ohh_format.proofs.NoteFacts as facts_in_ohh
-use Rattle.ohh_format.proofs.OneForm as in_ohh
+use Rattle.convert_core.proofs.OhhNoteFacts as facts_in_ohh
+use Rattle.convert_core.proofs.OhhOneForm as in_ohh
 use Rattle.poker_cli.specs.RunTells.{told_by}
 use Rattle.convert_core.specs.Conversion.{ReadAsPlays}
 use Rattle.convert_core.specs.PhhAlike as alike_in_phh
@@ -45,7 +45,7 @@ use Rattle.poker_cli.specs.declared.status.Status.TheVariants as statuses
 use Rattle.poker_cli.specs.declared.task.Format.{Format}
 use Rattle.poker_cli.specs.declared.task.Format.TheVariants as formats
 
--- ---- what each notation says
+-- ---- how each notation is read
 
 abbrev rules_in : Format → Rules
 rules_in formats.Phh = history_rules
@@ -90,7 +90,7 @@ read_by format =
       one_reading = one_reading format;
     }
 
--- ---- how each notation writes
+-- ---- how each notation is written
 
 pub kept_again : (format : Format) (notes : SaidNotes) → kept_in format (kept_in format notes) ≡ kept_in format notes
 kept_again formats.Phh notes = in_phh.kept_again notes
@@ -152,12 +152,12 @@ written_by format =
 pub converted : (from to : Format) (keep : Keep) (bytes output : List ℕ) → ConvertsInto from to keep bytes output → Converts (read_by from) (written_by to) keep bytes (Ok output)
 converted from to keep bytes output into = record { plays = into.plays; read = into.can.legal; spelled = into.can.spelled; spell = into.spell; back = into.back }
 
--- what holds of what is there, where it follows from what held of it
+-- what holds of a value that is there, if it follows from what held of it
 if_some : {A : Type 0} {P Q : A → Type 0} (o : Option A) → ((a : A) → P a → Q a) → IfSome o P → IfSome o Q
 if_some None more is = tt
 if_some (Some a) more is = more a is
 
--- what a run tells is an answer of its conversion
+-- what a run reports is an answer of its conversion
 tells : (from to : Format) (keep : Keep) (bytes : List ℕ) (out diag : Sinks) (status : Status) (ends : ConversionEnds from to keep bytes out diag status)
     → IfSome (told_by from to keep bytes out diag status ends) (Converts (read_by from) (written_by to) keep bytes)
 tells from to keep bytes out diag statuses.Done ends = converted from to keep bytes ends.output ends.converts

@@ -1,4 +1,5 @@
--- What is asked of hands that are all legal is done where the hand, its event or street, or the seat is there.
+-- A question about hands that are all legal is answered with Done if the hand, its event or street,
+-- or the seat is there.
 use Rattle.std.proofs.Common.{◌≡◌, ℕ, ◌-◌, ◌≤◌, true, List, length, None, Some, refl, sym, subst, ◌∙◌}
 use Rattle.std.proofs.lemmas.Bool.{false≢true}
 use Rattle.acpc_game.specs.declared.game.Game.{Game}
@@ -22,7 +23,7 @@ use Rattle.poker_cli.specs.declared.task.Task.TheVariants as tasks
 use Rattle.poker_cli.proofs.OneAnswer.{done_so, ends_so, in_way, legal_asked, legal_views, no_file_missing, no_missing}
 use Rattle.poker_cli.proofs.OneReply.{at_place, not_fewer, not_other}
 
--- a hand that has so many events has options after them, whichever of its readings is asked
+-- a hand with this number of events has options after them, in each of its readings
 options_listed : (hand events : ℕ) (plays others : List Play) (play : Play) (answer : Answer) → AllTraced plays others → hand_numbered plays hand ≡ Some play
     → events ≤ length play.hand.script → AreOptionsAt hand events others answer → answer.status ≡ statuses.Done
 options_listed hand events plays others play _ traced is few (replies.NoHand none) = absurd (not_other plays others (hand - 1) play traced is none)
@@ -43,7 +44,7 @@ equity_counted hand street plays others play _ traced is board known (replies.No
     let there = lacks.1 in absurd (cc (here, there))
 equity_counted hand street plays others play _ traced is board known (replies.Counted other it row on) = refl
 
--- so a run that asks for it refuses nothing
+-- so a run with this question refuses nothing
 pub legal_options : (request : Request) (hand events : ℕ) (reader : Format) (files : Files) (bytes : List ℕ) (plays : List Play) (play : Play)
     → (out diag : Sinks) (status : Status) → AsksOfLegal files request (tasks.Ask (questions.Options hand events)) reader bytes plays
     → hand_numbered plays hand ≡ Some play → events ≤ length play.hand.script

@@ -1,4 +1,4 @@
--- An input has one answer, and none is refused whose hands are all legal.
+-- An input has one answer, and legal hands are never refused.
 use Rattle.std.proofs.Common.{◌≡◌, ◌⊎◌, ℕ, ◌+◌, ◌-◌, ◌<◌, ◌≤◌, All, List, [], ◌∷◌, ◌++◌, length, map, Option, Some, None, IfSome, Ok, refl, sym, subst, ap, ap₂, ◌∙◌, inl, inr, arith}
 use Rattle.std.specs.List.{range_with_len}
 use Rattle.toml.specs.Parse.{parse_document}
@@ -42,13 +42,13 @@ use Rattle.poker_cli.specs.Answer as answers
 use Rattle.poker_cli.specs.Inputs.{HaveFault, SayRecords}
 use Rattle.poker_cli.specs.OneAnswer.{AreOneAnswer}
 use Rattle.poker_cli.specs.Outputs.{AreSameIn, first_refusal_in, kept_in, unspelled_in}
-use Rattle.poker_cli.specs.Ways.{way, way_under}
+use Rattle.poker_cli.specs.Ways.{way, job_under}
 use Rattle.poker_cli.specs.Run.{Ends, GivesNone, IsFileMissing, IsGameMissing, NeedsNoInput, RefusesNothing, Sinks}
 use Rattle.poker_cli.specs.declared.status.Status.{Status}
 use Rattle.poker_cli.specs.declared.status.Status.TheVariants as statuses
 use Rattle.poker_cli.specs.declared.task.Format.{Format}
 use Rattle.poker_cli.specs.declared.task.Format.TheVariants as readers
-use Rattle.poker_cli.specs.declared.task.Way.{Way}
+use Rattle.poker_cli.specs.declared.task.Job.{Job}
 use Rattle.poker_cli.proofs.AlikeGames.{one_game}
 use Rattle.poker_cli.proofs.LawfulFormats.{no_fault, one_reading, one_spelling, read_by, same_fact}
 use Rattle.hand_session.specs.Hands.{Hand as SessionHand}
@@ -58,7 +58,7 @@ use Rattle.chip_ledger.specs.declared.numbers.Seat.{Seat}
 use Rattle.poker_cli.specs.Replies.{AreViews}
 use Rattle.poker_cli.proofs.OneReply.{as_many, one_equity, one_options, one_view, same_sessions}
 use Rattle.poker_cli.proofs.OneJudgement.{same_judged}
-use Rattle.list_laws.proofs.NumbersOfRange.{map_agree}
+use Rattle.card_set.proofs.NumbersOfRange.{map_agree}
 use Rattle.chip_ledger.specs.SeatsSaid.{default_name}
 use Rattle.hand_records.specs.Plays.{hands_of}
 
@@ -81,7 +81,7 @@ same_replay_lines number p q traced same =
     ap₂ (λ (setup : Setup) (trace : Trace). replay_lines number (record { hand = record p.hand { setup = setup }; trace = trace })) same.setup traced
     ∙ ap (λ (script : List Event). replay_lines number (record { hand = record q.hand { script = script }; trace = q.trace })) same.script
 
--- what a report takes of a hand
+-- what a report uses of a hand
 same_seated : (p q : Play) → p.trace ≡ q.trace → AreAlike p.hand q.hand
     → (seat : ℕ) → 1 ≤ seat → seat < 1 + p.hand.setup.stacks.seats → seated_in p seat ≡ seated_in q seat
 same_seated p q traced alike seat first last =
@@ -126,7 +126,7 @@ same_game [] (q ∷ qs) traced = absurd traced
 same_game (p ∷ ps) [] traced = absurd traced
 same_game (p ∷ ps) (q ∷ qs) traced = ap (λ (trace : Trace). to_first_game (record q { trace = trace } ∷ [])) traced.0.0
 
--- the same answer is one
+-- the same answer counts as one
 pub one_itself : (task : Task) (answer other : Answer) → answer ≡ other → AreOneAnswer task answer other
 one_itself (tasks.Ask question) answer other same = same
 one_itself tasks.Judge answer other same = same
@@ -140,13 +140,13 @@ one_itself (tasks.Convert readers.Phh keep) answer other same =
       document = ap (λ (a : Answer). parse_document a.output) same;
     }
 
--- the same output is one
+-- the same output counts as one
 pub one_output : (to : Format) (keep : Keep) (bytes others : List ℕ) → AreSameIn to bytes others → AreOneAnswer (tasks.Convert to keep) (done bytes) (done others)
 one_output readers.Phh keep bytes others same = record { status = refl; line = refl; document = same.first ∙ sym same.second }
 one_output (readers.Ohh dialect) keep bytes others same = ap done same
 one_output (readers.Acpc game) keep bytes others same = ap done same
 
--- plays that are the same are refused alike
+-- equal plays are refused alike
 refusal_same : (to : Format) (keep : Keep) (ps qs : List Play) → AreReadSame ps qs → first_refusal_in to keep ps ≡ first_refusal_in to keep qs
 refusal_same to keep ps qs same = same_refusal (unspelled_in to keep) (same_fact to keep) ps qs same
 
@@ -175,7 +175,7 @@ one_reply questions.GameFile ps qs answer other judged traced alike is it = is.t
 one_reply (questions.Options hand events) ps qs answer other judged traced alike is it = one_options hand events ps qs answer other traced is it
 one_reply (questions.Equity hand street) ps qs answer other judged traced alike is it = one_equity hand street ps qs answer other traced is it
 
--- the hands of plays are alike where their records are
+-- the hands of plays are alike if their records are
 alike_hands : (records others : List Record) (ps qs : List Play) → AllAlike records others → ArePlaysOf records ps → ArePlaysOf others qs
     → AllAlike (hands_of ps) (hands_of qs)
 alike_hands records others ps qs alike are is =
@@ -196,7 +196,7 @@ pub refused_or_played : (records others : List Record) (number : ℕ) (why : Ref
 refused_or_played records others number why plays alike first are =
     no_plays records others number why plays (all_same records others alike) first are
 
--- What is made of plays is one thing, by what two answers are one.
+-- All that can be made of plays counts as one, by what makes two answers count as one.
 pub record IsOneMade (IsMade : List Play → Answer → Type 0) (One : Answer → Answer → Type 0) : Type 0 where
   pub itself : (answer other : Answer) → answer ≡ other → One answer other
   pub made : (ps qs : List Play) (answer other : Answer) → All IsJudged ps → AllTraced ps qs → AllAlike (hands_of ps) (hands_of qs) → AreReadSame ps qs
@@ -230,7 +230,7 @@ same_answer Say HaveFault IsMade One answer other one alike same told apart (ans
     (same_traces read.records reads.records plays too (all_same read.records reads.records both) read.are reads.are)
     (alike_hands read.records reads.records plays too both read.are reads.are) (same plays too read reads) made makes
 
--- the verdicts on hands are one
+-- the verdicts on hands count as one
 same_judgement : (Say : List Record → Type 0) (HaveFault : FormatFault → Type 0) (answer other : Answer)
     → IsReadAlike Say → AllToldAlike HaveFault → SayOrFault Say HaveFault
     → IsJudgement Say HaveFault answer → IsJudgement Say HaveFault other → answer ≡ other
@@ -244,7 +244,7 @@ same_judgement Say HaveFault _ other alike told apart (answers.Judged records sa
 same_judgement Say HaveFault _ _ alike told apart (answers.Judged records say verdicts are) (answers.Judged others says too is) =
     ap done (same_judged records others verdicts too (all_same records others (alike records others say says)) are is)
 
--- a fault of bytes is told in one way
+-- a fault of bytes is reported in one way
 pub one_told : (reader : Format) (bytes : List ℕ) → AllToldAlike (HaveFault reader bytes)
 unfolding AllToldAlike
 one_told readers.Phh bytes (formats.Phh fault) (formats.Phh other) answer too have has told tells =
@@ -275,7 +275,7 @@ one_told (readers.Acpc game) bytes (formats.Ohh fault) other answer too have has
 one_told (readers.Acpc game) bytes (formats.Acpc fault) (formats.Phh other) answer too have has told tells = absurd has
 one_told (readers.Acpc game) bytes (formats.Acpc fault) (formats.Ohh other) answer too have has told tells = absurd has
 
--- bytes with a fault say no records
+-- bytes with a fault are not read as records
 pub say_or_fault : (reader : Format) (bytes : List ℕ) → SayOrFault (SayRecords reader bytes) (HaveFault reader bytes)
 unfolding SayOrFault
 say_or_fault reader bytes records fault say have = no_fault reader bytes records fault say have
@@ -285,7 +285,7 @@ pub read_the_same : (reader : Format) (bytes : List ℕ) → AllReadSame (SayRec
 unfolding AllReadSame
 read_the_same reader bytes plays others is it = all_read_same (read_by reader) bytes plays others is it
 
--- what is made of hands is one thing
+-- what is made of hands counts as one
 one_question : (question : Question) → IsOneMade (IsReply question) (λ answer other. answer ≡ other)
 one_question question =
     record { itself = λ answer other same. same; made = λ ps qs answer other judged traced alike same is it. one_reply question ps qs answer other judged traced alike is it }
@@ -321,7 +321,8 @@ one_answer task reader bytes _ other (answers.TooLong many) (answers.Read few _ 
 one_answer task reader bytes answer _ (answers.Read few _ is) (answers.TooLong many) = absurd (omega (arith, many, few))
 one_answer task reader bytes answer other (answers.Read few _ is) (answers.Read less _ it) = one_read task reader bytes answer other is it
 
--- what an input whose hands are all legal and agree is made of
+-- what the answer is made of, if all hands of the input are legal and agree with what is stated of
+-- them
 pub record IsMadeAlike (IsMade : List Play → Answer → Type 0) (plays : List Play) (answer : Answer) : Type 0 where
   pub others : List Play
   pub traced : AllTraced plays others
@@ -408,7 +409,7 @@ no_game file game _ gives (answers.BadGame text there short fault is) =
     let says : game_said text ≡ Ok (game_in game) = subst (λ (t : List ℕ). game_said t ≡ Ok (game_in game)) same gives.says in
     absurd (cc (says, is))
 
--- where a file gives a game, it does not lack one
+-- if a file gives a game, nothing is wrong with it
 pub lacks_none : (file : Option (List ℕ)) (game : AnyGame) → GivesGame file game → GivesNone file → ⊥
 lacks_none file game gives (inl none) = let there = gives.there in cc (none, there)
 lacks_none file game gives (inr lacks) = no_game file game lacks.0 gives lacks.1
@@ -426,30 +427,31 @@ games_same file game other gives too =
     one_game game other (cc (says, it))
 
 -- a request is answered in one way
-pub in_way : (request : Request) (files : Files) (bytes : List ℕ) (by : Way) (answer : Answer) → IsWay files request by
+pub in_way : (request : Request) (files : Files) (bytes : List ℕ) (by : Job) (answer : Answer) → IsWay files request by
     → IsAnswerIn request files bytes answer → IsAnswerBy by bytes answer
 in_way (Load seed hands) files bytes by answer found is = absurd found
-in_way (Plain from task) files bytes by answer found is = subst (λ (w : Way). IsAnswerBy w bytes answer) (sym found) is
-in_way (Under name logs) files bytes by answer found (answers.NoGame _ lacks) = absurd (no_game (files name) found.game answer found.gives lacks)
+in_way (Plain from task) files bytes by answer found is = subst (λ (w : Job). IsAnswerBy w bytes answer) (sym found) is
+in_way (Under name logs) files bytes by answer found (answers.NoGameError _ lacks) = absurd (no_game (files name) found.game answer found.gives lacks)
 in_way (Under name logs) files bytes by answer found (answers.OfInput game gives _ to) =
-    subst (λ (w : Way). IsAnswerBy w bytes answer)
-    (ap (λ (g : AnyGame). way_under g logs) (games_same (files name) game found.game gives found.gives) ∙ sym found.same) to
+    subst (λ (w : Job). IsAnswerBy w bytes answer)
+    (ap (λ (g : AnyGame). job_under g logs) (games_same (files name) game found.game gives found.gives) ∙ sym found.same) to
 in_way (Compare sides file notes) files bytes by answer found is = absurd found
 
--- a request that is answered in a way lacks no game, and no other file
-pub no_missing : (files : Files) (request : Request) (by : Way) → IsWay files request by → IsGameMissing request files → ⊥
+-- a request that is read and handled in a way misses no game file and no other file
+pub no_missing : (files : Files) (request : Request) (by : Job) → IsWay files request by → IsGameMissing request files → ⊥
 no_missing files (Load seed hands) by found missing = missing
 no_missing files (Plain from task) by found missing = missing
 no_missing files (Under name logs) by found missing = let there = found.gives.there in cc (there, missing)
 no_missing files (Compare sides file notes) by found missing = found
 
-pub no_file_missing : (files : Files) (request : Request) (by : Way) → IsWay files request by → IsFileMissing request files → ⊥
+pub no_file_missing : (files : Files) (request : Request) (by : Job) → IsWay files request by → IsFileMissing request files → ⊥
 no_file_missing files (Load seed hands) by found missing = missing
 no_file_missing files (Plain from task) by found missing = missing
 no_file_missing files (Under name logs) by found missing = missing
 no_file_missing files (Compare sides file notes) by found missing = found
 
--- a run whose answers all have one status, and that lacks no game, ends with it, or a device failed, or memory ran out
+-- a run whose answers all have one status, and that misses no game, ends with it, or a device
+-- failed, or memory ran out
 pub ends_so : (request : Request) (files : Files) (bytes : List ℕ) (out diag : Sinks) (status own : Status)
     → ((answer : Answer) → IsAnswerIn request files bytes answer → answer.status ≡ own)
     → (IsGameMissing request files → ⊥) → (IsFileMissing request files → ⊥)
@@ -458,7 +460,7 @@ ends_so request files bytes out diag statuses.Done own each there named ends = i
 ends_so request files bytes out diag statuses.ReadFault own each there named ends = inl tt
 ends_so request files bytes out diag statuses.WriteFault own each there named ends = inl tt
 ends_so request files bytes out diag statuses.ShelfFault own each there named ends = inl tt
-ends_so request files bytes out diag statuses.Memory own each there named ends = inl tt
+ends_so request files bytes out diag statuses.Memory own each there named ends = inl ends
 ends_so request files bytes out diag statuses.Usage own each there named ends = absurd ends
 ends_so request files bytes out diag statuses.GameMissing own each there named ends = absurd (there ends)
 ends_so request files bytes out diag statuses.FileMissing own each there named ends = absurd (named ends)
@@ -487,7 +489,7 @@ legal_shown request command reader files bytes records plays out diag status fou
     (legal_asked (questions.Show command) reader bytes records plays answer few is are (in_way request files bytes by answer found to)))
     (no_missing files request by found) (no_file_missing files request by found) ends)
 
--- what is asked of the hands is answered as it is of their plays
+-- a question about the hands is answered as it is about their plays
 pub legal_asks : (request : Request) (question : Question) (reader : Format) (files : Files) (bytes : List ℕ) (records : List Record) (plays : List Play) (reply : Answer)
     → (out diag : Sinks) (status : Status) → IsWay files request (way (tasks.Ask question) reader)
     → length bytes ≤ most_input → SayRecords reader bytes records → ArePlaysOf records plays → IsReply question plays reply
@@ -511,7 +513,7 @@ legal_views request game seat reader files bytes records plays reply out diag st
     (legal_viewed game seat reader bytes records plays answer few is are (in_way request files bytes by answer found given)))
     (no_missing files request by found) (no_file_missing files request by found) ends
 
--- hands are judged, also refused ones
+-- hands are judged, including refused ones
 pub all_judged : (request : Request) (reader : Format) (files : Files) (bytes : List ℕ) (records : List Record)
     → (out diag : Sinks) (status : Status) → IsWay files request (way tasks.Judge reader)
     → length bytes ≤ most_input → SayRecords reader bytes records
@@ -523,7 +525,7 @@ all_judged request reader files bytes records out diag status found few is ends 
     (λ answer to. judged_status reader bytes records answer few is (in_way request files bytes by answer found to))
     (no_missing files request by found) (no_file_missing files request by found) ends)
 
--- and hands whose facts are all spelled are converted
+-- hands whose facts can all be written are converted
 pub legal_in_way : (request : Request) (reader target : Format) (keep : Keep) (files : Files) (bytes : List ℕ) (records : List Record) (plays : List Play)
     → (out diag : Sinks) (status : Status) → IsWay files request (way (tasks.Convert target keep) reader)
     → length bytes ≤ most_input → SayRecords reader bytes records → ArePlaysOf records plays
@@ -537,7 +539,7 @@ legal_in_way request reader target keep files bytes records plays out diag statu
     (legal_written target keep reader bytes records plays answer few is are (in_way request files bytes by answer found given)))
     (no_missing files request by found) (no_file_missing files request by found) ends)
 
--- the answer to hands that are made is done, and a run on them needs no input
+-- the answer to generated hands is done, and a run on them needs no input
 load_done : (seed hands : ℕ) (files : Files) (bytes : List ℕ) (answer : Answer) → IsAnswerIn (Load seed hands) files bytes answer → answer.status ≡ statuses.Done
 load_done seed hands files bytes answer is = ap (λ (a : Answer). a.status) is.told
 
@@ -549,7 +551,7 @@ pub legal_load : (seed hands : ℕ) (files : Files) (bytes : List ℕ) (out diag
     → Ends (Load seed hands) files bytes out diag status → NeedsNoInput status
 legal_load seed hands files bytes out diag statuses.Done ends = tt
 legal_load seed hands files bytes out diag statuses.WriteFault ends = tt
-legal_load seed hands files bytes out diag statuses.Memory ends = tt
+legal_load seed hands files bytes out diag statuses.Memory ends = ends
 legal_load seed hands files bytes out diag statuses.Usage ends = ends
 legal_load seed hands files bytes out diag statuses.ReadFault ends = ends.0
 legal_load seed hands files bytes out diag statuses.ShelfFault ends = ends

@@ -1,4 +1,4 @@
--- The verdicts on hands are one, and so is what is printed of them.
+-- The verdicts on hands count as one, and so does what is printed for them.
 use Rattle.std.proofs.Common.{◌≡◌, ℕ, ◌+◌, All, List, [], ◌∷◌, ◌++◌, length, map, refl, sym, subst, ap, ap₂, ◌∙◌, suc}
 use Rattle.std.proofs.lemmas.List.Elements.{All-head, All-tail}
 use Rattle.convert_core.proofs.OneOutcome.{AllTheSame, not_judged, one_refusal, turned}
@@ -7,7 +7,7 @@ use Rattle.hand_records.specs.declared.record.Record.{Record}
 use Rattle.convert_core.specs.declared.refusal.Refusal.{Refusal}
 use Rattle.poker_cli.specs.Verdicts.{each_verdict, judged_end, judged_said, verdict_line}
 
--- verdicts on hands that say the same are printed the same, and as many of them are legal
+-- verdicts on hands that say the same are printed the same, with the same number of legal hands
 record ArePrintedAlike (number : ℕ) (verdicts others : List Verdict) : Type 0 where
   lines : each_verdict number verdicts ≡ each_verdict number others
   legal : length (legal_plays verdicts) ≡ length (legal_plays others)

@@ -1,4 +1,5 @@
--- What is asked of one hand, of all hands by name, or for one seat has one answer, by hands that say the same.
+-- Questions about one hand, about all hands by name, or for one seat have one answer, if hands say
+-- the same.
 use Rattle.std.proofs.Common.{◌≡◌, ℕ, zero, suc, ◌+◌, ◌-◌, ◌<◌, ◌≤◌, Bool, List, [], ◌∷◌, ◌++◌, length, map, flat_map, Option, Some, None, refl, sym, subst, ap, ap₂, ◌∙◌, arith}
 use Rattle.std.specs.List.{range_with_len, slice_get}
 use Rattle.std.specs.Option.{unwrap_or}
@@ -32,7 +33,7 @@ use Rattle.poker_cli.specs.AnswerParts.{Answer, done}
 use Rattle.poker_cli.specs.Replies.{AreOptionsAt, AreViews, IsEquityAt, each_view, no_cards, no_event, no_hand}
 use Rattle.poker_cli.specs.Replies as replies
 
--- as many plays
+-- the same number of plays
 pub as_many : (ps qs : List Play) → AllTraced ps qs → length ps ≡ length qs
 unfolding AllTraced
 as_many [] [] traced = refl
@@ -40,7 +41,7 @@ as_many [] (q ∷ qs) traced = absurd traced
 as_many (p ∷ ps) [] traced = absurd traced
 as_many (p ∷ ps) (q ∷ qs) traced = ap suc (as_many ps qs traced.1)
 
--- plays at one place have one trace, and their hands say the same
+-- plays at one place have the same trace, and their hands say the same
 pub at_place : (ps qs : List Play) (place : ℕ) (p q : Play) → AllTraced ps qs → slice_get ps place ≡ Some p → slice_get qs place ≡ Some q
     → (p.trace ≡ q.trace) × SayTheSame p.hand q.hand
 unfolding AllTraced
@@ -51,7 +52,7 @@ at_place (a ∷ ps) (b ∷ qs) zero p q traced is it =
     (subst (λ (x : Play). (x.trace ≡ b.trace) × SayTheSame x.hand b.hand) (same_Some a p is) traced.0)
 at_place (a ∷ ps) (b ∷ qs) (suc place) p q traced is it = at_place ps qs place p q traced.1 is it
 
--- and where one list has a play, so has the other
+-- and if one list has a play, so has the other
 not_one : (ps qs : List Play) (place : ℕ) (q : Play) → AllTraced ps qs → slice_get ps place ≡ None → slice_get qs place ≡ Some q → ⊥
 unfolding AllTraced
 not_one [] [] place q traced none is = cc (is)

@@ -1,11 +1,11 @@
--- The status of an answer is its own, whatever the input.
+-- The status of an answer does not come from a device or memory, whatever the input.
 use Rattle.std.proofs.Common.{◌≡◌, ℕ, ◌==◌, Bool, true, false, if◌then◌else◌, List, [], ◌∷◌, length, Option, Some, None, IfOk, Result, Ok, Err, subst, sym}
 use Rattle.std.specs.Option.{option_map}
 use Rattle.std.proofs.lemmas.Option.{same_Some}
 use Rattle.acpc_game.specs.GameFile.{GameSaid}
 use Rattle.acpc_game.specs.declared.game.Game.{Game}
-use Rattle.acpc_text.specs.declared.fault.AcpcFault.{AcpcFault}
-use Rattle.acpc_text.specs.declared.fault.AcpcFault.TheVariants as in_acpc
+use Rattle.acpc_game.specs.declared.fault.AcpcFault.{AcpcFault}
+use Rattle.acpc_game.specs.declared.fault.AcpcFault.TheVariants as in_acpc
 use Rattle.acpc_writing.specs.GameOf.{game_of}
 use Rattle.chip_ledger.specs.declared.numbers.Seat.{Seat}
 use Rattle.command_words.specs.declared.task.Question.{Question}
@@ -17,7 +17,7 @@ use Rattle.hand_records.specs.declared.trace.Play.{Play}
 use Rattle.hand_records.specs.declared.writing.Unspelled.{Unspelled}
 use Rattle.ohh_members.specs.declared.fault.MemberFaultKind.TheVariants as in_member
 use Rattle.ohh_reading.specs.Reading as in_ohh
-use Rattle.phh_fields.specs.declared.fault.FieldFaultKind.TheVariants as in_field
+use Rattle.phh_reading.specs.declared.field_fault.FieldFaultKind.TheVariants as in_field
 use Rattle.phh_reading.specs.Reading as in_phh
 use Rattle.poker_cli.specs.Answer.{Answer, IsAnswer, IsAnswerBy, IsAnswerOf, IsAnswerTo, IsComparedWith, IsComparison, IsJudgement, IsReply, IsWritten, to_fault, to_first_game, to_game, to_wrong_acpc, to_wrong_ohh, to_wrong_phh}
 use Rattle.poker_cli.specs.Answer as answers
@@ -30,15 +30,16 @@ use Rattle.poker_cli.specs.Run.{IsOfInput, IsOwn, OfBytes, ReadsNothing}
 use Rattle.poker_cli.specs.Told.{answer_told}
 use Rattle.poker_cli.specs.declared.answer.Answer as made
 use Rattle.poker_cli.specs.declared.comparison.Comparison.{Comparison}
-use Rattle.poker_cli.specs.declared.no_answer.NoAnswer.{NoAnswer}
+use Rattle.poker_cli.specs.declared.no_answer.NoAnswerError.{NoAnswerError}
 use Rattle.poker_cli.specs.declared.status.Status.{Status}
 use Rattle.poker_cli.specs.declared.status.Status.TheVariants as statuses
 use Rattle.poker_cli.specs.declared.task.Format.{Format}
 use Rattle.poker_cli.specs.declared.task.Task.{Task}
 use Rattle.poker_cli.specs.declared.task.Task.TheVariants as tasks
-use Rattle.poker_cli.specs.declared.task.Way.{Way}
+use Rattle.poker_cli.specs.declared.task.Job.{Job}
 
--- a status of an answer to what was read of the input is none of a fault, and comes behind the reading
+-- a status of an answer to what was read of the input is not that of a fault, and comes after the
+-- reading
 pub own_of_input : (status : Status) → IsOfInput status → IsOwn status
 own_of_input statuses.BadGame of = tt
 own_of_input _ of = of
@@ -55,7 +56,7 @@ read_of_input _ of nothing = nothing
 same_own : (answer other : Answer) → answer ≡ other → IsOfInput other.status → IsOfInput answer.status
 same_own answer other same of = subst (λ (a : Answer). IsOfInput a.status) (sym same) of
 
--- ---- bytes that do not read
+-- ---- bytes that cannot be read
 
 phh_own : (wrong : in_phh.Wrong) → IsOfInput (phh_status wrong)
 phh_own in_phh.NoDocument = tt
@@ -158,18 +159,18 @@ comparison_own : (by : Comparison) (file bytes : List ℕ) (answer : Answer) →
 comparison_own by file bytes _ (answers.InputTooLong many) = tt
 comparison_own by file bytes answer (answers.InputRead few _ is) = made_own _ _ _ (beside_own by.other by.notes file) answer is
 
--- ---- bytes of a source, whether it tells them or not
+-- ---- bytes of a source, whether it shows them or not
 
 some_bytes : (left : Option (List ℕ)) (P : List ℕ → Type 0) (This : Type 0) → ((bytes : List ℕ) → P bytes → This) → OfBytes left P → This
 some_bytes (Some bytes) P This each is = each bytes is
 some_bytes None P This each is = each is.0 is.1
 
-pub of_way : (left : Option (List ℕ)) (by : Way) (result : Result made.Answer NoAnswer)
+pub of_way : (left : Option (List ℕ)) (by : Job) (result : Result made.Answer NoAnswerError)
     → IfOk result (λ answer. OfBytes left (λ bytes. IsAnswerBy by bytes (answer_told answer))) → IfOk result (λ answer. IsOfInput answer.status)
 of_way left by (Ok answer) is = some_bytes left _ _ (λ bytes to. answer_own by.task by.reader bytes (answer_told answer) to) is
 of_way left by (Err why) is = tt
 
-pub of_both : (left : Option (List ℕ)) (by : Comparison) (file : List ℕ) (result : Result made.Answer NoAnswer)
+pub of_both : (left : Option (List ℕ)) (by : Comparison) (file : List ℕ) (result : Result made.Answer NoAnswerError)
     → IfOk result (λ answer. OfBytes left (λ bytes. IsComparison by file bytes (answer_told answer))) → IfOk result (λ answer. IsOfInput answer.status)
 of_both left by file (Ok answer) is = some_bytes left _ _ (λ bytes to. comparison_own by file bytes (answer_told answer) to) is
 of_both left by file (Err why) is = tt

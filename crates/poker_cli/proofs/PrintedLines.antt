@@ -12,7 +12,7 @@ use Rattle.poker_cli.specs.declared.printing.Lines.TheVariants as lines_are
 use Rattle.printed_hands.specs.Steps.{replay_lines}
 use Rattle.poker_cli.specs.declared.printing.Lines.{Lines}
 
--- behind lines of so many hands
+-- after the lines of the hands before
 pub now_printed : (lines : ℕ → Play → List ℕ) (text new : List ℕ) (place : ℕ) (before : List Play) (play : Play)
     → text ≡ each_hand lines 1 before → length before ≡ place → new ≡ text ++ lines (place + 1) play
     → new ≡ each_hand lines 1 (before ++ play ∷ [])
@@ -38,7 +38,7 @@ all_printed lines started records hands text new taken all more =
           ∙ ap (λ (n : ℕ). each_hand (lines_of started) 1 plays ++ end_of started n) (all ∙ counted);
     }
 
--- what a command prints of plays
+-- what a command prints for plays
 pub text_printed : (lines : Lines) (plays : List Play) → each_hand (lines_of lines) 1 plays ++ end_of lines (length plays) ≡ text_of (command_of lines) plays
 text_printed lines_are.Check plays = refl
 text_printed lines_are.Replay plays = append-nil (each_hand replay_lines 1 plays)

@@ -1,4 +1,4 @@
--- Lines of each hand are what their command prints.
+-- The lines of each hand are what their command prints.
 use Rattle.std.proofs.Common.{ℕ, List, ◌∙◌}
 use Rattle.hand_records.specs.declared.record.Record.{Record}
 use Rattle.poker_cli.specs.Printed.{IsPrintOf, command_of}

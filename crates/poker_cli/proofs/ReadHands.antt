@@ -1,9 +1,10 @@
--- Of a hand that is read in a notation nothing is unspelled there but an odd chip, and hands that are read under one game have one setup.
+-- If a hand is read in a notation, all of its facts can be written there except an odd chip, and
+-- hands that are read under one game have one setup.
 use Rattle.std.proofs.Common.{◌≡◌, ◌⊎◌, ℕ, ◌-◌, zero, suc, Bool, true, false, if◌then◌else◌, List, [], ◌∷◌, Option, Some, None, IfSome, refl, sym, subst, inl, inr}
 use Rattle.std.specs.List.{AllByRecursion, list_any, slice_get}
 use Rattle.std.proofs.lemmas.List.Elements.{recursion_from_All}
 use Rattle.std.proofs.lemmas.Option.{same_Some}
-use Rattle.acpc_format.proofs.SetupsSame.{setups_same}
+use Rattle.convert_core.proofs.AcpcSetupsSame.{setups_same}
 use Rattle.acpc_game.specs.declared.game.Game.{Game}
 use Rattle.acpc_reading.specs.RecordView.{IsOfGame, IsSetupOf}
 use Rattle.acpc_writing.specs.PlayFacts.{play_conditions}
@@ -33,7 +34,7 @@ use Rattle.poker_cli.specs.Replies.{hand_numbered}
 use Rattle.poker_cli.specs.declared.task.Format.{Format}
 use Rattle.poker_cli.specs.declared.task.Format.TheVariants as readers
 
--- ---- no note, where those that have no spelling are left out
+-- ---- no note, if those that cannot be written are left out
 
 abbrev is_note : Unspelled → Bool
 is_note (facts.Note name) = true
@@ -85,7 +86,7 @@ odd_or_sharp facts.OddChip plain = inr refl
 odd_or_sharp (facts.Note name) plain = absurd (cc (plain))
 odd_or_sharp _ plain = inl refl
 
--- a sharp fact no bytes say
+-- no bytes hold a sharp fact
 unsaid : (reader : Format) (keep : Keep) (play : Play) (fact : Unspelled) → unspelled_in reader keep play ≡ Some fact → is_sharp fact ≡ true
     → (bytes : List ℕ) (hands : List Record) → SayRecords reader bytes hands → AllByRecursion (IsOther play) hands
 unsaid readers.Phh keep play fact found is bytes hands say = laws_in_phh.sharp play fact found is bytes hands say
@@ -93,7 +94,7 @@ unsaid (readers.Ohh dialect) keep play fact found is bytes hands say = laws_in_o
 unsaid (readers.Acpc game) keep play fact found is bytes hands say = laws_in_acpc.sharp game keep play fact found is bytes hands say
 
 module _ (reader : Format) where
-  -- nothing of a play is unspelled but an odd chip
+  -- nothing of a play fails to be written but an odd chip
   abbrev pub OddChipAtMost : Play → Type 0
   OddChipAtMost play = IfSome (unspelled_in reader keeps.Spelled play) (λ fact. fact ≡ facts.OddChip)
 

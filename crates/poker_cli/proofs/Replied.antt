@@ -1,4 +1,4 @@
--- What a reply keeps, and why there is none, follows from what is read for it.
+-- What holds after a reply, and why there is none, follow from what is read for it.
 use Rattle.std.proofs.Common.{◌≡◌, ℕ, ◌≤◌, Bool, List, Option, None, IfErr, IfOk, IfSome, IsErrOf, Result, Ok, Err, refl, arith}
 use Rattle.acpc_game.specs.declared.game.Game.{Game}
 use Rattle.command_words.specs.Words.{Compare, Plain, Sides, Under}
@@ -12,14 +12,14 @@ use Rattle.poker_cli.specs.Replied.{HasNoAnswer, Keeps}
 use Rattle.poker_cli.specs.Run.{IsNotThere, IsOfInput}
 use Rattle.poker_cli.specs.declared.answer.Answer as made
 use Rattle.poker_cli.specs.declared.comparison.Comparison.{Comparison}
-use Rattle.poker_cli.specs.declared.no_answer.NoAnswer.{NoAnswer}
-use Rattle.poker_cli.specs.declared.no_answer.NoAnswer.TheVariants as whys
+use Rattle.poker_cli.specs.declared.no_answer.NoAnswerError.{NoAnswerError}
+use Rattle.poker_cli.specs.declared.no_answer.NoAnswerError.TheVariants as whys
 use Rattle.poker_cli.proofs.Answering.{of_files}
 use Rattle.poker_cli.proofs.OwnStatus.{own_of_input, read_of_input}
 use Rattle.poker_cli.proofs.Replying.{game_there, missing_reply, where_lacking}
 
--- where nothing but the input is read
-pub keeps_read : {S : Type 0} (input read : S) (reads asks : ℕ × ℕ) (result : Result made.Answer NoAnswer)
+-- if nothing but the input is read
+pub keeps_read : {S : Type 0} (input read : S) (reads asks : ℕ × ℕ) (result : Result made.Answer NoAnswerError)
     → IfOk result (λ answer. IsOfInput answer.status) → (IsErrOf result whys.ReadFault → Rose reads.0 reads.1)
     → IfErr result (λ why. ComesFirst why → ⊥) → Keeps input read reads asks result
 keeps_read input read reads asks (Ok answer) of rose alone =
@@ -30,7 +30,7 @@ keeps_read input read reads asks (Err whys.ShelfFault) of rose alone = absurd (a
 keeps_read input read reads asks (Err whys.GameMissing) of rose alone = absurd (alone tt)
 keeps_read input read reads asks (Err whys.FileMissing) of rose alone = absurd (alone tt)
 
-pub none_of_plain : (from : PlainNotation) (task : NamedTask PlainNotation) (left : Option (List ℕ)) (told : Option Files) (why : NoAnswer)
+pub none_of_plain : (from : PlainNotation) (task : NamedTask PlainNotation) (left : Option (List ℕ)) (told : Option Files) (why : NoAnswerError)
     → (ComesFirst why → ⊥) → HasNoAnswer (Plain from task) left told why
 none_of_plain from task left told whys.ReadFault alone = (tt, λ lacks. lacks)
 none_of_plain from task left told (whys.Memory memory) alone = tt
@@ -39,24 +39,24 @@ none_of_plain from task left told whys.GameMissing alone = absurd (alone tt)
 none_of_plain from task left told whys.FileMissing alone = absurd (alone tt)
 
 pub none_under_game : (name : List ℕ) (logs : Logs) (game : Game) (left : Option (List ℕ)) (told : Option Files)
-    → IfSome told (λ files. GivesGame (files name) game) → (why : NoAnswer) → (ComesFirst why → ⊥) → HasNoAnswer (Under name logs) left told why
+    → IfSome told (λ files. GivesGame (files name) game) → (why : NoAnswerError) → (ComesFirst why → ⊥) → HasNoAnswer (Under name logs) left told why
 none_under_game name logs game left told gives whys.ReadFault alone = (tt, game_there told name logs game gives)
 none_under_game name logs game left told gives (whys.Memory memory) alone = tt
 none_under_game name logs game left told gives whys.ShelfFault alone = absurd (alone tt)
 none_under_game name logs game left told gives whys.GameMissing alone = absurd (alone tt)
 none_under_game name logs game left told gives whys.FileMissing alone = absurd (alone tt)
 
--- where the shelf was asked before
-pub keeps_later : {S : Type 0} (input read : S) (reads : ℕ × ℕ) (before between now : ℕ) (result : Result made.Answer NoAnswer)
+-- if the shelf was asked before
+pub keeps_later : {S : Type 0} (input read : S) (reads : ℕ × ℕ) (before between now : ℕ) (result : Result made.Answer NoAnswerError)
     → before ≤ between → Keeps input read reads (between, now) result → Keeps input read reads (before, now) result
 keeps_later input read reads before between now (Err whys.ShelfFault) later kept =
     let rose : Rose between now = kept.0 in (omega (arith, later, rose), kept.1)
 keeps_later input read reads before between now (Err why) later kept = kept
 keeps_later input read reads before between now (Ok answer) later kept = kept
 
--- where the file that hands are compared with is asked for behind a game
+-- if the file to compare with is asked for after a game
 pub none_beside : (sides : Sides) (name : List ℕ) (notes : Bool) (by : Comparison) (left : Option (List ℕ)) (told : Option Files)
-    → IfSome told (λ files. IsComparisonOf files sides notes by) → (result : Result made.Answer NoAnswer)
+    → IfSome told (λ files. IsComparisonOf files sides notes by) → (result : Result made.Answer NoAnswerError)
     → (IsErrOf result whys.ReadFault → IfSome told (λ files. IsNotThere (files name) → ⊥))
     → IfErr result (λ why. why ≡ whys.GameMissing → ⊥)
     → (IsErrOf result whys.FileMissing → IfSome told (λ files. files name ≡ None))

@@ -11,15 +11,15 @@ use Rattle.hand_records.specs.declared.trace.Play.{Play}
 use Rattle.poker_cli.specs.Answer.{Answer, Files, GivesGame, IsComparedIn, IsComparedTo, IsComparedWith, IsComparison, IsComparisonOf, IsToldOf, in_file, most_input, to_excess, to_file_excess}
 use Rattle.poker_cli.specs.Answer as answers
 use Rattle.poker_cli.specs.Inputs.{HaveFault, SayRecords}
-use Rattle.poker_cli.specs.Lacking.{AreOfLogs, AsksForGame, HasNoFile, HasNoGameFor, IsLackTold}
+use Rattle.poker_cli.specs.Lacking.{AreOfLogs, AsksForGame, HasNoFile, HasNoGameFor, IsGameFileErrorTold}
 use Rattle.poker_cli.specs.Run.{Asks, GivesSome, IsFileMissing, IsNotThere, LacksFile, OfBytes}
 use Rattle.poker_cli.specs.Told.{answer_told}
 use Rattle.poker_cli.specs.declared.answer.Answer as made
-use Rattle.poker_cli.specs.declared.comparing.NoFile.TheVariants as no_files
+use Rattle.poker_cli.specs.declared.comparing.NoFileError.TheVariants as no_files
 use Rattle.poker_cli.specs.declared.comparison.Comparison.{Comparison}
-use Rattle.poker_cli.specs.declared.games.Lack.{Lack}
-use Rattle.poker_cli.specs.declared.games.NoGame.TheVariants as reasons
-use Rattle.poker_cli.specs.declared.no_answer.NoAnswer.{NoAnswer}
+use Rattle.poker_cli.specs.declared.games.GameFileError.{GameFileError}
+use Rattle.poker_cli.specs.declared.games.NoGameError.TheVariants as reasons
+use Rattle.poker_cli.specs.declared.no_answer.NoAnswerError.{NoAnswerError}
 use Rattle.poker_cli.specs.declared.task.Format.{Format}
 use Rattle.poker_cli.proofs.Answering.{beyond, bytes_told, no_game, of_all}
 use Rattle.poker_cli.proofs.OneAnswer.{lacks_none}
@@ -34,7 +34,7 @@ other_told other notes file plays answer (convert_faults.Refused number why) is 
 other_told other notes file plays answer (convert_faults.Unspelled number fact) is told = absurd is
 other_told other notes file plays answer (convert_faults.Memory memory) is told = absurd told
 
--- more bytes than are read
+-- more bytes than the limit
 pub compared_beyond : (by : Comparison) (file : List ℕ) (left : Option (List ℕ)) (answer : Answer)
     → IfSome left (λ l. most_input < length l) → answer ≡ to_excess → OfBytes left (λ l. IsComparison by file l answer)
 compared_beyond by file left answer many is =
@@ -47,7 +47,7 @@ compared_within by file (Some left) bytes answer all is = subst (λ (l : List �
 compared_within by file None bytes answer all is = (bytes, is)
 
 -- the file of a name has these bytes
-pub beside_reply : (told : Option Files) (left : Option (List ℕ)) (name : List ℕ) (by : Comparison) (file : List ℕ) (result : Result made.Answer NoAnswer)
+pub beside_reply : (told : Option Files) (left : Option (List ℕ)) (name : List ℕ) (by : Comparison) (file : List ℕ) (result : Result made.Answer NoAnswerError)
     → IfSome told (λ files. (files name ≡ Some file) × (length file ≤ most_input))
     → IfOk result (λ answer. OfBytes left (λ bytes. IsComparison by file bytes (answer_told answer)))
     → IfOk result (λ answer. IfSome told (λ files. OfBytes left (λ bytes. IsComparedTo by (files name) bytes (answer_told answer))))
@@ -57,7 +57,7 @@ beside_reply (Some files) left name by file (Ok answer) there is =
 beside_reply None left name by file (Ok answer) there is = tt
 beside_reply told left name by file (Err why) there is = tt
 
--- or more than are read
+-- or more bytes than the limit
 pub long_reply : (told : Option Files) (left : Option (List ℕ)) (name : List ℕ) (by : Comparison) (answer : Answer)
     → IfSome told (λ files. HasNoFile (files name) no_files.TooLong) → answer ≡ to_file_excess
     → IfSome told (λ files. OfBytes left (λ bytes. IsComparedTo by (files name) bytes answer))
@@ -75,7 +75,7 @@ by_sides files (SidesUnder game from other) name notes by bytes answer so is =
     answers.ComparedInGame so.game so.gives answer (subst (λ (c : Comparison). IsComparedTo c (files name) bytes answer) so.same is)
 
 pub compared_reply : (told : Option Files) (left : Option (List ℕ)) (sides : Sides) (name : List ℕ) (notes : Bool) (by : Comparison)
-    → (result : Result made.Answer NoAnswer) → IfSome told (λ files. IsComparisonOf files sides notes by)
+    → (result : Result made.Answer NoAnswerError) → IfSome told (λ files. IsComparisonOf files sides notes by)
     → IfOk result (λ answer. IfSome told (λ files. OfBytes left (λ bytes. IsComparedTo by (files name) bytes (answer_told answer))))
     → IfOk result (λ answer. IfSome told (λ files. OfBytes left (λ bytes. IsComparedIn files sides name notes bytes (answer_told answer))))
 compared_reply (Some files) left sides name notes by (Ok answer) so is =
@@ -96,21 +96,21 @@ pub missing_reply : (told : Option Files) (sides : Sides) (name : List ℕ) (not
 missing_reply (Some files) sides name notes by so none = missing_in files sides name notes by so none
 missing_reply None sides name notes by so none = tt
 
--- the file of a game lacks this
-lack_in : (files : Files) (sides : Sides) (name : List ℕ) (notes : Bool) (bytes : List ℕ) (lack : Lack) (answer : Answer)
-    → HasNoGameFor files sides (reasons.Lacking lack) → IsLackTold lack answer → IsComparedIn files sides name notes bytes answer
-lack_in files (PlainSides from other) name notes bytes lack answer none told = absurd none
-lack_in files (SidesUnder game from other) name notes bytes lack answer none told =
+-- this is wrong with the game file
+game_file_error_in : (files : Files) (sides : Sides) (name : List ℕ) (notes : Bool) (bytes : List ℕ) (lack : GameFileError) (answer : Answer)
+    → HasNoGameFor files sides (reasons.Lacking lack) → IsGameFileErrorTold lack answer → IsComparedIn files sides name notes bytes answer
+game_file_error_in files (PlainSides from other) name notes bytes lack answer none told = absurd none
+game_file_error_in files (SidesUnder game from other) name notes bytes lack answer none told =
     answers.NoGameToCompare answer (no_game (files game) lack answer none told)
 
-pub compared_lack : (told : Option Files) (left : Option (List ℕ)) (sides : Sides) (name : List ℕ) (notes : Bool) (lack : Lack) (answer : Answer)
-    → IfSome told (λ files. HasNoGameFor files sides (reasons.Lacking lack)) → IsLackTold lack answer
+pub compared_game_file_error : (told : Option Files) (left : Option (List ℕ)) (sides : Sides) (name : List ℕ) (notes : Bool) (lack : GameFileError) (answer : Answer)
+    → IfSome told (λ files. HasNoGameFor files sides (reasons.Lacking lack)) → IsGameFileErrorTold lack answer
     → IfSome told (λ files. OfBytes left (λ bytes. IsComparedIn files sides name notes bytes answer))
-compared_lack (Some files) left sides name notes lack answer none tells =
-    of_all left (λ bytes. IsComparedIn files sides name notes bytes answer) (λ bytes. lack_in files sides name notes bytes lack answer none tells)
-compared_lack None left sides name notes lack answer none tells = tt
+compared_game_file_error (Some files) left sides name notes lack answer none tells =
+    of_all left (λ bytes. IsComparedIn files sides name notes bytes answer) (λ bytes. game_file_error_in files sides name notes bytes lack answer none tells)
+compared_game_file_error None left sides name notes lack answer none tells = tt
 
--- what is so where the other file lacks is so where any file lacks, since the game is given
+-- what holds if the other file is missing holds if any file is missing, because the game is given
 lacks_in : (Q : Type 0) (files : Files) (sides : Sides) (name : List ℕ) (notes : Bool) (by : Comparison)
     → IsComparisonOf files sides notes by → (IsNotThere (files name) → Q)
     → LacksFile (Compare sides name notes) (Some files) → Q
@@ -128,13 +128,13 @@ pub where_lacking : (Q : Type 0) (told : Option Files) (sides : Sides) (name : L
 where_lacking Q (Some files) sides name notes by so then lacks = lacks_in Q files sides name notes by so then lacks
 where_lacking Q None sides name notes by so then lacks = absurd (never_lacks sides name notes lacks)
 
--- a game that its file gives does not lack
+-- a game that its file gives is not missing
 pub game_there : (told : Option Files) (name : List ℕ) (logs : Logs) (game : Game) → IfSome told (λ files. GivesGame (files name) game)
     → LacksFile (Under name logs) told → ⊥
 game_there (Some files) name logs game gives lacks = lacks_none (files name) game gives lacks
 game_there None name logs game gives lacks = lacks
 
--- a shelf is asked for the file of a game and then for the other file
+-- a shelf is asked for the game file and then for the other file
 gives_some : (told : Option Files) (game : List ℕ) (from other : NotationName) (notes : Bool) (by : Comparison)
     → IfSome told (λ files. IsComparisonOf files (SidesUnder game from other) notes by) → GivesSome told game
 gives_some (Some files) game from other notes by so = (so.game, so.gives)
@@ -147,7 +147,7 @@ module _ {H : Type 0} (Asked : H → H → List ℕ → Type 0) (told : Option F
   both_asked (SidesUnder game from other) by seen so first asked =
       (between, (first, inr (gives_some told game from other notes by so, asked)))
 
-  -- or for that of the game alone
+  -- or for the game file alone
   pub game_asked : (sides : Sides) → AreOfLogs sides → AsksForGame Asked sides shelf between
       → Asks Asked told (Compare sides name notes) shelf between
   game_asked (PlainSides from other) logs first = absurd logs

@@ -8,7 +8,7 @@ use Rattle.poker_cli.specs.Replies.{each_view, most_view_bytes}
 use Rattle.poker_cli.specs.Seen.{AreSeen}
 
 module _ (game : Game) (seat : Seat) where
-  -- the lines of one more hand are behind the others
+  -- the lines of one more hand come after the others
   each_more : (place : ℕ) (plays : List Play) (play : Play)
       → each_view game seat place (plays ++ play ∷ []) ≡ each_view game seat place plays ++ views_text game.no_limit seat.number (place + length plays) play
   unfolding each_view
@@ -54,7 +54,7 @@ module _ (game : Game) (seat : Seat) where
         longer (inl none) = inl none
         longer (inr many) = inr (omega (arith, many, long))
 
-    -- lines that become too many are dropped
+    -- lines that exceed the limit are dropped
     pub dropped_more : (kept : Bool) (lines left : List ℕ) → kept ≡ true → AreSeen game seat kept lines before
         → most_view_bytes < length lines + length its
         → AreSeen game seat false left (before ++ play ∷ [])
@@ -80,7 +80,7 @@ pub none_seen : (game : Game) (seat : Seat) (kept : Bool) (lines : List ℕ) →
 unfolding each_view
 none_seen game seat kept lines none empty = record { all = λ is. empty; few = λ is. omega arith; not_kept = λ not. inl (none not) }
 
--- lines of a seat that the game has, which are not kept, are too many
+-- lines of a seat that the game has, if they are not kept, exceed the limit
 pub are_many : (game : Game) (seat : Seat) (kept : Bool) (lines : List ℕ) (plays : List Play) → AreSeen game seat kept lines plays
     → seat.number ≤ game.stacks.seats → kept ≡ false → most_view_bytes < length (each_view game seat 0 plays)
 are_many game seat kept lines plays seen there not = by (seen.not_kept not)

@@ -1,5 +1,5 @@
--- What is answered where hands are compared with those of another file: they are the same, or the
--- first that differs is named, or how many there are on either side.
+-- The answer of `compare`: the hands are the same, or the first that differs is named, or the two
+-- numbers of hands.
 use Rattle.std.specs.Prelude.{◌==◌, ℕ, ◌+◌, Bool, if◌then◌else◌, List, [], ◌∷◌, ◌++◌, length, codes, Option, Some, None, option_map}
 use Rattle.std.specs.Option.{option_or}
 use Rattle.std.specs.Fmt.{decimal}
@@ -10,19 +10,19 @@ use Rattle.poker_cli.specs.AnswerParts.{Answer, done, refusal}
 use Rattle.poker_cli.specs.declared.comparison.HandDifference.{HandDifference}
 use Rattle.poker_cli.specs.declared.status.Status.TheVariants as statuses
 
--- a hand that differs from that at its place in the other file, by its number, from 1, and the
--- first difference of the two
+-- a hand that differs from the one with the same number in the other file: its number, from 1, and
+-- the first difference
 pub record DifferentHand : Type 0 where
   pub number : ℕ
   pub difference : PlainDifference
 
--- what is said of a hand that differs
+-- a hand that differs, as the definitions see it
 abbrev pub hand_difference_said : HandDifference → DifferentHand
 hand_difference_said differs =
     record { number = differs.number; difference = difference_said differs.difference }
 
--- The first hand, of those that both files have, that differs; the first two hands stand at this
--- place of their files, from 0. Notes are looked at where they are asked for.
+-- The first hand that differs, among those that both files have; the first two hands are at this
+-- place of their files, from 0. Notes are compared only if `notes` is true.
 unfoldable pub first_different : (notes : Bool) → ℕ → List Play → List Play → Option DifferentHand
 first_different notes place [] others = None
 first_different notes place (play ∷ plays) [] = None
@@ -32,11 +32,11 @@ first_different notes place (play ∷ plays) (other ∷ others) =
     (first_difference notes place play other))
     (first_different notes (place + 1) plays others)
 
--- all hands are the same, and these are so many
+-- all hands are the same; this is their number
 abbrev pub to_same : ℕ → Answer
 to_same hands = done (codes "same hands: " ++ (decimal hands ++ codes "\n"))
 
--- a hand differs
+-- this hand differs
 abbrev pub to_different : DifferentHand → Answer
 to_different differs =
     refusal statuses.Differs
@@ -44,21 +44,20 @@ to_different differs =
     ++ (decimal differs.number
     ++ (codes ": " ++ (difference_text differs.difference ++ codes "\n"))))
 
--- there are so many hands in the input, and so many in the other file
+-- the files have different numbers of hands: those of the input and of the other file
 abbrev pub to_other_count : ℕ → ℕ → Answer
 to_other_count hands others =
     refusal statuses.Differs
     (codes "differs: hands "
     ++ (decimal hands ++ (codes " and " ++ (decimal others ++ codes "\n"))))
 
--- the answer by the first hand that differs, and by how many there are of the input and of the
--- other file
+-- the answer by the first hand that differs, if one does, and by the two numbers of hands
 abbrev pub compared_by : Option DifferentHand → ℕ → ℕ → Answer
 compared_by (Some differs) hands others = to_different differs
 compared_by None hands others =
     if hands == others then to_same hands else to_other_count hands others
 
--- the answer to the hands of an input and those of another file
+-- the answer to the hands of an input compared with those of another file
 abbrev pub compared : (notes : Bool) → List Play → List Play → Answer
 compared notes plays others =
     compared_by (first_different notes 0 plays others) (length plays) (length others)

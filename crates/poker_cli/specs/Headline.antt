@@ -5,6 +5,7 @@
 -- refused hand is named, with its first illegal action.
 use Rattle.std.specs.Prelude.{◌≡◌, ◌⊎◌, ℕ, ◌<◌, ◌≤◌, List, length, codes, None, Some}
 use Rattle.std.specs.Io.KnownBytes.{Appends}
+use Rattle.card_set.specs.Refusal.{WasRefused}
 use Rattle.command_words.specs.Words.{Request}
 use Rattle.convert_core.specs.Conversion.{HasUnspelled, ReadAsPlays, ReadAsRefused}
 use Rattle.convert_core.specs.declared.refusal.Refusal.{Refusal}
@@ -17,6 +18,7 @@ use Rattle.host_io.specs.Bytes.{AppendsPart}
 use Rattle.host_io.specs.Faults.{Rose}
 use Rattle.poker_cli.specs.Answer.{Answer, Files, IsWay, most_input, to_fault}
 use Rattle.poker_cli.specs.Inputs.{HaveFault, SayRecords}
+use Rattle.poker_cli.specs.Limits.{excess_line}
 use Rattle.poker_cli.specs.Refusals.{refused_line}
 use Rattle.poker_cli.specs.Outputs.{ReadsBack, SpellPlays, first_refusal_in, unspelled_in}
 use Rattle.poker_cli.specs.Run.{RefusesNothing, Sinks, TellsLine}
@@ -28,20 +30,20 @@ use Rattle.poker_cli.specs.declared.task.Format.{Format}
 use Rattle.poker_cli.specs.declared.task.Format.TheVariants as readers
 use Rattle.poker_cli.specs.declared.task.Task.TheVariants as tasks
 
--- a request is to convert: its input is read by the one notation and its hands are written by the
--- other, with so many of their notes, and each log under the game that its file gives
+-- the request is a conversion: the input is read in the notation `from` and its hands are written
+-- in `to`, keeping these notes; each log is under the game in its game file
 abbrev pub AsksToConvert : Files → Request → (from to : Format) → Keep → Type 0
 AsksToConvert files request from to keep = IsWay files request (way (tasks.Convert to keep) from)
 
 -- an input within the limit reads as hands; the replay of every hand is legal, every stated fact
--- agrees, and these are the plays; every fact to be kept has a spelling in the target notation
+-- agrees, and these are the plays; every fact to be kept can be written in the target notation
 pub record CanConvert (from to : Format) (keep : Keep) (bytes : List ℕ) (plays : List Play) : Type 0
   where
     pub within : length bytes ≤ most_input
     pub legal : ReadAsPlays (SayRecords from bytes) plays
     pub spelled : first_refusal_in to keep plays ≡ None
 
--- the hands of an input can be converted, and this output spells them in the target notation, and
+-- the hands of an input can be converted, and this output spells them in the target notation and
 -- reads back there as the same hands, with the notes that are to be kept
 pub record ConvertsInto (from to : Format) (keep : Keep) (bytes output : List ℕ) : Type 0 where
   pub plays : List Play
@@ -49,17 +51,17 @@ pub record ConvertsInto (from to : Format) (keep : Keep) (bytes output : List �
   pub spell : SpellPlays to plays output
   pub back : ReadsBack to keep plays output
 
--- a sink is told this line
+-- this line is printed on a sink
 abbrev pub IsTold : Sinks → List ℕ → Type 0
 IsTold diag line = TellsLine diag.before diag.now diag.held diag.holds line
 
--- nothing is written, and this line is told
+-- nothing is written, and this line is printed
 pub record TellsAlone (out diag : Sinks) (line : List ℕ) : Type 0 where
   pub unwritten : out.holds ≡ out.held
   pub told : IsTold diag line
 
--- All is done, of which the number is 0: the hands can be converted, exactly the bytes that spell
--- them were put behind what the output held, and no line was told.
+-- All is done, and the status is 0: the hands can be converted, exactly the bytes that spell them
+-- were appended to the output, and no line was printed.
 pub record IsConverted (from to : Format) (keep : Keep) (bytes : List ℕ) (out diag : Sinks) : Type 0
   where
     pub output : List ℕ
@@ -67,8 +69,8 @@ pub record IsConverted (from to : Format) (keep : Keep) (bytes : List ℕ) (out 
     pub written : Appends out.held out.holds output
     pub quiet : diag.holds ≡ diag.held
 
--- The output failed: the hands can be converted, and of the bytes that spell them a part of the
--- front was written.
+-- Writing failed: the hands can be converted, and a first part of the bytes that spell them was
+-- written.
 pub record IsCutShort (from to : Format) (keep : Keep) (bytes : List ℕ) (out diag : Sinks) : Type 0
   where
     pub output : List ℕ
@@ -77,8 +79,8 @@ pub record IsCutShort (from to : Format) (keep : Keep) (bytes : List ℕ) (out d
     pub failed : Rose out.before out.now
     pub told : IsTold diag (codes "write fault\n")
 
--- A hand is refused: the bytes read as hands, and this is the number, from 1, of the first that is
--- refused, and why: its first illegal action, or what else is wrong with it first.
+-- A hand is refused: the bytes read as hands, and this is the number, from 1, of the first refused
+-- hand, and why it is refused: its first illegal action, or another fault that comes first.
 pub record NamesRefused (from : Format) (bytes : List ℕ) (out diag : Sinks) : Type 0 where
   pub within : length bytes ≤ most_input
   pub number : ℕ
@@ -86,9 +88,9 @@ pub record NamesRefused (from : Format) (bytes : List ℕ) (out diag : Sinks) : 
   pub first : ReadAsRefused (SayRecords from bytes) number why
   pub told : TellsAlone out diag (refused_line number why)
 
--- A fact has no spelling: all hands are legal and every stated fact agrees, and this is the number
--- of the first hand with a fact to be kept that the target notation does not spell, and its first
--- such fact.
+-- A fact cannot be written: all hands are legal and every stated fact agrees, and this is the
+-- number of the first hand with a fact to be kept that the target notation cannot write, and its
+-- first such fact.
 pub record NamesUnspelled (from to : Format) (keep : Keep) (bytes : List ℕ) (out diag : Sinks) :
     Type 0 where
   pub within : length bytes ≤ most_input
@@ -97,8 +99,8 @@ pub record NamesUnspelled (from to : Format) (keep : Keep) (bytes : List ℕ) (o
   pub first : HasUnspelled (SayRecords from bytes) (unspelled_in to keep) number fact
   pub told : TellsAlone out diag (unspelled_line number fact)
 
--- The bytes do not read as hands: this is their first fault, which is answered by this status and
--- this line.
+-- The bytes cannot be read as hands: this is their first fault, which is answered with this status
+-- and this line.
 pub record NamesFault (from : Format) (bytes : List ℕ) (out diag : Sinks) (status : Status) : Type 0
   where
     pub within : length bytes ≤ most_input
@@ -109,18 +111,18 @@ pub record NamesFault (from : Format) (bytes : List ℕ) (out diag : Sinks) (sta
     pub same : answer.status ≡ status
     pub told : TellsAlone out diag answer.line
 
--- The bytes are too many.
+-- The input has too many bytes.
 pub record IsTooLong (bytes : List ℕ) (out diag : Sinks) : Type 0 where
   pub beyond : most_input < length bytes
-  pub told : TellsAlone out diag (codes "limit: input bytes 16777216\n")
+  pub told : TellsAlone out diag (excess_line (codes "input bytes") most_input)
 
--- a notation is that of logs, which are under a game
+-- the notation is that of logs, which are under a game
 abbrev pub IsOfLogs : Format → Type 0
 IsOfLogs (readers.Acpc game) = Unit {0}
 IsOfLogs reader = ⊥
 
--- How a conversion ends, status by status: the bytes are read by the one notation and written by
--- the other, with so many notes.
+-- How a conversion ends, status by status: the bytes are read in the notation `from` and written in
+-- `to`, keeping these notes.
 abbrev pub ConversionEnds : (from to : Format) → Keep → (bytes : List ℕ) → (out diag : Sinks)
     → Status → Type 0
 ConversionEnds from to keep bytes out diag statuses.Done = IsConverted from to keep bytes out diag
@@ -136,7 +138,7 @@ ConversionEnds from to keep bytes out diag statuses.WriteFault =
 ConversionEnds from to keep bytes out diag statuses.ReadFault =
     TellsAlone out diag (codes "read fault\n")
 ConversionEnds from to keep bytes out diag statuses.Memory =
-    TellsAlone out diag (codes "out of memory\n")
+    WasRefused × TellsAlone out diag (codes "out of memory\n")
 ConversionEnds from to keep bytes out diag statuses.ShelfFault =
     (IsOfLogs from ⊎ IsOfLogs to) × TellsAlone out diag (codes "shelf fault\n")
 ConversionEnds from to keep bytes out diag statuses.Usage = ⊥
@@ -146,16 +148,16 @@ ConversionEnds from to keep bytes out diag statuses.NoSuch = ⊥
 ConversionEnds from to keep bytes out diag statuses.Differs = ⊥
 ConversionEnds from to keep bytes out diag statuses.FileMissing = ⊥
 
--- a status where an input within the limit reads as hands: all is done, or a hand is refused or
--- unspelled, or a device failed, or memory ran out
+-- a status if an input within the limit reads as hands: all is done, or a hand is refused or cannot
+-- be written, or a device failed, or memory ran out
 abbrev pub IsOfHands : Status → Type 0
 IsOfHands statuses.Refused = Unit {0}
 IsOfHands statuses.Unspelled = Unit {0}
 IsOfHands status = RefusesNothing status
 
 -- The headline: a conversion ends as its status says; an input within the limit that reads as hands
--- is not told as bad input or as a limit; and wherever the hands can be converted, all is done, or
--- a device failed, or memory ran out.
+-- is not reported as bad input or as over a limit; and whenever the hands can be converted, all is
+-- done, or a device failed, or memory ran out.
 pub record Headline (from to : Format) (keep : Keep) (bytes : List ℕ) (out diag : Sinks)
     (status : Status) : Type 0 where
   pub ends : ConversionEnds from to keep bytes out diag status

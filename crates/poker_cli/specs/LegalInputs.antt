@@ -1,4 +1,4 @@
--- What is asked of hands that are all legal and agree with what is stated of them.
+-- A request about hands that are all legal and agree with what is stated of them.
 use Rattle.std.specs.Prelude.{ℕ, ◌≤◌, List, length}
 use Rattle.command_words.specs.Words.{Request}
 use Rattle.convert_core.specs.Conversion.{ReadAsPlays}
@@ -9,8 +9,9 @@ use Rattle.poker_cli.specs.Ways.{way}
 use Rattle.poker_cli.specs.declared.task.Format.{Format}
 use Rattle.poker_cli.specs.declared.task.Task.{Task}
 
--- A request makes this of the hands of an input, which is read so and no longer than it may be: it
--- reads as hands that are all legal and agree with what is stated of them, and these are the plays.
+-- The request does this with the hands of an input, which is read in this notation and is within
+-- the limit: it reads as hands that are all legal and agree with what is stated of them, and these
+-- are the plays.
 pub record AsksOfLegal (files : Files) (request : Request) (task : Task) (reader : Format)
     (bytes : List ℕ) (plays : List Play) : Type 0 where
   pub asks : IsWay files request (way task reader)

@@ -1,4 +1,4 @@
--- What the program answers, prints and leaves.
+-- What the program answers, prints and writes.
 pub mod Status
 pub mod AnswerParts
 pub mod Compared
@@ -29,3 +29,4 @@ pub mod ComparedRuns
 pub mod LegalInputs
 pub mod RunTells
 pub mod Process
+pub mod Ran

@@ -1,16 +1,31 @@
--- The line that is told where a limit is passed, in whatever notation.
+-- The line that is printed where a limit is passed: what is counted, and the most of it.
 use Rattle.std.specs.Prelude.{ℕ, List, ◌++◌, codes}
+use Rattle.std.specs.Fmt.{decimal}
+use Rattle.play_event.specs.declared.hand_limits.TheConstants.{MOST_MOVES, MOST_OTHER_EVENTS}
 use Rattle.first_fault.specs.declared.limits.Quantity.{Quantity}
 use Rattle.first_fault.specs.declared.limits.Quantity.TheVariants as quantities
+use Rattle.first_fault.specs.declared.limits.TheConstants.{MOST_FILE_MOVES, MOST_HANDS, MOST_TEXT_BYTES}
 
--- what a limit is called, and its number
-abbrev pub limit_text : Quantity → List ℕ
-limit_text quantities.Hands = codes "hands 65536"
-limit_text quantities.Moves = codes "moves of a hand 4096"
-limit_text quantities.OtherEvents = codes "other events of a hand 256"
-limit_text quantities.FileMoves = codes "moves of the file 1048576"
-limit_text quantities.TextBytes = codes "text bytes 255"
+-- the line of a limit
+abbrev pub excess_line : (what : List ℕ) (most : ℕ) → List ℕ
+excess_line what most = codes "limit: " ++ (what ++ (codes " " ++ (decimal most ++ codes "\n")))
 
--- the line of a limit that is passed
+-- what a file has too many of
+abbrev pub quantity_name : Quantity → List ℕ
+quantity_name quantities.Hands = codes "hands"
+quantity_name quantities.Moves = codes "moves of a hand"
+quantity_name quantities.OtherEvents = codes "other events of a hand"
+quantity_name quantities.FileMoves = codes "moves of the file"
+quantity_name quantities.TextBytes = codes "text bytes"
+
+-- the most of it that a file may have
+abbrev pub most_of : Quantity → ℕ
+most_of quantities.Hands = MOST_HANDS
+most_of quantities.Moves = MOST_MOVES
+most_of quantities.OtherEvents = MOST_OTHER_EVENTS
+most_of quantities.FileMoves = MOST_FILE_MOVES
+most_of quantities.TextBytes = MOST_TEXT_BYTES
+
+-- the line of a limit that the hands of a file pass
 abbrev pub limit_line : Quantity → List ℕ
-limit_line quantity = codes "limit: " ++ (limit_text quantity ++ codes "\n")
+limit_line quantity = excess_line (quantity_name quantity) (most_of quantity)

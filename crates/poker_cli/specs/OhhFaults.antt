@@ -1,4 +1,4 @@
--- The line that is told where an input in Open Hand History does not read as hands.
+-- The line that is printed when an input in Open Hand History cannot be read.
 use Rattle.std.specs.Prelude.{ℕ, List, ◌++◌, codes, Option, Some, None}
 use Rattle.std.specs.Fmt.{decimal}
 use Rattle.ohh_members.specs.declared.fault.MemberFaultKind.{MemberFaultKind}
@@ -8,7 +8,7 @@ use Rattle.poker_cli.specs.Limits.{limit_line}
 use Rattle.poker_cli.specs.declared.status.Status.{Status}
 use Rattle.poker_cli.specs.declared.status.Status.TheVariants as statuses
 
--- what a fault is called
+-- the name of a fault
 abbrev pub ohh_fault_text : MemberFaultKind → List ℕ
 ohh_fault_text whats.MissingMember = codes "MissingMember"
 ohh_fault_text whats.WrongType = codes "WrongType"
@@ -22,23 +22,23 @@ ohh_fault_text whats.BadPost = codes "BadPost"
 ohh_fault_text whats.RakePlace = codes "RakePlace"
 ohh_fault_text (whats.TooMany quantity) = codes "TooMany"
 
--- the line of a hand that is no JSON
+-- the line of a hand that is not JSON
 abbrev pub no_text_line : ℕ → List ℕ
 no_text_line hand = codes "bad input: hand " ++ (decimal hand ++ codes ": Text\n")
 
--- what a fault is called, by what it says is wrong; want of memory says nothing
+-- the name of a fault, by what is wrong; empty if memory ran out
 abbrev pub fault_name : Option Wrong → List ℕ
 fault_name None = codes "Memory"
 fault_name (Some (NoText hand)) = codes "Text"
 fault_name (Some (InHand hand path what)) = ohh_fault_text what
 
--- the line of a fault of this name at a member of a hand
+-- the line of a fault with this name at a member of a hand
 abbrev pub bad_member_line : ℕ → List ℕ → List ℕ → List ℕ
 bad_member_line hand path name =
     codes "bad input: hand "
     ++ (decimal hand ++ (codes ", " ++ (path ++ (codes ": " ++ (name ++ codes "\n")))))
 
--- the status of a fault: a limit that is passed, or else bad input
+-- the status of a fault: Limit if a limit is exceeded, else BadInput
 abbrev pub ohh_status : Wrong → Status
 ohh_status (NoText hand) = statuses.BadInput
 ohh_status (InHand hand path (whats.TooMany quantity)) = statuses.Limit

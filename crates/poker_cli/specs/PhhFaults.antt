@@ -1,14 +1,14 @@
--- The line that is told where an input in the Poker Hand History format does not read as hands.
+-- The line that is printed when an input in the Poker Hand History format cannot be read.
 use Rattle.std.specs.Prelude.{ℕ, List, ◌++◌, codes, Option, Some, None}
 use Rattle.std.specs.Fmt.{decimal}
-use Rattle.phh_fields.specs.declared.fault.FieldFaultKind.{FieldFaultKind}
-use Rattle.phh_fields.specs.declared.fault.FieldFaultKind.TheVariants as whats
+use Rattle.phh_reading.specs.declared.field_fault.FieldFaultKind.{FieldFaultKind}
+use Rattle.phh_reading.specs.declared.field_fault.FieldFaultKind.TheVariants as whats
 use Rattle.phh_reading.specs.Reading.{InHand, NoDocument, Wrong}
 use Rattle.poker_cli.specs.Limits.{limit_line}
 use Rattle.poker_cli.specs.declared.status.Status.{Status}
 use Rattle.poker_cli.specs.declared.status.Status.TheVariants as statuses
 
--- what a fault is called
+-- the name of a fault
 abbrev pub phh_fault_text : FieldFaultKind → List ℕ
 phh_fault_text whats.MissingField = codes "MissingField"
 phh_fault_text whats.WrongType = codes "WrongType"
@@ -20,19 +20,19 @@ phh_fault_text whats.ListLength = codes "ListLength"
 phh_fault_text whats.BadAction = codes "BadAction"
 phh_fault_text (whats.TooMany quantity) = codes "TooMany"
 
--- what a fault is called, by what it says is wrong; want of memory says nothing
+-- the name of a fault, by what is wrong; empty if memory ran out
 abbrev pub fault_name : Option Wrong → List ℕ
 fault_name None = codes "Memory"
 fault_name (Some NoDocument) = codes "Text"
 fault_name (Some (InHand hand key what)) = phh_fault_text what
 
--- the line of a fault of this name at a key of a hand
+-- the line of a fault with this name at a key of a hand
 abbrev pub bad_hand_line : ℕ → List ℕ → List ℕ → List ℕ
 bad_hand_line hand key name =
     codes "bad input: hand "
     ++ (decimal hand ++ (codes ", " ++ (key ++ (codes ": " ++ (name ++ codes "\n")))))
 
--- the status of a fault: a limit that is passed, or else bad input
+-- the status of a fault: Limit if a limit is exceeded, else BadInput
 abbrev pub phh_status : Wrong → Status
 phh_status NoDocument = statuses.BadInput
 phh_status (InHand hand key (whats.TooMany quantity)) = statuses.Limit

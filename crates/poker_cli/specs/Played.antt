@@ -4,7 +4,7 @@ use Rattle.convert_core.specs.Judged.{ArePlaysOf}
 use Rattle.hand_records.specs.declared.record.Record.{Record}
 use Rattle.hand_records.specs.declared.trace.Play.{Play}
 
--- Plays were taken, no more than this.
+-- Plays were taken, and their number is within this limit.
 pub record HasTakenPlays (Took : List Play → Type 0) (most : ℕ) : Type 0 where
   pub plays : List Play
   pub took : Took plays

@@ -1,4 +1,4 @@
--- What is printed of each hand, and behind all of them.
+-- What is printed for each hand, and after all of them.
 use Rattle.std.specs.Prelude.{◌≡◌, ℕ, List, [], ◌++◌, length}
 use Rattle.command_words.specs.declared.command.Command.{Command}
 use Rattle.command_words.specs.declared.command.Command.TheVariants as commands
@@ -20,12 +20,12 @@ abbrev pub lines_of : Lines → ℕ → Play → List ℕ
 lines_of lines_are.Check number play = check_line number play
 lines_of lines_are.Replay number play = replay_lines number play
 
--- the last line behind so many hands, if there is one
+-- the last line after this number of hands, if there is one
 abbrev pub end_of : Lines → ℕ → List ℕ
 end_of lines_are.Check hands = check_end hands
 end_of lines_are.Replay hands = []
 
--- All records have plays, and a text is the lines of these and the last line.
+-- All records have plays, and the text is the lines of these and the last line.
 pub record IsPrintOf (lines : Lines) (records : List Record) (text : List ℕ) : Type 0 where
   pub plays : List Play
   pub are : ArePlaysOf records plays

@@ -1,10 +1,11 @@
--- What is promised of the process that runs the program: all that is promised of its run, on the
--- words behind its own name.
+-- What is promised of the process that runs the program: all that is promised of its run on the
+-- words after its own name.
 use Rattle.std.specs.Prelude.{◌≡◌, ◌↔◌, ℕ, List, [], codes, drop, map, string_bytes, Option, None, IfSome, Result, Ok, Err}
 use Rattle.std.specs.Vec.Iter.{into_iter_items}
 use Rattle.std.specs.declared.alloc.Global.{Global}
 use Rattle.std.specs.declared.string.String.{String}
 use Rattle.std.specs.declared.vec.IntoIter.{IntoIter}
+use Rattle.card_set.specs.Refusal.{WasRefused}
 use Rattle.command_words.specs.Words.{request_said}
 use Rattle.hand_records.specs.declared.writing.Keep.{Keep}
 use Rattle.poker_cli.specs.Answer.{Files}
@@ -14,17 +15,18 @@ use Rattle.poker_cli.specs.declared.status.Status.{Status}
 use Rattle.poker_cli.specs.declared.status.Status.TheVariants as statuses
 use Rattle.poker_cli.specs.declared.task.Format.{Format}
 
--- the words behind the name of a process, of all that it was given: none, where they are no text
+-- the words after the name of a process; none if they are not text
 abbrev pub words_given : {E : Type 0} → Result (IntoIter (String Global) Global) E → List (List ℕ)
 words_given (Ok args) = map string_bytes (drop 1 (into_iter_items args))
 words_given (Err error) = []
 
 -- All that the contract of `run` says of a run on these words that ends with this status, clause by
--- clause. `reads` and `asks` are the counts of the source and of the shelf.
+-- clause. `reads` and `asks` are the fault counts of the source and of the shelf.
 pub record RunKeeps {S H K D : Type 0} (words : List (List ℕ)) (left : Option (List ℕ))
     (told : Option Files) (Asked : H → H → List ℕ → Type 0) (reads asks : ℕ × ℕ)
     (out diag : Sinks) (status : Status) (input read : S) (shelf seen : H) (sink written : K)
     (lines heard : D) : Type 0 where
+  pub memory : status ≡ statuses.Memory → WasRefused
   pub usage : (status ≡ statuses.Usage) ↔ (request_said words ≡ None)
   pub ends : IfSome (request_said words) (λ request. WhereTold request left told (λ files bytes.
       EndsLeaving request files bytes out diag status (written ≡ sink)))
@@ -38,10 +40,11 @@ pub record RunKeeps {S H K D : Type 0} (words : List (List ℕ)) (left : Option 
   pub without_file : IfSome (request_said words) (λ request. LacksFile request told → read ≡ input)
   pub without_input : IfSome (request_said words) (λ request. MakesHands request → read ≡ input)
 
--- There was no memory for the words: nothing is read, asked or written, and the line says so.
+-- There was no memory for the words: nothing is read, asked for or written, and the line says so.
 pub record LacksWords {S H K : Type 0} (diag : Sinks) (status : Status) (input read : S)
     (shelf seen : H) (sink written : K) : Type 0 where
   pub memory : status ≡ statuses.Memory
+  pub refused : WasRefused
   pub told : IsTold diag (codes "out of memory\n")
   pub unread : read ≡ input
   pub unasked : seen ≡ shelf

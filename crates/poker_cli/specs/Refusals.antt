@@ -1,4 +1,4 @@
--- The line that is told where a hand is refused.
+-- The line that is printed when a hand is refused.
 use Rattle.std.specs.Prelude.{ℕ, List, [], ◌++◌, codes}
 use Rattle.std.specs.Fmt.{decimal, signed_decimal}
 use Rattle.hand_canon.specs.declared.agreement.FactDiffers.{FactDiffers}
@@ -11,7 +11,7 @@ use Rattle.convert_core.specs.declared.refusal.Refusal.TheVariants as refusals
 use Rattle.replay_core.specs.declared.fault.ReplayFault.{ReplayFault}
 use Rattle.replay_core.specs.declared.fault.ReplayFault.TheVariants as faults
 
--- what a reason is called
+-- the name of a reason
 abbrev pub reason_text : Illegal → List ℕ
 reason_text reasons.HandOver = codes "HandOver"
 reason_text reasons.WrongKind = codes "WrongKind"
@@ -39,7 +39,7 @@ fault_text (faults.RakeTooBig pot) = codes "pot " ++ (decimal pot ++ codes ": ra
 fault_text (faults.NoShownHand pot) = codes "pot " ++ (decimal pot ++ codes ": no shown hand")
 fault_text (faults.Memory memory) = []
 
--- which stated fact differs
+-- which stated fact differs from the replayed one
 abbrev pub which_text : Which → List ℕ
 which_text (whiches.Finish seat) = codes "finish p" ++ decimal seat.number
 which_text (whiches.Win seat) = codes "win p" ++ decimal seat.number

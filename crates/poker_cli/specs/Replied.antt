@@ -1,17 +1,17 @@
--- Why a request has no answer, and what a reply leaves of the source and tells of faults.
+-- Why a request has no answer, and what a reply does to the source and the devices.
 use Rattle.std.specs.Prelude.{◌≡◌, ℕ, List, Option, Result, Ok, Err}
 use Rattle.command_words.specs.Words.{Request}
 use Rattle.host_io.specs.Faults.{Rose}
 use Rattle.poker_cli.specs.Answer.{Files}
 use Rattle.poker_cli.specs.Run.{AsksForFile, IsFileMissing, IsGameMissing, IsOwn, LacksFile, ReadsHands, ReadsNothing, WhereTold}
 use Rattle.poker_cli.specs.declared.answer.Answer as made
-use Rattle.poker_cli.specs.declared.no_answer.NoAnswer.{NoAnswer}
-use Rattle.poker_cli.specs.declared.no_answer.NoAnswer.TheVariants as whys
+use Rattle.poker_cli.specs.declared.no_answer.NoAnswerError.{NoAnswerError}
+use Rattle.poker_cli.specs.declared.no_answer.NoAnswerError.TheVariants as whys
 
--- A request has no answer for this reason, by the bytes that a source has left and the files of a
--- shelf: hands were to be read and no file lacked, a file was asked for, or one that is asked for
--- is not there. Where memory ran out nothing is known of them.
-abbrev pub HasNoAnswer : Request → (left : Option (List ℕ)) → (told : Option Files) → NoAnswer
+-- A request has no answer for this reason, by the bytes that a source has left and the files on a
+-- shelf: the input was to be read and no file was missing, or the shelf failed, or a file that is
+-- asked for is not there. Nothing is known of them if memory ran out.
+abbrev pub HasNoAnswer : Request → (left : Option (List ℕ)) → (told : Option Files) → NoAnswerError
     → Type 0
 HasNoAnswer request left told whys.ReadFault = ReadsHands request × (LacksFile request told → ⊥)
 HasNoAnswer request left told whys.ShelfFault = AsksForFile request
@@ -21,12 +21,12 @@ HasNoAnswer request left told whys.FileMissing =
     WhereTold request left told (λ files bytes. IsFileMissing request files)
 HasNoAnswer request left told (whys.Memory memory) = Unit {0}
 
--- What a reply keeps, which is an answer, or a reason why there is none: the status of an answer
--- is its own, a fault of a device is told only where its count of faults rose, and what comes
--- before the input is read leaves the source as it was. `reads` and `asks` are the counts of the
--- source and of the shelf.
+-- What holds after a reply, whether it is an answer or a reason why there is none: the status of an
+-- answer is one that an answer can have, a device fault is reported only if its count of faults
+-- rose, and if the reply comes before the input is read, the source stays as it was. `reads` and
+-- `asks` are the fault counts of the source and of the shelf.
 abbrev pub Keeps : {S : Type 0} → (input read : S) → (reads asks : ℕ × ℕ)
-    → Result made.Answer NoAnswer → Type 0
+    → Result made.Answer NoAnswerError → Type 0
 Keeps input read reads asks (Ok answer) =
     IsOwn answer.status × (ReadsNothing answer.status → read ≡ input)
 Keeps input read reads asks (Err whys.ReadFault) = Rose reads.0 reads.1

@@ -15,54 +15,55 @@ use Rattle.hand_records.specs.SoundRecord.{script_said}
 use Rattle.hand_records.specs.declared.trace.Play.{Play}
 use Rattle.play_event.specs.Scripts.{past_after}
 use Rattle.poker_cli.specs.AnswerParts.{Answer, done, refusal}
+use Rattle.poker_cli.specs.Limits.{excess_line}
 use Rattle.poker_cli.specs.declared.status.Status.TheVariants as statuses
 
 -- the play of the hand with a number, from 1
 abbrev pub hand_numbered : List Play → ℕ → Option Play
 hand_numbered plays number = slice_get plays (number - 1)
 
--- a number and the greatest that there is
+-- a number, and how many there are
 abbrev pub of_text : ℕ → ℕ → List ℕ
 of_text number greatest = decimal number ++ (codes " of " ++ (decimal greatest ++ codes "\n"))
 
--- no hand has this number, of so many
+-- there is no hand with this number; the input has this many hands
 abbrev pub no_hand : ℕ → ℕ → Answer
 no_hand number hands = refusal statuses.NoSuch (codes "no such hand: " ++ of_text number hands)
 
--- the hand with this number has not so many events, but these
+-- the hand with this number has fewer events
 abbrev pub no_event : ℕ → ℕ → ℕ → Answer
 no_event number events all =
     refusal statuses.NoSuch
     (codes "no such event: hand " ++ (decimal number ++ (codes ": " ++ of_text events all)))
 
--- the hand with this number has no board of this street
+-- no board is dealt on this street of the hand with this number
 abbrev pub no_street : ℕ → ℕ → Answer
 no_street number street =
     refusal statuses.NoSuch
     (codes "no such street: hand "
     ++ (decimal number ++ (codes ": " ++ (decimal street ++ codes "\n"))))
 
--- this seat of the hand with this number has a card that stayed unknown
+-- a card of this seat of the hand with this number stayed unknown
 abbrev pub no_cards : ℕ → ℕ → Answer
 no_cards number seat =
     refusal statuses.NoSuch
     (codes "no such cards: hand "
     ++ (decimal number ++ (codes ": p" ++ (decimal seat ++ codes "\n"))))
 
--- a game has no seat with this number, of so many
+-- the game has no seat with this number, only this many
 abbrev pub no_seat : ℕ → ℕ → Answer
 no_seat number seats = refusal statuses.NoSuch (codes "no such seat: " ++ of_text number seats)
 
--- What is legal after so many events of the hand with this number.
+-- What is legal after the first events of the hand with this number.
 pub data AreOptionsAt (number events : ℕ) (plays : List Play) : Answer → Type 0 where
   -- no hand has this number
   NoHand : hand_numbered plays number ≡ None
       → AreOptionsAt number events plays (no_hand number (length plays))
-  -- it has fewer events
+  -- the hand has fewer events
   NoEvent : (play : Play) → hand_numbered plays number ≡ Some play
       → length play.hand.script < events
       → AreOptionsAt number events plays (no_event number events (length play.hand.script))
-  -- these are its options after them
+  -- these are the options of the player to act after these events
   Listed : (play : Play) → hand_numbered plays number ≡ Some play → events ≤ length play.hand.script
       → (options : Options)
       → AreOptions play.hand.setup play.hand.rules
@@ -74,11 +75,11 @@ pub data IsEquityAt (number street : ℕ) (plays : List Play) : Answer → Type 
   -- no hand has this number
   NoneNumbered : hand_numbered plays number ≡ None
       → IsEquityAt number street plays (no_hand number (length plays))
-  -- it has no board of this street
+  -- no board is dealt on this street
   NoBoard : (play : Play) → hand_numbered plays number ≡ Some play
       → HasNoEquity play.trace street lacking.NoStreet
       → IsEquityAt number street plays (no_street number street)
-  -- a live seat has a card that stayed unknown, and this is the first
+  -- a live seat has a card that stayed unknown, and this is the first such seat
   NoCards : (play : Play) → hand_numbered plays number ≡ Some play → (seat : Seat)
       → HasNoEquity play.trace street (lacking.UnknownCards seat)
       → IsEquityAt number street plays (no_cards number seat.number)
@@ -87,7 +88,7 @@ pub data IsEquityAt (number street : ℕ) (plays : List Play) : Answer → Type 
       → IsEquityOn play.trace street row
       → IsEquityAt number street plays (done (equity_said number street play.trace row))
 
--- the lines that a seat saw of plays, the first of which stands at this place of their file, from 0
+-- the lines that a seat saw of plays; the first is at this place of its file, from 0
 unfoldable pub each_view : Game → Seat → ℕ → List Play → List ℕ
 each_view game seat place [] = []
 each_view game seat place (play ∷ others) =
@@ -102,9 +103,10 @@ pub data AreViews (game : Game) (seat : Seat) (plays : List Play) : Answer → T
   -- the game has no such seat
   NoSeat : game.stacks.seats < seat.number
       → AreViews game seat plays (no_seat seat.number game.stacks.seats)
-  -- its lines are too many bytes
+  -- its lines are over the limit of bytes
   TooMany : seat.number ≤ game.stacks.seats → most_view_bytes < length (each_view game seat 0 plays)
-      → AreViews game seat plays (refusal statuses.Limit (codes "limit: view bytes 268435456\n"))
+      → AreViews game seat plays
+      (refusal statuses.Limit (excess_line (codes "view bytes") most_view_bytes))
   -- these are its lines
   Seen : seat.number ≤ game.stacks.seats → length (each_view game seat 0 plays) ≤ most_view_bytes
       → AreViews game seat plays (done (each_view game seat 0 plays))

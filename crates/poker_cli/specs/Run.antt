@@ -1,7 +1,8 @@
--- What a run of the program tells and leaves.
+-- How a run of the program ends: its status, its output and its diagnostic line.
 use Rattle.std.specs.Prelude.{◌≡◌, ◌≢◌, ◌⊎◌, ℕ, ◌<◌, List, [], length, codes, Option, Some, None, IfSome, unwrap_or}
 use Rattle.std.specs.Io.KnownBytes.{Appends}
 use Rattle.acpc_game.specs.declared.game.Game.{Game}
+use Rattle.card_set.specs.Refusal.{WasRefused}
 use Rattle.command_words.specs.Words.{Load, Plain, Request, Under, Compare, PlainSides, SidesUnder}
 use Rattle.host_io.specs.Faults.{Rose}
 use Rattle.host_io.specs.Bytes.{AppendsPart}
@@ -9,20 +10,20 @@ use Rattle.poker_cli.specs.declared.status.Status.{Status}
 use Rattle.poker_cli.specs.declared.status.Status.TheVariants as statuses
 use Rattle.poker_cli.specs.Answer.{Answer, Files, GivesGame, GivesNoGame, IsAnswerIn, most_input}
 
--- the line where the words are no command
+-- the line if the words are no command
 abbrev pub usage_line : List ℕ
 usage_line =
     codes
     "usage: handref check|replay|report|convert|game|load|views|options|session|equity|judge|compare [options]\n"
 
--- A run may end with this status where this is the answer to its input: with the answer's own, or
--- with that of a fault of writing, where there is something to write.
+-- A run whose answer this is may end with this status: that of the answer, or WriteFault if there
+-- is something to write.
 abbrev pub MayEnd : Answer → Status → Type 0
 MayEnd answer statuses.WriteFault = (answer.status ≡ statuses.Done) × (answer.output ≢ [])
 MayEnd answer status = answer.status ≡ status
 
--- The line of a status that depends on no input: none after Done, and those of faults, of words
--- that are no command, and of a file that is not there.
+-- The line of a status that does not depend on the input: none after Done, and those of device
+-- faults, of words that are no command, and of a file that is not there.
 abbrev pub fixed_line : Status → Option (List ℕ)
 fixed_line statuses.Usage = Some usage_line
 fixed_line statuses.ReadFault = Some (codes "read fault\n")
@@ -34,74 +35,76 @@ fixed_line statuses.FileMissing = Some (codes "file missing\n")
 fixed_line statuses.Done = Some []
 fixed_line _ = None
 
--- the line of a status: its fixed line, and else that of the answer
+-- the line of a status: its fixed line, or else that of the answer
 abbrev pub line_of : Answer → Status → List ℕ
 line_of answer status = unwrap_or (fixed_line status) answer.line
 
--- a line is told whole, or a part of it where the count of faults rose
+-- a line is printed whole, or a part of it if the count of faults rose
 abbrev pub TellsLine : (before now : ℕ) → Option (List ℕ) → Option (List ℕ) → List ℕ → Type 0
 TellsLine before now old new line =
     Appends old new line ⊎ (Rose before now × AppendsPart old new line)
 
--- what is written: after Done the whole output, after a fault of writing a part of it
+-- what is written: the whole output after Done, and a first part of it after WriteFault
 abbrev pub Writes : Option (List ℕ) → Option (List ℕ) → Answer → Status → Type 0
 Writes old new answer statuses.Done = Appends old new answer.output
 Writes old new answer statuses.WriteFault = AppendsPart old new answer.output
 Writes old new answer _ = Unit {0}
 
--- What a sink held before a run and holds after it, where it tells, and how often it had failed.
+-- What a sink held before and after a run, if the sink shows it, and how often it had failed.
 pub record Sinks : Type 0 where
   pub held : Option (List ℕ)
   pub holds : Option (List ℕ)
   pub before : ℕ
   pub now : ℕ
 
--- what changed of a sink, by what it tells that it holds and how often it failed
+-- what changed on a sink, by what it shows that it holds and how often it failed
 abbrev pub change_of : {K : Type 0} → (K → Option (List ℕ)) → (K → ℕ) → K → K → Sinks
 change_of held faults old new =
     record { held = held old; holds = held new; before = faults old; now = faults new }
 
--- no file is on a shelf
+-- there is no file on the shelf
 abbrev pub no_files : Files
 no_files name = None
 
--- What holds of the bytes that a source has left, where it tells them, and else of some bytes.
+-- What holds of the bytes that a source has left; if the source does not show them, it holds of
+-- some bytes.
 abbrev pub OfBytes : Option (List ℕ) → (List ℕ → Type 0) → Type 0
 OfBytes (Some bytes) P = P bytes
 OfBytes None P = (bytes : List ℕ) × P bytes
 
--- What holds of the files and the bytes of a request: of the files where the shelf tells them, and
--- of the bytes also where the source does not. Where hands are made, nothing is asked of either,
--- and where no log is read or written, and nothing compared, nothing of the shelf.
+-- What holds of the files and the bytes of a request. It is claimed only if the shelf shows its
+-- files; if the source does not show its bytes, it holds of some bytes. If hands are generated,
+-- neither is needed, and if no log is read or written and nothing is compared, the shelf is not
+-- needed.
 abbrev pub WhereTold : Request → Option (List ℕ) → Option Files → (Files → List ℕ → Type 0) → Type 0
 WhereTold (Load seed hands) left told P = P no_files []
 WhereTold (Plain from task) left told P = OfBytes left (P no_files)
 WhereTold (Under name logs) left told P = IfSome told (λ files. OfBytes left (P files))
 WhereTold (Compare sides file notes) left told P = IfSome told (λ files. OfBytes left (P files))
 
--- hands are made
+-- the request generates hands
 abbrev pub MakesHands : Request → Type 0
 MakesHands (Load seed hands) = Unit {0}
 MakesHands request = ⊥
 
--- hands are read
+-- the request reads hands
 abbrev pub ReadsHands : Request → Type 0
 ReadsHands (Load seed hands) = ⊥
 ReadsHands request = Unit {0}
 
--- a file of the shelf is asked for
+-- the request needs a file from the shelf
 abbrev pub AsksForFile : Request → Type 0
 AsksForFile (Under name logs) = Unit {0}
 AsksForFile (Compare sides file notes) = Unit {0}
 AsksForFile request = ⊥
 
--- the file of a game gives one, if a shelf tells its files
+-- the game file gives a game, if the shelf shows its files
 abbrev pub GivesSome : Option Files → (name : List ℕ) → Type 0
 GivesSome told name = IfSome told (λ files. (found : Game) × GivesGame (files name) found)
 
--- What is asked of a shelf: the names that a request gives, each once and in their order, where
--- `Asked` tells that one name was asked for. They are that of the file of a game, and that of the
--- file of a comparison, which is asked for only where the game is given.
+-- The names that a request asks the shelf for, each once and in order: that of the game file, and
+-- that of the file to compare with, which is asked for only if the game file gives a game. `Asked`
+-- relates the shelf before and after one name was asked for.
 abbrev pub Asks : {H : Type 0} → (Asked : H → H → List ℕ → Type 0) → Option Files → Request
     → (shelf seen : H) → Type 0
 Asks Asked told (Load seed hands) shelf seen = seen ≡ shelf
@@ -112,29 +115,28 @@ Asks {H} Asked told (Compare (SidesUnder game from other) file notes) shelf seen
     (between : H) × (Asked shelf between game
     × ((seen ≡ between) ⊎ (GivesSome told game × Asked between seen file)))
 
--- what is asked of a shelf by a run that ends with this status: what the words ask for, or nothing,
--- where they ask for nothing or memory ran out before
+-- the names that a run with this status asks the shelf for: those of the request; none if the words
+-- are no request or memory ran out before
 abbrev pub AsksInTurn : {H : Type 0} → (Asked : H → H → List ℕ → Type 0) → Option Files
     → Option Request → Status → (shelf seen : H) → Type 0
 AsksInTurn Asked told None status shelf seen = seen ≡ shelf
 AsksInTurn Asked told (Some request) status shelf seen =
     Asks Asked told request shelf seen ⊎ ((status ≡ statuses.Memory) × (seen ≡ shelf))
 
--- the file of the game that is asked for is not there
+-- the game file that the request names is not there
 abbrev pub IsGameMissing : Request → Files → Type 0
 IsGameMissing (Under name logs) files = files name ≡ None
 IsGameMissing (Compare (SidesUnder game from other) file notes) files = files game ≡ None
 IsGameMissing request files = ⊥
 
--- the file that hands are to be compared with is not there; that of a game, where one is asked for,
--- gives its game
+-- the file to compare with is not there; the game file, if one is named, gives its game
 abbrev pub IsFileMissing : Request → Files → Type 0
 IsFileMissing (Compare (PlainSides from other) file notes) files = files file ≡ None
 IsFileMissing (Compare (SidesUnder game from other) file notes) files =
     ((found : Game) × GivesGame (files game) found) × (files file ≡ None)
 IsFileMissing request files = ⊥
 
--- a file is not there, or gives no game
+-- a game file is not there, or gives no game
 abbrev pub GivesNone : Option (List ℕ) → Type 0
 GivesNone file = (file ≡ None) ⊎ ((answer : Answer) × GivesNoGame file answer)
 
@@ -143,8 +145,8 @@ abbrev pub IsNotThere : Option (List ℕ) → Type 0
 IsNotThere file =
     (file ≡ None) ⊎ ((text : List ℕ) × ((file ≡ Some text) × (most_input < length text)))
 
--- the shelf tells that the file of the game that is asked for is not there, or gives no game; or
--- that the file that hands are to be compared with is not there, or too long
+-- the shelf shows that the game file is not there or gives no game, or that the file to compare
+-- with is not there or too long
 abbrev pub LacksFile : Request → Option Files → Type 0
 LacksFile (Under name logs) (Some files) = GivesNone (files name)
 LacksFile (Compare (PlainSides from other) file notes) (Some files) = IsNotThere (files file)
@@ -163,25 +165,25 @@ pub record Answers (request : Request) (files : Files) (bytes : List ℕ) (out d
   pub line : TellsLine diag.before diag.now diag.held diag.holds (line_of answer status)
 
 -- How a run of a request on these files and bytes may end: with the answer to them, or before it,
--- where a file is not there, a file or the input could not be read, or memory ran out. The input is
--- read only where no file lacks.
+-- if a file is not there, a file or the input could not be read, or memory ran out. The input is
+-- read only if no file is missing.
 abbrev pub Ends : Request → Files → List ℕ → Sinks → Sinks → Status → Type 0
 Ends request files bytes out diag statuses.Usage = ⊥
 Ends request files bytes out diag statuses.ReadFault =
     ReadsHands request × (LacksFile request (Some files) → ⊥)
-Ends request files bytes out diag statuses.Memory = Unit {0}
+Ends request files bytes out diag statuses.Memory = WasRefused
 Ends request files bytes out diag statuses.ShelfFault = AsksForFile request
 Ends request files bytes out diag statuses.GameMissing = IsGameMissing request files
 Ends request files bytes out diag statuses.FileMissing = IsFileMissing request files
 Ends request files bytes out diag status = Answers request files bytes out diag status
 
--- the answer of a run is done and has no output: then this holds
+-- if the answer of a run is done and has no output, then this holds
 abbrev pub WhereNoOutput : (request : Request) (files : Files) (bytes : List ℕ) (out diag : Sinks)
     (status : Status) → Ends request files bytes out diag status → Type 0 → Type 0
 WhereNoOutput request files bytes out diag statuses.Done ends This = ends.answer.output ≡ [] → This
 WhereNoOutput request files bytes out diag status ends This = Unit {0}
 
--- A run ends so, and where its answer is done and has no output, its sink is the same as before.
+-- A run ends this way, and if its answer is done and has no output, its sink is the same as before.
 pub record EndsLeaving (request : Request) (files : Files) (bytes : List ℕ) (out diag : Sinks)
     (status : Status) (Same : Type 0) : Type 0 where
   pub ends : Ends request files bytes out diag status
@@ -193,7 +195,8 @@ WritesNothing statuses.Done = ⊥
 WritesNothing statuses.WriteFault = ⊥
 WritesNothing _ = Unit {0}
 
--- a status that an answer has of its own, and not by a fault
+-- a status that an answer can have; the others come from the words, a device, memory or a missing
+-- file
 abbrev pub IsOwn : Status → Type 0
 IsOwn statuses.Done = Unit {0}
 IsOwn statuses.Refused = Unit {0}
@@ -205,7 +208,7 @@ IsOwn statuses.NoSuch = Unit {0}
 IsOwn statuses.Differs = Unit {0}
 IsOwn _ = ⊥
 
--- a status that an answer to what was read of the input has
+-- a status of an answer to what was read of the input
 abbrev pub IsOfInput : Status → Type 0
 IsOfInput statuses.Done = Unit {0}
 IsOfInput statuses.Refused = Unit {0}
@@ -216,24 +219,24 @@ IsOfInput statuses.NoSuch = Unit {0}
 IsOfInput statuses.Differs = Unit {0}
 IsOfInput _ = ⊥
 
--- a status that refuses nothing of the input: all is done, or a device failed, or memory ran out
+-- a status that does not refuse the input: all is done, or a device failed, or memory ran out
 abbrev pub RefusesNothing : Status → Type 0
 RefusesNothing statuses.Done = Unit {0}
 RefusesNothing statuses.ReadFault = Unit {0}
 RefusesNothing statuses.WriteFault = Unit {0}
 RefusesNothing statuses.ShelfFault = Unit {0}
-RefusesNothing statuses.Memory = Unit {0}
+RefusesNothing statuses.Memory = WasRefused
 RefusesNothing _ = ⊥
 
--- a status of a run that reads and refuses nothing: all is done, or the output could not be
+-- a status of a run that reads nothing and refuses nothing: all is done, or the output could not be
 -- written, or memory ran out
 abbrev pub NeedsNoInput : Status → Type 0
 NeedsNoInput statuses.Done = Unit {0}
 NeedsNoInput statuses.WriteFault = Unit {0}
-NeedsNoInput statuses.Memory = Unit {0}
+NeedsNoInput statuses.Memory = WasRefused
 NeedsNoInput _ = ⊥
 
--- a status before the input is read
+-- a status that comes before the input is read
 abbrev pub ReadsNothing : Status → Type 0
 ReadsNothing statuses.Usage = Unit {0}
 ReadsNothing statuses.ShelfFault = Unit {0}
@@ -242,16 +245,16 @@ ReadsNothing statuses.FileMissing = Unit {0}
 ReadsNothing statuses.BadGame = Unit {0}
 ReadsNothing _ = ⊥
 
--- What a run that ends with this status keeps: a fault of a device is told only where its count of
--- faults rose in the run, and the line of a status that depends on no input is told. `reads` and
--- `asks` are the counts of the source and of the shelf.
+-- What holds of a run that ends with this status: a device fault is reported only if its count of
+-- faults rose in the run, and if the line of the status does not depend on the input, it is
+-- printed. `reads` and `asks` are the fault counts of the source and of the shelf.
 pub record Tells (status : Status) (reads asks : ℕ × ℕ) (out diag : Sinks) : Type 0 where
   pub read_fault : status ≡ statuses.ReadFault → Rose reads.0 reads.1
   pub write_fault : status ≡ statuses.WriteFault → Rose out.before out.now
   pub shelf_fault : status ≡ statuses.ShelfFault → Rose asks.0 asks.1
   pub fixed_line : IfSome (fixed_line status) (TellsLine diag.before diag.now diag.held diag.holds)
 
--- Which devices a run that ends with this status leaves as they were.
+-- Which devices stay as they were in a run that ends with this status.
 pub record Leaves {S K D : Type 0} (status : Status) (input read : S) (out written : K)
     (diag told : D) : Type 0 where
   pub unread : ReadsNothing status → read ≡ input

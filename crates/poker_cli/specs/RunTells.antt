@@ -1,4 +1,4 @@
--- What the run of a conversion tells of the hands.
+-- What the run of a conversion says about the hands.
 use Rattle.std.specs.Prelude.{◌⊎◌, ℕ, List, Option, Some, None, Result, Ok, Err}
 use Rattle.std.proofs.Common.{inl, inr}
 use Rattle.convert_core.specs.declared.convert_fault.ConvertFault.{ConvertFault}
@@ -10,15 +10,15 @@ use Rattle.poker_cli.specs.declared.status.Status.{Status}
 use Rattle.poker_cli.specs.declared.status.Status.TheVariants as statuses
 use Rattle.poker_cli.specs.declared.task.Format.{Format}
 
--- the fault of an input, unless it is too long, which tells nothing of its hands
+-- the fault of an input, except that an input that is too long says nothing about its hands
 abbrev pub limit_told : (from : Format) (bytes : List ℕ) (out diag : Sinks)
     → IsTooLong bytes out diag ⊎ NamesFault from bytes out diag statuses.Limit
     → Option (Result (List ℕ) ConvertFault)
 limit_told from bytes out diag (inl long) = None
 limit_told from bytes out diag (inr named) = Some (Err (faults.Format named.fault))
 
--- What a run tells of the hands: the output, of which it may have written a part, or why there is
--- none. A device that failed tells nothing, nor does want of memory, nor an input that is too long.
+-- What a run says about the hands: the output, which may be written in part, or why there is none.
+-- A device that failed says nothing, nor does running out of memory, nor an input that is too long.
 abbrev pub told_by : (from to : Format) (keep : Keep) (bytes : List ℕ) (out diag : Sinks)
     (status : Status) → ConversionEnds from to keep bytes out diag status
     → Option (Result (List ℕ) ConvertFault)

@@ -1,4 +1,4 @@
--- What a seat saw of the hands so far, as far as it is kept, and of all hands of records.
+-- What a seat saw of the hands so far, if it is kept, and of all hands in records.
 use Rattle.std.specs.Prelude.{◌≡◌, ◌<◌, ◌≤◌, ◌⊎◌, ℕ, Bool, true, false, List, length}
 use Rattle.acpc_game.specs.declared.game.Game.{Game}
 use Rattle.chip_ledger.specs.declared.numbers.Seat.{Seat}
@@ -8,8 +8,8 @@ use Rattle.hand_records.specs.declared.trace.Play.{Play}
 use Rattle.poker_cli.specs.AnswerParts.{Answer}
 use Rattle.poker_cli.specs.Replies.{AreViews, each_view, most_view_bytes}
 
--- The lines of plays are kept, and they are not too many bytes; or they are not kept, since the
--- game has no such seat or they are too many bytes.
+-- The lines of plays are kept and within the limit of bytes; or they are not kept, because the game
+-- has no such seat or they are over the limit.
 pub record AreSeen (game : Game) (seat : Seat) (kept : Bool) (lines : List ℕ) (plays : List Play) :
     Type 0 where
   pub all : kept ≡ true → lines ≡ each_view game seat 0 plays
@@ -17,7 +17,7 @@ pub record AreSeen (game : Game) (seat : Seat) (kept : Bool) (lines : List ℕ) 
   pub not_kept : kept ≡ false → (game.stacks.seats < seat.number)
       ⊎ (most_view_bytes < length (each_view game seat 0 plays))
 
--- All records have plays, and an answer is that with what a seat saw of these.
+-- All records have plays, and this is the answer with what a seat saw of them.
 pub record AreViewsOf (game : Game) (seat : Seat) (records : List Record) (answer : Answer) : Type 0
   where
     pub plays : List Play

@@ -1,9 +1,9 @@
--- The number of each status.
+-- The exit status of each status.
 use Rattle.std.specs.Prelude.{◌≡◌, ℕ}
 use Rattle.poker_cli.specs.declared.status.Status.{Status}
 use Rattle.poker_cli.specs.declared.status.Status.TheVariants as statuses
 
--- the number with which the process ends
+-- the exit status of the process
 abbrev pub status_number : Status → ℕ
 status_number statuses.Done = 0
 status_number statuses.Refused = 1
@@ -21,6 +21,6 @@ status_number statuses.NoSuch = 13
 status_number statuses.Differs = 14
 status_number statuses.FileMissing = 15
 
--- the number of a status
+-- the number is one of an exit status
 abbrev pub IsStatusNumber : ℕ → Type 0
 IsStatusNumber number = (status : Status) × (number ≡ status_number status)

@@ -1,4 +1,4 @@
--- What an answer of the program says.
+-- An answer of the program, as the definitions see it.
 use Rattle.std.specs.Prelude.{string_bytes}
 use Rattle.poker_cli.specs.declared.answer.Answer as made
 use Rattle.poker_cli.specs.Answer as definition

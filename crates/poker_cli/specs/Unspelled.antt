@@ -1,11 +1,11 @@
--- The line that is told where a fact of a hand has no spelling.
+-- The line that is printed when a fact of a hand cannot be written.
 use Rattle.std.specs.Prelude.{ℕ, List, ◌++◌, codes}
 use Rattle.std.specs.Fmt.{decimal}
 use Rattle.hand_differences.specs.DifferenceText.{note_text}
 use Rattle.hand_records.specs.declared.writing.Unspelled.{Unspelled}
 use Rattle.hand_records.specs.declared.writing.Unspelled.TheVariants as facts
 
--- what a fact is called
+-- the name of a fact
 abbrev pub fact_text : Unspelled → List ℕ
 fact_text facts.Variant = codes "Variant"
 fact_text facts.SeatCount = codes "SeatCount"
@@ -23,7 +23,7 @@ fact_text facts.Muck = codes "Muck"
 fact_text facts.OddChip = codes "OddChip"
 fact_text (facts.Note name) = codes "Note " ++ note_text name
 
--- the line of a hand with this number, one of whose facts has no spelling
+-- the line of the hand with this number if this fact of it cannot be written
 abbrev pub unspelled_line : ℕ → Unspelled → List ℕ
 unspelled_line number fact =
     codes "unspelled: hand " ++ (decimal number ++ (codes ": " ++ (fact_text fact ++ codes "\n")))

@@ -1,4 +1,4 @@
-//! The line that is told where a log does not read.
+//! The line that is printed when a log cannot be read.
 ghost use Rattle.std.specs.Prelude.{◌≡◌, IfOk, Some, string_bytes};
 ghost use Rattle.convert_core.specs.declared.format_fault.FormatFault.TheVariants as formats;
 ghost use Rattle.poker_cli.specs.Answer as definition;
@@ -8,11 +8,11 @@ ghost use Rattle.poker_cli.specs.Told.{answer_told};
 use crate::answer::{Answer, refusal};
 use crate::limits::limit_line;
 use crate::status::Status;
-use acpc_text::AcpcFault;
+use acpc_game::AcpcFault;
 use card_set::Memory;
 use std::alloc::Global;
 
-/// The answer to a log that does not read.
+/// The answer to a log that cannot be read.
 pub fn answer_to_acpc_fault(alloc: Global, fault: &AcpcFault) -> Result<Answer, Memory>
     ensures { IfOk result (λ answer.
         definition.to_fault (formats.Acpc fault.now) ≡ Some (answer_told answer)) }
@@ -30,7 +30,7 @@ pub fn answer_to_acpc_fault(alloc: Global, fault: &AcpcFault) -> Result<Answer, 
     }
 }
 
-// The line that tells a fault with its line and its byte.
+// The line that reports a fault with its line and its byte.
 fn bad_acpc_line(alloc: Global, fault: &AcpcFault) -> Result<String, Memory>
     ensures { IfOk result (λ line. string_bytes line ≡ bad_log_line_said fault.now) }
 {
@@ -40,7 +40,7 @@ fn bad_acpc_line(alloc: Global, fault: &AcpcFault) -> Result<String, Memory>
     Ok(format!(in alloc; "bad input: line {line}, byte {byte}: {name}\n")?)
 }
 
-/// What a fault is called.
+/// The name of a fault.
 pub fn fault_name(fault: &AcpcFault) -> &'static str
     ensures { result.now ≡ fault_name_said fault.now }
 {

@@ -1,4 +1,4 @@
-//! The answer to the bytes of an input, as they are read and what is made of their hands.
+//! The answer to the bytes of an input: how they are read, and what is done with their hands.
 ghost use Rattle.std.specs.Prelude.{◌≡◌, ◌≤◌, Some, length, IfOk, string_bytes};
 ghost use Rattle.command_words.specs.declared.task.Question.TheVariants as questions;
 ghost use Rattle.convert_core.specs.ReadBack.{ReadBack};
@@ -11,6 +11,7 @@ ghost use Rattle.poker_cli.specs.Told.{answer_told};
 
 use crate::acpc_faults::answer_to_acpc_fault;
 use crate::judging::judge_text;
+use crate::limits::excess_line;
 use crate::ohh_faults::answer_to_ohh_fault;
 use crate::phh_faults::answer_to_phh_fault;
 use crate::refusals::refused_line;
@@ -29,7 +30,8 @@ use convert_core::{
 use hand_records::{Keep, Unspelled};
 use std::alloc::Global;
 
-/// An answer: its status, what goes to the output, and the line that is told beside it.
+/// An answer: its exit status, its output, and the diagnostic line that is printed if it is not
+/// done.
 #[derive(Drop)]
 pub struct Answer {
     pub status: Status,
@@ -37,10 +39,10 @@ pub struct Answer {
     pub line: String,
 }
 
-/// The most bytes of an input, and of the file of a game.
+/// The most bytes of an input, and of a game file.
 pub const MOST_INPUT: usize = 16_777_216;
 
-/// The answer to bytes that are not too many, as they are read.
+/// The answer to an input within the limit of bytes, read as `reader` and handled as `task`.
 pub fn answer_to(alloc: Global, task: Task, reader: &Format, bytes: &[u8]) -> Result<Answer, Memory>
     requires { length bytes.now ≤ most_input }
     ensures { IfOk result (λ answer. IsAnswer task reader.now bytes.now (answer_told answer)) }
@@ -52,7 +54,7 @@ pub fn answer_to(alloc: Global, task: Task, reader: &Format, bytes: &[u8]) -> Re
     }
 }
 
-// The answer to bytes in a notation.
+// The answer to bytes in one notation.
 fn answer_from<N: Notation>(
     alloc: Global,
     task: Task,
@@ -70,7 +72,7 @@ fn answer_from<N: Notation>(
     }
 }
 
-// The answer to a question about the hands of bytes.
+// The answer to a question about the hands in the bytes.
 fn answer_to_question<N: Notation>(
     alloc: Global,
     question: Question,
@@ -92,7 +94,7 @@ fn answer_to_question<N: Notation>(
     }
 }
 
-// The answer with what a command prints of the hands of bytes.
+// The answer with what a command prints about the hands in the bytes.
 fn answer_with_text<N: Notation>(
     alloc: Global,
     command: Command,
@@ -113,7 +115,7 @@ fn answer_with_text<N: Notation>(
     }
 }
 
-// The answer with the verdict on each hand of bytes.
+// The answer with the verdict on each hand in the bytes.
 fn answer_with_verdicts<N: Notation>(
     alloc: Global,
     from: &N,
@@ -131,7 +133,7 @@ fn answer_with_verdicts<N: Notation>(
     }
 }
 
-// The answer to what is asked of the plays of bytes.
+// The answer to a question about the plays in the bytes.
 fn answer_with_plays<N: Notation>(
     alloc: Global,
     asked: PlayQuestion,
@@ -147,7 +149,7 @@ fn answer_with_plays<N: Notation>(
     }
 }
 
-// The answer with the hands of bytes as they are written otherwise.
+// The answer with the hands in the bytes, written in the target notation.
 fn answer_with_hands<N: Notation>(
     alloc: Global,
     from: &N,
@@ -169,7 +171,7 @@ fn answer_with_hands<N: Notation>(
     }
 }
 
-// The answer with the hands of bytes in another notation.
+// The answer with the hands in the bytes, converted to another notation.
 fn answer_with_conversion<N: Notation, M: Notation>(
     alloc: Global,
     from: &N,
@@ -190,7 +192,7 @@ fn answer_with_conversion<N: Notation, M: Notation>(
     }
 }
 
-/// The answer to bytes that are not converted, or have no plays.
+/// The answer for input that cannot be converted or replayed.
 pub fn answer_to_fault(alloc: Global, fault: &ConvertFault) -> Result<Answer, Memory>
     ensures { IfOk result (λ answer. IsToldOf fault.now (answer_told answer)) }
 {
@@ -202,7 +204,7 @@ pub fn answer_to_fault(alloc: Global, fault: &ConvertFault) -> Result<Answer, Me
     }
 }
 
-// The answer to bytes that do not read as hands.
+// The answer to bytes that cannot be read as hands.
 fn answer_to_unread(alloc: Global, fault: &FormatFault) -> Result<Answer, Memory>
     ensures { IfOk result (λ answer. definition.to_fault fault.now ≡ Some (answer_told answer)) }
 {
@@ -213,7 +215,7 @@ fn answer_to_unread(alloc: Global, fault: &FormatFault) -> Result<Answer, Memory
     }
 }
 
-/// The answer where the hand with this number is refused.
+/// The answer if the hand with this number is refused.
 pub fn answer_to_refused(alloc: Global, hand: u32, why: &Refusal) -> Result<Answer, Memory>
     ensures { IfOk result (λ answer. answer_told answer ≡ definition.to_refusal hand why.now) }
 {
@@ -221,7 +223,7 @@ pub fn answer_to_refused(alloc: Global, hand: u32, why: &Refusal) -> Result<Answ
     Ok(refusal(alloc, Status::Refused, line))
 }
 
-/// The answer where a fact of the hand with this number has no spelling.
+/// The answer if a fact of the hand with this number cannot be written in the target notation.
 pub fn answer_to_unspelled(alloc: Global, hand: u32, fact: Unspelled) -> Result<Answer, Memory>
     ensures { IfOk result (λ answer. answer_told answer ≡ definition.to_unspelled hand fact) }
 {
@@ -230,21 +232,21 @@ pub fn answer_to_unspelled(alloc: Global, hand: u32, fact: Unspelled) -> Result<
 }
 
 /// The answer to an input that is too long.
-pub fn answer_to_excess(alloc: Global) -> Result<Answer, Memory>
+pub fn input_too_long(alloc: Global) -> Result<Answer, Memory>
     ensures { IfOk result (λ answer. answer_told answer ≡ definition.to_excess) }
 {
-    let line = String::from_str(alloc, "limit: input bytes 16777216\n")?;
+    let line = excess_line(alloc, "input bytes", MOST_INPUT)?;
     Ok(refusal(alloc, Status::Limit, line))
 }
 
-/// An answer with a text for its output.
+/// A successful answer with a text as its output.
 pub fn done_with(alloc: Global, text: String) -> Answer
     ensures { answer_told result ≡ definition.done (string_bytes text) }
 {
     done(alloc, text.into_bytes())
 }
 
-/// An answer with its output.
+/// A successful answer with these bytes as its output.
 pub fn done(alloc: Global, output: Vec<u8>) -> Answer
     ensures { answer_told result ≡ definition.done output.items }
 {
@@ -255,7 +257,7 @@ pub fn done(alloc: Global, output: Vec<u8>) -> Answer
     }
 }
 
-/// An answer without output.
+/// An answer without output: a status and its diagnostic line.
 pub fn refusal(alloc: Global, status: Status, line: String) -> Answer
     ensures { answer_told result ≡ definition.refusal status (string_bytes line) }
 {

@@ -1,5 +1,5 @@
-//! A request to compare is answered by the bytes of the other file and, where logs are read, under
-//! the game of its file.
+//! Answers a request to compare: reads the game file if one of the two files is a log, then the
+//! other file, then the input.
 ghost use Rattle.std.specs.Prelude.{◌≡◌, ◌≤◌, length, IfErr, IfOk, IfSome, IsErrOf};
 ghost use Rattle.command_words.specs.Requests.{sides_in};
 ghost use Rattle.command_words.specs.Words.{Compare};
@@ -13,28 +13,29 @@ ghost use Rattle.poker_cli.specs.Told.{answer_told};
 
 use crate::answer::{self, Answer, MOST_INPUT, refusal};
 use crate::comparison::{Comparison, answer_to_comparison, comparison_under, plain_comparison};
-use crate::games::{NoGame, answer_to_lack, fetch_game};
-use crate::no_answer::NoAnswer;
+use crate::games::{NoGameError, fetch_game, game_file_answer};
+use crate::limits::excess_line;
+use crate::no_answer::NoAnswerError;
 use crate::status::Status;
 use card_set::Memory;
 use command_words::Sides;
 use host_io::{Fetched, InFault, Shelf, ShelfFault, Source, read_all};
 use std::alloc::Global;
 
-/// Why the other file is not compared with.
+/// Why the other file cannot be compared with.
 #[derive(Clone, Copy, Debug, PartialEq, Eq)]
-pub enum NoFile {
-    /// It is not there.
+pub enum NoFileError {
+    /// The file is not there.
     Missing,
-    /// It is too long.
+    /// The file is too long.
     TooLong,
     ShelfFault,
     Memory(Memory),
 }
 
-/// The answer where the hands that the source has left are compared with those of the file of this
-/// name. The shelf is asked for the file of a game first, where logs are read, and behind a game
-/// that it gives for that file.
+/// The answer if the hands that are left in the source are compared with those in the file of this
+/// name. If one of the two is a log, the shelf is asked for the game file first, and for the other
+/// file only if the game file gives a game.
 pub fn reply_to_comparison<S: Source, H: Shelf>(
     alloc: Global,
     sides: Sides<'_>,
@@ -42,7 +43,7 @@ pub fn reply_to_comparison<S: Source, H: Shelf>(
     notes: bool,
     input: &mut S,
     shelf: &mut H,
-) -> Result<Answer, NoAnswer>
+) -> Result<Answer, NoAnswerError>
     ensures answer { IfOk result (λ answer. IfSome (H.files shelf.old) (λ files.
         OfBytes (S.left input.old) (λ bytes.
         IsComparedIn files (sides_in sides.entry) name.now notes bytes (answer_told answer)))) }
@@ -58,28 +59,28 @@ pub fn reply_to_comparison<S: Source, H: Shelf>(
 {
     match comparison_of(alloc, sides, notes, shelf) {
         Ok(by) => reply_beside(alloc, &by, name, input, shelf),
-        Err(NoGame::Lacking(lack)) => match answer_to_lack(alloc, lack) {
+        Err(NoGameError::Lacking(lack)) => match game_file_answer(alloc, lack) {
             Ok(answer) => Ok(answer),
-            Err(memory) => Err(NoAnswer::Memory(memory)),
+            Err(memory) => Err(NoAnswerError::Memory(memory)),
         },
-        Err(NoGame::Missing) => Err(NoAnswer::GameMissing),
-        Err(NoGame::ShelfFault) => Err(NoAnswer::ShelfFault),
-        Err(NoGame::Memory(memory)) => Err(NoAnswer::Memory(memory)),
+        Err(NoGameError::Missing) => Err(NoAnswerError::GameMissing),
+        Err(NoGameError::ShelfFault) => Err(NoAnswerError::ShelfFault),
+        Err(NoGameError::Memory(memory)) => Err(NoAnswerError::Memory(memory)),
     }
 }
 
-// How two files are compared, of which logs are under the game that a file says.
+// How two files are compared if logs are read under the game in the game file.
 fn comparison_of<H: Shelf>(
     alloc: Global,
     sides: Sides<'_>,
     notes: bool,
     shelf: &mut H,
-) -> Result<Comparison, NoGame>
+) -> Result<Comparison, NoGameError>
     ensures comparison { IfOk result (λ by. IfSome (H.files shelf.old) (λ files.
         IsComparisonOf files (sides_in sides.entry) notes by)) }
     ensures none { IfErr result (λ reason. IfSome (H.files shelf.old) (λ files.
         HasNoGameFor files (sides_in sides.entry) reason)) }
-    ensures failed { IsErrOf result NoGame.ShelfFault
+    ensures failed { IsErrOf result NoGameError.ShelfFault
         → Rose (H.faults shelf.old) (H.faults shelf.new) }
     ensures asked { AsksForGame H.Asked (sides_in sides.entry) shelf.old shelf.new }
     ensures of_logs { IfErr result (λ _. AreOfLogs (sides_in sides.entry)) }
@@ -95,90 +96,90 @@ fn comparison_of<H: Shelf>(
     }
 }
 
-// The answer where hands are compared with those of the file of this name.
+// The answer if hands are compared with those in the file of this name.
 fn reply_beside<S: Source, H: Shelf>(
     alloc: Global,
     by: &Comparison,
     name: &str,
     input: &mut S,
     shelf: &mut H,
-) -> Result<Answer, NoAnswer>
+) -> Result<Answer, NoAnswerError>
     ensures answer { IfOk result (λ answer. IfSome (H.files shelf.old) (λ files.
         OfBytes (S.left input.old) (λ bytes.
         IsComparedTo by.now (files name.now) bytes (answer_told answer)))) }
     ensures kept { Keeps input.old input.new (S.faults input.old, S.faults input.new)
         (H.faults shelf.old, H.faults shelf.new) result }
-    ensures there { IsErrOf result NoAnswer.ReadFault → IfSome (H.files shelf.old) (λ files.
+    ensures there { IsErrOf result NoAnswerError.ReadFault → IfSome (H.files shelf.old) (λ files.
         IsNotThere (files name.now) → ⊥) }
     ensures asked { H.Asked shelf.old shelf.new name.now }
-    ensures of_file { IfErr result (λ why. why ≡ NoAnswer.GameMissing → ⊥) }
-    ensures missing { IsErrOf result NoAnswer.FileMissing →
+    ensures of_file { IfErr result (λ why. why ≡ NoAnswerError.GameMissing → ⊥) }
+    ensures missing { IsErrOf result NoAnswerError.FileMissing →
         IfSome (H.files shelf.old) (λ files. files name.now ≡ None) }
     ensures without_file { IfSome (H.files shelf.old) (λ files.
         IsNotThere (files name.now) → input.new ≡ input.old) }
 {
     match fetch_file(alloc, shelf, name) {
         Ok(file) => reply_to_both(alloc, by, &file, input),
-        Err(NoFile::TooLong) => match answer_to_long_file(alloc) {
+        Err(NoFileError::TooLong) => match answer_to_long_file(alloc) {
             Ok(answer) => Ok(answer),
-            Err(memory) => Err(NoAnswer::Memory(memory)),
+            Err(memory) => Err(NoAnswerError::Memory(memory)),
         },
-        Err(NoFile::Missing) => Err(NoAnswer::FileMissing),
-        Err(NoFile::ShelfFault) => Err(NoAnswer::ShelfFault),
-        Err(NoFile::Memory(memory)) => Err(NoAnswer::Memory(memory)),
+        Err(NoFileError::Missing) => Err(NoAnswerError::FileMissing),
+        Err(NoFileError::ShelfFault) => Err(NoAnswerError::ShelfFault),
+        Err(NoFileError::Memory(memory)) => Err(NoAnswerError::Memory(memory)),
     }
 }
 
 // The bytes of the file of this name.
-fn fetch_file<H: Shelf>(alloc: Global, shelf: &mut H, name: &str) -> Result<Vec<u8>, NoFile>
+fn fetch_file<H: Shelf>(alloc: Global, shelf: &mut H, name: &str) -> Result<Vec<u8>, NoFileError>
     ensures file { IfOk result (λ file. IfSome (H.files shelf.old) (λ files.
         (files name.now ≡ Some file.items) × (length file.items ≤ most_input))) }
     ensures none { IfErr result (λ reason. IfSome (H.files shelf.old) (λ files.
         HasNoFile (files name.now) reason)) }
-    ensures failed { IsErrOf result NoFile.ShelfFault
+    ensures failed { IsErrOf result NoFileError.ShelfFault
         → Rose (H.faults shelf.old) (H.faults shelf.new) }
     ensures asked { H.Asked shelf.old shelf.new name.now }
 {
     match shelf.fetch(alloc, name, MOST_INPUT) {
         Ok(Fetched::Bytes(file)) => Ok(file),
-        Ok(Fetched::Absent) => Err(NoFile::Missing),
-        Ok(Fetched::TooLong) => Err(NoFile::TooLong),
-        Err(ShelfFault::Failed) => Err(NoFile::ShelfFault),
-        Err(ShelfFault::Memory(memory)) => Err(NoFile::Memory(memory)),
+        Ok(Fetched::Absent) => Err(NoFileError::Missing),
+        Ok(Fetched::TooLong) => Err(NoFileError::TooLong),
+        Err(ShelfFault::Failed) => Err(NoFileError::ShelfFault),
+        Err(ShelfFault::Memory(memory)) => Err(NoFileError::Memory(memory)),
     }
 }
 
-// The answer where the other file is too long.
+// The answer if the other file is too long.
 fn answer_to_long_file(alloc: Global) -> Result<Answer, Memory>
     ensures { IfOk result (λ answer. answer_told answer ≡ definition.to_file_excess) }
 {
-    let line = String::from_str(alloc, "limit: file bytes 16777216\n")?;
+    let line = excess_line(alloc, "file bytes", MOST_INPUT)?;
     Ok(refusal(alloc, Status::Limit, line))
 }
 
-// The answer where all that the source has left is compared with the bytes of another file.
+// The answer if all that the source has left is compared with the bytes of the other file.
 fn reply_to_both<S: Source>(
     alloc: Global,
     by: &Comparison,
     file: &[u8],
     input: &mut S,
-) -> Result<Answer, NoAnswer>
+) -> Result<Answer, NoAnswerError>
     ensures answer { IfOk result (λ answer. OfBytes (S.left input.old) (λ bytes.
         IsComparison by.now file.now bytes (answer_told answer))) }
-    ensures read_fault { IsErrOf result NoAnswer.ReadFault
+    ensures read_fault { IsErrOf result NoAnswerError.ReadFault
         → Rose (S.faults input.old) (S.faults input.new) }
     ensures read_alone { IfErr result (λ why. ComesFirst why → ⊥) }
 {
     match read_all(alloc, input, MOST_INPUT) {
         Ok(bytes) => match answer_to_comparison(alloc, by, file, &bytes) {
             Ok(answer) => Ok(answer),
-            Err(memory) => Err(NoAnswer::Memory(memory)),
+            Err(memory) => Err(NoAnswerError::Memory(memory)),
         },
-        Err(InFault::TooLong) => match answer::answer_to_excess(alloc) {
+        Err(InFault::TooLong) => match answer::input_too_long(alloc) {
             Ok(answer) => Ok(answer),
-            Err(memory) => Err(NoAnswer::Memory(memory)),
+            Err(memory) => Err(NoAnswerError::Memory(memory)),
         },
-        Err(InFault::ReadFault) => Err(NoAnswer::ReadFault),
-        Err(InFault::Memory(memory)) => Err(NoAnswer::Memory(memory)),
+        Err(InFault::ReadFault) => Err(NoAnswerError::ReadFault),
+        Err(InFault::Memory(memory)) => Err(NoAnswerError::Memory(memory)),
     }
 }

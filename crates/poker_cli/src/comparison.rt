@@ -1,5 +1,5 @@
-//! The hands of an input are compared with those of another file, or what is wrong with either is
-//! told.
+//! Compares the hands of an input with those of another file, or reports what is wrong with one of
+//! the two.
 ghost use Rattle.std.specs.Prelude.{◌≡◌, ◌≤◌, ◌+◌, All, length, option_map, IfErr, IfOk};
 ghost use Rattle.std.specs.List.{AllByRecursion};
 ghost use Rattle.convert_core.specs.Conversion.{IsPlaysRefusal, ReadAsPlays};
@@ -29,20 +29,20 @@ pub struct Comparison {
     pub from: Format,
     /// How the other file is read.
     pub other: Format,
-    /// Whether notes are looked at.
+    /// Whether notes are compared.
     pub notes: bool,
 }
 
-/// A hand that differs from that at its place in the other file.
+/// A hand that differs from the hand with the same number in the other file.
 #[derive(Clone, Copy, Debug, PartialEq, Eq)]
 pub struct HandDifference {
     /// Its number, from 1.
     pub number: usize,
-    /// What of the two differs first.
+    /// The first difference between the two.
     pub difference: Difference,
 }
 
-/// How two files are compared of which neither is of logs.
+/// How two files are compared if neither is a log.
 pub fn plain_comparison(from: PlainNotation, other: PlainNotation, notes: bool) -> Comparison
     ensures { result ≡ definition.plain_comparison from other notes }
 {
@@ -53,7 +53,7 @@ pub fn plain_comparison(from: PlainNotation, other: PlainNotation, notes: bool) 
     }
 }
 
-/// How two files are compared, of which logs are under a game.
+/// How two files are compared if logs are read under a game.
 pub fn comparison_under(
     game: Game,
     from: NotationName,
@@ -69,8 +69,8 @@ pub fn comparison_under(
     }
 }
 
-/// The answer to bytes that are not too many, whose hands are compared with those of another file.
-/// What is wrong with them comes before what is wrong inside that file.
+/// The answer to an input within the limit of bytes whose hands are compared with those of another
+/// file. A fault of the input is reported before a fault of the other file.
 pub fn answer_to_comparison(
     alloc: Global,
     by: &Comparison,
@@ -86,7 +86,7 @@ pub fn answer_to_comparison(
     }
 }
 
-// The answer to the plays of an input, which are compared with the hands of another file.
+// The answer to the plays of the input, which are compared with the hands of the other file.
 fn answer_beside(
     alloc: Global,
     by: &Comparison,
@@ -106,7 +106,7 @@ fn answer_beside(
     }
 }
 
-// An answer that tells what is wrong inside the other file.
+// An answer that reports a fault inside the other file.
 fn in_file(alloc: Global, answer: Answer) -> Result<Answer, Memory>
     ensures { IfOk result (λ named. answer_told named ≡ in_file_said (answer_told answer)) }
 {
@@ -157,7 +157,7 @@ fn answer_to_both(
     }
 }
 
-// The first hand, of those that both files have, that differs.
+// The first hand that differs, among those that both files have.
 fn first_different(notes: bool, plays: &[Play], others: &[Play]) -> Option<HandDifference>
     requires sound { All IsSound plays.now }
     requires others_sound { All IsSound others.now }
@@ -174,7 +174,7 @@ fn first_different(notes: bool, plays: &[Play], others: &[Play]) -> Option<HandD
     None
 }
 
-// All hands are the same, and these are so many.
+// The answer if all hands are the same; `hands` is their number.
 fn to_same(alloc: Global, hands: usize) -> Result<Answer, Memory>
     ensures { IfOk result (λ answer. answer_told answer ≡ to_same_said hands) }
 {
@@ -182,7 +182,7 @@ fn to_same(alloc: Global, hands: usize) -> Result<Answer, Memory>
     Ok(done_with(alloc, text))
 }
 
-// A hand differs.
+// The answer if a hand differs.
 fn to_different(alloc: Global, differs: HandDifference) -> Result<Answer, Memory>
     ensures { IfOk result (λ answer.
         answer_told answer ≡ to_different_said (hand_difference_said differs)) }
@@ -194,7 +194,7 @@ fn to_different(alloc: Global, differs: HandDifference) -> Result<Answer, Memory
     Ok(refusal(alloc, Status::Differs, line))
 }
 
-// There are so many hands in the input, and so many in the other file.
+// The answer if the files have different numbers of hands.
 fn to_other_count(alloc: Global, hands: usize, others: usize) -> Result<Answer, Memory>
     ensures { IfOk result (λ answer. answer_told answer ≡ to_other_count_said hands others) }
 {

@@ -1,4 +1,5 @@
-//! The top call: from the words and the input to the status, the output and the line.
+//! The entry point: from the words of the command line and the input to the status, the output and
+//! the diagnostic line.
 ghost use Rattle.std.specs.Prelude.{◌≡◌, ◌↔◌, [], map, None, Some, IfErr, IfOk, IfSome, IsErrOf, string_bytes};
 ghost use Rattle.card_set.specs.Refusal.{WasRefused};
 ghost use Rattle.command_words.specs.Requests.{request_in};
@@ -15,12 +16,12 @@ ghost use Rattle.poker_cli.specs.declared.task.Format.{Format};
 
 use crate::answer::{self, Answer, MOST_INPUT};
 use crate::comparing::reply_to_comparison;
-use crate::games::{NoGame, answer_to_lack, fetch_game};
-use crate::no_answer::NoAnswer;
+use crate::games::{NoGameError, fetch_game, game_file_answer};
+use crate::no_answer::NoAnswerError;
 use crate::status::Status;
 use crate::summing::answer_to_load;
-use crate::task::Way;
-use crate::ways::{plain_way, way_under};
+use crate::task::Job;
+use crate::ways::{job_under, plain_job};
 use card_set::Memory;
 use command_words::{Logs, Request, read_words};
 use host_io::{Failed, InFault, Shelf, Sink, Source, read_all, write_all};
@@ -29,10 +30,10 @@ use std::alloc::Global;
 const USAGE: &[u8] =
     b"usage: handref check|replay|report|convert|game|load|views|options|session|equity|judge|compare [options]\n";
 
-/// Runs the program on its words, without its own name. It reads the file of a game from the shelf
-/// where the words name one, and behind it the file that hands are compared with, then the input to
-/// its end, writes the output where all is done, and tells one line beside it where it is not.
-/// What is written of hands has one form: `law_of_equal_runs`, `law_of_runs_again` and
+/// Runs the program on the words of its command line, without its own name. If the words name a
+/// game file, it is read from the shelf first, then the file to compare with, if there is one, then
+/// the input to its end. The output is written if all is done; otherwise one line is printed on
+/// `diag`. For the form of the output see `law_of_equal_runs`, `law_of_runs_again` and
 /// `law_of_runs_by_way`.
 pub fn run<S: Source, H: Shelf, K: Sink, D: Sink>(
     alloc: Global,
@@ -42,23 +43,23 @@ pub fn run<S: Source, H: Shelf, K: Sink, D: Sink>(
     out: &mut K,
     diag: &mut D,
 ) -> Status
-    // Want of memory is answered only where a request for memory was refused.
+    // The status is Memory only if a request for memory was refused.
     ensures memory { result ≡ Status.Memory → WasRefused }
 
-    // The words ask for nothing: want of memory is not answered then.
+    // If the words are no request, the status is Usage and never Memory.
     ensures usage { (result ≡ Status.Usage) ↔ (request_said (map string_bytes words.now) ≡ None) }
 
-    // The words ask for something: the run ends with the answer to the file that the shelf has and
-    // to the input, or with a fault whose count rose in this call. What the file decides is so over
-    // every source: one that does not tell its bytes is as good as one that tells some. Where there
-    // is nothing to write, the output is as it was.
+    // If the words are a request, the run ends with the answer to the file on the shelf and to the
+    // input, or with a fault whose count rose in this call. What depends on the file holds for
+    // every source: one that does not show its bytes counts as one that has some bytes. If there is
+    // nothing to write, the output stays as it was.
     ensures ends { IfSome (request_said (map string_bytes words.now)) (λ request.
         WhereTold request (S.left input.old) (H.files shelf.old) (λ files bytes.
         EndsLeaving request files bytes
         (change_of K.held K.faults out.old out.new)
         (change_of D.held D.faults diag.old diag.new) result (out.new ≡ out.old))) }
 
-    // The words ask for a conversion: hands are read by `from`, and written by `to` with `keep`.
+    // If the words ask for a conversion: hands are read by `from`, and written by `to` with `keep`.
     ensures headline { IfSome (request_said (map string_bytes words.now)) (λ request.
         WhereTold request (S.left input.old) (H.files shelf.old) (λ files bytes.
         (from to : Format) (keep : Keep)
@@ -66,15 +67,15 @@ pub fn run<S: Source, H: Shelf, K: Sink, D: Sink>(
         (change_of K.held K.faults out.old out.new)
         (change_of D.held D.faults diag.old diag.new) result)) }
 
-    // A fault of a device is told only where its count rose, and the line of a fault depends on no
-    // input. Nothing is written before all is done.
+    // A device fault is reported only if its count rose, and the line of a fault does not depend on
+    // the input. Nothing is written before all is done.
     ensures tells { Tells result (S.faults input.old, S.faults input.new)
         (H.faults shelf.old, H.faults shelf.new)
         (change_of K.held K.faults out.old out.new)
         (change_of D.held D.faults diag.old diag.new) }
     ensures leaves { Leaves result input.old input.new out.old out.new diag.old diag.new }
 
-    // Of the shelf no name is asked but those that the words give, and the input is read behind it.
+    // The shelf is asked only for the names that the words give, and the input is read after that.
     ensures asks { AsksInTurn H.Asked (H.files shelf.old)
         (request_said (map string_bytes words.now)) result shelf.old shelf.new }
     ensures without_file { IfSome (request_said (map string_bytes words.now)) (λ request.
@@ -85,17 +86,17 @@ pub fn run<S: Source, H: Shelf, K: Sink, D: Sink>(
     match read_words(alloc, words) {
         Ok(Some(request)) => run_request(alloc, request, input, shelf, out, diag),
         Ok(None) => {
-            tell(diag, USAGE);
+            print_line(diag, USAGE);
             Status::Usage
         }
-        Err(_) => {
-            tell(diag, b"out of memory\n");
+        Err(memory) => {
+            print_line(diag, b"out of memory\n");
             Status::Memory
         }
     }
 }
 
-// Runs what the words ask for.
+// Carries out the request.
 fn run_request<S: Source, H: Shelf, K: Sink, D: Sink>(
     alloc: Global,
     request: Request<'_>,
@@ -123,37 +124,37 @@ fn run_request<S: Source, H: Shelf, K: Sink, D: Sink>(
 {
     match reply(alloc, request, input, shelf) {
         Ok(answer) => deliver(&answer, out, diag),
-        Err(NoAnswer::ReadFault) => {
-            tell(diag, b"read fault\n");
+        Err(NoAnswerError::ReadFault) => {
+            print_line(diag, b"read fault\n");
             Status::ReadFault
         }
-        Err(NoAnswer::GameMissing) => {
-            tell(diag, b"game missing\n");
+        Err(NoAnswerError::GameMissing) => {
+            print_line(diag, b"game missing\n");
             Status::GameMissing
         }
-        Err(NoAnswer::FileMissing) => {
-            tell(diag, b"file missing\n");
+        Err(NoAnswerError::FileMissing) => {
+            print_line(diag, b"file missing\n");
             Status::FileMissing
         }
-        Err(NoAnswer::ShelfFault) => {
-            tell(diag, b"shelf fault\n");
+        Err(NoAnswerError::ShelfFault) => {
+            print_line(diag, b"shelf fault\n");
             Status::ShelfFault
         }
-        Err(NoAnswer::Memory(_)) => {
-            tell(diag, b"out of memory\n");
+        Err(NoAnswerError::Memory(memory)) => {
+            print_line(diag, b"out of memory\n");
             Status::Memory
         }
     }
 }
 
-// The answer to a request: to hands that are made, or else by the file of its game and by all that
+// The answer to a request: to hands that are generated, or else by the game file and by all that
 // the source has left.
 fn reply<S: Source, H: Shelf>(
     alloc: Global,
     request: Request<'_>,
     input: &mut S,
     shelf: &mut H,
-) -> Result<Answer, NoAnswer>
+) -> Result<Answer, NoAnswerError>
     ensures answer { IfOk result (λ answer.
         WhereTold (request_in request.entry) (S.left input.old) (H.files shelf.old) (λ files bytes.
         IsAnswerIn (request_in request.entry) files bytes (answer_told answer))) }
@@ -169,9 +170,9 @@ fn reply<S: Source, H: Shelf>(
     match request {
         Request::Load { seed, hands } => match answer_to_load(alloc, seed, hands) {
             Ok(answer) => Ok(answer),
-            Err(memory) => Err(NoAnswer::Memory(memory)),
+            Err(memory) => Err(NoAnswerError::Memory(memory)),
         },
-        Request::Plain { from, task } => reply_with(alloc, plain_way(from, task), input),
+        Request::Plain { from, task } => reply_with(alloc, plain_job(from, task), input),
         Request::Under { game, logs } => reply_under(alloc, game, logs, input, shelf),
         Request::Compare { sides, file, notes } => {
             reply_to_comparison(alloc, sides, file, notes, input, shelf)
@@ -179,14 +180,14 @@ fn reply<S: Source, H: Shelf>(
     }
 }
 
-// The answer where logs are under the game that a file says, and to all that the source has left.
+// The answer if logs are read under the game in the game file, from all that the source has left.
 fn reply_under<S: Source, H: Shelf>(
     alloc: Global,
     name: &str,
     logs: Logs,
     input: &mut S,
     shelf: &mut H,
-) -> Result<Answer, NoAnswer>
+) -> Result<Answer, NoAnswerError>
     ensures answer { IfOk result (λ answer. IfSome (H.files shelf.old) (λ files.
         OfBytes (S.left input.old) (λ bytes.
         IsAnswerUnder (files name.now) logs bytes (answer_told answer)))) }
@@ -199,40 +200,40 @@ fn reply_under<S: Source, H: Shelf>(
         GivesNone (files name.now) → input.new ≡ input.old) }
 {
     match fetch_game(alloc, shelf, name) {
-        Ok(game) => reply_with(alloc, way_under(game, logs), input),
-        Err(NoGame::Lacking(lack)) => match answer_to_lack(alloc, lack) {
+        Ok(game) => reply_with(alloc, job_under(game, logs), input),
+        Err(NoGameError::Lacking(lack)) => match game_file_answer(alloc, lack) {
             Ok(answer) => Ok(answer),
-            Err(memory) => Err(NoAnswer::Memory(memory)),
+            Err(memory) => Err(NoAnswerError::Memory(memory)),
         },
-        Err(NoGame::Missing) => Err(NoAnswer::GameMissing),
-        Err(NoGame::ShelfFault) => Err(NoAnswer::ShelfFault),
-        Err(NoGame::Memory(memory)) => Err(NoAnswer::Memory(memory)),
+        Err(NoGameError::Missing) => Err(NoAnswerError::GameMissing),
+        Err(NoGameError::ShelfFault) => Err(NoAnswerError::ShelfFault),
+        Err(NoGameError::Memory(memory)) => Err(NoAnswerError::Memory(memory)),
     }
 }
 
-// The answer in a way to all that the source has left.
-fn reply_with<S: Source>(alloc: Global, way: Way, input: &mut S) -> Result<Answer, NoAnswer>
+// The answer to all that the source has left, read and handled as `way` says.
+fn reply_with<S: Source>(alloc: Global, way: Job, input: &mut S) -> Result<Answer, NoAnswerError>
     ensures answer { IfOk result (λ answer. OfBytes (S.left input.old) (λ bytes.
         IsAnswerBy way bytes (answer_told answer))) }
-    ensures read_fault { IsErrOf result NoAnswer.ReadFault
+    ensures read_fault { IsErrOf result NoAnswerError.ReadFault
         → Rose (S.faults input.old) (S.faults input.new) }
     ensures read_alone { IfErr result (λ why. ComesFirst why → ⊥) }
 {
     match read_all(alloc, input, MOST_INPUT) {
         Ok(bytes) => match answer::answer_to(alloc, way.task, &way.reader, &bytes) {
             Ok(answer) => Ok(answer),
-            Err(memory) => Err(NoAnswer::Memory(memory)),
+            Err(memory) => Err(NoAnswerError::Memory(memory)),
         },
-        Err(InFault::TooLong) => match answer::answer_to_excess(alloc) {
+        Err(InFault::TooLong) => match answer::input_too_long(alloc) {
             Ok(answer) => Ok(answer),
-            Err(memory) => Err(NoAnswer::Memory(memory)),
+            Err(memory) => Err(NoAnswerError::Memory(memory)),
         },
-        Err(InFault::ReadFault) => Err(NoAnswer::ReadFault),
-        Err(InFault::Memory(memory)) => Err(NoAnswer::Memory(memory)),
+        Err(InFault::ReadFault) => Err(NoAnswerError::ReadFault),
+        Err(InFault::Memory(memory)) => Err(NoAnswerError::Memory(memory)),
     }
 }
 
-// Writes the output of an answer that is done, and else tells its line.
+// Writes the output of an answer that is done; otherwise prints its diagnostic line.
 fn deliver<K: Sink, D: Sink>(answer: &Answer, out: &mut K, diag: &mut D) -> Status
     requires { IsOwn answer.now.status }
     ensures read { result ≡ Status.ReadFault → ⊥ }
@@ -252,19 +253,19 @@ fn deliver<K: Sink, D: Sink>(answer: &Answer, out: &mut K, diag: &mut D) -> Stat
         Status::Done => match write_all(out, &answer.output) {
             Ok(()) => Status::Done,
             Err(Failed) => {
-                tell(diag, b"write fault\n");
+                print_line(diag, b"write fault\n");
                 Status::WriteFault
             }
         },
         status => {
-            tell(diag, answer.line.as_bytes());
+            print_line(diag, answer.line.as_bytes());
             status
         }
     }
 }
 
-/// Tells a line, as far as the sink takes it.
-pub fn tell<D: Sink>(diag: &mut D, line: &[u8])
+/// Prints a line, as far as the sink takes it.
+pub fn print_line<D: Sink>(diag: &mut D, line: &[u8])
     ensures { TellsLine
         (D.faults diag.old) (D.faults diag.new) (D.held diag.old) (D.held diag.new) line.now }
 {

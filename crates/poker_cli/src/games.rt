@@ -1,44 +1,44 @@
-//! The game of a log is what a file on the shelf says, or the reason why there is none is told.
+//! Fetches the game of a log from the shelf, or reports why there is no game.
 ghost use Rattle.std.specs.Prelude.{◌≡◌, ◌≤◌, IfErr, IfOk, IfSome, IsErrOf, string_bytes};
 ghost use Rattle.host_io.specs.Faults.{Rose};
 ghost use Rattle.poker_cli.specs.Answer.{GivesGame};
-ghost use Rattle.poker_cli.specs.Lacking.{HasNoGame, IsLackTold};
+ghost use Rattle.poker_cli.specs.Lacking.{HasNoGame, IsGameFileErrorTold};
 ghost use Rattle.poker_cli.specs.AcpcFaults.{bad_game_line as bad_game_line_said};
 ghost use Rattle.poker_cli.specs.Told.{answer_told};
 
 use crate::acpc_faults::{fault_name, line_of};
 use crate::answer::{Answer, MOST_INPUT, refusal};
+use crate::limits::excess_line;
 use crate::status::Status;
-use acpc_game::{Game, read_game};
-use acpc_text::AcpcFault;
+use acpc_game::{AcpcFault, Game, read_game};
 use card_set::Memory;
 use host_io::{Fetched, Shelf, ShelfFault};
 use std::alloc::Global;
 
-/// What the file of a game lacks: it is too long, or says no game that is played here.
+/// What is wrong with a game file: it is too long, or has no game that is supported.
 #[derive(Clone, Copy, Debug, PartialEq, Eq)]
-pub enum Lack {
+pub enum GameFileError {
     TooLong,
     Bad(AcpcFault),
 }
 
 /// Why there is no game.
 #[derive(Clone, Copy, Debug, PartialEq, Eq)]
-pub enum NoGame {
+pub enum NoGameError {
     /// The file is not there.
     Missing,
-    Lacking(Lack),
+    Lacking(GameFileError),
     ShelfFault,
     Memory(Memory),
 }
 
-/// The game that the file of this name says.
-pub fn fetch_game<H: Shelf>(alloc: Global, shelf: &mut H, name: &str) -> Result<Game, NoGame>
+/// The game in the file of this name.
+pub fn fetch_game<H: Shelf>(alloc: Global, shelf: &mut H, name: &str) -> Result<Game, NoGameError>
     ensures game { IfOk result (λ game.
         IfSome (H.files shelf.old) (λ files. GivesGame (files name.now) game)) }
     ensures none { IfErr result (λ reason.
         IfSome (H.files shelf.old) (λ files. HasNoGame (files name.now) reason)) }
-    ensures failed { IsErrOf result NoGame.ShelfFault
+    ensures failed { IsErrOf result NoGameError.ShelfFault
         → Rose (H.faults shelf.old) (H.faults shelf.new) }
     ensures asked { H.Asked shelf.old shelf.new name.now }
     ensures unchanged { H.files shelf.new ≡ H.files shelf.old }
@@ -47,33 +47,33 @@ pub fn fetch_game<H: Shelf>(alloc: Global, shelf: &mut H, name: &str) -> Result<
     match shelf.fetch(alloc, name, MOST_INPUT) {
         Ok(Fetched::Bytes(text)) => match read_game(alloc, &text) {
             Ok(game) => Ok(game),
-            Err(AcpcFault::Memory(memory)) => Err(NoGame::Memory(memory)),
-            Err(fault) => Err(NoGame::Lacking(Lack::Bad(fault))),
+            Err(AcpcFault::Memory(memory)) => Err(NoGameError::Memory(memory)),
+            Err(fault) => Err(NoGameError::Lacking(GameFileError::Bad(fault))),
         },
-        Ok(Fetched::Absent) => Err(NoGame::Missing),
-        Ok(Fetched::TooLong) => Err(NoGame::Lacking(Lack::TooLong)),
-        Err(ShelfFault::Failed) => Err(NoGame::ShelfFault),
-        Err(ShelfFault::Memory(memory)) => Err(NoGame::Memory(memory)),
+        Ok(Fetched::Absent) => Err(NoGameError::Missing),
+        Ok(Fetched::TooLong) => Err(NoGameError::Lacking(GameFileError::TooLong)),
+        Err(ShelfFault::Failed) => Err(NoGameError::ShelfFault),
+        Err(ShelfFault::Memory(memory)) => Err(NoGameError::Memory(memory)),
     }
 }
 
-/// The answer where the file of a game lacks this.
-pub fn answer_to_lack(alloc: Global, lack: Lack) -> Result<Answer, Memory>
-    ensures { IfOk result (λ answer. IsLackTold lack (answer_told answer)) }
+/// The answer if this is wrong with the game file.
+pub fn game_file_answer(alloc: Global, lack: GameFileError) -> Result<Answer, Memory>
+    ensures { IfOk result (λ answer. IsGameFileErrorTold lack (answer_told answer)) }
 {
     match lack {
-        Lack::TooLong => {
-            let line = String::from_str(alloc, "limit: game bytes 16777216\n")?;
+        GameFileError::TooLong => {
+            let line = excess_line(alloc, "game bytes", MOST_INPUT)?;
             Ok(refusal(alloc, Status::Limit, line))
         }
-        Lack::Bad(fault) => {
+        GameFileError::Bad(fault) => {
             let line = bad_game_line(alloc, &fault)?;
             Ok(refusal(alloc, Status::BadGame, line))
         }
     }
 }
 
-// The line of a fault of a game's file.
+// The line of a fault in a game file.
 fn bad_game_line(alloc: Global, fault: &AcpcFault) -> Result<String, Memory>
     ensures { IfOk result (λ line. string_bytes line ≡ bad_game_line_said fault.now) }
 {

@@ -1,4 +1,5 @@
-//! The verdict on each hand is a line, and one line behind them says how many hands are legal.
+//! Answers `judge`: one line per hand with its verdict, and then a line with the number of legal
+//! hands.
 ghost use Rattle.std.specs.Prelude.{◌≡◌, ◌≤◌, ◌++◌, true, false, All, codes, length, IfOk, OnOk, string_bytes};
 ghost use Rattle.std.specs.Fmt.{decimal};
 ghost use Rattle.first_fault.specs.declared.limits.TheConstants.{MOST_HANDS};
@@ -7,25 +8,25 @@ ghost use Rattle.poker_cli.specs.Verdicts.{ArePrinted, IsJudged, judged_end};
 
 use crate::refusals::refusal_text;
 use card_set::Memory;
-use convert_core::{PlaysFault, Refusal, Taker, take_each};
+use convert_core::{PlaysFault, Refusal, VerdictVisitor, judge_all};
 use hand_records::{Play, Records};
 use std::alloc::Global;
 
-// The lines of the hands so far, and how many of these are legal.
+// The lines of the hands so far, and how many of these hands are legal.
 #[derive(Drop)]
 struct VerdictLines {
     text: String,
     legal: usize,
 }
 
-impl Taker for VerdictLines {
-    ghost GOES_ON = { true };
+impl VerdictVisitor for VerdictLines {
+    ghost CONTINUES = { true };
 
     ghost KEEPS = { false };
 
     ghost Took = { λ _ it verdicts. ArePrinted (string_bytes it.text) it.legal verdicts };
 
-    fn goes_on(&self) -> bool {
+    fn continues(&self) -> bool {
         true
     }
 
@@ -51,11 +52,11 @@ impl Taker for VerdictLines {
     }
 }
 
-/// The verdict on each of these hands, a line a hand, and how many of them are legal.
+/// One line per hand with its verdict, and then the number of legal hands.
 ///
 /// # Errors
 ///
-/// Want of memory.
+/// Out of memory.
 pub fn judge_text(alloc: Global, records: Records) -> Result<String, Memory>
     requires sound { All IsSoundRecord records }
     requires few { length records ≤ MOST_HANDS }
@@ -66,7 +67,7 @@ pub fn judge_text(alloc: Global, records: Records) -> Result<String, Memory>
         text: String::new(alloc),
         legal: 0,
     };
-    match take_each(alloc, &mut lines, records) {
+    match judge_all(alloc, &mut lines, records) {
         Ok(_) => {}
         Err(PlaysFault::Memory(memory)) => return Err(memory),
         Err(PlaysFault::Refused { .. }) => unreachable!(),
@@ -76,7 +77,7 @@ pub fn judge_text(alloc: Global, records: Records) -> Result<String, Memory>
     Ok(lines.text)
 }
 
-// Puts the line of a legal hand at the end of a text.
+// Appends the line of a legal hand.
 fn push_legal(text: &mut String, number: usize) -> Result<(), Memory>
     ensures { OnOk result (string_bytes text.new ≡ string_bytes text.old
         ++ (codes "hand " ++ (decimal number ++ codes ": legal\n"))) }
@@ -85,7 +86,7 @@ fn push_legal(text: &mut String, number: usize) -> Result<(), Memory>
     Ok(())
 }
 
-// Puts the line of a refused hand at the end of a text.
+// Appends the line of a refused hand.
 fn push_refused(text: &mut String, number: usize, why: &String) -> Result<(), Memory>
     ensures { OnOk result (string_bytes text.new ≡ string_bytes text.old
         ++ (codes "hand " ++ (decimal number ++ (codes ": " ++ (string_bytes why.now
@@ -96,7 +97,7 @@ fn push_refused(text: &mut String, number: usize, why: &String) -> Result<(), Me
     Ok(())
 }
 
-// Puts the last line at the end of a text.
+// Appends the last line.
 fn push_end(text: &mut String, legal: usize, hands: usize) -> Result<(), Memory>
     ensures { OnOk result (string_bytes text.new
         ≡ string_bytes text.old ++ judged_end legal hands) }

@@ -1,5 +1,5 @@
-//! An input has one answer, none is refused whose hands are all legal, equal hands come to equal
-//! outputs, by whatever way, and compare as the same.
+//! Laws of `run`: an input has one answer, legal hands are never refused, and equal hands are
+//! converted to equal outputs, directly or through another notation, and compare as the same.
 ghost use Rattle.std.specs.Prelude.{◌≡◌, ◌⊎◌, ◌↔◌, ◌≤◌, ℕ, Bool, true, List, None, Some, IfSome, Ok, length};
 ghost use Rattle.std.specs.List.{AllByRecursion};
 ghost use Rattle.acpc_game.specs.declared.game.Game.{Game};
@@ -38,9 +38,10 @@ ghost use Rattle.poker_cli.specs.declared.task.Task.TheVariants as tasks;
 ghost use Rattle.convert_core.specs.Conversion.{ReadAsPlays};
 ghost use Rattle.convert_core.specs.SameAnswers.{AreSameAnswers};
 
-/// The bytes of an input have one answer to a task, as they are read; where hands are written in
-/// the Poker Hand History format, TOML reads all answers alike. And they have one where they are
-/// compared with another file. The function does nothing: its contract is a law.
+/// The bytes of an input have one answer to a task. Only if hands are converted to the Poker Hand
+/// History format may two answers differ in their text; TOML then reads both outputs as the same
+/// document. An input that is compared with another file has one answer, too. The function does
+/// nothing: its contract is a law.
 pub fn law_of_one_answer()
     ensures task { (task : Task) (reader : Format) (bytes : List ℕ) (answer other : Answer)
         → IsAnswer task reader bytes answer → IsAnswer task reader bytes other
@@ -49,19 +50,19 @@ pub fn law_of_one_answer()
         → IsComparison by file bytes answer → IsComparison by file bytes other → answer ≡ other }
 {}
 
-/// A run on an input that is not too long, and whose hands are all legal and agree with what is
-/// stated of them, ends with Done, or a device failed, or the status is Memory: on hands in a
-/// notation without games, and on a log whose game's file gives its game. Where something is asked
-/// of the hands, or what a seat saw of them, it may also end with the status of the reply to that,
-/// as Unspelled where the first hand fits no game, and NoSuch where there is no such hand. It may
-/// not where what is asked for is there: a hand with so many events (`options`), a hand that deals
-/// a board on the street and whose live seats have known cards (`equity`), or a seat of the game
-/// whose lines are no more bytes than are written (`seen`). Where hands are converted, each fact
-/// that is to be kept has a spelling in the other notation. Where hands are judged, they need not
-/// be legal. Where they are compared, all hands of the other file are legal and agree, too, and the
-/// status may also be that of the comparison: Differs, where they are not the same. A run that
-/// makes hands ends with Done, or the output failed, or the status is Memory, whatever input and
-/// files there are. The function does nothing: its contract is a law.
+/// For an input within the limit whose hands are all legal and agree with what is stated of them, a
+/// run ends with Done, or a device failed, or the status is Memory. This holds for hands in a
+/// notation without games, and for a log whose game file gives its game. A question about one hand,
+/// or a request for what a seat saw, may also end with the status of the reply: Unspelled if the
+/// first hand fits no game, NoSuch if there is no such hand. It does not end so if what is asked
+/// for is there: a hand with that number of events (`options`), a hand that deals a board on the
+/// street and whose live seats have known cards (`equity`), or a seat of the game whose lines are
+/// within the limit of bytes (`seen`). For a conversion, each fact that is to be kept can be
+/// written in the other notation. For `judge`, the hands need not be legal. For a comparison, all
+/// hands of the other file are legal and agree, too, and the status may also be that of the
+/// comparison: Differs, if the hands are not the same. A run that generates hands ends with Done,
+/// or the output failed, or the status is Memory, whatever the input and the files are. The
+/// function does nothing: its contract is a law.
 pub fn law_of_legal_inputs()
     ensures show { (request : Request) (command : Command) (reader : Format) (files : Files)
         → (bytes : List ℕ) (plays : List Play) (out diag : Sinks) (status : Status)
@@ -115,10 +116,10 @@ pub fn law_of_legal_inputs()
         → Ends (Load seed hands) files bytes out diag status → NeedsNoInput status }
 {}
 
-/// Of hands that are read in a notation, and are all legal and agree with what is stated of them,
-/// nothing is unspelled there but an odd chip, and notes that need not be kept (`spelled`). And
-/// hands that are read under one game have one setup (`setup`), so that a seat of the game knows it
-/// of each of them. The function does nothing: its contract is a law.
+/// If hands are read in a notation, and are all legal and agree with what is stated of them, then
+/// all of their facts can be written in that notation, except an odd chip and notes that need not
+/// be kept (`spelled`). And hands that are read under one game have one setup (`setup`), so that a
+/// seat of the game is a seat of each of them. The function does nothing: its contract is a law.
 pub fn law_of_read_hands()
     ensures spelled { (reader : Format) (bytes : List ℕ) (plays : List Play)
         → ReadAsPlays (SayRecords reader bytes) plays
@@ -132,14 +133,14 @@ pub fn law_of_read_hands()
         → play.trace.setup ≡ other.trace.setup }
 {}
 
-/// What is answered to a conversion has one form, without regard to devices and memory. Two inputs
-/// that are converted into one notation, with one choice of notes, have the same output exactly
-/// where their hands have the same traces and the same kept notes, hand by hand (`equal`). An
-/// output that is no longer than an input may be is converted to its own notation as itself,
-/// whichever notes are kept then (`again`). And where bytes are converted with all notes, their
-/// output, if it is no longer than that, and the bytes themselves have one answer to a conversion
-/// into a third notation (`by_way`): the same output, or the same hand and its same fact without a
-/// spelling. The function does nothing: its contract is a law.
+/// The answers to a conversion, without regard to devices and memory. If two inputs are converted
+/// to one notation with one choice of notes, their outputs are the same if and only if their hands
+/// have, hand by hand, the same traces and the same kept notes (`equal`). An output that is no
+/// longer than an input may be is converted to its own notation as itself, whichever notes are kept
+/// then (`again`). And if bytes are converted with all notes, their output, if it is no longer than
+/// that, and the bytes themselves have one answer to a conversion to a third notation (`by_way`):
+/// the same output, or the same hand and the same fact that cannot be written. The function does
+/// nothing: its contract is a law.
 pub fn law_of_equal_answers()
     ensures equal { (from other to : Format) (keep : Keep) (bytes too : List ℕ)
         → (plays others : List Play) (answer written : Answer)
@@ -163,9 +164,9 @@ pub fn law_of_equal_answers()
         → AreOneAnswer (tasks.Convert to keep) straight by_way }
 {}
 
-/// Two inputs, in any notations, that are converted into one notation with one choice of notes:
-/// their outputs are the same exactly where their hands have the same traces and the same kept
-/// notes, hand by hand. The function does nothing: its contract is a law.
+/// If two inputs, in any notations, are converted to one notation with one choice of notes, their
+/// outputs are the same if and only if their hands have, hand by hand, the same traces and the same
+/// kept notes. The function does nothing: its contract is a law.
 pub fn law_of_equal_runs()
     ensures { (from other to : Format) (keep : Keep) (bytes too output written : List ℕ)
         → (plays others : List Play)
@@ -175,9 +176,9 @@ pub fn law_of_equal_runs()
         ↔ AreSameIn to output written }
 {}
 
-/// An output is converted to its own notation once more as the same output, whichever notes are
-/// kept then, unless a device fails, memory is wanting, or the output is too long for an input. The
-/// function does nothing: its contract is a law.
+/// If an output is converted to its own notation once more, the result is the same output,
+/// whichever notes are kept then, unless a device fails, memory runs out, or the output is too long
+/// for an input. The function does nothing: its contract is a law.
 pub fn law_of_runs_again()
     ensures { (from to : Format) (keep again : Keep) (bytes output : List ℕ)
         → ConvertsInto from to keep bytes output
@@ -187,11 +188,11 @@ pub fn law_of_runs_again()
         (AreSameAnswers (AreSameIn to) (Ok output)) }
 {}
 
-/// A conversion may go by another notation. Where bytes are converted with all notes, a run on the
-/// output and a run on the bytes, into a third notation and with one choice of notes, tell the
-/// same: the same output, or the same hand and its same fact without a spelling; unless a device
-/// fails, memory is wanting, or the output is too long for an input. The function does nothing: its
-/// contract is a law.
+/// A conversion may go through another notation. If bytes are converted with all notes, a run on
+/// the output and a run on the bytes, to a third notation and with one choice of notes, give the
+/// same: the same output, or the same hand and the same fact that cannot be written; unless a
+/// device fails, memory runs out, or the output is too long for an input. The function does
+/// nothing: its contract is a law.
 pub fn law_of_runs_by_way()
     ensures { (from by to : Format) (keep : Keep) (bytes output : List ℕ)
         → ConvertsInto from by keeps.All bytes output
@@ -203,11 +204,11 @@ pub fn law_of_runs_by_way()
         (AreSameAnswers (AreSameIn to) answer)) }
 {}
 
-/// The comparison of plays is done exactly where there are as many on either side and hand by hand
-/// the traces are the same and, where notes are looked at, the notes. Else it tells the first hand
-/// that differs, all before it being the same, with its first difference; or how many there are on
-/// either side, where all that both have are the same. The function does nothing: its contract is a
-/// law.
+/// The comparison of plays ends with Done if and only if both sides have the same number of plays
+/// and, hand by hand, the same traces and, if notes are compared, the same notes. Otherwise it
+/// reports the first hand that differs, all hands before it being the same, with its first
+/// difference; or, if all hands that both sides have are the same, the two numbers of hands. The
+/// function does nothing: its contract is a law.
 pub fn law_of_compared_hands()
     ensures same { (notes : Bool) (plays others : List Play)
         → AllByRecursion IsSound plays → AllByRecursion IsSound others
@@ -218,13 +219,13 @@ pub fn law_of_compared_hands()
         → AreOther notes plays others (compared notes plays others) }
 {}
 
-/// Where two files are compared, a run is done exactly where both read as hands that are all legal
-/// and agree with what is stated of them, and are the same: as many, and hand by hand with one
-/// trace and, where notes are looked at, the same notes. It differs exactly where both read so and
-/// are not the same, and tells the first hand that differs, all before it being the same, with its
-/// first difference; or how many there are on either side, where all that both have are the same.
-/// In place of either a device may fail, or memory be wanting. The function does nothing: its
-/// contract is a law.
+/// If two files are compared, a run ends with Done if and only if both read as hands that are all
+/// legal and agree with what is stated of them, and are the same: the same number, and hand by hand
+/// one trace and, if notes are compared, the same notes. It ends with Differs if and only if both
+/// read so and are not the same, and reports the first hand that differs, all before it being the
+/// same, with its first difference; or, if all hands that both have are the same, the two numbers
+/// of hands. Instead of either, a device may fail or memory may run out. The function does nothing:
+/// its contract is a law.
 pub fn law_of_comparisons()
     ensures done { (request : Request) (by : Comparison) (files : Files) (text bytes : List ℕ)
         → (out diag : Sinks) → AsksToCompare files request by text
@@ -244,9 +245,9 @@ pub fn law_of_comparisons()
         → Ends request files bytes out diag status → FindsOther status }
 {}
 
-/// What was converted is the same as its source. A run that compares an output with the input that
-/// it was converted from, or that input with it, is done, unless a device fails or memory is
-/// wanting: always where notes are not looked at, and where they are, if all of them were kept. The
+/// A conversion is the same as its source. A run that compares an output with the input that it was
+/// converted from, or that input with it, ends with Done, unless a device fails or memory runs out:
+/// always if notes are not compared, and if they are, provided that all of them were kept. The
 /// function does nothing: its contract is a law.
 pub fn law_of_compared_conversions()
     ensures source { (request : Request) (files : Files) (from to : Format) (keep : Keep)
@@ -266,10 +267,10 @@ pub fn law_of_compared_conversions()
         → Ends request files output out diag status → RefusesNothing status }
 {}
 
-/// Two files are the same hands, notes included, exactly where they are converted with all notes
-/// into the same output, whichever notation that is in. A run that compares them is done only where
-/// the outputs are the same; and where these are, it is done, unless a device fails or memory is
-/// wanting. The function does nothing: its contract is a law.
+/// Two files have the same hands, notes included, if and only if they are converted with all notes
+/// to the same output, in any notation. A run that compares them ends with Done only if the outputs
+/// are the same; and if they are, it ends with Done, unless a device fails or memory runs out. The
+/// function does nothing: its contract is a law.
 pub fn law_of_compared_outputs()
     ensures { (request : Request) (files : Files) (from other to : Format)
         → (bytes too output written : List ℕ) (out diag : Sinks) (status : Status)

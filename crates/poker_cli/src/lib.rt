@@ -1,5 +1,5 @@
-//! One call, `run`, makes the status, the output and the line of the program from its words and the
-//! bytes of its input.
+//! One call, `run`: from the words of the command line and the bytes of the input to the status,
+//! the output and the diagnostic line of the program.
 #![tactic(auto)]
 
 mod acpc_faults;
@@ -8,13 +8,13 @@ mod comparing;
 mod comparison;
 mod entry;
 mod games;
+mod hand_visitor;
 mod judging;
 mod laws;
 mod limits;
 mod no_answer;
 mod ohh_faults;
 mod phh_faults;
-mod play_taker;
 mod printing;
 mod process;
 mod refusals;

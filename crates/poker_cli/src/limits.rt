@@ -1,28 +1,48 @@
-//! The line that is told where a limit is passed, in whatever notation.
+//! The line that is printed where a limit is passed: what is counted, and the most of it.
 ghost use Rattle.std.specs.Prelude.{◌≡◌, IfOk, string_bytes};
-ghost use Rattle.poker_cli.specs.Limits.{limit_line as limit_line_said, limit_text as limit_said};
+ghost use Rattle.poker_cli.specs.Limits as limits;
 
 use card_set::Memory;
-use first_fault::Quantity;
+use first_fault::{MOST_FILE_MOVES, MOST_HANDS, MOST_TEXT_BYTES, Quantity};
+use play_event::{MOST_MOVES, MOST_OTHER_EVENTS};
 use std::alloc::Global;
 
-/// The line of a limit that is passed.
+/// The line of a limit that the hands of a file pass.
 pub fn limit_line(alloc: Global, quantity: Quantity) -> Result<String, Memory>
-    ensures { IfOk result (λ line. string_bytes line ≡ limit_line_said quantity) }
+    ensures { IfOk result (λ line. string_bytes line ≡ limits.limit_line quantity) }
 {
-    let limit = limit_text(quantity);
-    Ok(format!(in alloc; "limit: {limit}\n")?)
+    excess_line(alloc, quantity_name(quantity), most_of(quantity))
 }
 
-// What a limit is called, and its number.
-fn limit_text(quantity: Quantity) -> &'static str
-    ensures { result.now ≡ limit_said quantity }
+/// The line of a limit: what is counted, and the most of it that may be there.
+pub fn excess_line(alloc: Global, what: &str, most: usize) -> Result<String, Memory>
+    ensures { IfOk result (λ line. string_bytes line ≡ limits.excess_line what.now most) }
+{
+    Ok(format!(in alloc; "limit: {what} {most}\n")?)
+}
+
+// What a file has too many of.
+fn quantity_name(quantity: Quantity) -> &'static str
+    ensures { result.now ≡ limits.quantity_name quantity }
 {
     match quantity {
-        Quantity::Hands => "hands 65536",
-        Quantity::Moves => "moves of a hand 4096",
-        Quantity::OtherEvents => "other events of a hand 256",
-        Quantity::FileMoves => "moves of the file 1048576",
-        Quantity::TextBytes => "text bytes 255",
+        Quantity::Hands => "hands",
+        Quantity::Moves => "moves of a hand",
+        Quantity::OtherEvents => "other events of a hand",
+        Quantity::FileMoves => "moves of the file",
+        Quantity::TextBytes => "text bytes",
+    }
+}
+
+// The most of it that a file may have.
+fn most_of(quantity: Quantity) -> usize
+    ensures { result ≡ limits.most_of quantity }
+{
+    match quantity {
+        Quantity::Hands => MOST_HANDS,
+        Quantity::Moves => MOST_MOVES,
+        Quantity::OtherEvents => MOST_OTHER_EVENTS,
+        Quantity::FileMoves => MOST_FILE_MOVES,
+        Quantity::TextBytes => MOST_TEXT_BYTES,
     }
 }

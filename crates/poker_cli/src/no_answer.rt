@@ -4,12 +4,12 @@ use card_set::Memory;
 
 /// Why there is no answer.
 #[derive(Clone, Copy, Debug, PartialEq, Eq)]
-pub enum NoAnswer {
+pub enum NoAnswerError {
     /// The input could not be read.
     ReadFault,
-    /// The file of the game is not there.
+    /// The game file is not there.
     GameMissing,
-    /// The file that hands are to be compared with is not there.
+    /// The file to compare with is not there.
     FileMissing,
     /// A file could not be read.
     ShelfFault,

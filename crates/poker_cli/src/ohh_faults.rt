@@ -1,4 +1,4 @@
-//! The line that is told where an input in Open Hand History does not read as hands.
+//! The line that is printed when an input in Open Hand History cannot be read.
 ghost use Rattle.std.specs.Prelude.{◌≡◌, IfOk, Some, string_bytes};
 ghost use Rattle.convert_core.specs.declared.format_fault.FormatFault.TheVariants as formats;
 ghost use Rattle.ohh_reading.specs.Reading.{wrong_of};
@@ -14,7 +14,7 @@ use first_fault::Text;
 use ohh_reading::OhhFault;
 use std::alloc::Global;
 
-/// The answer to an input in Open Hand History that does not read as hands.
+/// The answer to an input in Open Hand History that cannot be read.
 pub fn answer_to_ohh_fault(alloc: Global, fault: &OhhFault) -> Result<Answer, Memory>
     ensures { IfOk result (λ answer.
         definition.to_fault (formats.Ohh fault.now) ≡ Some (answer_told answer)) }
@@ -42,7 +42,7 @@ pub fn answer_to_ohh_fault(alloc: Global, fault: &OhhFault) -> Result<Answer, Me
     }
 }
 
-// The line of a hand that is no JSON.
+// The line of a hand that is not JSON.
 fn no_text_line(alloc: Global, hand: u32) -> Result<String, Memory>
     ensures { IfOk result (λ line. string_bytes line ≡ no_text_line_said hand) }
 {
@@ -59,7 +59,7 @@ fn bad_member(alloc: Global, hand: u32, path: &Text, name: &str) -> Result<Answe
     Ok(refusal(alloc, Status::BadInput, line))
 }
 
-// What a fault is called.
+// The name of a fault.
 fn fault_name(fault: &OhhFault) -> &'static str
     ensures { result.now ≡ fault_name_said (wrong_of fault.now) }
 {

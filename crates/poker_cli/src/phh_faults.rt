@@ -1,4 +1,4 @@
-//! The line that is told where an input in the Poker Hand History format does not read as hands.
+//! The line that is printed when an input in the Poker Hand History format cannot be read.
 ghost use Rattle.std.specs.Prelude.{◌≡◌, IfOk, Some};
 ghost use Rattle.convert_core.specs.declared.format_fault.FormatFault.TheVariants as formats;
 ghost use Rattle.phh_reading.specs.Reading.{wrong_of};
@@ -14,7 +14,7 @@ use first_fault::Text;
 use phh_reading::PhhFault;
 use std::alloc::Global;
 
-/// The answer to an input that does not read as hands in the Poker Hand History format.
+/// The answer to an input in the Poker Hand History format that cannot be read.
 pub fn answer_to_phh_fault(alloc: Global, fault: &PhhFault) -> Result<Answer, Memory>
     ensures { IfOk result (λ answer.
         definition.to_fault (formats.Phh fault.now) ≡ Some (answer_told answer)) }
@@ -50,7 +50,7 @@ fn bad_hand(alloc: Global, hand: u32, key: &Text, name: &str) -> Result<Answer, 
     Ok(refusal(alloc, Status::BadInput, line))
 }
 
-// What a fault is called.
+// The name of a fault.
 fn fault_name(fault: &PhhFault) -> &'static str
     ensures { result.now ≡ fault_name_said (wrong_of fault.now) }
 {

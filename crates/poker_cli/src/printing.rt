@@ -1,4 +1,4 @@
-//! Lines are printed of each hand, and a last line behind them.
+//! Prints each hand's lines and then a summary line.
 ghost use Rattle.std.specs.Prelude.{◌≡◌, ◌≤◌, ◌++◌, All, length, IfErr, IfOk, OnOk, string_bytes};
 ghost use Rattle.convert_core.specs.Judged.{IsPlaysFaultOf};
 ghost use Rattle.first_fault.specs.declared.limits.TheConstants.{MOST_HANDS};
@@ -7,17 +7,17 @@ ghost use Rattle.hand_records.specs.SoundRecord.{IsSoundRecord};
 ghost use Rattle.poker_cli.specs.Printed.{IsPrintOf, end_of, lines_of};
 ghost use Rattle.printed_hands.specs.Check.{each_hand};
 
-use crate::play_taker::{PlayTaker, take_plays};
+use crate::hand_visitor::{HandVisitor, take_plays};
 use card_set::Memory;
 use convert_core::PlaysFault;
 use hand_records::{Play, Records};
 use printed_hands::{push_check_end, push_check_line, push_replay_lines};
 use std::alloc::Global;
 
-/// What is printed of each hand.
+/// What is printed for each hand.
 #[derive(Clone, Copy, Debug, PartialEq, Eq)]
 pub enum Lines {
-    /// What each seat ends with.
+    /// What each player finishes with.
     Check,
     /// The hand step by step.
     Replay,
@@ -30,7 +30,7 @@ struct PrintedLines {
     text: String,
 }
 
-impl PlayTaker for PrintedLines {
+impl HandVisitor for PrintedLines {
     ghost TookPlays = { λ start it plays. (it.lines ≡ start.lines)
         × (string_bytes it.text ≡ each_hand (lines_of it.lines) 1 plays) };
 
@@ -44,7 +44,7 @@ impl PlayTaker for PrintedLines {
 ///
 /// # Errors
 ///
-/// The first refused hand, with what is wrong with it first; or want of memory.
+/// The first refused hand, with what is wrong with it first; or out of memory.
 pub fn print_each(alloc: Global, lines: Lines, records: Records) -> Result<String, PlaysFault>
     requires sound { All IsSoundRecord records }
     requires few { length records ≤ MOST_HANDS }
@@ -65,7 +65,7 @@ pub fn print_each(alloc: Global, lines: Lines, records: Records) -> Result<Strin
     }
 }
 
-// Puts the lines of the hand with this number at the end of a text.
+// Appends the lines of the hand with this number.
 fn push_lines(
     alloc: Global,
     text: &mut String,
@@ -83,7 +83,7 @@ fn push_lines(
     }
 }
 
-// Puts the last line at the end of a text, if there is one.
+// Appends the last line, if there is one.
 fn push_end(text: &mut String, lines: Lines, hands: usize) -> Result<(), Memory>
     ensures { OnOk result (string_bytes text.new ≡ string_bytes text.old ++ end_of lines hands) }
 {

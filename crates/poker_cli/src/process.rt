@@ -1,5 +1,4 @@
-//! A process is run on the words after its own name, over its streams and the files of the system,
-//! and ends with the number of the status that the run answers.
+//! Runs the program as a process: on its words, over its streams and the files of the system.
 ghost use Rattle.std.specs.Prelude.{◌≡◌, ◌≢◌, ◌⊎◌, [], drop, IfErr, IfOk};
 ghost use Rattle.std.specs.Process.{exit_status};
 ghost use Rattle.std.specs.IoError.{error_kind};
@@ -7,11 +6,12 @@ ghost use Rattle.std.specs.Vec.Iter.{into_iter_items};
 ghost use Rattle.std.specs.declared.io.ErrorKind.TheVariants.{OutOfMemory};
 ghost use Rattle.card_set.specs.Refusal.{WasRefused};
 ghost use Rattle.poker_cli.specs.Process.{LacksWords, RunKeeps, words_given};
+ghost use Rattle.poker_cli.specs.Ran.{HasRun, RunsOver};
 ghost use Rattle.poker_cli.specs.Run.{change_of};
 ghost use Rattle.poker_cli.specs.Status.{IsStatusNumber, status_number};
 ghost use Rattle.poker_cli.specs.declared.status.Status.{Status as AnyStatus};
 
-use crate::entry::{run, tell};
+use crate::entry::{print_line, run};
 use crate::status::Status;
 use card_set::Memory;
 use host_io::{FileShelf, Shelf, Sink, Source, StdSink, StdSource};
@@ -21,15 +21,17 @@ use std::io::{self, Read, Write};
 use std::process::ExitCode;
 use std::rt::{Env, Files};
 
-/// Runs the program as the process that it is in, over these streams and the files of the system,
-/// and returns the status to end with.
+/// Runs the program as the current process, over these streams and the files of the system, and
+/// returns the exit status.
 pub fn run_process<R: Read + Drop, W: Write + Drop, D: Write + Drop>(
     rt: &(impl Env + Files + AllocGlobal),
     input: R,
     out: W,
     diag: D,
 ) -> ExitCode
-    ensures { IsStatusNumber (exit_status result) }
+    // What is returned is the number of the status of a run over these streams.
+    ensures ran { RunsOver input out diag (exit_status result) }
+    ensures number { IsStatusNumber (exit_status result) }
 {
     let mut input = StdSource::new(input);
     let mut shelf = FileShelf::new(rt);
@@ -47,6 +49,7 @@ pub fn run_process<R: Read + Drop, W: Write + Drop, D: Write + Drop>(
 
 /// Runs the program over these devices on the words behind the first of all, which is the name of
 /// the process, and returns the number of the status that the run answers.
+#[tactic(auto, using(crate::specs::Ran::a_run_ended))]
 pub fn end_with<S: Source, H: Shelf, K: Sink, D: Sink>(
     alloc: Global,
     all: io::Result<Args>,
@@ -55,7 +58,7 @@ pub fn end_with<S: Source, H: Shelf, K: Sink, D: Sink>(
     out: &mut K,
     diag: &mut D,
 ) -> ExitCode
-    // The status is that of a run on these words, of which all holds that is promised of `run`.
+    // The status is that of a run on these words, with everything that `run` promises.
     ensures run { (status : AnyStatus) × ((exit_status result ≡ status_number status)
         × (LacksWords (change_of D.held D.faults diag.old diag.new) status
         input.old input.new shelf.old shelf.new out.old out.new
@@ -64,9 +67,12 @@ pub fn end_with<S: Source, H: Shelf, K: Sink, D: Sink>(
         (change_of K.held K.faults out.old out.new)
         (change_of D.held D.faults diag.old diag.new) status
         input.old input.new shelf.old shelf.new out.old out.new diag.old diag.new)) }
+    // That it ran over these devices, is given by this call alone.
+    ensures ran { (status : AnyStatus) × ((exit_status result ≡ status_number status)
+        × HasRun input.old input.new out.old out.new diag.old diag.new status) }
     // The status is 8 only where a request for memory was refused.
     ensures memory { exit_status result ≡ 8 → WasRefused }
-    // Words that are no text are no command.
+    // Words that are not text are no command.
     ensures no_text { IfErr all (λ error. error_kind error ≢ OutOfMemory
         → exit_status result ≡ 2) }
 {
@@ -74,7 +80,7 @@ pub fn end_with<S: Source, H: Shelf, K: Sink, D: Sink>(
     ExitCode::from(status.number())
 }
 
-// The status of a run on the words behind the first of all.
+// The status of a run on the words after the first one.
 fn answer_to_words<S: Source, H: Shelf, K: Sink, D: Sink>(
     alloc: Global,
     all: io::Result<Args>,
@@ -96,16 +102,17 @@ fn answer_to_words<S: Source, H: Shelf, K: Sink, D: Sink>(
 {
     match words_behind_first(alloc, all) {
         Ok(words) => run(alloc, &words, input, shelf, out, diag),
-        Err(_) => {
-            tell(diag, b"out of memory\n");
+        Err(memory) => {
+            print_line(diag, b"out of memory\n");
             Status::Memory
         }
     }
 }
 
-// It is a door: the library tells want of memory for the words where a request was refused.
+// The library reports out of memory for the words only if a request was refused; that is assumed
+// here.
 //
-// The words behind the first one. Words that are no text are no command, as no words are.
+// The words after the first one. Words that are not text are no command, just as no words are.
 #[tactic(auto, using(card_set::specs::Refusal::an_allocator_said_so))]
 fn words_behind_first(alloc: Global, all: io::Result<Args>) -> Result<Vec<String>, Memory>
     ensures no_text { IfErr all (λ error. error_kind error ≢ OutOfMemory → IfErr result (λ _. ⊥)) }
@@ -119,10 +126,18 @@ fn words_behind_first(alloc: Global, all: io::Result<Args>) -> Result<Vec<String
             words_left(alloc, all)
         }
         Err(error) => match error.kind() {
-            io::ErrorKind::OutOfMemory => Err(Memory {}),
+            io::ErrorKind::OutOfMemory => Err(refused_for_words(&error)),
             _ => Ok(Vec::new(alloc)),
         },
     }
+}
+
+// A request for memory for the words was refused, as the error of the system says.
+#[tactic(auto, using(card_set::specs::Refusal::an_allocator_said_so))]
+fn refused_for_words(_error: &io::Error) -> Memory
+    requires { error_kind _error.now ≡ OutOfMemory }
+{
+    Memory {}
 }
 
 // All words that are left.

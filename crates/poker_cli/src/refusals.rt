@@ -1,4 +1,4 @@
-//! The line that is told where a hand is refused.
+//! The line that is printed when a hand is refused.
 ghost use Rattle.std.specs.Prelude.{◌≡◌, IfOk, string_bytes};
 ghost use Rattle.poker_cli.specs.Refusals as definition;
 
@@ -28,7 +28,7 @@ pub fn refusal_text(alloc: Global, why: &Refusal) -> Result<String, Memory>
     }
 }
 
-// What is wrong with a script.
+// What is wrong with a script, as text.
 fn fault_text(alloc: Global, fault: &ReplayFault) -> Result<String, Memory>
     ensures { IfOk result (λ text. string_bytes text ≡ definition.fault_text fault.now) }
 {
@@ -58,7 +58,7 @@ fn difference_text(alloc: Global, differs: &FactDiffers) -> Result<String, Memor
     Ok(format!(in alloc; "{which} stated {stated}, replayed {replayed}")?)
 }
 
-// Which stated fact differs.
+// Which stated fact differs from the replayed one.
 fn which_text(alloc: Global, which: Which) -> Result<String, Memory>
     ensures { IfOk result (λ text. string_bytes text ≡ definition.which_text which) }
 {
@@ -79,7 +79,7 @@ fn which_text(alloc: Global, which: Which) -> Result<String, Memory>
     }
 }
 
-// What a reason is called.
+// The name of the reason why an event is illegal.
 fn reason_text(alloc: Global, reason: Illegal) -> Result<String, Memory>
     ensures { IfOk result (λ text. string_bytes text ≡ definition.reason_text reason) }
 {

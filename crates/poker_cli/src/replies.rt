@@ -1,4 +1,4 @@
-//! What is asked of one hand of an input is answered from the plays of all hands.
+//! Answers a question about one hand of an input from the plays of all hands.
 ghost use Rattle.std.specs.Prelude.{◌≡◌, ◌<◌, All, Some, IfOk};
 ghost use Rattle.hand_canon.specs.Sound.{IsSound};
 ghost use Rattle.poker_cli.specs.Answer.{IsGameReply};
@@ -17,18 +17,18 @@ use hand_options::{options, options_text};
 use hand_records::Play;
 use std::alloc::Global;
 
-/// What is asked of one hand of an input.
+/// A question about one hand of an input.
 #[derive(Clone, Copy, Debug, PartialEq, Eq)]
 pub enum PlayQuestion {
     /// The game file of the first hand.
     GameFile,
-    /// The legal moves after so many events of the hand with this number, from 1.
+    /// The legal moves after the first `events` events of the hand with this number, from 1.
     Options { hand: u32, events: u32 },
     /// How often each live seat of the hand with this number, from 1, would win from a street on.
     Equity { hand: u32, street: u8 },
 }
 
-/// The answer to what is asked of plays.
+/// The answer to a question about plays.
 pub fn answer_to_plays(alloc: Global, asked: PlayQuestion, plays: &[Play]) -> Result<Answer, Memory>
     requires sound { All IsSound plays.now }
     ensures { IfOk result (λ answer. IsAsked asked plays.now (answer_told answer)) }
@@ -40,7 +40,7 @@ pub fn answer_to_plays(alloc: Global, asked: PlayQuestion, plays: &[Play]) -> Re
     }
 }
 
-// The answer with the game file of the first of plays.
+// The answer with the game file of the first play.
 fn answer_with_first_game(alloc: Global, plays: &[Play]) -> Result<Answer, Memory>
     requires sound { All IsSound plays.now }
     ensures { IfOk result (λ answer. IsGameReply plays.now (answer_told answer)) }
@@ -54,7 +54,7 @@ fn answer_with_first_game(alloc: Global, plays: &[Play]) -> Result<Answer, Memor
     }
 }
 
-// The answer with the legal moves after so many events of the hand with this number.
+// The answer with the legal moves after the first events of the hand with this number.
 fn answer_with_options(
     alloc: Global,
     plays: &[Play],
@@ -99,7 +99,7 @@ fn answer_with_equity(
     }
 }
 
-// No hand has this number, of so many.
+// Hand number past the end of the input, which has `hands` hands.
 fn no_hand(alloc: Global, hand: u32, hands: usize) -> Result<Answer, Memory>
     ensures { IfOk result (λ answer. answer_told answer ≡ replies.no_hand hand hands) }
 {
@@ -107,7 +107,7 @@ fn no_hand(alloc: Global, hand: u32, hands: usize) -> Result<Answer, Memory>
     Ok(refusal(alloc, Status::NoSuch, line))
 }
 
-// The hand with this number has not so many events, but these.
+// Event number past the end of the hand.
 fn no_event(alloc: Global, hand: u32, events: u32, all: usize) -> Result<Answer, Memory>
     ensures { IfOk result (λ answer. answer_told answer ≡ replies.no_event hand events all) }
 {
@@ -115,7 +115,7 @@ fn no_event(alloc: Global, hand: u32, events: u32, all: usize) -> Result<Answer,
     Ok(refusal(alloc, Status::NoSuch, line))
 }
 
-// The hand with this number has no board of this street.
+// No board is dealt on this street of the hand.
 fn no_street(alloc: Global, hand: u32, street: u8) -> Result<Answer, Memory>
     ensures { IfOk result (λ answer. answer_told answer ≡ replies.no_street hand street) }
 {
@@ -123,7 +123,7 @@ fn no_street(alloc: Global, hand: u32, street: u8) -> Result<Answer, Memory>
     Ok(refusal(alloc, Status::NoSuch, line))
 }
 
-// A seat of the hand with this number has a card that stayed unknown.
+// A card of this seat stayed unknown in the hand.
 fn no_cards(alloc: Global, hand: u32, seat: u8) -> Result<Answer, Memory>
     ensures { IfOk result (λ answer. answer_told answer ≡ replies.no_cards hand seat) }
 {

@@ -1,4 +1,4 @@
-//! A session takes each hand, and keeps the rows of the names and the steps.
+//! Answers `session`: takes each hand, and keeps a row per name and the steps.
 ghost use Rattle.std.specs.Prelude.{◌≤◌, All, length, IfErr, IfOk, string_bytes};
 ghost use Rattle.command_words.specs.declared.command.Command.TheVariants as commands;
 ghost use Rattle.convert_core.specs.Judged.{IsPlaysFaultOf};
@@ -7,14 +7,14 @@ ghost use Rattle.hand_records.specs.SoundRecord.{IsSoundRecord};
 ghost use Rattle.hand_session.specs.SoFar.{IsSessionSoFar};
 ghost use Rattle.poker_cli.specs.Texts.{IsTextOf};
 
-use crate::play_taker::{PlayTaker, take_plays};
+use crate::hand_visitor::{HandVisitor, take_plays};
 use card_set::Memory;
 use convert_core::PlaysFault;
 use hand_records::{Play, Records};
 use hand_session::{OpenSession, session_text};
 use std::alloc::Global;
 
-impl PlayTaker for OpenSession {
+impl HandVisitor for OpenSession {
     ghost TookPlays = { λ _ it plays. IsSessionSoFar it plays };
 
     fn take_play(&mut self, alloc: Global, _: usize, play: &Play) -> Result<(), Memory> {
@@ -26,7 +26,7 @@ impl PlayTaker for OpenSession {
 ///
 /// # Errors
 ///
-/// The first refused hand, with what is wrong with it first; or want of memory.
+/// The first refused hand, with what is wrong with it first; or out of memory.
 pub fn session_of(alloc: Global, records: Records) -> Result<String, PlaysFault>
     requires sound { All IsSoundRecord records }
     requires few { length records ≤ MOST_HANDS }

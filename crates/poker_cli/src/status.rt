@@ -11,35 +11,34 @@ pub enum Status {
     Refused,
     /// The words are no command.
     Usage,
-    /// The input does not read as hands.
+    /// The input cannot be read as hands.
     BadInput,
-    /// A fact of a hand has no spelling where it is to be written.
+    /// A fact of a hand cannot be written in the target notation.
     Unspelled,
     /// The input could not be read.
     ReadFault,
     /// The output could not be written.
     WriteFault,
-    /// The input, the file of a game or that of a comparison is too long, or has more of something
-    /// than is read.
+    /// The input, the game file or the file to compare with is too long, or exceeds another limit.
     Limit,
     /// There was not enough memory.
     Memory,
-    /// The file of the game is not there.
+    /// The game file is not there.
     GameMissing,
-    /// The file of the game says no game that is played here.
+    /// The game file has no game that is supported.
     BadGame,
-    /// The file of the game, or that of a comparison, could not be read.
+    /// The game file, or the file to compare with, could not be read.
     ShelfFault,
     /// There is no such hand, event, street, known card or seat.
     NoSuch,
     /// The hands of two files are not the same.
     Differs,
-    /// The file that the hands are compared with is not there.
+    /// The file to compare with is not there.
     FileMissing,
 }
 
 impl Status {
-    /// The number with which the process ends.
+    /// The exit status of the process.
     pub fn number(self) -> u8
         ensures { result ≡ status_number self }
     {

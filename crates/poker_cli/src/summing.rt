@@ -1,4 +1,4 @@
-//! Hands that are made are answered by their summary.
+//! Answers `load`: generates hands and sums them up.
 ghost use Rattle.std.specs.Prelude.{IfOk};
 ghost use Rattle.poker_cli.specs.Answer.{IsSummed};
 ghost use Rattle.poker_cli.specs.Told.{answer_told};
@@ -10,7 +10,7 @@ use command_words::HandCount;
 use hand_gen::{load, summary_text};
 use std::alloc::Global;
 
-/// The answer with the summary of so many hands from a seed.
+/// The answer with the summary of `hands` hands generated from a seed.
 pub fn answer_to_load(alloc: Global, seed: u64, hands: HandCount) -> Result<Answer, Memory>
     ensures { IfOk result (λ answer. IsSummed seed hands.number (answer_told answer)) }
 {

@@ -1,37 +1,37 @@
-//! What is made of the hands of an input, and under what the input is read.
+//! What is done with the hands of an input, and how the input is read.
 use acpc_game::Game;
 use chip_ledger::Seat;
 use command_words::Question;
 use hand_records::Keep;
 use ohh_members::Dialect;
 
-/// What is made of hands.
+/// What is done with hands.
 #[derive(Clone, Copy, Debug, PartialEq, Eq)]
 pub enum Task {
     /// The answer to a question.
     Ask(Question),
-    /// The verdict on each of them.
+    /// The verdict on each hand.
     Judge,
-    /// The same hands in a notation, with so many of their notes.
+    /// The same hands in a notation; `keep` says which notes are kept.
     Convert { to: Format, keep: Keep },
-    /// The messages that a seat received of them, in the logs of a game.
+    /// The messages that a seat received in these hands, as logs of a game.
     Views { game: Game, seat: Seat },
 }
 
-/// How the bytes of an input are read, and as what hands are written.
+/// The notation in which bytes are read or hands are written.
 #[derive(Clone, Copy, Debug, PartialEq, Eq)]
 pub enum Format {
-    /// As the Poker Hand History format.
+    /// The Poker Hand History format.
     Phh,
-    /// As Open Hand History in this dialect.
+    /// Open Hand History in this dialect.
     Ohh(Dialect),
-    /// As a log of the Annual Computer Poker Competition under this game.
+    /// A log of the Annual Computer Poker Competition under this game.
     Acpc(Game),
 }
 
-/// How hands are read, and what is made of them.
+/// How hands are read, and what is done with them.
 #[derive(Clone, Copy, Debug, PartialEq, Eq)]
-pub struct Way {
+pub struct Job {
     pub reader: Format,
     pub task: Task,
 }

@@ -1,4 +1,4 @@
-//! What a command prints of hands is made of their plays, each of which is dropped before the next.
+//! Makes what a command prints from the plays of hands, each dropped before the next.
 ghost use Rattle.std.specs.Prelude.{◌≤◌, All, length, IfErr, IfOk, string_bytes};
 ghost use Rattle.convert_core.specs.Judged.{IsPlaysFaultOf};
 ghost use Rattle.first_fault.specs.declared.limits.TheConstants.{MOST_HANDS};
@@ -13,11 +13,11 @@ use convert_core::PlaysFault;
 use hand_records::Records;
 use std::alloc::Global;
 
-/// What a command prints of these hands.
+/// What a command prints for these hands.
 ///
 /// # Errors
 ///
-/// The first refused hand, with what is wrong with it first; or want of memory.
+/// The first refused hand, with what is wrong with it first; or out of memory.
 pub fn command_text(alloc: Global, command: Command, records: Records) -> Result<String, PlaysFault>
     requires sound { All IsSoundRecord records }
     requires few { length records ≤ MOST_HANDS }

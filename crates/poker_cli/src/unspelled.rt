@@ -1,4 +1,4 @@
-//! The line that is told where a fact of a hand has no spelling.
+//! The line that is printed when a fact of a hand cannot be written in the target notation.
 ghost use Rattle.std.specs.Prelude.{◌≡◌, IfOk, string_bytes};
 ghost use Rattle.poker_cli.specs.Unspelled.{fact_text as fact_text_said, unspelled_line as unspelled_line_said};
 
@@ -7,7 +7,7 @@ use hand_differences::note_text;
 use hand_records::Unspelled;
 use std::alloc::Global;
 
-/// The line of the hand with this number, one of whose facts has no spelling.
+/// The line of the hand with this number if this fact of it cannot be written.
 pub fn unspelled_line(alloc: Global, hand: u32, fact: Unspelled) -> Result<String, Memory>
     ensures { IfOk result (λ line. string_bytes line ≡ unspelled_line_said hand fact) }
 {
@@ -16,7 +16,7 @@ pub fn unspelled_line(alloc: Global, hand: u32, fact: Unspelled) -> Result<Strin
     Ok(format!(in alloc; "unspelled: hand {hand}: {fact}\n")?)
 }
 
-// What a fact is called.
+// The name of a fact.
 fn fact_text(alloc: Global, fact: Unspelled) -> Result<String, Memory>
     ensures { IfOk result (λ text. string_bytes text ≡ fact_text_said fact) }
 {

@@ -1,5 +1,5 @@
-//! What a seat saw of the hands of a log is told, if the game has the seat and the lines are not
-//! too many bytes.
+//! Answers `views`: prints what a seat saw of the hands of a log, if the game has the seat and the
+//! lines are within the limit of bytes.
 ghost use Rattle.std.specs.Prelude.{◌≡◌, ◌<◌, ◌≤◌, ◌+◌, ◌++◌, true, false, All, List, length, IfErr, IfOk, OnOk};
 ghost use Rattle.acpc_view.specs.View.{views_text};
 ghost use Rattle.convert_core.specs.Judged.{IsPlaysFaultOf};
@@ -13,7 +13,8 @@ ghost use Rattle.poker_cli.specs.Seen.{AreSeen, AreViewsOf};
 ghost use Rattle.poker_cli.specs.Told.{answer_told};
 
 use crate::answer::{Answer, answer_to_fault, answer_to_refused, done, refusal};
-use crate::play_taker::{PlayTaker, take_plays};
+use crate::hand_visitor::{HandVisitor, take_plays};
+use crate::limits::excess_line;
 use crate::status::Status;
 use acpc_game::Game;
 use acpc_view::{views, views_len};
@@ -24,19 +25,20 @@ use hand_records::{Play, Records};
 use std::alloc::Global;
 
 // The most bytes of views.
-const MOST_VIEW_BYTES: u64 = 268_435_456;
+const MOST_VIEW_BYTES: usize = 268_435_456;
 
-// What a seat of a game saw of the hands so far: a line before each move, and one behind the last.
+// What a seat of a game saw of the hands so far: one line before each move, and one after the last.
 #[derive(Drop)]
 struct SeenLines {
     game: Game,
     seat: Seat,
     lines: Vec<u8>,
-    // Whether the lines are kept: the game has the seat, and they are not too many bytes.
+    // Whether the lines are kept: the game has the seat, and the lines are within the limit of
+    // bytes.
     kept: bool,
 }
 
-impl PlayTaker for SeenLines {
+impl HandVisitor for SeenLines {
     ghost TookPlays = { λ start it plays. (it.game ≡ start.game) × (it.seat ≡ start.seat)
         × (AreSeen it.game it.seat it.kept it.lines.items plays) };
 
@@ -53,8 +55,8 @@ impl PlayTaker for SeenLines {
     }
 }
 
-/// The answer with what a seat saw of the hands of bytes, read as the logs of a game: a line before
-/// each move, and one behind the last.
+/// The answer with what a seat saw of the hands in the bytes, read as logs of a game: one line
+/// before each move, and one after the last.
 pub fn answer_with_views<N: Notation>(
     alloc: Global,
     game: &Game,
@@ -97,14 +99,14 @@ fn views_of(alloc: Global, game: &Game, seat: Seat, records: Records) -> Result<
     }
 }
 
-// Whether the game has the seat.
+// Whether the seat is one of the game's seats.
 fn has_seat(game: &Game, seat: Seat) -> bool
     ensures { result ≡ false → game.now.stacks.seats < seat.number }
 {
     seat.number <= game.stacks.seats
 }
 
-// The answer with the lines of all hands, or why they are not kept.
+// The answer with the lines of all hands, or why the lines were not kept.
 fn answer_with_seen(alloc: Global, seen: SeenLines) -> Result<Answer, Memory>
     ensures { (plays : List AnyPlay)
         → AreSeen seen.game seen.seat seen.kept seen.lines.items plays
@@ -115,14 +117,14 @@ fn answer_with_seen(alloc: Global, seen: SeenLines) -> Result<Answer, Memory>
         return no_seat(alloc, seen.seat, seats);
     }
     if !seen.kept {
-        let line = String::from_str(alloc, "limit: view bytes 268435456\n")?;
+        let line = excess_line(alloc, "view bytes", MOST_VIEW_BYTES)?;
         return Ok(refusal(alloc, Status::Limit, line));
     }
     Ok(done(alloc, seen.lines))
 }
 
-// Whether the lines of one more hand are not too many bytes behind these. They are counted before
-// any is made.
+// Whether the lines of one more hand fit within the limit after these. They are counted before any
+// is made.
 fn has_room(lines: &Vec<u8>, game: &Game, seat: Seat, place: usize, play: &Play) -> bool
     requires within { length lines.now.items ≤ most_view_bytes }
     requires few { place < MOST_HANDS }
@@ -133,10 +135,10 @@ fn has_room(lines: &Vec<u8>, game: &Game, seat: Seat, place: usize, play: &Play)
         + length (views_text game.now.no_limit seat.number place play.now) }
 {
     let len = views_len(game, play, place as u32, seat);
-    len <= MOST_VIEW_BYTES - lines.len() as u64
+    len <= (MOST_VIEW_BYTES - lines.len()) as u64
 }
 
-// Puts the lines of one more hand behind these.
+// Appends the lines of one more hand.
 fn push_views(
     alloc: Global,
     lines: &mut Vec<u8>,
@@ -155,7 +157,7 @@ fn push_views(
     Ok(())
 }
 
-// The game has no such seat, but so many.
+// Seat number above the number of players.
 fn no_seat(alloc: Global, seat: Seat, seats: u8) -> Result<Answer, Memory>
     ensures { IfOk result (λ answer. answer_told answer ≡ no_seat_said seat.number seats) }
 {

@@ -1,15 +1,15 @@
-//! How the hands of a request are read, and what is made of them, under the game of its file.
+//! How the hands of a request are read under the game in its file, and what is done with them.
 ghost use Rattle.std.specs.Prelude.{◌≡◌};
 ghost use Rattle.poker_cli.specs.Ways as definition;
 
-use crate::task::{Format, Task, Way};
+use crate::task::{Format, Job, Task};
 use acpc_game::Game;
 use command_words::{Logs, NamedTask, NotationName, PlainNotation};
 use ohh_members::Dialect;
 
-/// How hands without a game are read, and what is made of them.
-pub fn plain_way(from: PlainNotation, task: NamedTask<PlainNotation>) -> Way
-    ensures { result ≡ definition.plain_way from task }
+/// How hands without a game are read, and what is done with them.
+pub fn plain_job(from: PlainNotation, task: NamedTask<PlainNotation>) -> Job
+    ensures { result ≡ definition.plain_job from task }
 {
     let task = match task {
         NamedTask::Ask(question) => Task::Ask(question),
@@ -20,34 +20,34 @@ pub fn plain_way(from: PlainNotation, task: NamedTask<PlainNotation>) -> Way
         },
     };
     let reader = plain_format(from);
-    Way { reader, task }
+    Job { reader, task }
 }
 
-/// How hands are read where logs are under a game, and what is made of them.
-pub fn way_under(game: Game, logs: Logs) -> Way
-    ensures { result ≡ definition.way_under game logs }
+/// How hands are read if logs are under a game, and what is done with them.
+pub fn job_under(game: Game, logs: Logs) -> Job
+    ensures { result ≡ definition.job_under game logs }
 {
     match logs {
         Logs::Read(task) => {
             let reader = Format::Acpc(game);
             let task = task_under(game, task);
-            Way { reader, task }
+            Job { reader, task }
         }
         Logs::Viewed { seat } => {
             let reader = Format::Acpc(game);
             let task = Task::Views { game, seat };
-            Way { reader, task }
+            Job { reader, task }
         }
         Logs::Written { from, keep } => {
             let reader = plain_format(from);
             let to = Format::Acpc(game);
             let task = Task::Convert { to, keep };
-            Way { reader, task }
+            Job { reader, task }
         }
     }
 }
 
-// What is made of the hands of logs under a game.
+// What is done with the hands of logs under a game.
 fn task_under(game: Game, task: NamedTask<NotationName>) -> Task
     ensures { result ≡ definition.task_in (definition.format_under game) task }
 {
@@ -61,7 +61,7 @@ fn task_under(game: Game, task: NamedTask<NotationName>) -> Task
     }
 }
 
-/// How hands in a notation are read and written: logs under the game.
+/// The notation of this name, with the game for logs.
 pub fn format_under(game: Game, notation: NotationName) -> Format
     ensures { result ≡ definition.format_under game notation }
 {
@@ -71,7 +71,7 @@ pub fn format_under(game: Game, notation: NotationName) -> Format
     }
 }
 
-/// How hands in a notation without games are read and written.
+/// The notation of this name, which needs no game.
 pub fn plain_format(notation: PlainNotation) -> Format
     ensures { result ≡ definition.plain_format notation }
 {

@@ -26,7 +26,7 @@ module _ (lines : ℕ → Play → List ℕ) where
       let one : with_left text plays index ≡ text = rw (drop_all index plays over) (append-nil text) in
       sym one ∙ so_far
 
--- the lines of one more hand stand behind those of the hands before it
+-- the lines of one more hand come after those of the hands before it
 pub one_hand_more : (lines : ℕ → Play → List ℕ) (number : ℕ) (plays : List Play) (play : Play)
     → each_hand lines number (plays ++ play ∷ []) ≡ each_hand lines number plays ++ lines (number + length plays) play
 unfolding each_hand

@@ -1,10 +1,10 @@
--- A move more: what its seat has put after it, and where the trace has it.
+-- One more move: what its seat has put in after it, and where the trace has it.
 use Rattle.std.proofs.Common.{◌≡◌, ℕ, ◌+◌, ◌-◌, ◌≤◌, List, [], ◌∷◌, ◌++◌, length, Some, refl, sym, subst, ap, ◌∙◌, append_assoc, arith, inl, inr, slice_get}
 use Rattle.std.proofs.lemmas.Bool.{cases_eq, eq-eqb, ne_eqb}
 use Rattle.std.proofs.lemmas.List.{append-nil}
 use Rattle.chip_ledger.specs.SeatRow.{amount_of}
 use Rattle.chip_ledger.specs.declared.seat_row.SeatRow.{SeatRow}
-use Rattle.canon_script.specs.CanonScript.{plain_move}
+use Rattle.play_event.specs.CanonScript.{plain_move}
 use Rattle.play_event.specs.Chips.{chips_put}
 use Rattle.play_event.specs.Past.{Move}
 use Rattle.play_event.specs.Played.{move_said}
@@ -12,7 +12,7 @@ use Rattle.play_event.specs.Trace.{TracedMove, traced_move, traced_moves}
 use Rattle.play_event.specs.declared.played.Move as rows
 use Rattle.play_event.specs.declared.setup.Setup.{Setup}
 use Rattle.printed_hands.specs.Steps.{HasPut}
-use Rattle.list_laws.proofs.Entries.{at_length}
+use Rattle.card_set.proofs.Entries.{at_length}
 use Rattle.play_event.proofs.TracedMoves.{as_many}
 
 -- the chips of the seat that moves, and those of another
@@ -22,7 +22,7 @@ own_more setup moves move seat same = rw (eq-eqb move.seat seat same) (omega ari
 pub other_same : (setup : Setup) (moves : List Move) (move : Move) (seat : ℕ) → (move.seat ≡ seat → ⊥) → chips_put setup (move ∷ moves) seat ≡ chips_put setup moves seat
 other_same setup moves move seat differ = rw (ne_eqb move.seat seat differ) (omega arith)
 
--- a row to which the move's chips were put
+-- a row that the move's chips were added to
 pub has_put_more : (setup : Setup) (moves : List Move) (moved : rows.Move) (put new : SeatRow) → HasPut setup moves put
     → new.seats ≡ put.seats
     → amount_of new moved.seat.number ≡ amount_of put moved.seat.number + (moved.to - moved.from)
@@ -66,7 +66,7 @@ behind setup (move ∷ front) base =
           ∙ append_assoc (traced_moves setup base) before.rest (traced_move setup move (front ++ base) ∷ []);
     }
 
--- so the trace has a move behind as many as were made before it
+-- so the trace has a move after those that were made before it
 pub traced_here : (setup : Setup) (front : List Move) (move : Move) (base : List Move)
     → slice_get (traced_moves setup (front ++ move ∷ base)) (length base) ≡ Some (traced_move setup move base)
 traced_here setup front move base =

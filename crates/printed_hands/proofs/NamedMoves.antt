@@ -1,6 +1,6 @@
--- There are words for a move that is named.
+-- There are words for a move that names its player.
 use Rattle.std.proofs.Common.{ℕ, IsTrue, refl}
-use Rattle.canon_script.specs.CanonScript.{act_named, move_named, plain_move}
+use Rattle.play_event.specs.CanonScript.{act_named, move_named, plain_move}
 use Rattle.phh_actions.specs.Written.{has_words}
 use Rattle.play_event.specs.Past.{Act, Folded, Called, Raised, BroughtIn}
 use Rattle.play_event.specs.Trace.{TracedMove}

@@ -1,14 +1,14 @@
 -- The past after each event of a script, and what the next event adds to it.
 use Rattle.std.proofs.Common.{◌≡◌, ℕ, zero, suc, ◌≤◌, Bool, true, false, List, [], ◌∷◌, ◌++◌, length, take, drop, reverse, map, refl, sym, ap, ◌∙◌, append_assoc, arith}
 use Rattle.std.proofs.lemmas.List.{reverse-append}
-use Rattle.canon_script.specs.PlayedScript.{is_move}
+use Rattle.play_event.specs.PlayedScript.{is_move}
 use Rattle.play_event.specs.Laws.{AreLegal}
 use Rattle.play_event.specs.Past as past
 use Rattle.play_event.specs.Past.{Move, Past, Resolved, moves_of}
 use Rattle.play_event.specs.Said as said
 use Rattle.play_event.specs.Said.{Said, said_of}
 use Rattle.play_event.specs.Due.{turn}
-use Rattle.play_event.specs.Mover.{mover}
+use Rattle.play_event.specs.PlayerToAct.{player_to_act}
 use Rattle.play_event.specs.Openers.{InTurn}
 use Rattle.play_event.specs.Scripts.{past_of, resolved_by, resolved_on, with_event}
 use Rattle.play_event.specs.Table.{up_cards}
@@ -18,7 +18,7 @@ use Rattle.play_event.specs.declared.setup.Setup.{Setup}
 use Rattle.printed_hands.specs.Steps.{event_named}
 use Rattle.play_event.proofs.SaidSoFar.{so_far}
 
--- the events behind the first ones, the newest first
+-- the events after the first ones, the newest first
 abbrev pub later_than : List Event → ℕ → List Said
 later_than script count = reverse (drop count (map said_of script))
 
@@ -36,7 +36,7 @@ pub legal_before : (setup : Setup) (rules : Rules) (later events : List Said) �
 legal_before setup rules [] events legal = legal
 legal_before setup rules (event ∷ later) events legal = legal_before setup rules later events legal.1
 
--- the moves of a past with one event more are in front of those before it
+-- the moves of a past with one more event begin with the new ones
 added : (newest : Resolved) (before : Past) → (front : List Move) × (moves_of (newest ∷ before) ≡ front ++ moves_of before)
 added (past.Moved move) before = (move ∷ [], refl)
 added (past.Dealt street seat cards) before = ([], refl)
@@ -62,7 +62,7 @@ longer setup (event ∷ later) events =
       is = new.1 ∙ ap (λ list. new.0 ++ list) before.is ∙ sym (append_assoc new.0 before.front (moves_of (past_of setup events)));
     }
 
--- an event of cards takes place as it is said, and moves nothing
+-- an event of cards takes place as it is, and moves nothing
 pub record OnCards (setup : Setup) (before : Past) (event : Said) : Type 0 where
   pub newest : Resolved
   pub is : with_event setup event before ≡ newest ∷ before
@@ -119,7 +119,7 @@ pub by_move : (setup : Setup) (before : Past) (event : Said) → is_move event �
 unfolding with_event
 by_move setup before event is_so =
     let street = (turn setup before).0 in
-    let in_turn = mover setup (up_cards setup.code before) (moves_of before) street in
+    let in_turn = player_to_act setup (up_cards setup.code before) (moves_of before) street in
     let found = the_move (resolved_by setup (moves_of before) street in_turn event) (moved_by setup (moves_of before) street in_turn event is_so) in
     record { move = found.0; is = ap (λ newest. newest ∷ before) found.1 }
 

@@ -1,12 +1,12 @@
--- The lines of the events so far, and of one event more.
+-- The lines of the events so far, and of one more event.
 use Rattle.std.proofs.Common.{◌≡◌, ℕ, ◌+◌, ◌-◌, ◌≤◌, ◌<◌, true, false, List, [], ◌∷◌, ◌++◌, length, map, take, drop, reverse, slice_get, Option, Some, refl, sym, subst, ap, ◌∙◌, append_assoc, decimal, arith}
 use Rattle.std.specs.Option.{option_map}
 use Rattle.std.proofs.lemmas.List.{append-nil, length-map, length-reverse, length-take-le, take_all}
 use Rattle.std.proofs.lemmas.Option.{slice_get-map}
 use Rattle.chip_ledger.specs.declared.seat_row.SeatRow.{SeatRow}
-use Rattle.canon_script.specs.CanonScript.{move_named, plain_move}
-use Rattle.canon_script.specs.PlayedScript.{is_move}
-use Rattle.canon_script.specs.TraceCore.{TraceCore}
+use Rattle.play_event.specs.CanonScript.{move_named, plain_move}
+use Rattle.play_event.specs.PlayedScript.{is_move}
+use Rattle.play_event.specs.TraceCore.{TraceCore}
 use Rattle.hand_canon.specs.Sound.{IsSound}
 use Rattle.hand_records.specs.SoundRecord.{script_said}
 use Rattle.hand_records.specs.declared.trace.Play.{Play}
@@ -26,14 +26,15 @@ use Rattle.play_event.specs.declared.setup.Setup.{Setup}
 use Rattle.printed_hands.specs.Steps.{HasPut, MayAdd, chips_text, event_named, step_lines}
 use Rattle.printed_hands.proofs.Moves.{own_more, traced_here}
 use Rattle.printed_hands.proofs.Pasts.{all_are, by_move, later_than, legal_before, longer, on_cards, past_length}
-use Rattle.list_laws.proofs.Counting.{count_both}
+use Rattle.card_set.proofs.Counting.{count_both}
 use Rattle.play_event.proofs.SaidSoFar.{is_next, none_left, so_far}
 
--- the past after so many events
+-- the past after this many events
 abbrev pub past_to : Play → ℕ → Past
 past_to play count = past_of play.hand.setup (so_far play.hand.script count)
 
--- So many events are printed: these are left, a row has what each seat has put, and the text has a line for each of them.
+-- This many events are printed: these are left, a row has what each seat has put in, and the text
+-- has one line per event.
 pub record ArePrinted (play : Play) (count made : ℕ) (put : SeatRow) (left : List Event) (before text : List ℕ) : Type 0 where
   pub within : count ≤ length play.hand.script
   pub left_is : left ≡ drop count play.hand.script
@@ -51,14 +52,14 @@ count_is play count within =
     ∙ length-reverse (take count (map said_of play.hand.script))
     ∙ length-take-le count (map said_of play.hand.script) (omega (arith, within, length-map play.hand.script said_of))
 
--- the lines of a past with one event more
+-- the lines of a past with one more event
 one_line : (setup : Setup) (newest : Resolved) (base : Past) (count : ℕ) (event : Said) (moves : List Move)
     → length base ≡ count → event_named newest ≡ event → moves_of (newest ∷ base) ≡ moves
     → step_lines setup (newest ∷ base) ≡ step_lines setup base ++ line_of setup (count + 1) event moves
 unfolding step_lines
 one_line setup newest base count event moves counted named moved = rw (counted, named, moved) refl
 
--- one event more, that leaves these moves
+-- one more event that leaves these moves
 more_lines : (play : Play) (count : ℕ) (newest : Resolved) (event : Said) (moves : List Move) (before text : List ℕ)
     → count ≤ length play.hand.script → past_to play (count + 1) ≡ newest ∷ past_to play count
     → event_named newest ≡ event → moves_of (newest ∷ past_to play count) ≡ moves
@@ -71,7 +72,7 @@ more_lines play count newest event moves before text within is named moved so_fa
     ∙ append_assoc before (step_lines setup (past_to play count)) line
     ∙ ap (λ (t : List ℕ). before ++ t) (sym (ap (step_lines setup) is ∙ one_line setup newest (past_to play count) count event moves (count_is play count within) named moved))
 
--- an event of cards more
+-- one more event of cards
 pub cards_printed : (play : Play) (count made : ℕ) (put : SeatRow) (left more : List Event) (event : Event) (before text : List ℕ)
     → ArePrinted play count made put left before text → event ∷ more ≡ left → is_move (said_of event) ≡ false
     → ArePrinted play (count + 1) made put more before (text ++ line_of play.hand.setup (count + 1) (said_of event) (moves_of (past_to play count)))
@@ -88,7 +89,7 @@ cards_printed play count made put left more event before text printed front is_n
       lines = more_lines play count on.newest (said_of event) (moves_of (past_to play count)) before text printed.within is on.named on.moves printed.lines;
     }
 
--- the next event is a move: the trace has it behind those that were made, and its chips may be put
+-- the next event is a move: the trace has it after those that were made, and its chips can be added
 pub record IsNextMove (play : Play) (count made : ℕ) (put : SeatRow) (event : Event) (more : List Event) : Type 0 where
   pub move : Move
   pub is : past_to play (count + 1) ≡ past.Moved move ∷ past_to play count
@@ -97,7 +98,7 @@ pub record IsNextMove (play : Play) (count made : ℕ) (put : SeatRow) (event : 
   pub within : count < length play.hand.script
   pub left : more ≡ drop (count + 1) play.hand.script
 
--- the move that a row says
+-- the move that a row means
 said_move : (setup : Setup) (moved : rows.Move) (move : Move) (base : List Move) → move_said moved ≡ traced_move setup move base → plain_move (move_said moved) ≡ move
 said_move setup moved move base same = ap plain_move same
 
@@ -148,7 +149,7 @@ next_move play count made put left more event before text sound printed front is
       left = next.left;
     }
 
--- a move more
+-- one more move
 pub move_printed : (play : Play) (count made : ℕ) (put new : SeatRow) (left more : List Event) (event : Event) (moved : rows.Move) (before text : List ℕ)
     → ArePrinted play count made put left before text → IsNextMove play count made put event more
     → slice_get play.trace.moves made ≡ Some moved
@@ -177,7 +178,7 @@ unfolding step_lines
 none_printed play put left text is has =
     record { within = omega arith; left_is = is; has_put = has; made_is = refl; lines = sym (append-nil text) }
 
--- behind the last event
+-- after the last event
 pub steps_printed : (play : Play) (count made : ℕ) (put : SeatRow) (left : List Event) (before text : List ℕ)
     → ArePrinted play count made put left before text → [] ≡ left
     → text ≡ before ++ step_lines play.hand.setup (past_at_end play.hand.setup (script_said play.hand))

@@ -10,7 +10,7 @@ use Rattle.printed_hands.specs.Steps.{HasPut, chips_text}
 use Rattle.chip_ledger.specs.AmountTexts.{spaced}
 use Rattle.chip_ledger.proofs.RowLists.{row_listed}
 
--- pieces one behind the other
+-- pieces one after the other
 five : (text a b c d e : List ℕ) → ((((text ++ a) ++ b) ++ c) ++ d) ++ e ≡ text ++ (a ++ (b ++ (c ++ (d ++ e))))
 five text a b c d e =
     append_assoc (((text ++ a) ++ b) ++ c) d e
@@ -18,7 +18,7 @@ five text a b c d e =
     ∙ append_assoc (text ++ a) b (c ++ (d ++ e))
     ∙ append_assoc text a (b ++ (c ++ (d ++ e)))
 
--- the chips are printed from a row of what is left and one of what was put
+-- the chips are printed from a row of what is left and one of what was put in
 pub chips_printed : (setup : Setup) (moves : List Move) (put left : SeatRow) (text : List ℕ) → HasPut setup moves put
     → left.seats ≡ setup.stacks.seats
     → ((n : ℕ) → 1 ≤ n → n ≤ setup.stacks.seats → amount_of left n ≡ amount_of setup.stacks n - amount_of put n)

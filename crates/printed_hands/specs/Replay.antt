@@ -1,4 +1,4 @@
--- What the command replay prints of legal hands.
+-- What the command `replay` prints for legal hands.
 use Rattle.std.specs.Prelude.{ℕ, List}
 use Rattle.hand_records.specs.declared.trace.Play.{Play}
 use Rattle.printed_hands.specs.Check.{each_hand}

@@ -1,11 +1,11 @@
--- The steps of a hand: what each event did, and the chips that each seat has left and has put after
--- it.
+-- The steps of a hand: what each event did, and the chips that each seat has left and has put in
+-- after it.
 use Rattle.std.specs.Prelude.{◌≡◌, ℕ, ◌≤◌, ◌+◌, ◌-◌, List, [], ◌∷◌, ◌++◌, length, map, codes}
 use Rattle.std.specs.Fmt.{decimal}
 use Rattle.chip_ledger.specs.SeatRow.{amount_of}
 use Rattle.chip_ledger.specs.declared.seat_row.SeatRow.{SeatRow}
 use Rattle.chip_ledger.specs.declared.seat_row.TheConstants.{MOST_AMOUNT}
-use Rattle.canon_script.specs.CanonScript.{move_named}
+use Rattle.play_event.specs.CanonScript.{move_named}
 use Rattle.hand_records.specs.SoundRecord.{script_said}
 use Rattle.hand_records.specs.declared.trace.Play.{Play}
 use Rattle.phh_actions.specs.Written.{event_text}
@@ -21,7 +21,7 @@ use Rattle.play_event.specs.declared.setup.Setup.{Setup}
 use Rattle.printed_hands.specs.Ending.{ending_lines}
 use Rattle.chip_ledger.specs.AmountTexts.{spaced}
 
--- an event as it took place: a move with its actor named and its target spelled, and cards as the
+-- an event as it took place: a move with its player named and its target given, and cards as the
 -- script has them
 abbrev pub event_named : Resolved → Said
 event_named (past.Dealt street seat slots) = Hole seat slots
@@ -31,29 +31,29 @@ event_named (past.Discarded street seat slots) = Discard seat slots
 event_named (past.Shown street seat cards) = Show seat cards
 event_named (past.Mucked street seat) = Muck seat
 
--- the chips after these moves, the newest first: what each seat has left, and what each has put
+-- the chips after these moves, the newest first: what each seat has left, and what each has put in
 abbrev pub chips_text : Setup → List Move → List ℕ
 chips_text setup moves =
     codes " | stacks" ++ (spaced (map (chips_left setup moves) (all_seats setup))
     ++ (codes " | in" ++ (spaced (map (chips_put setup moves) (all_seats setup)) ++ codes "\n")))
 
--- a row has what each seat has put after these moves
+-- a row has what each seat has put in after these moves
 pub record HasPut (setup : Setup) (moves : List Move) (put : SeatRow) : Type 0 where
   pub seats : put.seats ≡ setup.stacks.seats
   pub amounts : (n : ℕ) → 1 ≤ n → n ≤ setup.stacks.seats → amount_of put n ≡ chips_put setup moves n
 
--- what a move adds is no more than a row may hold, where its seat is one of the row
+-- the chips of a move fit into the row, if its seat is one of the row
 abbrev pub MayAdd : rows.Move → SeatRow → Type 0
 MayAdd moved put =
     moved.seat.number ≤ put.seats
     → amount_of put moved.seat.number + (moved.to - moved.from) ≤ MOST_AMOUNT
 
--- the line of an event with this number, after which these are the moves
+-- the line of the event with this number; these are the moves after it
 abbrev pub step_line : Setup → ℕ → Resolved → List Move → List ℕ
 step_line setup number event moves =
     decimal number ++ (32 ∷ event_text (event_named event) ++ chips_text setup moves)
 
--- the lines of a past, the oldest event first, whose number is 1
+-- the lines of a past, the oldest event first, with number 1
 unfoldable pub step_lines : Setup → Past → List ℕ
 step_lines setup [] = []
 step_lines setup (event ∷ before) =

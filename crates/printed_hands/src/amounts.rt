@@ -1,4 +1,4 @@
-//! Amounts are printed behind one another, each behind a space.
+//! Prints amounts one after another, each after a space.
 ghost use Rattle.std.specs.Prelude.{◌≡◌, ◌++◌, OnOk, string_bytes};
 ghost use Rattle.chip_ledger.specs.SeatRow.{amounts_in};
 ghost use Rattle.chip_ledger.specs.AmountTexts.{spaced};
@@ -6,7 +6,7 @@ ghost use Rattle.chip_ledger.specs.AmountTexts.{spaced};
 use card_set::Memory;
 use chip_ledger::SeatRow;
 
-/// Puts the amounts of a row at the end of a text, from p1 upward.
+/// Appends the amounts of a row, from p1 upward.
 pub fn push_row(text: &mut String, row: &SeatRow) -> Result<(), Memory>
     ensures { OnOk result (string_bytes text.new
         ≡ string_bytes text.old ++ spaced (amounts_in row.now)) }
@@ -14,7 +14,7 @@ pub fn push_row(text: &mut String, row: &SeatRow) -> Result<(), Memory>
     push_amounts(text, &row.amounts[..row.seats as usize])
 }
 
-/// Puts the amounts at the end of a text, each behind a space.
+/// Appends the amounts, each after a space.
 pub fn push_amounts(text: &mut String, amounts: &[u64]) -> Result<(), Memory>
     ensures { OnOk result (string_bytes text.new
         ≡ string_bytes text.old ++ spaced amounts.now) }

@@ -1,5 +1,5 @@
-//! One line a hand says what each seat ends with, and one line behind them how many hands there
-//! are.
+//! Prints `check`: one line per hand with what each player finishes with, and then the number of
+//! hands.
 ghost use Rattle.std.specs.Prelude.{◌≡◌, ◌++◌, OnOk, string_bytes};
 ghost use Rattle.printed_hands.specs.Check.{check_end, check_line};
 
@@ -7,7 +7,7 @@ use crate::amounts::push_row;
 use card_set::Memory;
 use hand_records::Play;
 
-/// Puts the line of the hand with this number at the end of a text: what each seat ends with.
+/// Appends the line of the hand with this number: what each player finishes with.
 pub fn push_check_line(text: &mut String, number: u64, play: &Play) -> Result<(), Memory>
     ensures { OnOk result (string_bytes text.new
         ≡ string_bytes text.old ++ check_line number play.now) }
@@ -18,7 +18,7 @@ pub fn push_check_line(text: &mut String, number: u64, play: &Play) -> Result<()
     Ok(())
 }
 
-/// Puts the last line at the end of a text: how many hands there are.
+/// Appends the last line: the number of hands.
 pub fn push_check_end(text: &mut String, hands: u64) -> Result<(), Memory>
     ensures { OnOk result (string_bytes text.new ≡ string_bytes text.old ++ check_end hands) }
 {

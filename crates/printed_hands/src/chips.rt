@@ -1,6 +1,6 @@
-//! The chips of the seats while a hand goes on: what each has put, and what it has left.
+//! The chips of the seats during a hand: what each has put in, and what it has left.
 ghost use Rattle.std.specs.Prelude.{◌≡◌, ◌++◌, [], ◌∷◌, List, OnOk, string_bytes};
-ghost use Rattle.canon_script.specs.CanonScript.{plain_move};
+ghost use Rattle.play_event.specs.CanonScript.{plain_move};
 ghost use Rattle.play_event.specs.Past.{Move as PlainMove};
 ghost use Rattle.play_event.specs.Played.{move_said};
 ghost use Rattle.play_event.specs.ValidSetup.{IsValid};
@@ -12,8 +12,8 @@ use card_set::Memory;
 use chip_ledger::{Seat, SeatRow};
 use play_event::{Move, Setup};
 
-/// What each seat has put before the first event: its ante, and its blind as far as the rest of its
-/// stack goes.
+/// What each seat has put in before the first event: its ante, and its blind as far as the rest of
+/// its stack goes.
 pub fn posted_row(setup: &Setup) -> SeatRow
     requires { IsValid setup.now }
     ensures { HasPut setup.now [] result }
@@ -31,7 +31,7 @@ pub fn posted_row(setup: &Setup) -> SeatRow
     row
 }
 
-/// Puts what a move adds to the chips of its seat.
+/// Adds the chips of a move to what its seat has put in.
 pub fn add(put: &mut SeatRow, moved: &Move)
     requires { MayAdd moved.now put.old }
     ensures seats { put.new.seats ≡ put.old.seats }
@@ -44,7 +44,7 @@ pub fn add(put: &mut SeatRow, moved: &Move)
     }
 }
 
-/// Puts the chips of the seats at the end of a text: what each has left, and what each has put.
+/// Appends the chips of the seats: what each has left, and what each has put in.
 pub fn push_chips(text: &mut String, setup: &Setup, put: &SeatRow) -> Result<(), Memory>
     requires { put.now.seats ≡ setup.now.stacks.seats }
     ensures { (moves : List PlainMove) → HasPut setup.now moves put.now

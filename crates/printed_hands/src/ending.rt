@@ -1,5 +1,5 @@
-//! The last lines of a hand: what is returned, who gets what of each pot, and what each seat ends
-//! with.
+//! The last lines of a hand: what is returned, who gets what of each pot, and what each player
+//! finishes with.
 ghost use Rattle.std.specs.Prelude.{◌≡◌, ◌+◌, ◌++◌, ◌≤◌, length, OnOk, string_bytes};
 ghost use Rattle.chip_ledger.specs.SeatRow.{amounts_in};
 ghost use Rattle.printed_hands.specs.Ending.{divided, ending_lines, entries, listed_from, pot_line, pot_lines, rake_entry, return_line, return_lines};
@@ -9,7 +9,7 @@ use card_set::Memory;
 use chip_ledger::{Pot, SeatRow};
 use hand_records::Trace;
 
-/// Puts the last lines of a hand at the end of a text.
+/// Appends the last lines of a hand.
 pub fn push_ending(text: &mut String, trace: &Trace) -> Result<(), Memory>
     ensures { OnOk result (string_bytes text.new
         ≡ string_bytes text.old ++ ending_lines trace.now) }
@@ -28,7 +28,7 @@ pub fn push_ending(text: &mut String, trace: &Trace) -> Result<(), Memory>
     Ok(())
 }
 
-// Puts a line for each seat to which something is returned.
+// Appends one line per seat to which something is returned.
 fn push_returns(text: &mut String, returned: &SeatRow) -> Result<(), Memory>
     ensures { OnOk result (string_bytes text.new
         ≡ string_bytes text.old ++ return_lines 1 (amounts_in returned.now)) }
@@ -40,7 +40,7 @@ fn push_returns(text: &mut String, returned: &SeatRow) -> Result<(), Memory>
     Ok(())
 }
 
-// Puts the line of what is returned to a seat, if something is.
+// Appends the line of what is returned to a seat, if it is not 0.
 fn push_return(text: &mut String, seat: u8, amount: u64) -> Result<(), Memory>
     ensures { OnOk result (string_bytes text.new
         ≡ string_bytes text.old ++ return_line seat amount) }
@@ -51,7 +51,7 @@ fn push_return(text: &mut String, seat: u8, amount: u64) -> Result<(), Memory>
     Ok(())
 }
 
-// Puts the lines of pots, the first of which has this number.
+// Appends the lines of pots; the first has this number.
 fn push_pots(
     text: &mut String,
     number: u8,
@@ -76,7 +76,7 @@ fn push_pots(
     push_pots(text, number + 1, pots, shares, rakes)
 }
 
-// Puts the line of a pot.
+// Appends the line of a pot.
 fn push_pot(
     text: &mut String,
     number: u8,
@@ -94,7 +94,7 @@ fn push_pot(
     Ok(())
 }
 
-// Puts what seats get of a pot, from this one on, and its rake behind them.
+// Appends what the seats from this one on get of a pot, and then its rake.
 fn push_entries(
     text: &mut String,
     is_first: bool,
@@ -120,7 +120,7 @@ fn push_entries(
     }
 }
 
-// Puts the rake of a pot, if one is taken.
+// Appends the rake of a pot, if one is taken.
 fn push_rake(text: &mut String, is_first: bool, rake: u64) -> Result<(), Memory>
     ensures { OnOk result (string_bytes text.new
         ≡ string_bytes text.old ++ listed_from is_first (rake_entry rake)) }
@@ -133,7 +133,7 @@ fn push_rake(text: &mut String, is_first: bool, rake: u64) -> Result<(), Memory>
     Ok(())
 }
 
-// Puts what divides an entry from the one before it, if there is one.
+// Appends the separator, unless this is the first entry.
 fn push_comma(text: &mut String, is_first: bool) -> Result<(), Memory>
     ensures { OnOk result (string_bytes text.new
         ≡ string_bytes text.old ++ divided is_first) }

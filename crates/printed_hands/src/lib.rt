@@ -1,4 +1,4 @@
-//! The text of legal hands: what each seat ends with, and how each hand went, step by step.
+//! The text of legal hands: what each player finishes with, and how each hand went, step by step.
 #![tactic(auto)]
 
 mod amounts;

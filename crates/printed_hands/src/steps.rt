@@ -1,8 +1,8 @@
 //! The lines of a hand, step by step: what each event did, and the chips of the seats after it.
 ghost use Rattle.std.specs.Prelude.{◌≡◌, ◌++◌, ◌∷◌, List, true, false, Some, OnOk, IsTrue, string_bytes};
 ghost use Rattle.std.specs.Fmt.{decimal};
-ghost use Rattle.canon_script.specs.CanonScript.{move_named, plain_move};
-ghost use Rattle.canon_script.specs.PlayedScript.{is_move as is_move_said};
+ghost use Rattle.play_event.specs.CanonScript.{move_named, plain_move};
+ghost use Rattle.play_event.specs.PlayedScript.{is_move as is_move_said};
 ghost use Rattle.hand_canon.specs.Sound.{IsSound};
 ghost use Rattle.phh_actions.specs.Written.{event_text as text_of_event, has_words};
 ghost use Rattle.play_event.specs.Past.{Move as PlainMove};
@@ -21,8 +21,8 @@ use phh_actions::event_text;
 use play_event::{Kind, Move, Setup};
 use std::alloc::Global;
 
-/// Puts the lines of the hand with this number at the end of a text: what each event did, with the
-/// chips of the seats after it, and what the hand came to.
+/// Appends the lines of the hand with this number: what each event did, with the chips of the seats
+/// after it, and the result of the hand.
 pub fn push_replay_lines(
     alloc: Global,
     text: &mut String,
@@ -52,7 +52,7 @@ pub fn push_replay_lines(
     push_ending(text, &play.trace)
 }
 
-// Puts the first two lines of a hand: its number and its game, and what is posted.
+// Appends the first two lines of a hand: its number and its game, and what is posted.
 fn push_head(text: &mut String, number: u64, setup: &Setup) -> Result<(), Memory>
     requires { IsValid setup.now }
     ensures { OnOk result (string_bytes text.new
@@ -64,7 +64,7 @@ fn push_head(text: &mut String, number: u64, setup: &Setup) -> Result<(), Memory
     Ok(())
 }
 
-// The event is a move.
+// Whether the event is a move.
 fn is_move(kind: Kind) -> bool
     ensures { result ≡ is_move_said (kind_said kind) }
 {
@@ -78,7 +78,7 @@ fn is_move(kind: Kind) -> bool
     }
 }
 
-// Puts the line of a move, and its chips to those of its seat.
+// Appends the line of a move, and adds its chips to those of its seat.
 fn push_move(
     alloc: Global,
     text: &mut String,
@@ -102,7 +102,7 @@ fn push_move(
     Ok(())
 }
 
-// Puts the line of an event, with the chips after it.
+// Appends the line of an event, with the chips after it.
 fn push_event(
     alloc: Global,
     text: &mut String,

@@ -13,7 +13,7 @@ use Rattle.printed_report.specs.Games.{AreFewSums, MOST_POTS, all_wanted, is_cou
 use Rattle.printed_report.specs.Report.{Hand, game_codes, game_line, hands_line, line_if_any}
 use Rattle.printed_report.specs.declared.games.Sums.{Sums}
 
--- all count where all are wanted
+-- all hands count if all are wanted
 all_counted : (hands : List Hand) → filter (is_counted None) hands ≡ hands
 all_counted [] = refl
 all_counted (hand ∷ hands) = ap (λ rest. hand ∷ rest) (all_counted hands)
@@ -71,7 +71,7 @@ pub none_few : (wanted : List (Option Code)) → AllByRecursion (AreFewSums 0) (
 none_few [] = tt
 none_few (one ∷ rest) = (record { hands = omega arith; pots = omega arith }, none_few rest)
 
--- sums of which the first are changed
+-- sums whose first ones are changed
 abbrev pub changed : {X : Type 0} (f : X → X) (xs : List X) (index : ℕ) → List X
 changed f xs index = map f (take index xs) ++ drop index xs
 
@@ -99,7 +99,7 @@ changed_long f [] (suc index) = refl
 changed_long f (x ∷ xs) zero = refl
 changed_long f (x ∷ xs) (suc index) = ap suc (changed_long f xs index)
 
--- the line of a game that was played, or none
+-- the line of a game that was played, or nothing
 game_is : (code : Code) (hands : List Hand) → line_for (Some code) (length hands) (sum_by (λ hand. hand.pots) hands) ≡ line_if_any (code_text code) hands
 game_is code [] = refl
 game_is code (hand ∷ hands) =

@@ -1,4 +1,5 @@
--- What is put into rows and found there, by names and by places, and what the seats of a name come to.
+-- What is put into rows and found there, by names and by places, and what the seats of a name add
+-- up to.
 pub mod Rows
 pub mod Named
 pub mod Counted

@@ -1,12 +1,13 @@
--- The rows of all hands are the names in the order in which they are first seen, each with what its seats come to.
+-- The rows of all hands are the names in the order in which they are first seen, each with the sums
+-- of its seats.
 use Rattle.std.proofs.Common.{◌≡◌, ℕ, ◌+◌, ◌≤◌, ◌<◌, Bool, true, false, cond, ◌||◌, List, [], ◌∷◌, ◌++◌, map, fold, filter, flat_map, sum_by, bytes_eq, pos, ◌-ℤ◌, refl, sym, ap, subst, ◌∙◌, arith}
 use Rattle.std.specs.List.{list_any}
 use Rattle.std.proofs.lemmas.Bool.{eq-eqb, ne_eqb}
 use Rattle.std.proofs.lemmas.List.{map-append}
 use Rattle.std.proofs.lemmas.List.Elements.{filter-append}
 use Rattle.std.proofs.lemmas.List.Sums.{fold-append, sum_by-cons, sum_by-append}
-use Rattle.list_laws.proofs.Counting.{count_by-cons}
-use Rattle.name_index.specs.Names.{with_name}
+use Rattle.card_set.proofs.Counting.{count_by-cons}
+use Rattle.report_layout.specs.Names.{with_name}
 use Rattle.printed_report.specs.Report.{Hand, Seated, hands_with, name_line, names_of, net_of, seats_named, seats_of_all}
 use Rattle.printed_report.specs.Tallies.{row_names, tally_at, tally_line, with_hands, with_row, with_seat, with_seats}
 use Rattle.printed_report.specs.declared.tally.Tally.{Tally}
@@ -73,7 +74,7 @@ summed_hands f g asked adds number rows (hand ∷ hands) =
     ap (sum_by f) (filter-append test hand.seats (seats_of_all hands)) ∙ sum_by-append f (filter test hand.seats) (filter test (seats_of_all hands)) in
     omega (arith, later, here, both)
 
--- a hand that a name has counted for counts no more
+-- a hand that already counts for a name does not count again
 counted_no_more : (number : ℕ) (asked : List ℕ) (seats : List Seated) (tally : Tally) → tally.last ≡ number
     → (after number asked tally seats).hands ≡ tally.hands
 counted_no_more number asked [] tally same = refl
@@ -86,7 +87,7 @@ counted_no_more number asked (seat ∷ seats) tally same = by (bytes_eq asked se
         ∙ ap (λ b. cond b tally.hands (tally.hands + 1)) (eq-eqb tally.last number same)
     by false later = later tally same
 
--- and one that it has not counts once
+-- and one that does not yet counts once
 counted_once : (number : ℕ) (asked : List ℕ) (seats : List Seated) (tally : Tally) → tally.last < number
     → (after number asked tally seats).hands ≡ tally.hands + cond (list_any (λ seat. bytes_eq asked seat.name) seats) 1 0
 counted_once number asked [] tally before = omega arith

@@ -1,4 +1,4 @@
--- The tally of a name lies under its place, and what is put there is put into the rows.
+-- The tally of a name is at its place, and what is put there is put into the rows.
 use Rattle.std.proofs.Common.{◌≡◌, ◌≢◌, ◌≤◌, ◌<◌, ℕ, zero, suc, length, slice_get, ◌+◌, ◌||◌, Bool, true, false, cond, List, [], ◌∷◌, ◌++◌, Some, None, bytes_eq, nat_eq, refl, sym, ap, subst, ◌∙◌, arith}
 use Rattle.std.specs.Cmp.Lexicographic.{bytes_decides}
 use Rattle.std.specs.List.{list_any, position_from}
@@ -8,11 +8,11 @@ use Rattle.std.proofs.lemmas.Bool.{eq-eqb, ne_eqb}
 use Rattle.std.proofs.lemmas.List.{length-map}
 use Rattle.std.proofs.lemmas.Option.{same_Some}
 use Rattle.indexmap.specs.IndexMap.{insert_entry, set_value_at}
-use Rattle.list_laws.proofs.Bytes.{same_bytes}
-use Rattle.name_index.specs.Indexed.{AreIndexed}
-use Rattle.name_index.specs.Names.{with_name}
-use Rattle.name_index.specs.declared.index.NameIndex.{NameIndex}
-use Rattle.name_index.proofs.Placed.{known_place, last_place, place_range}
+use Rattle.card_set.proofs.Bytes.{same_bytes}
+use Rattle.report_layout.specs.Indexed.{AreIndexed}
+use Rattle.report_layout.specs.Names.{with_name}
+use Rattle.report_layout.specs.declared.index.NameIndex.{NameIndex}
+use Rattle.report_layout.proofs.Placed.{known_place, last_place, place_range}
 use Rattle.printed_report.specs.Tallies.{AreNumbered, AreTallied, no_tally, row_names, rows_of, tally_at, tally_under}
 use Rattle.printed_report.specs.declared.tally.NamedTally.{NamedTally}
 use Rattle.printed_report.specs.declared.tally.Tally.{Tally}
@@ -25,7 +25,7 @@ place_here name front names first same =
     ap (λ (b : Bool). position_from (bytes_eq name) first (cond (b || list_any (bytes_eq name) names) (front ∷ names) (front ∷ (names ++ name ∷ [])))) same
     ∙ ap (λ (b : Bool). cond b (Some first) (position_from (bytes_eq name) (first + 1) names)) same
 
--- the place of a name behind another one
+-- the place of a name after another one
 place_behind : (name front : List ℕ) (names : List (List ℕ)) (first : ℕ) → bytes_eq name front ≡ false
     → position_from (bytes_eq name) first (with_name (front ∷ names) name) ≡ position_from (bytes_eq name) (first + 1) (with_name names name)
 place_behind name front names first other =
@@ -36,7 +36,7 @@ place_behind name front names first other =
     by true = ap (λ (b : Bool). cond b (Some first) (position_from (bytes_eq name) (first + 1) names)) other
     by false = ap (λ (b : Bool). cond b (Some first) (position_from (bytes_eq name) (first + 1) (names ++ name ∷ []))) other
 
--- the names of entries are as many
+-- entries and their names have the same number
 pub names_long : (entries : List (ℕ × NamedTally)) → length (row_names (rows_of entries)) ≡ length entries
 names_long entries =
     length-map (rows_of entries) (λ (row : List ℕ × Tally). row.0)
@@ -46,7 +46,7 @@ names_long entries =
 abbrev pub IsPlaceFrom : ℕ → List (ℕ × NamedTally) → List ℕ → ℕ → Type 0
 IsPlaceFrom first entries name place = position_from (bytes_eq name) first (with_name (row_names (rows_of entries)) name) ≡ Some place
 
--- whether an entry in front is that of a name shows by its key
+-- whether an entry at the front is that of a name is decided by its key
 same_key : (first : ℕ) (entry : ℕ × NamedTally) (entries : List (ℕ × NamedTally)) (name : List ℕ) (place : ℕ) → entry.0 ≡ first
     → IsPlaceFrom first (entry ∷ entries) name place → bytes_eq name entry.1.name ≡ true → nat_eq place entry.0 ≡ true
 same_key first entry entries name place key is same =
@@ -63,7 +63,7 @@ other_key first entry entries name place key later =
     let range = place_range name (with_name (row_names (rows_of entries)) name) (first + 1) place later in
     ne_eqb place entry.0 (λ same. omega (arith, same, key, range.0))
 
--- what lies under the place of a name is its tally
+-- what is found at the place of a name is its tally
 found_under : (first : ℕ) (entries : List (ℕ × NamedTally)) (name : List ℕ) (place : ℕ) → AreNumbered first entries → IsPlaceFrom first entries name place
     → tally_under entries place ≡ tally_at (rows_of entries) name
 found_under first [] name place numbered is = refl
@@ -86,7 +86,7 @@ found_under first (entry ∷ entries) name place numbered is = by (λ later. fou
         ∙ rest later
         ∙ sym (at_front (entry.1.name, entry.1.tally) (rows_of entries) name ∙ ap at other)
 
--- what is put under the place of a name is put into its row
+-- what is put at the place of a name is put into its row
 put_under : (first : ℕ) (entries : List (ℕ × NamedTally)) (named : NamedTally) (place : ℕ) → AreNumbered first entries → IsPlaceFrom first entries named.name place
     → rows_of (insert_entry nat_eq entries place named) ≡ insert_entry bytes_eq (rows_of entries) named.name named.tally
 put_under first [] named place numbered is = refl
@@ -130,7 +130,7 @@ still_numbered first (entry ∷ entries) named place numbered is = by (λ later.
         (sym (other_key first entry entries named.name place numbered.0 later))
         (numbered.0, rest later)
 
--- behind the entries there is no tally
+-- after the entries there is no tally
 none_under : (first : ℕ) (entries : List (ℕ × NamedTally)) (place : ℕ) → AreNumbered first entries → first + length entries ≤ place
     → tally_under entries place ≡ no_tally
 none_under first [] place numbered behind = refl
@@ -153,7 +153,7 @@ under_at first (entry ∷ entries) place (suc index) named numbered here at =
     (ne_eqb place entry.0 (λ same. omega (arith, same, numbered.0, here)))
     ∙ under_at (first + 1) entries place index named numbered.1 (omega (arith, here)) at
 
--- to set a tally at an index is to put it under its place
+-- to set a tally at an index is to put it at its place
 set_is_put : (first : ℕ) (entries : List (ℕ × NamedTally)) (place index : ℕ) (named : NamedTally) → AreNumbered first entries → place ≡ first + index
     → index < length entries → set_value_at entries index named ≡ insert_entry nat_eq entries place named
 set_is_put first [] place index named numbered here within = absurd (omega (arith, within))
@@ -192,7 +192,7 @@ pub is_place : (index : NameIndex) (entries : List (ℕ × NamedTally)) (name : 
 is_place index entries name place others tallied many finds =
     finds (row_names (rows_of entries)) tallied.names (omega (arith, names_long entries, many))
 
--- the place of a name that is not behind all names is among them
+-- the place of a name that is not after all names is among them
 pub place_within : (entries : List (ℕ × NamedTally)) (name : List ℕ) (place others : ℕ) → IsPlaceFrom 0 entries name place
     → others ≡ length entries → place ≢ others → place < length entries
 place_within entries name place others at many differ = by (list_any (bytes_eq name) names) refl
@@ -219,7 +219,7 @@ pub tally_found : (entries : List (ℕ × NamedTally)) (name : List ℕ) (place 
 tally_found entries name place named numbered at is =
     sym (under_at 0 entries place place named numbered (omega arith) is) ∙ found_under 0 entries name place numbered at
 
--- a name that is put under its place is put into the rows, and they stay tallied
+-- a name that is put at its place is put into the rows, and they stay tallied
 pub rows_put : (entries : List (ℕ × NamedTally)) (named : NamedTally) (name : List ℕ) (place : ℕ) → AreNumbered 0 entries → IsPlaceFrom 0 entries name place
     → named.name ≡ name → rows_of (insert_entry nat_eq entries place named) ≡ insert_entry bytes_eq (rows_of entries) name named.tally
 rows_put entries named name place numbered at same =
@@ -234,7 +234,7 @@ still_tallied index entries named name place indexed numbered at same = record {
   places = still_numbered 0 entries named place numbered (subst (λ (text : List ℕ). IsPlaceFrom 0 entries text place) (sym same) at);
 }
 
--- where a tally is set at an index, it is put under its place
+-- if a tally is set at an index, it is put at its place
 pub set_at_place : (entries : List (ℕ × NamedTally)) (place : ℕ) (named : NamedTally) → AreNumbered 0 entries → place < length entries
     → set_value_at entries place named ≡ insert_entry nat_eq entries place named
 set_at_place entries place named numbered within = set_is_put 0 entries place place named numbered (omega arith) within

@@ -1,13 +1,14 @@
--- Rows of different names are those that are found by them, so that their lines are the lines of the names.
+-- Rows of different names are those that are found by them, so that their lines are the lines of
+-- the names.
 use Rattle.std.proofs.Common.{◌≡◌, ℕ, Bool, false, cond, List, [], ◌∷◌, map, zero, suc, slice_get, flat_map, Some, bytes_eq, refl, sym, ap, subst, ◌∙◌}
 use Rattle.std.specs.List.{AllByRecursion, list_any}
 use Rattle.std.specs.Option.{option_map, option_to_list}
 use Rattle.std.proofs.lemmas.Bool.{or_parts}
 use Rattle.std.proofs.lemmas.List.{append-nil}
 use Rattle.std.proofs.lemmas.Option.{same_Some}
-use Rattle.list_laws.proofs.Bytes.{same_bytes}
-use Rattle.list_laws.proofs.FlatMaps.{flat_map-map}
-use Rattle.name_index.proofs.Distinct.{AreDistinct, bytes_flip, distinct_fold}
+use Rattle.card_set.proofs.Bytes.{same_bytes}
+use Rattle.card_set.proofs.FlatMaps.{flat_map-map}
+use Rattle.report_layout.proofs.Distinct.{AreDistinct, bytes_flip, distinct_fold}
 use Rattle.printed_report.specs.Report.{Hand, seats_of_all}
 use Rattle.printed_report.specs.Tallies.{AreWithin, IsRowWithin, MOST_SEATS, row_line, row_names, rows_of, tally_at, tally_line, with_hands}
 use Rattle.printed_report.specs.declared.tally.NamedTally.{NamedTally}

@@ -4,12 +4,12 @@ use Rattle.std.specs.Cmp.Lexicographic.{bytes_decides}
 use Rattle.std.specs.List.{list_any}
 use Rattle.std.specs.Map.{lookup}
 use Rattle.indexmap.specs.IndexMap.{insert_entry}
-use Rattle.name_index.specs.Names.{with_name}
+use Rattle.report_layout.specs.Names.{with_name}
 use Rattle.printed_report.specs.Report.{Seated}
 use Rattle.printed_report.specs.Tallies.{no_tally, row_names, tally_at, with_row, with_seat}
 use Rattle.printed_report.specs.declared.tally.Tally.{Tally}
-use Rattle.list_laws.proofs.Bytes.{same_key}
-use Rattle.list_laws.proofs.Lists.{longer_either}
+use Rattle.card_set.proofs.Bytes.{same_key}
+use Rattle.card_set.proofs.Lists.{longer_either}
 
 found_or : (b : Bool) (tally other : Tally) (rest : Option Tally) → unwrap_or (cond b (Some tally) rest) other ≡ cond b tally (unwrap_or rest other)
 found_or true tally other rest = refl
@@ -50,7 +50,7 @@ at_insert (row ∷ rows) name tally asked = by (bytes_eq name row.0) refl (at_in
         ∙ swapped (bytes_eq asked row.0) (bytes_eq asked name) tally row.1 (tally_at rows asked) (λ first second. absurd (true≢false (sym (same_key asked name row.0 first second) ∙ other)))
         ∙ ap (λ rest. cond (bytes_eq asked name) tally rest) (sym (at_front row rows asked))
 
--- a name that got a tally stands where it stood, or last
+-- a name that got a tally stays at its place, or comes last
 pub names_insert : (rows : List (List ℕ × Tally)) (name : List ℕ) (tally : Tally)
     → row_names (insert_entry bytes_eq rows name tally) ≡ with_name (row_names rows) name
 names_insert [] name tally = refl
@@ -65,7 +65,7 @@ names_insert (row ∷ rows) name tally = by (bytes_eq name row.0) (names_insert 
         ap (λ rest. row.0 ∷ rest) later
         ∙ longer_either (list_any (bytes_eq name) (row_names rows)) row.0 (row_names rows) (row_names rows ++ name ∷ [])
 
--- a tally with one more seat, where the seat has the name
+-- a tally with one more seat, if the seat has the name
 abbrev pub step : ℕ → List ℕ → Tally → Seated → Tally
 step number asked tally seat = cond (bytes_eq asked seat.name) (with_seat number tally seat) tally
 

@@ -1,4 +1,4 @@
--- Tallies grow by no more than a seat may hold.
+-- Tallies grow by no more than a seat can hold.
 use Rattle.std.proofs.Common.{◌≡◌, ℕ, suc, ◌+◌, ◌-◌, ◌≤◌, ◌<◌, ◌==◌, Bool, true, false, cond, List, [], ◌∷◌, ◌++◌, length, ◌∙◌, map, bytes_eq, sym, ap, subst, arith}
 use Rattle.std.specs.List.{range_with_len}
 use Rattle.chip_ledger.specs.declared.seat_row.TheConstants.{MOST_AMOUNT}
@@ -7,7 +7,7 @@ use Rattle.printed_report.specs.Tallies.{AreWithin, IsWithin, tally_at, with_han
 use Rattle.printed_report.specs.declared.tally.Tally.{Tally}
 use Rattle.printed_report.proofs.Rows.{at_row}
 
--- more seats leave room for as much
+-- more seats leave the same room
 pub wider : (few many : ℕ) (tally : Tally) → few ≤ many → IsWithin few tally → IsWithin many tally
 wider few many tally more within = record {
   started = omega (arith, within.started, more);
@@ -47,7 +47,7 @@ next_seat number rows seated index seats within =
     let left : seats - index ≡ suc (seats - (index + 1)) = omega (arith, within) in
     ap (λ count. with_seats number rows (map seated (range_with_len (index + 1) count))) (sym left)
 
--- rows with one hand more
+-- rows with one more hand
 pub hands_more : (number : ℕ) (rows : List (List ℕ × Tally)) (hands : List Hand) (hand : Hand)
     → with_hands number rows (hands ++ hand ∷ []) ≡ with_seats (number + length hands) (with_hands number rows hands) hand.seats
 hands_more number rows [] hand = ap (λ (n : ℕ). with_seats n rows hand.seats) (omega arith)

@@ -32,7 +32,8 @@ pub of_one_hand : report_on (blinds_won ∷ [])
 unfolding digits
 of_one_hand = refl
 
--- two games: their lines are in the order of the table, and names in the order in which they are seen
+-- two games: their lines are in the order of the table, and names in the order in which they are
+-- seen
 pub of_two_hands : report_on (blinds_won ∷ one_name_twice ∷ [])
     ≡ codes "FT           1                  40\n"
     ++ (codes "NT           1                   5\n"

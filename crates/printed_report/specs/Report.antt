@@ -1,5 +1,4 @@
--- The text of a report: a line for each game that was played, one for all hands, and one for each
--- name.
+-- The text of a report: one line per game that was played, one for all hands, and one per name.
 use Rattle.std.specs.Prelude.{ℕ, ℤ, pos, ◌-ℤ◌, List, [], ◌∷◌, ◌++◌, length, map, filter, fold, flat_map, sum_by, count_by, codes, bytes_eq}
 use Rattle.std.specs.Fmt.{decimal, signed_decimal}
 use Rattle.std.specs.List.{list_any}
@@ -7,11 +6,11 @@ use Rattle.chip_ledger.specs.SeatRow.{amount_of}
 use Rattle.hand_canon.specs.Agreement.{pot_total_of}
 use Rattle.hand_records.specs.AllowedNotes.{name_written}
 use Rattle.hand_records.specs.declared.trace.Play.{Play}
-use Rattle.name_index.specs.Names.{with_name}
+use Rattle.report_layout.specs.Names.{with_name}
 use Rattle.play_event.specs.Code.{code_text}
 use Rattle.play_event.specs.Seats.{all_seats}
 use Rattle.play_event.specs.Games.{all_games}
-use Rattle.text_columns.specs.Columns.{left_in, right_in}
+use Rattle.report_layout.specs.Columns.{left_in, right_in}
 
 -- a seat of a hand: the name of its player, and the chips that it started and finished with
 pub record Seated : Type 0 where
@@ -19,8 +18,8 @@ pub record Seated : Type 0 where
   pub started : ℕ
   pub finished : ℕ
 
--- what a report takes of a hand: the code of its game, the chips of its pots together, and its
--- seats from p1 upward
+-- what a report uses of a hand: the code of its game, the chips of its pots together, and its seats
+-- from p1 upward
 pub record Hand : Type 0 where
   pub game : List ℕ
   pub pots : ℕ
@@ -35,7 +34,7 @@ seated_in play seat =
       finished = amount_of play.trace.finish seat;
     }
 
--- what a report takes of a play; its pots are those before rakes
+-- what a report uses of a play; its pots are those before rakes
 abbrev pub hand_of : Play → Hand
 hand_of play =
     record {
@@ -44,7 +43,7 @@ hand_of play =
       seats = map (seated_in play) (all_seats play.trace.setup);
     }
 
--- the line of some hands: its title, how many they are, and their pots together
+-- the line of some hands: its title, their number, and their pots together
 abbrev pub hands_line : List ℕ → List Hand → List ℕ
 hands_line title hands =
     left_in 6 title
@@ -76,18 +75,18 @@ names_of hands = fold with_name [] (map (λ seat. seat.name) (seats_of_all hands
 abbrev pub seats_named : List Hand → List ℕ → List Seated
 seats_named hands name = filter (λ seat. bytes_eq name seat.name) (seats_of_all hands)
 
--- the net chips of a name: what its seats finished with together, less what they started with
+-- the net chips of a name: what its seats finished with together, minus what they started with
 abbrev pub net_of : List Hand → List ℕ → ℤ
 net_of hands name =
     pos (sum_by (λ seat. seat.finished) (seats_named hands name))
     -ℤ pos (sum_by (λ seat. seat.started) (seats_named hands name))
 
--- how many hands have a seat with this name
+-- the number of hands with a seat of this name
 abbrev pub hands_with : List Hand → List ℕ → ℕ
 hands_with hands name =
     count_by (λ hand. list_any (λ seat. bytes_eq name seat.name) hand.seats) hands
 
--- the line of a name with this net and so many hands
+-- the line of a name with these net chips and this number of hands
 abbrev pub name_line : ℤ → ℕ → List ℕ → List ℕ
 name_line net hands name =
     right_in 20 (signed_decimal net)

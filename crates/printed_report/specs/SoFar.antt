@@ -7,7 +7,7 @@ use Rattle.printed_report.specs.Report.{hand_of}
 use Rattle.printed_report.specs.Tallies.{AreTallied, AreWithin, rows_of, with_hands}
 use Rattle.printed_report.specs.declared.report.OpenReport.{OpenReport}
 
--- an open report has the tallies and the sums of these plays
+-- the report in progress has the tallies and the sums of these plays
 pub record IsReportSoFar (report : OpenReport) (plays : List Play) : Type 0 where
   pub tallied : AreTallied report.places report.tallies.entries
   pub rows : rows_of report.tallies.entries ≡ with_hands 1 [] (map hand_of plays)

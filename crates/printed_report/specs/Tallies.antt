@@ -1,16 +1,16 @@
--- What is tallied of each name, hand after hand and seat after seat.
+-- What is tallied for each name, hand after hand and seat after seat.
 use Rattle.std.specs.Prelude.{◌≡◌, ℕ, ◌+◌, ◌*◌, ◌≤◌, ◌==◌, List, [], ◌∷◌, fold, map, bytes_eq, nat_eq, unwrap_or, if◌then◌else◌, pos, ◌-ℤ◌}
 use Rattle.std.specs.Map.{lookup}
 use Rattle.std.specs.Option.{option_map_or}
 use Rattle.indexmap.specs.IndexMap.{insert_entry}
 use Rattle.chip_ledger.specs.declared.seat_row.TheConstants.{MOST_AMOUNT}
-use Rattle.name_index.specs.Indexed.{AreIndexed}
-use Rattle.name_index.specs.declared.index.NameIndex.{NameIndex}
+use Rattle.report_layout.specs.Indexed.{AreIndexed}
+use Rattle.report_layout.specs.declared.index.NameIndex.{NameIndex}
 use Rattle.printed_report.specs.declared.tally.NamedTally.{NamedTally}
 use Rattle.printed_report.specs.declared.tally.Tally.{Tally}
 use Rattle.printed_report.specs.Report.{Hand, Seated, name_line}
 
--- the tally of a name that is not seen yet
+-- the tally of a name that was not seen yet
 abbrev pub no_tally : Tally
 no_tally = record { started = 0; finished = 0; hands = 0; last = 0 }
 
@@ -28,7 +28,7 @@ with_seat number tally seat =
 abbrev pub rows_of : List (ℕ × NamedTally) → List (List ℕ × Tally)
 rows_of entries = map (λ entry. (entry.1.name, entry.1.tally)) entries
 
--- entries have the numbers from this one on as keys
+-- the entries have consecutive numbers as keys, from this one on
 abbrev pub AreNumbered : ℕ → List (ℕ × NamedTally) → Type 0
 AreNumbered first [] = Unit {0}
 AreNumbered first (entry ∷ rest) = (entry.0 ≡ first) × AreNumbered (first + 1) rest
@@ -43,7 +43,7 @@ pub record AreTallied (index : NameIndex) (entries : List (ℕ × NamedTally)) :
   pub names : AreIndexed index (row_names (rows_of entries))
   pub places : AreNumbered 0 entries
 
--- the tally under a place, or an empty one where there is none
+-- the tally at a place, or an empty one if there is none
 abbrev pub tally_under : List (ℕ × NamedTally) → ℕ → Tally
 tally_under entries place =
     option_map_or (λ named. named.tally) (lookup (nat_eq place) entries) no_tally
@@ -61,23 +61,23 @@ with_row number rows seat =
 abbrev pub with_seats : ℕ → List (List ℕ × Tally) → List Seated → List (List ℕ × Tally)
 with_seats number rows seats = fold (with_row number) rows seats
 
--- rows with the seats of more hands, the first of which has this number
+-- rows with the seats of more hands; the first has this number
 abbrev pub with_hands : ℕ → List (List ℕ × Tally) → List Hand → List (List ℕ × Tally)
 with_hands number rows [] = rows
 with_hands number rows (hand ∷ hands) =
     with_hands (number + 1) (with_seats number rows hand.seats) hands
 
--- the most seats of all hands: ten of each of 65,536 hands
+-- the most seats of all hands: ten in each of 65,536 hands
 abbrev pub MOST_SEATS : ℕ
 MOST_SEATS = 655360
 
--- a tally is of no more than so many seats
+-- a tally is of at most this many seats
 pub record IsWithin (seats : ℕ) (tally : Tally) : Type 0 where
   pub started : tally.started ≤ seats * MOST_AMOUNT
   pub finished : tally.finished ≤ seats * MOST_AMOUNT
   pub hands : tally.hands ≤ seats
 
--- each tally is
+-- all tallies are
 abbrev pub AreWithin : ℕ → List (List ℕ × Tally) → Type 0
 AreWithin seats rows = (name : List ℕ) → IsWithin seats (tally_at rows name)
 

@@ -1,4 +1,4 @@
-//! Hands and their pots are added up by game.
+//! Adds up hands and their pots by game.
 ghost use Rattle.std.specs.Prelude.{◌≡◌, ◌≤◌, ◌-◌, ◌++◌, [], flat_map, map, Some, IfOk, OnOk, string_bytes};
 ghost use Rattle.std.specs.List.{AllByRecursion};
 ghost use Rattle.hand_canon.specs.Agreement.{pot_total_of};
@@ -7,21 +7,22 @@ ghost use Rattle.printed_report.specs.Games.{AreFewSums, MOST_POTS, all_wanted, 
 ghost use Rattle.printed_report.specs.Report.{hand_of};
 
 use crate::lines::push_hands_line;
-use card_set::Memory;
+use card_set::{Memory, list_with_room};
 use hand_records::{Play, Trace};
 use play_event::Code;
 use std::alloc::Global;
 
-/// The hands of a game, or all hands: how many they are, and the chips of their pots together.
+/// The hands of a game, or all hands: their number, and the chips of their pots together.
 #[derive(Clone, Copy, Debug)]
 pub struct Sums {
     pub wanted: Option<Code>,
     pub hands: u64,
-    // A pot's chips are any u64.
+    // The chips of one pot can be any u64.
     pub pots: u128,
 }
 
-/// The sums of no hands: those of each game in the order of the table of games, and those of all.
+/// The sums before the first hand: one per game in the order of the table of games, and one for
+/// all.
 pub fn no_sums(alloc: Global) -> Result<Vec<Sums>, Memory>
     ensures { IfOk result (λ sums. sums.items ≡ map (sums_of []) all_wanted) }
 {
@@ -39,14 +40,14 @@ pub fn no_sums(alloc: Global) -> Result<Vec<Sums>, Memory>
         Some(Code::FB),
         None,
     ];
-    let mut sums = Vec::with_capacity(alloc, wanted.len())?;
+    let mut sums = list_with_room(alloc, wanted.len())?;
     for one in &wanted {
         sums.push(none_of(*one))?;
     }
     Ok(sums)
 }
 
-// The sums of no hands.
+// The sums before the first hand.
 fn none_of(wanted: Option<Code>) -> Sums
     ensures { result ≡ sums_of [] wanted }
 {
@@ -57,7 +58,7 @@ fn none_of(wanted: Option<Code>) -> Sums
     }
 }
 
-/// Adds a hand to each of these sums, where it counts.
+/// Adds a hand to each of these sums that it counts for.
 pub fn add_to_sums(sums: &mut Vec<Sums>, play: &Play)
     requires few { AllByRecursion (AreFewSums (MOST_HANDS - 1)) sums.old.items }
     ensures added { sums.new.items ≡ map (with_hand_said (hand_of play.now)) sums.old.items }
@@ -69,7 +70,7 @@ pub fn add_to_sums(sums: &mut Vec<Sums>, play: &Play)
     }
 }
 
-// The sums with one more hand, which has these pots, where it counts.
+// The sums with one more hand, which has these pots, if it counts.
 fn with_hand(sums: Sums, play: &Play, pots: u128) -> Sums
     requires few { AreFewSums (MOST_HANDS - 1) sums }
     requires pots { pots ≡ (hand_of play.now).pots }
@@ -87,7 +88,7 @@ fn with_hand(sums: Sums, play: &Play, pots: u128) -> Sums
     }
 }
 
-// The hand counts: it is of the game, or all are wanted.
+// Whether the hand counts: it is of the game, or all games are wanted.
 fn counts(play: &Play, wanted: Option<Code>) -> bool
     ensures { result ≡ is_counted wanted (hand_of play.now) }
 {
@@ -109,8 +110,7 @@ fn pot_total(trace: &Trace) -> u128
     all
 }
 
-/// Puts the lines of sums at the end of a text: that of each game that was played, and that of all
-/// hands.
+/// Appends the lines of sums: one per game that was played, and one for all hands.
 pub fn push_sums(alloc: Global, text: &mut String, sums: &[Sums]) -> Result<(), Memory>
     ensures { OnOk result (string_bytes text.new ≡ string_bytes text.old
         ++ flat_map sums_line sums.now) }
@@ -121,7 +121,7 @@ pub fn push_sums(alloc: Global, text: &mut String, sums: &[Sums]) -> Result<(), 
     Ok(())
 }
 
-// Puts the line of a game, if it was played, or that of all hands.
+// Appends the line of a game, if it was played, or the line of all hands.
 fn push_line(
     alloc: Global,
     text: &mut String,
@@ -138,7 +138,7 @@ fn push_line(
     }
 }
 
-// Puts the line of a game, if it was played.
+// Appends the line of a game, if it was played.
 fn push_game(
     alloc: Global,
     text: &mut String,

@@ -1,17 +1,16 @@
-//! A line of a report has its numbers in columns.
+//! One line of a report, with its numbers in columns.
 ghost use Rattle.std.specs.Prelude.{◌≡◌, ◌++◌, ◌-ℤ◌, pos, codes, OnOk, string_bytes};
 ghost use Rattle.std.specs.Fmt.{decimal};
 ghost use Rattle.printed_report.specs.Report.{name_line};
 ghost use Rattle.printed_report.specs.Tallies.{IsWithin, MOST_SEATS};
-ghost use Rattle.text_columns.specs.Columns.{left_in, right_in};
+ghost use Rattle.report_layout.specs.Columns.{left_in, right_in};
 
 use crate::tally::Tally;
 use card_set::Memory;
+use report_layout::{push_left, push_number, push_right, push_signed};
 use std::alloc::Global;
-use text_columns::{push_left, push_number, push_right, push_signed};
 
-/// Puts the line of some hands at the end of a text: a title, how many they are, and the chips of
-/// their pots together.
+/// Appends the line of some hands: a title, their number, and the chips of their pots together.
 pub fn push_hands_line(
     alloc: Global,
     text: &mut String,
@@ -31,8 +30,7 @@ pub fn push_hands_line(
     Ok(())
 }
 
-/// Puts the line of a name at the end of a text: its net chips, how many hands it has, and the
-/// name.
+/// Appends the line of a name: its net chips, its number of hands, and the name.
 pub fn push_name_line(
     alloc: Global,
     text: &mut String,

@@ -1,5 +1,4 @@
-//! The seats of all hands are tallied by their names, which stay in the order in which they are
-//! first seen.
+//! Tallies the seats of all hands by their names, in the order in which names are first seen.
 ghost use Rattle.std.specs.Prelude.{◌≡◌, OnOk};
 ghost use Rattle.printed_report.specs.Report.{seated_in};
 ghost use Rattle.printed_report.specs.Tallies.{AreTallied, AreWithin, MOST_SEATS, rows_of, with_row};
@@ -10,7 +9,7 @@ use chip_ledger::Seat;
 use first_fault::Text;
 use hand_records::{Play, name_of};
 use indexmap::IndexMap;
-use name_index::NameIndex;
+use report_layout::NameIndex;
 use std::alloc::Global;
 
 /// Tallies a seat of the hand with this number, from 1. Each name has its tally under its place,

@@ -1,5 +1,4 @@
-//! The report on hands: a line for each game that was played, one for all hands, and one for each
-//! name.
+//! The report on hands: one line per game that was played, one for all hands, and one per name.
 ghost use Rattle.std.specs.Prelude.{◌≡◌, ◌≤◌, ◌<◌, ◌++◌, ◌∷◌, [], List, flat_map, length, IfOk, OnOk, string_bytes};
 ghost use Rattle.std.specs.List.{AllByRecursion};
 ghost use Rattle.first_fault.specs.declared.limits.TheConstants.{MOST_HANDS};
@@ -16,10 +15,10 @@ use card_set::Memory;
 use chip_ledger::Seat;
 use hand_records::Play;
 use indexmap::IndexMap;
-use name_index::NameIndex;
+use report_layout::NameIndex;
 use std::alloc::Global;
 
-/// A report that takes more hands: nothing of a hand is kept but what it adds to the report.
+/// A report in progress: of each hand only what it adds to the report is kept.
 #[derive(Drop)]
 pub struct OpenReport {
     places: NameIndex,
@@ -33,7 +32,7 @@ impl OpenReport {
     ///
     /// # Errors
     ///
-    /// There is no memory for the games.
+    /// Out of memory for the games.
     pub fn new(alloc: Global) -> Result<Self, Memory>
         ensures { IfOk result (λ report. IsReportSoFar report []) }
     {
@@ -46,11 +45,11 @@ impl OpenReport {
         })
     }
 
-    /// Adds the play of one more hand behind the others.
+    /// Adds the play of one more hand.
     ///
     /// # Errors
     ///
-    /// There is no memory for the names.
+    /// A request for memory was refused. The report is not to be used any more then.
     pub fn add_play(&mut self, alloc: Global, play: &Play) -> Result<(), Memory>
         requires { (before : List AnyPlay) × (IsReportSoFar self.old before)
             × (length before < MOST_HANDS) }
@@ -78,7 +77,7 @@ impl OpenReport {
     ///
     /// # Errors
     ///
-    /// There is no memory for the text.
+    /// Out of memory for the text.
     pub fn text(&self, alloc: Global) -> Result<String, Memory>
         requires { (plays : List AnyPlay) × (IsReportSoFar self.now plays)
             × (length plays ≤ MOST_HANDS) }
@@ -92,13 +91,13 @@ impl OpenReport {
     }
 }
 
-/// The text of the report on these hands: a line for each game that was played, in the order of the
-/// table of games, one for all hands, and one for each name, in the order in which names are first
-/// seen. Pots are counted before rakes are taken. A seat without a name has its default, as `p2`.
+/// The text of the report on these hands: one line per game that was played, in the order of the
+/// table of games, one for all hands, and one per name, in the order in which names are first seen.
+/// Pots are counted before rakes are taken. A seat without a name has its default, as `p2`.
 ///
 /// # Errors
 ///
-/// There is no memory for the names or the text.
+/// Out of memory for the names or the text.
 pub fn report_text(alloc: Global, plays: &[Play]) -> Result<String, Memory>
     requires few { length plays.now ≤ MOST_HANDS }
     ensures { IfOk result (λ text. string_bytes text ≡ report_said plays.now) }
@@ -110,7 +109,7 @@ pub fn report_text(alloc: Global, plays: &[Play]) -> Result<String, Memory>
     report.text(alloc)
 }
 
-// Puts the line of each name, in the order of the map.
+// Appends the line of each name, in the order of the map.
 fn push_names(
     alloc: Global,
     text: &mut String,

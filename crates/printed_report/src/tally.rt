@@ -1,4 +1,4 @@
-//! A tally adds up the seats of a name.
+//! A tally adds up the seats with one name.
 ghost use Rattle.std.specs.Prelude.{◌≡◌};
 ghost use Rattle.printed_report.specs.Report.{seated_in};
 ghost use Rattle.printed_report.specs.Tallies.{IsWithin, MOST_SEATS, no_tally as empty, with_seat as with_seat_said};
@@ -7,14 +7,14 @@ use chip_ledger::Seat;
 use first_fault::Text;
 use hand_records::Play;
 
-/// What is added up of a name. Amounts are chips.
+/// What is added up for a name, in chips.
 #[derive(Clone, Copy, Debug)]
 pub struct Tally {
     /// What its seats started with together.
     pub started: u64,
     /// What they finished with together.
     pub finished: u64,
-    /// How many hands have a seat with it.
+    /// The number of hands with a seat of this name.
     pub hands: u64,
     /// The number of the last such hand, from 1.
     pub last: u64,
@@ -27,7 +27,7 @@ pub struct NamedTally {
     pub tally: Tally,
 }
 
-/// The tally of a name that is not seen yet.
+/// The tally of a name that was not seen yet.
 pub fn no_tally() -> Tally
     ensures { result ≡ empty }
 {
@@ -39,8 +39,8 @@ pub fn no_tally() -> Tally
     }
 }
 
-/// The tally with one more seat, in the hand with this number. A name that has several seats in a
-/// hand has one hand more.
+/// The tally with one more seat, in the hand with this number. If a name has several seats in a
+/// hand, the hand counts once.
 pub fn with_seat(tally: Tally, number: u64, play: &Play, seat: Seat) -> Tally
     requires { IsWithin MOST_SEATS tally }
     ensures { result ≡ with_seat_said number tally (seated_in play.now seat.number) }

@@ -1,4 +1,4 @@
--- What the seats put is what counts and the dead antes.
+-- What the seats put in is what counts for the pots and the dead antes.
 use Rattle.std.proofs.Common.{◌≡◌, ℕ, zero, suc, ◌+◌, ◌-◌, ◌*◌, ◌≤◌, ◌<◌, Bool, true, false, List, map, sum_by, refl, ap, ◌∙◌, arith}
 use Rattle.std.specs.List.{range_with_len}
 use Rattle.std.proofs.lemmas.List.Sums.{sum-map, sum_by-cons}
@@ -13,11 +13,11 @@ use Rattle.play_event.specs.declared.setup.Setup.{Setup}
 use Rattle.play_event.specs.Past.{Move}
 use Rattle.play_event.specs.Stakes.{counted_put, stake_after, stakes_after}
 use Rattle.replay_core.specs.EndRows.{AreRowsOf}
-use Rattle.list_laws.proofs.NumbersOfRange.{map_agree, sum_agree}
+use Rattle.card_set.proofs.NumbersOfRange.{map_agree, sum_agree}
 use Rattle.chip_ledger.specs.declared.seat_row.TheConstants.{MOST_AMOUNT}
 use Rattle.chip_ledger.specs.declared.numbers.TheConstants.{MOST_CHIPS}
 
--- what is counted and what is dead are all that was put
+-- what is counted and what is dead are all that was put in
 counted_sum : (dead : Bool) (put ante : ℕ → ℕ) (first count : ℕ) → ((n : ℕ) → first ≤ n → n < first + count → ante n ≤ put n) → sum_by (λ n. counted dead (put n) (ante n)) (range_with_len first count) + dead_chips dead (map ante (range_with_len first count)) ≡ sum_by put (range_with_len first count)
 counted_sum false put ante first count within = omega arith
 counted_sum true put ante first zero within = refl
@@ -47,7 +47,7 @@ all_counted setup puts counted_row dead same_antes same_puts same_counted dead_i
     let put = ap (λ k. sum_by (amount_of puts) (seats_of k)) same_puts in
     omega (arith, row, each, all, put, dead_is)
 
--- all seats together put no more than a row may hold
+-- all seats together put in no more than a row can hold
 pub all_within : (setup : Setup) (puts : SeatRow) → puts.seats ≡ setup.stacks.seats → setup.stacks.seats ≤ 10 → ((n : ℕ) → 1 ≤ n → n ≤ setup.stacks.seats → amount_of puts n ≤ MOST_CHIPS) → total_of puts ≤ MOST_AMOUNT
 all_within setup puts same few within =
     let put = ap (λ k. sum_by (amount_of puts) (seats_of k)) same in

@@ -1,7 +1,8 @@
--- At the end of a hand what each seat put is within its stack, and with what it has left is its stack.
+-- At the end of a hand what each seat put in is within its stack, and together with what it has
+-- left is its stack.
 use Rattle.std.proofs.Common.{◌≡◌, ℕ, ◌+◌, ◌≤◌, List, reverse, ap, ◌∙◌, arith}
 use Rattle.chip_ledger.specs.SeatRow.{amount_of}
-use Rattle.canon_script.specs.PlayedScript.{IsPlayed}
+use Rattle.play_event.specs.PlayedScript.{IsPlayed}
 use Rattle.play_event.specs.declared.setup.Rules.{Rules}
 use Rattle.play_event.specs.declared.setup.Setup.{Setup}
 use Rattle.play_event.specs.Chips.{chips_put}

@@ -1,4 +1,4 @@
--- Rows that say what the past says, field by field, are its trace.
+-- Rows that agree with the past, field by field, are its trace.
 use Rattle.std.proofs.Common.{◌≡◌, ℕ, suc, ◌+◌, ◌≤◌, List, [], ◌∷◌, All, length, map, sum_by, sym, ap, ◌∙◌, arith}
 use Rattle.std.proofs.lemmas.List.{length-map}
 use Rattle.chip_ledger.specs.declared.pots.Pot.{Pot}
@@ -9,10 +9,10 @@ use Rattle.chip_ledger.specs.Pots.{PlainPot}
 use Rattle.chip_ledger.specs.Rakes.{nets_from}
 use Rattle.chip_ledger.specs.SeatRow.{amount_of}
 use Rattle.canon_laws.proofs.SameCore.{plain_again}
-use Rattle.canon_script.specs.CanonScript.{plain_moves}
-use Rattle.canon_script.specs.PlayedScript.{IsWithinLimits, is_move}
-use Rattle.canon_script.specs.TraceCore.{TraceCore, core_of}
-use Rattle.list_laws.proofs.Sums.{sum_by-map}
+use Rattle.play_event.specs.CanonScript.{plain_moves}
+use Rattle.play_event.specs.PlayedScript.{IsWithinLimits, is_move}
+use Rattle.play_event.specs.TraceCore.{TraceCore, core_of}
+use Rattle.card_set.proofs.Sums.{sum_by-map}
 use Rattle.play_event.specs.declared.event.Event.{Event}
 use Rattle.play_event.specs.declared.setup.Setup.{Setup}
 use Rattle.play_event.specs.Chips.{chips_left}
@@ -23,9 +23,9 @@ use Rattle.play_event.specs.Trace.{TracedMove, TracedPlace}
 use Rattle.showdown_split.proofs.Flagged.{flagged_inside}
 use Rattle.replay_core.specs.Events.{said_by}
 use Rattle.replay_core.proofs.SameShowdown.{AreOfSeats}
-use Rattle.list_laws.proofs.Counting.{count_both}
+use Rattle.card_set.proofs.Counting.{count_both}
 
--- cores are one, field by field
+-- cores are equal if their fields are
 pub same_core : (a b : TraceCore) → a.places ≡ b.places → a.moves ≡ b.moves → a.shown ≡ b.shown → a.mucked ≡ b.mucked → a.pots ≡ b.pots → a.returned ≡ b.returned → a ≡ b
 same_core a b places moves shown mucked pots returned =
     ap {B = TraceCore} (λ (x : List TracedPlace). record { places = x; moves = a.moves; shown = a.shown; mucked = a.mucked; pots = a.pots; returned = a.returned }) places
@@ -48,7 +48,7 @@ pub nets_of_seats : (number : ℕ) (rakes : RakeRow) (pots : List PlainPot) (sea
 nets_of_seats number rakes [] seats inside = tt
 nets_of_seats number rakes (pot ∷ pots) seats inside = (inside.0, nets_of_seats (suc number) rakes pots seats inside.1)
 
--- what a seat ends with
+-- what a player finishes with
 pub finish_is : (setup : Setup) (past : Past) (rows : List SeatRow) (left returned finish seat : ℕ) → left ≡ chips_left setup (moves_of past) seat → returned ≡ returned_after setup (moves_of past) seat → finish ≡ left + (returned + sum_by (λ row. amount_of row seat) rows)
     → finish ≡ finishing_stack setup (plain_moves (core_of setup past).moves) (map amount_of rows) seat
 finish_is setup past rows left returned finish seat left_is returned_is is =

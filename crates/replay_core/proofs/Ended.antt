@@ -1,6 +1,6 @@
--- A script that was played to its end: what the machines say is what the rules say of its past.
+-- A script that was played to its end: betting and cards agree with the rules for its past.
 use Rattle.std.proofs.Common.{◌≡◌, ℕ, ◌≤◌, false, Some, List, reverse, sym, ap, subst, ◌∙◌, arith}
-use Rattle.betting_numbers.specs.declared.running.RunningNumbers.{RunningNumbers}
+use Rattle.betting_numbers.specs.declared.betting_state.BettingState.{BettingState}
 use Rattle.betting_numbers.specs.Standing as betting
 use Rattle.card_places.specs.declared.card_state.CardState.{CardState}
 use Rattle.play_event.specs.Held.{held_slots}
@@ -12,7 +12,7 @@ use Rattle.chip_ledger.specs.LiveRow.{flag_of}
 use Rattle.chip_ledger.specs.SeatRow.{amount_of}
 use Rattle.deal_core.specs.Board.{board_cards}
 use Rattle.deal_core.specs.Standing as cards
-use Rattle.canon_script.specs.PlayedScript.{IsPlayed}
+use Rattle.play_event.specs.PlayedScript.{IsPlayed}
 use Rattle.replay_core.specs.Together.{StandTogether}
 use Rattle.play_event.specs.declared.hands.HandRow.{HandRow}
 use Rattle.play_event.specs.declared.code.Code.{Code}
@@ -36,8 +36,8 @@ use Rattle.replay_core.proofs.ShownHands.{IsEnd}
 use Rattle.play_event.proofs.ScriptLaws.{at_end}
 use Rattle.chip_ledger.specs.Seat.{IsSeatOf}
 
--- after all events of a script, where it may end there, the machines stand at its end
-pub ended : (setup : Setup) (rules : Rules) (script : List Said) (first b : RunningNumbers) (t : CardState) (due : Due) → first.setup ≡ setup → first.rules ≡ rules → b.setup ≡ first.setup
+-- after all events of a script, if it may end there, betting and cards describe its end
+pub ended : (setup : Setup) (rules : Rules) (script : List Said) (first b : BettingState) (t : CardState) (due : Due) → first.setup ≡ setup → first.rules ≡ rules → b.setup ≡ first.setup
     → AreLegal first.setup first.rules (reverse script) → StandTogether b t (past_at_end first.setup script) → ((past : Past) → StandTogether b t past → due ≡ (turn b.setup past).1) → is_unfinished due ≡ false → StandAtEnd setup rules script b t
 ended setup rules script first b t due start same_rules kept legal stands due_is finished =
     let together : StandTogether b t (past_at_end setup script) = subst (λ (s : Setup). StandTogether b t (past_at_end s script)) start stands in
@@ -48,7 +48,7 @@ ended setup rules script first b t due start same_rules kept legal stands due_is
       finished = sym (ap is_unfinished (due_is (past_at_end setup script) together ∙ ap (λ (s : Setup). (turn s (past_at_end setup script)).1) (kept ∙ start))) ∙ finished;
     }
 
-module _ (setup : Setup) (rules : Rules) (script : List Said) (b : RunningNumbers) (t : CardState) (ends : StandAtEnd setup rules script b t) where
+module _ (setup : Setup) (rules : Rules) (script : List Said) (b : BettingState) (t : CardState) (ends : StandAtEnd setup rules script b t) where
   abbrev past : Past
   past = past_at_end setup script
 

@@ -1,8 +1,8 @@
--- What a seat ends with is no more than all stacks together.
+-- What a player finishes with is no more than all stacks together.
 use Rattle.std.proofs.Common.{◌≡◌, ℕ, suc, ◌+◌, ◌-◌, ◌≤◌, List, [], ◌∷◌, All, slice_get, sum_by, refl, ap, arith}
 use Rattle.std.specs.Option.{option_map_or}
 use Rattle.std.proofs.lemmas.List.Sums.{sum_by-cons}
-use Rattle.list_laws.proofs.Sums.{sum_by-map, sum_by-plus}
+use Rattle.card_set.proofs.Sums.{sum_by-map, sum_by-plus}
 use Rattle.chip_ledger.specs.declared.pots.Pot.{Pot}
 use Rattle.chip_ledger.specs.declared.pots.PotRow.{PotRow}
 use Rattle.chip_ledger.specs.declared.shares.ShareRow.{ShareRow}
@@ -15,7 +15,7 @@ use Rattle.chip_ledger.specs.Seat.{seats_of}
 use Rattle.chip_ledger.specs.SeatRow.{amount_of, total_of}
 use Rattle.play_event.specs.declared.setup.Setup.{Setup}
 use Rattle.replay_core.proofs.Counted.{all_within}
-use Rattle.list_laws.proofs.NumbersOfRange.{one_of_sum, sum_agree}
+use Rattle.card_set.proofs.NumbersOfRange.{one_of_sum, sum_agree}
 use Rattle.chip_ledger.specs.declared.seat_row.TheConstants.{MOST_AMOUNT}
 use Rattle.chip_ledger.specs.declared.numbers.TheConstants.{MOST_CHIPS}
 

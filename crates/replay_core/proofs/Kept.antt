@@ -1,8 +1,8 @@
--- A hand of the same parts is the same hand: that its parts fit is so in one way.
+-- A hand with the same parts is the same hand: that its parts fit has only one proof.
 use Rattle.std.proofs.Common.{◌≡◌, ℕ, ap, subst}
 use Rattle.std.proofs.Props.{props}
 
--- that a number is another one is so in one way
+-- that two numbers are equal has only one proof
 pub one_number : (a b : ℕ) (p q : a ≡ b) → p ≡ q
 one_number = hlevel props
 

@@ -1,4 +1,4 @@
--- What joins betting and cards, the events of a script, and the rows of its end.
+-- How betting and cards fit together, the events of a script, and the rows of its end.
 pub mod Joined
 pub mod Kept
 pub mod Moves

@@ -6,7 +6,7 @@ use Rattle.play_event.specs.declared.setup.Setup.{Setup}
 use Rattle.play_event.specs.Past.{Past, Move, Moved, Folded, Called, Raised, BroughtIn, is_fold, moves_of}
 use Rattle.play_event.specs.Chips.{street_chips}
 use Rattle.play_event.specs.Due.{turn}
-use Rattle.play_event.specs.Mover.{mover}
+use Rattle.play_event.specs.PlayerToAct.{player_to_act}
 use Rattle.play_event.specs.MoveReasons.{actor_of}
 use Rattle.play_event.specs.Amounts.{call_target, raise_target, bring_in_target}
 use Rattle.play_event.specs.Said as said
@@ -16,16 +16,16 @@ use Rattle.play_event.specs.Table.{up_cards}
 use Rattle.play_event.specs.Trace.{TracedMove, traced_move, traced_moves}
 use Rattle.play_event.specs.declared.played.Move as rows
 use Rattle.play_event.specs.Played.{act_said, move_said}
-use Rattle.betting_numbers.specs.declared.running.RunningNumbers.{RunningNumbers}
+use Rattle.betting_numbers.specs.declared.betting_state.BettingState.{BettingState}
 use Rattle.card_places.specs.declared.card_state.CardState.{CardState}
 use Rattle.deal_core.specs.Standing.{StandsFor}
 use Rattle.deal_core.proofs.StandsMove.{move_kept}
-use Rattle.street_laws.specs.CardEvents.{is_card_said}
-use Rattle.street_laws.proofs.CardTurns.{moves_kept}
-use Rattle.street_laws.proofs.LegalCards.{card_resolved}
+use Rattle.play_laws.specs.CardEvents.{is_card_said}
+use Rattle.play_laws.proofs.CardTurns.{moves_kept}
+use Rattle.play_laws.proofs.LegalCards.{card_resolved}
 use Rattle.replay_core.specs.Told.{IsToldOf}
 
--- an event that is no event of cards takes place as a move
+-- an event that is not an event of cards takes place as a move
 pub record IsMove (setup : Setup) (past : Past) (event : Said) : Type 0 where
   pub move : Move
   pub made : with_event setup event past ≡ Moved move ∷ past
@@ -33,19 +33,19 @@ pub record IsMove (setup : Setup) (past : Past) (event : Said) : Type 0 where
 pub made_move : (setup : Setup) (past : Past) (event : Said) → is_card_said event ≡ false → IsMove setup past event
 unfolding with_event
 made_move setup past (said.Fold named) is = record {
-  move = record { street = (turn setup past).0; seat = actor_of named (mover setup (up_cards setup.code past) (moves_of past) (turn setup past).0); act = Folded; from = street_chips setup (moves_of past) (turn setup past).0 (actor_of named (mover setup (up_cards setup.code past) (moves_of past) (turn setup past).0)); to = street_chips setup (moves_of past) (turn setup past).0 (actor_of named (mover setup (up_cards setup.code past) (moves_of past) (turn setup past).0)) };
+  move = record { street = (turn setup past).0; seat = actor_of named (player_to_act setup (up_cards setup.code past) (moves_of past) (turn setup past).0); act = Folded; from = street_chips setup (moves_of past) (turn setup past).0 (actor_of named (player_to_act setup (up_cards setup.code past) (moves_of past) (turn setup past).0)); to = street_chips setup (moves_of past) (turn setup past).0 (actor_of named (player_to_act setup (up_cards setup.code past) (moves_of past) (turn setup past).0)) };
   made = refl;
 }
 made_move setup past (said.Call named stated) is = record {
-  move = record { street = (turn setup past).0; seat = actor_of named (mover setup (up_cards setup.code past) (moves_of past) (turn setup past).0); act = Called; from = street_chips setup (moves_of past) (turn setup past).0 (actor_of named (mover setup (up_cards setup.code past) (moves_of past) (turn setup past).0)); to = call_target setup (moves_of past) (turn setup past).0 (actor_of named (mover setup (up_cards setup.code past) (moves_of past) (turn setup past).0)) };
+  move = record { street = (turn setup past).0; seat = actor_of named (player_to_act setup (up_cards setup.code past) (moves_of past) (turn setup past).0); act = Called; from = street_chips setup (moves_of past) (turn setup past).0 (actor_of named (player_to_act setup (up_cards setup.code past) (moves_of past) (turn setup past).0)); to = call_target setup (moves_of past) (turn setup past).0 (actor_of named (player_to_act setup (up_cards setup.code past) (moves_of past) (turn setup past).0)) };
   made = refl;
 }
 made_move setup past (said.Raise named amount) is = record {
-  move = record { street = (turn setup past).0; seat = actor_of named (mover setup (up_cards setup.code past) (moves_of past) (turn setup past).0); act = Raised; from = street_chips setup (moves_of past) (turn setup past).0 (actor_of named (mover setup (up_cards setup.code past) (moves_of past) (turn setup past).0)); to = raise_target setup (moves_of past) (turn setup past).0 (actor_of named (mover setup (up_cards setup.code past) (moves_of past) (turn setup past).0)) amount };
+  move = record { street = (turn setup past).0; seat = actor_of named (player_to_act setup (up_cards setup.code past) (moves_of past) (turn setup past).0); act = Raised; from = street_chips setup (moves_of past) (turn setup past).0 (actor_of named (player_to_act setup (up_cards setup.code past) (moves_of past) (turn setup past).0)); to = raise_target setup (moves_of past) (turn setup past).0 (actor_of named (player_to_act setup (up_cards setup.code past) (moves_of past) (turn setup past).0)) amount };
   made = refl;
 }
 made_move setup past (said.BringIn named) is = record {
-  move = record { street = (turn setup past).0; seat = actor_of named (mover setup (up_cards setup.code past) (moves_of past) (turn setup past).0); act = BroughtIn; from = street_chips setup (moves_of past) (turn setup past).0 (actor_of named (mover setup (up_cards setup.code past) (moves_of past) (turn setup past).0)); to = bring_in_target setup (moves_of past) (turn setup past).0 (actor_of named (mover setup (up_cards setup.code past) (moves_of past) (turn setup past).0)) };
+  move = record { street = (turn setup past).0; seat = actor_of named (player_to_act setup (up_cards setup.code past) (moves_of past) (turn setup past).0); act = BroughtIn; from = street_chips setup (moves_of past) (turn setup past).0 (actor_of named (player_to_act setup (up_cards setup.code past) (moves_of past) (turn setup past).0)); to = bring_in_target setup (moves_of past) (turn setup past).0 (actor_of named (player_to_act setup (up_cards setup.code past) (moves_of past) (turn setup past).0)) };
   made = refl;
 }
 made_move setup past (said.Hole seat cards) is = absurd (true≢false is)
@@ -54,7 +54,7 @@ made_move setup past (said.Discard seat cards) is = absurd (true≢false is)
 made_move setup past (said.Show seat cards) is = absurd (true≢false is)
 made_move setup past (said.Muck seat) is = absurd (true≢false is)
 
--- what a step of the betting says of the move that it gave
+-- what a step of the betting says about its move
 abbrev pub IsStepped : Setup → Past → Said → rows.Move → Type 0
 IsStepped setup past event moved = (move : Move) → with_event setup event past ≡ Moved move ∷ past → move_said moved ≡ traced_move setup move (moves_of past)
 
@@ -78,14 +78,14 @@ moved_stands t setup past event moved bet stepped stands is =
     (move_kept t past made.move stands (ap (λ (m : TracedMove). is_fold m.act) (sym same) ∙ is))
 
 -- the moves of the trace after a move
-pub move_told : (b : RunningNumbers) (past : Past) (event : Said) (moved : rows.Move) → is_card_said event ≡ false → IsStepped b.setup past event moved → IsToldOf b event past (Some moved)
+pub move_told : (b : BettingState) (past : Past) (event : Said) (moved : rows.Move) → is_card_said event ≡ false → IsStepped b.setup past event moved → IsToldOf b event past (Some moved)
 move_told b past event moved bet stepped =
     let made = made_move b.setup past event bet in
     ap (λ (p : Past). traced_moves b.setup (moves_of p)) made.made
     ∙ ap (λ (m : TracedMove). traced_moves b.setup (moves_of past) ++ m ∷ []) (sym (stepped made.move made.made))
 
 -- and after an event of cards
-pub none_told : (b : RunningNumbers) (past : Past) (event : Said) → is_card_said event ≡ true → IsToldOf b event past None
+pub none_told : (b : BettingState) (past : Past) (event : Said) → is_card_said event ≡ true → IsToldOf b event past None
 unfolding with_event
 none_told b past event card =
     ap (traced_moves b.setup) (moves_kept (resolved_on b.setup past (turn b.setup past).0 event) past (card_resolved b.setup past (turn b.setup past).0 event card))

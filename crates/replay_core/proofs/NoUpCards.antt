@@ -1,4 +1,4 @@
--- Where blinds decide who opens, no card is dealt face up.
+-- If blinds decide who opens, no card is dealt face up.
 use Rattle.std.proofs.Common.{◌≡◌, ℕ, zero, suc, ◌-◌, false, ◌&&◌, nat_lt, nat_le, List, [], ◌∷◌, map, slice_get, refl, ap}
 use Rattle.std.specs.Option.{option_map_or}
 use Rattle.play_event.specs.declared.code.Code.{Code}
@@ -10,8 +10,8 @@ use Rattle.play_event.specs.Past.{Past}
 use Rattle.play_event.specs.Places.{Place, is_held_by, is_up}
 use Rattle.play_event.specs.Streets.{down_cards_on}
 use Rattle.play_event.specs.Table.{places_of, up_cards}
-use Rattle.list_laws.proofs.Lists.{filter_none}
-use Rattle.list_laws.proofs.Tests.{and_off}
+use Rattle.card_set.proofs.Lists.{filter_none}
+use Rattle.card_set.proofs.Tests.{and_off}
 
 -- no street deals a card face up
 DealNoneUp : List Street → Type 0

@@ -1,4 +1,4 @@
--- Of a script one fault holds at most, and of a legal hand none.
+-- A script has at most one fault, and a legal hand has none.
 use Rattle.std.proofs.Common.{◌≡◌, ◌≢◌, ℕ, ◌-◌, ◌<◌, inl, inr, Option, Some, None, List, length, reverse, slice_get, refl, sym, ap, ◌∙◌, arith}
 use Rattle.std.specs.Option.{option_map}
 use Rattle.std.proofs.lemmas.Bool.{cases_lt, true≢false}
@@ -16,10 +16,10 @@ use Rattle.play_laws.proofs.LegalScripts.{legal_script}
 use Rattle.replay_core.specs.declared.fault.ReplayFault.{ReplayFault}
 use Rattle.replay_core.specs.declared.fault.ReplayFault.TheVariants as faults
 use Rattle.replay_core.specs.Events.{IsIllegalAt, said_by}
-use Rattle.replay_core.specs.Faults.{IsFaultOf, IsWant}
-use Rattle.list_laws.proofs.Options.{some_is_none}
+use Rattle.replay_core.specs.Faults.{IsFaultOf, IsOutOfMemory}
+use Rattle.card_set.proofs.Options.{some_is_none}
 
--- where an event is there, its index is within the script
+-- if an event is there, its index is within the script
 is_there : (script : List Event) (index at : ℕ) (found : Option Event) → slice_get script index ≡ found → option_map (λ (e : Event). e.at) found ≡ Some at → index < length script
 is_there script index at None is action = absurd (some_is_none (sym action))
 is_there script index at (Some event) is action = slice_get_within script index event is
@@ -50,7 +50,7 @@ same_illegal setup rules script event other at also reason why is it =
     ∙ ap (λ n. faults.Illegal other n reason) (same_Some at also actions)
     ∙ ap (faults.Illegal other also) (same_Some reason why reasons)
 
-pub one_fault : (setup : Setup) (rules : Rules) (script : List Event) (fault other : ReplayFault) → ¬ IsWant fault → ¬ IsWant other → IsFaultOf setup rules script fault → IsFaultOf setup rules script other → fault ≡ other
+pub one_fault : (setup : Setup) (rules : Rules) (script : List Event) (fault other : ReplayFault) → ¬ IsOutOfMemory fault → ¬ IsOutOfMemory other → IsFaultOf setup rules script fault → IsFaultOf setup rules script other → fault ≡ other
 one_fault setup rules script (faults.Illegal event at reason) (faults.Illegal other also why) told too is it = same_illegal setup rules script event other at also reason why is it
 one_fault setup rules script (faults.Illegal event at reason) (faults.EndsEarly events) told too is it = absurd (none_illegal setup rules script event at reason it.legal is)
 one_fault setup rules script (faults.Illegal event at reason) (faults.RakeTooBig pot) told too is it = absurd (none_illegal setup rules script event at reason it.played.legal is)
@@ -73,7 +73,7 @@ one_fault setup rules script (faults.NoShownHand pot) (faults.NoShownHand other)
 one_fault setup rules script (faults.NoShownHand pot) (faults.Memory memory) told too is it = absurd (too tt)
 one_fault setup rules script (faults.Memory memory) other told too is it = absurd (told tt)
 
-pub no_fault : (setup : Setup) (rules : Rules) (script : List Event) (fault : ReplayFault) → ¬ IsWant fault → IsLegalHand setup rules (said_by script) → IsFaultOf setup rules script fault → ⊥
+pub no_fault : (setup : Setup) (rules : Rules) (script : List Event) (fault : ReplayFault) → ¬ IsOutOfMemory fault → IsLegalHand setup rules (said_by script) → IsFaultOf setup rules script fault → ⊥
 no_fault setup rules script (faults.Illegal event at reason) told legal is = none_illegal setup rules script event at reason legal.played.legal is
 no_fault setup rules script (faults.EndsEarly events) told legal is = true≢false (sym is.early ∙ legal.played.complete)
 no_fault setup rules script (faults.RakeTooBig pot) told legal is = some_is_none (sym is.above ∙ legal.shareable.no_rake_above)

@@ -1,9 +1,10 @@
--- At the end of a hand each shown seat has cards that the game's pick can use, and the rows show what the trace shows.
+-- At the end of a hand each shown seat has cards that the game's pick can use, and the rows show
+-- what the trace shows.
 use Rattle.std.proofs.Common.{◌≡◌, ℕ, ◌+◌, ◌≤◌, true, false, ◌&&◌, ◌==◌, not, nat_le, Some, None, List, ◌++◌, filter, length, sym, ap, subst, ◌∙◌, arith}
 use Rattle.std.specs.List.{list_any}
 use Rattle.std.proofs.lemmas.List.{length-map}
-use Rattle.canon_blocks.proofs.TracedSlots.{discarded_same}
-use Rattle.canon_blocks.proofs.TraceOrder.{finals_of}
+use Rattle.canon_laws.proofs.TracedSlots.{discarded_same}
+use Rattle.canon_laws.proofs.TraceOrder.{finals_of}
 use Rattle.canon_laws.proofs.HeldSame.{any_held, held_script}
 use Rattle.play_event.specs.Held.{held_slots}
 use Rattle.card_set.specs.declared.card.Card.{Card}
@@ -18,7 +19,7 @@ use Rattle.chip_ledger.specs.Seat.{seats_of}
 use Rattle.deal_core.specs.Board.{board_cards}
 use Rattle.deal_core.proofs.Boards.{board_held}
 use Rattle.hand_canon.specs.LegalHand.{showdown_in}
-use Rattle.canon_script.specs.TraceCore.{core_of}
+use Rattle.play_event.specs.TraceCore.{core_of}
 use Rattle.card_set.specs.declared.pick.Pick.{Pick}
 use Rattle.play_event.specs.declared.hands.HandRow.{HandRow}
 use Rattle.play_event.specs.declared.setup.Rules.{Rules}
@@ -34,11 +35,11 @@ use Rattle.play_event.specs.Seats.{all_seats, is_live, live_count}
 use Rattle.play_event.specs.Showing.{has_mucked}
 use Rattle.play_event.specs.Table.{places_of}
 use Rattle.play_event.specs.Trace.{has_unknown_card, is_contested, is_mucked, is_shown}
-use Rattle.list_laws.proofs.NumbersOfRange.{filter_range}
-use Rattle.showdown_laws.specs.ContestedEnd.{EndContested}
-use Rattle.showdown_laws.proofs.Different.{cards_differ}
-use Rattle.showdown_laws.proofs.WholeBoards.{whole_boards}
-use Rattle.showdown_laws.proofs.WholeHands.{whole_hands}
+use Rattle.card_set.proofs.NumbersOfRange.{filter_range}
+use Rattle.play_laws.specs.ContestedEnd.{EndContested}
+use Rattle.play_laws.proofs.Different.{cards_differ}
+use Rattle.play_laws.proofs.WholeBoards.{whole_boards}
+use Rattle.play_laws.proofs.WholeHands.{whole_hands}
 use Rattle.showdown_split.specs.Hands.{holding, showdown_of}
 use Rattle.showdown_split.specs.Playable.{ArePlayable}
 use Rattle.showdown_split.proofs.Flagged.{is_flagged-flag}
@@ -49,7 +50,7 @@ use Rattle.replay_core.specs.EndRows.{flag_count, is_mucked_by, is_shown_by}
 use Rattle.replay_core.specs.Showdowns.{ShowTheSame}
 use Rattle.card_set.proofs.KnownCards.{all_known, all_known_length}
 
--- a hand is played to its end, and the rows have what they say of it
+-- a hand is played to its end, and the rows agree with it
 pub record IsEnd (setup : Setup) (rules : Rules) (events : List Said) (live mucked unknown shown : LiveRow) (hands : HandRow) (board : CardRow) : Type 0 where
   pub legal : AreLegal setup rules events
   pub finished : is_unfinished (turn setup (past_of setup events)).1 ≡ false

@@ -1,8 +1,8 @@
--- Where the play of a script stands after so many events, and after one more.
+-- The state of the play of a script after some events, and after one more.
 use Rattle.std.proofs.Common.{◌≡◌, ℕ, ◌+◌, ◌-◌, ◌<◌, inl, inr, Option, Some, None, List, slice_get, option_and_then, sym, subst, ◌∙◌, ap, arith}
 use Rattle.std.specs.Option.{option_map}
 use Rattle.std.proofs.lemmas.Bool.{cases_lt}
-use Rattle.betting_numbers.specs.declared.running.RunningNumbers.{RunningNumbers}
+use Rattle.betting_numbers.specs.declared.betting_state.BettingState.{BettingState}
 use Rattle.card_places.specs.declared.card_state.CardState.{CardState}
 use Rattle.replay_core.specs.Together.{StandTogether}
 use Rattle.play_event.specs.declared.event.Event.{Event}
@@ -19,8 +19,8 @@ use Rattle.replay_core.specs.declared.fault.ReplayFault.TheVariants as faults
 use Rattle.replay_core.specs.Events.{AreMovesOf, AreRefused, IsRefusedEvent, said_by}
 use Rattle.play_event.proofs.SaidSoFar.{IsNext, said_next, so_far}
 
--- where the play of a script stands after so many events
-pub record IsPlayedTo (setup : Setup) (rules : Rules) (script : List Event) (count : ℕ) (b : RunningNumbers) (t : CardState) (told : List rows.Move) : Type 0 where
+-- the state of the play of a script after this many events
+pub record IsPlayedTo (setup : Setup) (rules : Rules) (script : List Event) (count : ℕ) (b : BettingState) (t : CardState) (told : List rows.Move) : Type 0 where
   pub earlier : (index : ℕ) → index < count → why_at setup rules (said_by script) index ≡ None
   pub legal : AreLegal setup rules (so_far script count)
   pub stands : StandTogether b t (past_of setup (so_far script count))
@@ -30,7 +30,7 @@ why_next : (setup : Setup) (rules : Rules) (script : List Event) (count : ℕ) (
 why_next setup rules script count event found at is = ap (option_and_then (why setup rules (past_after setup (said_by script) count))) (said_next script count event at) ∙ is
 
 -- and after one more
-pub one_more : (setup : Setup) (rules : Rules) (script : List Event) (count : ℕ) (event : Event) (more : List Event) (b next : RunningNumbers) (t after : CardState) (moves longer : List rows.Move)
+pub one_more : (setup : Setup) (rules : Rules) (script : List Event) (count : ℕ) (event : Event) (more : List Event) (b next : BettingState) (t after : CardState) (moves longer : List rows.Move)
     → IsNext script count event more → IsPlayedTo setup rules script count b t moves
     → why setup rules (past_of setup (so_far script count)) (said_of event) ≡ None
     → StandTogether next after (with_event setup (said_of event) (past_of setup (so_far script count)))
@@ -51,7 +51,7 @@ one_more setup rules script count event more b next t after moves longer is play
     }
 
 -- the first illegal event
-pub refused_at : (setup : Setup) (rules : Rules) (script : List Event) (count : ℕ) (event : Event) (more : List Event) (b : RunningNumbers) (t : CardState) (moves : List rows.Move) (fault : ReplayFault)
+pub refused_at : (setup : Setup) (rules : Rules) (script : List Event) (count : ℕ) (event : Event) (more : List Event) (b : BettingState) (t : CardState) (moves : List rows.Move) (fault : ReplayFault)
     → IsNext script count event more → IsPlayedTo setup rules script count b t moves → b.setup ≡ setup → b.rules ≡ rules → IsRefusedEvent b event (count + 1) (past_of setup (so_far script count)) fault → AreRefused setup rules script fault
 refused_at setup rules script count event more b t moves (faults.Illegal told at reason) is played same_setup same_rules refused =
     let index : told - 1 ≡ count = omega (arith, refused.0) in

@@ -10,7 +10,7 @@ use Rattle.chip_ledger.specs.Rakes.{first_rake_above, nets_of}
 use Rattle.chip_ledger.specs.SeatRow.{amount_of}
 use Rattle.hand_records.specs.declared.trace.Trace.{Trace}
 use Rattle.hand_canon.specs.LegalHand.{showdown_in}
-use Rattle.canon_script.specs.TraceCore.{core_of}
+use Rattle.play_event.specs.TraceCore.{core_of}
 use Rattle.hand_records.specs.TraceRows.{core_said}
 use Rattle.hand_canon.specs.WholeTrace.{IsTraceOf}
 use Rattle.play_event.specs.declared.setup.Setup.{Setup}
@@ -23,7 +23,7 @@ use Rattle.replay_core.specs.AtEnd.{IsAtEnd}
 use Rattle.replay_core.specs.EndRows.{ArePotsOf}
 use Rattle.replay_core.proofs.EndTrace.{finish_is, nets_of_seats, pots_of_seats, same_core}
 use Rattle.replay_core.proofs.SameShowdown.{AreOfSeats, all_same, same_first}
-use Rattle.list_laws.proofs.NumbersOfRange.{map_agree}
+use Rattle.card_set.proofs.NumbersOfRange.{map_agree}
 
 -- what is paid of the pots of a hand at its end
 pub record IsPaid (setup : Setup) (hand : HandAtEnd) (pots : PotRow) (shares : ShareRow) (finish : SeatRow) : Type 0 where
@@ -43,7 +43,7 @@ module _ (setup : Setup) (past : Past) (hand : HandAtEnd) (pots : PotRow) (is : 
       sym (ap (first_unshown (showdown_in setup (core_of setup past))) are.pots)
       ∙ sym (same_first (showdown_of hand.hands hand.board hand.shown) (showdown_in setup (core_of setup past)) (plain_pots pots) is.shows inside)
 
-  -- the first rake above its pot
+  -- the first rake that is more than its pot
   pub rake_is : first_rake_above setup.rakes (core_of setup past).pots ≡ first_rake_above setup.rakes (plain_pots pots)
   rake_is = ap (first_rake_above setup.rakes) (sym are.pots)
 

@@ -1,11 +1,11 @@
--- A script was played to its end, and rows say what is there then.
+-- A script was played to its end, and rows hold the state at that point.
 use Rattle.std.specs.Prelude.{◌≡◌, ◌≢◌, ℕ, ◌≤◌, false, List, [], map, filter, reverse}
-use Rattle.betting_numbers.specs.declared.running.RunningNumbers.{RunningNumbers}
+use Rattle.betting_numbers.specs.declared.betting_state.BettingState.{BettingState}
 use Rattle.card_places.specs.declared.card_state.CardState.{CardState}
 use Rattle.chip_ledger.specs.LiveRow.{flagged}
 use Rattle.chip_ledger.specs.SeatRow.{amount_of}
 use Rattle.hand_canon.specs.LegalHand.{showdown_in}
-use Rattle.canon_script.specs.TraceCore.{core_of}
+use Rattle.play_event.specs.TraceCore.{core_of}
 use Rattle.hand_records.specs.TraceRows.{place_said}
 use Rattle.card_set.specs.declared.pick.Pick.{Pick}
 use Rattle.play_event.specs.declared.setup.Rules.{Rules}
@@ -28,9 +28,9 @@ use Rattle.replay_core.specs.Events.{AreMovesOf}
 use Rattle.replay_core.specs.Showdowns.{ShowTheSame}
 use Rattle.replay_core.specs.Together.{StandTogether}
 
--- betting and cards stand at the end of a script: its events are legal, and nothing is due but
--- shows
-pub record StandAtEnd (setup : Setup) (rules : Rules) (script : List Said) (b : RunningNumbers)
+-- betting and cards describe the end of a script: its events are legal, and nothing but shows is
+-- due
+pub record StandAtEnd (setup : Setup) (rules : Rules) (script : List Said) (b : BettingState)
     (t : CardState) : Type 0 where
   pub same_setup : b.setup ≡ setup
   pub legal : AreLegal setup rules (reverse script)
@@ -46,12 +46,12 @@ pub record HasSeatRows (seats : ℕ) (hand : HandAtEnd) : Type 0 where
   pub mucked : hand.mucked.seats ≡ seats
   pub hands : hand.hands.seats ≡ seats
 
--- rows say what is there at the end of a past
+-- rows hold the state at the end of a past
 pub record IsAtEnd (setup : Setup) (past : Past) (hand : HandAtEnd) : Type 0 where
   pub seats : HasSeatRows setup.stacks.seats hand
   -- some seat is live
   pub someone : flagged hand.live ≢ []
-  -- the seats that are live, and the chips that each seat put
+  -- the seats that are live, and the chips that each seat put in
   pub stakes : AreRowsOf setup (moves_of past) hand.puts hand.live
   -- the chips that each seat has left
   pub left : (seat : ℕ) → 1 ≤ seat → seat ≤ setup.stacks.seats
@@ -59,7 +59,7 @@ pub record IsAtEnd (setup : Setup) (past : Past) (hand : HandAtEnd) : Type 0 whe
   -- who is shown, and who mucks
   pub shown : flagged hand.shown ≡ filter (is_shown setup past) (all_seats setup)
   pub mucked : flagged hand.mucked ≡ filter (is_mucked setup past) (all_seats setup)
-  -- hands and board are those of the trace, and can be compared where the game's pick is usable
+  -- hands and board are those of the trace, and can be compared if the game's pick works on them
   pub shows :
       ShowTheSame (showdown_of hand.hands hand.board hand.shown)
       (showdown_in setup (core_of setup past))

@@ -1,4 +1,4 @@
--- Rows of the end of a hand: what they say of its past.
+-- Rows at the end of a hand, and what they mean for its past.
 use Rattle.std.specs.Prelude.{◌≡◌, ℕ, ◌≤◌, ◌&&◌, Bool, not, nat_le, count_by, List}
 use Rattle.chip_ledger.specs.declared.pots.PotRow.{PotRow}
 use Rattle.chip_ledger.specs.declared.live_row.LiveRow.{LiveRow}
@@ -13,12 +13,12 @@ use Rattle.play_event.specs.Past.{Move, Past, moves_of}
 use Rattle.play_event.specs.Seats.{is_live}
 use Rattle.play_event.specs.Stakes.{pots_after, returned_after}
 
--- how many seats of a row are flagged
+-- how many seats of a row have the flag
 abbrev pub flag_count : LiveRow → ℕ
 flag_count row = count_by (flag_of row) (seats_of row.seats)
 
--- a seat is shown: the hand is contested, the seat is live and did not muck, and no card of it is
--- unknown
+-- a seat is shown: the hand is contested, the seat is live and did not muck, and all its cards are
+-- known
 abbrev pub is_shown_by : (live mucked unknown : LiveRow) → ℕ → Bool
 is_shown_by live mucked unknown seat =
     nat_le 2 (flag_count live) && flag_of live seat && not (flag_of mucked seat)
@@ -29,7 +29,8 @@ abbrev pub is_mucked_by : (live shown : LiveRow) → ℕ → Bool
 is_mucked_by live shown seat =
     nat_le 2 (flag_count live) && flag_of live seat && not (flag_of shown seat)
 
--- the rows have the chips that each seat put in these moves, and the seats that are live after them
+-- the rows have the chips that each seat put in by these moves, and the seats that are live after
+-- them
 pub record AreRowsOf (setup : Setup) (moves : List Move) (put : SeatRow) (live : LiveRow) : Type 0
   where
     pub puts : (seat : ℕ) → 1 ≤ seat → seat ≤ setup.stacks.seats

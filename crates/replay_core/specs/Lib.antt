@@ -1,4 +1,4 @@
--- For which pasts the betting and the cards of a hand stand together, what a step tells, and what a
+-- Which pasts the betting and the cards of a hand both describe, what a step returns, and what a
 -- replay answers.
 pub mod Together
 pub mod Told

@@ -3,7 +3,7 @@ use Rattle.std.specs.Prelude.{List}
 use Rattle.hand_records.specs.declared.trace.Trace.{Trace}
 use Rattle.hand_canon.specs.Agreement.{HasBoundedPots}
 use Rattle.hand_canon.specs.LegalHand.{IsLegalHand}
-use Rattle.canon_script.specs.Tidy.{IsTidy}
+use Rattle.play_event.specs.Tidy.{IsTidy}
 use Rattle.hand_records.specs.TraceRows.{core_said}
 use Rattle.hand_canon.specs.WholeTrace.{IsTraceOf}
 use Rattle.play_event.specs.declared.setup.Rules.{Rules}
@@ -21,5 +21,5 @@ pub record IsReplayOf (setup : Setup) (rules : Rules) (script : List Said) (repl
   pub conserved : IsConserved setup (past_at_end setup script) replayed
   -- its canonical script can be written
   pub tidy : IsTidy (core_said replayed)
-  -- no pot is above what a row may hold
+  -- no pot is more than a row can hold
   pub bounded : HasBoundedPots replayed

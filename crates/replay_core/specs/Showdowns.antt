@@ -1,9 +1,9 @@
--- Two showdowns show the same.
+-- Two showdowns with the same shown hands.
 use Rattle.std.specs.Prelude.{◌≡◌, ℕ, ◌≤◌, true}
 use Rattle.variant_table.specs.Shares.{Showdown}
 
--- they are of the same seats, the same of them are shown, these hold the same cards, and the board
--- is the same
+-- they have the same seats, the same seats are shown and hold the same cards, and the board is the
+-- same
 pub record ShowTheSame (a b : Showdown) : Type 0 where
   pub seats : a.seats ≡ b.seats
   pub shown : (seat : ℕ) → 1 ≤ seat → seat ≤ a.seats → a.shown seat ≡ b.shown seat

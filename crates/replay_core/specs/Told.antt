@@ -1,6 +1,6 @@
--- What one event more adds to the moves of the trace.
+-- What one more event adds to the moves of the trace.
 use Rattle.std.specs.Prelude.{◌≡◌, ℕ, List, [], ◌∷◌, ◌++◌, Option, Some, None}
-use Rattle.betting_numbers.specs.declared.running.RunningNumbers.{RunningNumbers}
+use Rattle.betting_numbers.specs.declared.betting_state.BettingState.{BettingState}
 use Rattle.betting_numbers.specs.LegalMoves.{past_with}
 use Rattle.card_places.specs.declared.card_state.CardState.{CardState}
 use Rattle.replay_core.specs.Together.{StandTogether}
@@ -11,26 +11,26 @@ use Rattle.play_event.specs.Said.{Said}
 use Rattle.play_event.specs.Trace.{TracedMove, traced_moves}
 use Rattle.chip_ledger.specs.Seat.{IsSeatOf}
 
--- after each past for which both stand
-abbrev pub WhereTogether : RunningNumbers → CardState → (Past → Type 0) → Type 0
+-- after each past that both betting and cards describe
+abbrev pub WhereTogether : BettingState → CardState → (Past → Type 0) → Type 0
 WhereTogether b t P = (past : Past) → StandTogether b t past → P past
 
--- a row of so many seats has those of the hand, and this is so of each of them after each past
--- for which both stand
-pub record TellsOfHand (count : ℕ) (b : RunningNumbers) (t : CardState) (P : Past → ℕ → Type 0)
+-- a row of this many seats has those of the hand, and this holds for each of them after each past
+-- that both describe
+pub record TellsOfHand (count : ℕ) (b : BettingState) (t : CardState) (P : Past → ℕ → Type 0)
     : Type 0 where
   pub seats : count ≡ b.setup.stacks.seats
   pub each : WhereTogether b t (λ past.
       (seat : ℕ) → IsSeatOf b.setup.stacks.seats seat → P past seat)
 
--- a move that is told, if one is
+-- the move that is returned, if one is
 abbrev pub moves_told : Option rows.Move → List TracedMove
 moves_told None = []
 moves_told (Some move) = move_said move ∷ []
 
--- the moves of the trace after an event are those before it and the one that is told; of an event
--- of cards none is told
-abbrev pub IsToldOf : RunningNumbers → Said → Past → Option rows.Move → Type 0
+-- the moves of the trace after an event are those before it and the one that is returned; for an
+-- event of cards none is returned
+abbrev pub IsToldOf : BettingState → Said → Past → Option rows.Move → Type 0
 IsToldOf b event past told =
     traced_moves b.setup (moves_of (past_with b past event))
     ≡ traced_moves b.setup (moves_of past) ++ moves_told told

@@ -1,4 +1,4 @@
-//! The end of a hand: what the machines leave, in rows.
+//! The end of a hand, as rows: what the betting and the cards leave.
 ghost use Rattle.std.specs.Prelude.{◌≡◌, List, IfOk};
 ghost use Rattle.play_event.specs.Said.{Said};
 ghost use Rattle.play_event.specs.Scripts.{past_at_end};
@@ -17,7 +17,7 @@ use play_event::HandRow;
 use std::alloc::Global;
 use variant_table::Variant;
 
-/// A hand that was played to its end: who is live, what each seat put and has left, who is shown
+/// A hand that was played to its end: who is live, what each seat put in and has left, who is shown
 /// and who mucks, the hands and the board, and the cards and the moves of the trace.
 #[derive(Drop)]
 pub struct HandAtEnd {

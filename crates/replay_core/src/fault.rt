@@ -2,18 +2,18 @@
 use card_set::Memory;
 use play_event::Illegal;
 
-/// Why a script has no trace, in the order in which it is looked for. Want of memory may stand in
-/// place of each.
+/// Why a script has no trace, in the order in which faults are looked for. Out of memory may come
+/// instead of each.
 #[derive(Clone, Copy, Debug, PartialEq, Eq)]
 pub enum ReplayFault {
-    /// An event is illegal after legal ones. It is counted from 1, and `at` is the number of its
+    /// An event is illegal after legal ones. `event` counts from 1, and `at` is the number of its
     /// action.
     Illegal { event: u32, at: u32, why: Illegal },
-    /// All events are legal, and a deal, a draw, a bring-in or a move is due.
+    /// All events are legal, but a deal, a draw, a bring-in or a move is still due.
     EndsEarly { events: u32 },
-    /// The first pot, from 1, whose rake is above its chips.
+    /// The first pot, from 1, whose rake is more than its chips.
     RakeTooBig { pot: u8 },
-    /// The first pot, from 1, that two or more seats may win, and for which none of them has shown.
+    /// The first pot, from 1, that two or more seats may win, but none of these seats has shown.
     NoShownHand { pot: u8 },
     Memory(Memory),
 }

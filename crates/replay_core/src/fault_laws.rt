@@ -1,4 +1,4 @@
-//! The law of faults.
+//! A script has at most one fault.
 ghost use Rattle.std.specs.Prelude.{◌≡◌, ◌≢◌, List};
 ghost use Rattle.hand_canon.specs.LegalHand.{IsLegalHand};
 ghost use Rattle.play_event.specs.declared.event.Event.{Event};
@@ -9,7 +9,7 @@ ghost use Rattle.replay_core.specs.Faults.{IsFaultOf};
 ghost use Rattle.replay_core.specs.declared.fault.ReplayFault.TheVariants as faults;
 ghost use Rattle.replay_core.specs.declared.fault.ReplayFault.{ReplayFault};
 
-/// Of a script one fault holds at most, but for want of memory, and of a legal hand none. The
+/// A script has at most one fault, apart from out of memory, and a legal hand has none. The
 /// function does nothing: its contract is a law.
 pub fn law_of_one_fault()
     ensures one { (setup : Setup) (rules : Rules) (script : List Event) (fault other : ReplayFault)

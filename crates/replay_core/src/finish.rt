@@ -1,4 +1,4 @@
-//! What each seat ends with.
+//! What each player finishes with.
 ghost use Rattle.std.specs.Prelude.{◌≡◌, ◌+◌, ◌≤◌, ℕ, All, sum_by};
 ghost use Rattle.chip_ledger.specs.PotRow.{shares_in};
 ghost use Rattle.chip_ledger.specs.SeatRow.{amount_of};
@@ -6,7 +6,8 @@ ghost use Rattle.chip_ledger.specs.declared.seat_row.TheConstants.{MOST_AMOUNT};
 
 use chip_ledger::{Seat, SeatRow, ShareRow};
 
-/// What each seat ends with: the chips that it has left, those returned to it, and its shares.
+/// What each player finishes with: the chips that are left, those returned, and the shares of the
+/// pots.
 pub fn finish_row(left: &SeatRow, returned: &SeatRow, shares: &ShareRow) -> SeatRow
     requires returned { returned.now.seats ≡ left.now.seats }
     requires shares { All (λ row. row.seats ≡ left.now.seats) (shares_in shares.now) }

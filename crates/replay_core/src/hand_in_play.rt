@@ -1,4 +1,4 @@
-//! The betting and the cards of a hand, and one event more of it.
+//! The betting and the cards of a hand, and how one more event changes them.
 ghost use Rattle.std.specs.Prelude.{◌≡◌, [], true, false, OnErr};
 ghost use Rattle.betting_numbers.specs.UpSeen.{HoldsOpeningUps};
 ghost use Rattle.chip_ledger.specs.LiveRow.{flag_of};
@@ -12,9 +12,9 @@ ghost use Rattle.play_event.specs.Said.{said_of};
 ghost use Rattle.play_event.specs.Seats.{is_live};
 ghost use Rattle.play_event.specs.ValidSetup.{IsValid};
 ghost use Rattle.play_event.specs.declared.reason.Due.TheVariants as dues;
-ghost use Rattle.street_laws.specs.CardEvents.{is_card_said};
-ghost use Rattle.street_laws.specs.Done.{is_done};
-ghost use Rattle.street_laws.specs.Dues.{IsDueWithin};
+ghost use Rattle.play_laws.specs.CardEvents.{is_card_said};
+ghost use Rattle.play_laws.specs.Done.{is_done};
+ghost use Rattle.play_laws.specs.Dues.{IsDueWithin};
 ghost use Rattle.replay_core.specs.Together.{StandTogether, StandUpToDue};
 ghost use Rattle.replay_core.specs.Advances.{Advances, IsHandOf};
 ghost use Rattle.replay_core.specs.Told.{TellsOfHand, WhereTogether};
@@ -27,13 +27,13 @@ use variant_table::Variant;
 
 /// A hand of the game `V` at some moment: its betting and its cards.
 ///
-/// What the calls say of the past holds for every past for which betting and cards stand
+/// What the methods say of the past holds for every past that both betting and cards describe
 /// (`StandTogether`).
 #[derive(Drop)]
 pub struct HandInPlay<V: Variant> {
     pub betting: Betting<V>,
     pub cards: Cards<V>,
-    /// The cards are those of the seats that bet.
+    /// Cards and betting have the same seats.
     pub ghost seats: { betting.setup.stacks.seats ≡ cards.seats },
 }
 
@@ -53,7 +53,7 @@ impl<V: Variant> HandInPlay<V> {
         }
     }
 
-    /// The chips that each seat has put in this hand, antes included.
+    /// The chips that each seat has put into this hand, antes included.
     pub fn puts(&self) -> SeatRow
         ensures { TellsOfHand result.seats self.now.betting self.now.cards
             (λ past seat. amount_of result seat
@@ -71,9 +71,9 @@ impl<V: Variant> HandInPlay<V> {
         self.betting.stacks()
     }
 
-    /// One event more. It is illegal exactly by the rules, and the hand is then as it was. A fold,
-    /// a call, a raise or a bring-in is told as the trace keeps it, and of other events nothing is
-    /// told.
+    /// Plays one more event. It is illegal if and only if the rules say so, and then the hand stays
+    /// as it was. A fold, a call, a raise or a bring-in is returned as the trace keeps it; for
+    /// other events nothing is returned.
     pub fn advance(&mut self, event: &Event) -> Result<Option<Move>, Illegal>
         ensures advanced { Advances
             self.old.betting self.new.betting
@@ -99,7 +99,7 @@ impl<V: Variant> HandInPlay<V> {
         }
     }
 
-    // A move, and for a fold what it does to the cards.
+    // Plays a move, and for a fold updates the cards.
     fn bet(&mut self, event: &Event) -> Result<Option<Move>, Illegal>
         requires { is_card_said (said_of event.now) ≡ false }
         ensures advanced { Advances
@@ -118,15 +118,15 @@ impl<V: Variant> HandInPlay<V> {
         Ok(Some(moved))
     }
 
-    /// The up-cards of each seat, where no seat has moved on the street yet: there they decide in
-    /// stud who opens it. After that nobody reads them, and the row is empty. Where blinds decide
-    /// who opens, no card is dealt face up.
+    /// The up-cards of each seat, if no seat has moved on the street yet: in stud they decide who
+    /// opens it. After that nobody reads them, and the row is empty. In games with blinds no card
+    /// is dealt face up.
     pub fn opening_up_cards(&self) -> UpRow
         ensures seats { result.seats ≡ self.now.cards.seats }
         ensures ups { WhereTogether self.now.betting self.now.cards
             (HoldsOpeningUps self.now.betting result) }
     {
-        if self.betting.is_unmoved() {
+        if self.betting.nobody_acted() {
             match V::OPEN {
                 Opener::Blinds => UpRow::new(self.cards.seats()),
                 Opener::LowUp | Opener::HighUp => self.cards.up(),
@@ -136,7 +136,7 @@ impl<V: Variant> HandInPlay<V> {
         }
     }
 
-    // An event of cards, and the end of what it completes.
+    // Plays an event of cards, and ends what it completes.
     fn take_cards(&mut self, event: &Event) -> Result<Option<Move>, Illegal>
         requires { is_card_said (said_of event.now) ≡ true }
         ensures advanced { Advances
@@ -156,7 +156,7 @@ impl<V: Variant> HandInPlay<V> {
         }
     }
 
-    // Ends what is due, and the showdown behind it, where they are complete.
+    // Ends what is due, and then the showdown, if they are complete.
     fn end(&mut self)
         ensures stands { (past : Past)
             → StandUpToDue self.old.betting self.old.cards past
@@ -218,7 +218,7 @@ impl<V: Variant> HandInPlay<V> {
     }
 }
 
-// The act is a fold.
+// Whether the act is a fold.
 fn folds(act: Act) -> bool
     ensures { result ≡ is_fold (act_said act) }
 {
@@ -228,7 +228,7 @@ fn folds(act: Act) -> bool
     }
 }
 
-// Puts an event of cards to the cards: a deal, a discard, a show or a muck.
+// Applies an event of cards: a deal, a discard, a show or a muck.
 fn lay<V: Variant>(
     cards: &mut Cards<V>,
     due: Due,
@@ -249,7 +249,7 @@ fn lay<V: Variant>(
         Kind::Show { seat: _, cards: _ } | Kind::Muck { seat: _ } => {
             cards.show(due, live, settled, event)
         }
-        // The condition leaves no other kind.
+        // The precondition allows no other kind.
         _ => Err(Illegal::WrongKind),
     }
 }

@@ -1,4 +1,4 @@
-//! A script is replayed event by event, to its trace or to what is wrong with it.
+//! Replays a script event by event, to its trace or to what is wrong with it.
 #![tactic(auto)]
 
 mod ending;

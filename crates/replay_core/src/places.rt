@@ -1,4 +1,4 @@
-//! The places of the trace.
+//! The cards of the trace, with who was dealt them and when.
 ghost use Rattle.std.specs.Prelude.{◌≡◌, ◌+◌, ◌++◌, ◌≤◌, [], ◌∷◌, IfOk, OnOk, map};
 ghost use Rattle.card_places.specs.Ordered.{on_seats, on_street, on_streets};
 ghost use Rattle.card_places.specs.Plain.{place_of};
@@ -31,7 +31,7 @@ pub fn places_of<V: Variant>(alloc: Global, cards: &Cards<V>) -> Result<Places, 
     Ok(places)
 }
 
-// Puts the cards of so many streets, behind those of the streets before them.
+// Appends the cards of these streets after those of earlier streets.
 fn push_streets(
     places: &mut Places,
     dealt: &[DealtCard],
@@ -51,7 +51,7 @@ fn push_streets(
     push_streets(places, dealt, seats, before + 1, count - 1)
 }
 
-// Puts the cards of a street: first those of the seats, and then the board's.
+// Appends the cards of a street: first those of the seats, and then the board's.
 fn push_street(
     places: &mut Places,
     dealt: &[DealtCard],
@@ -66,7 +66,7 @@ fn push_street(
     push_group(places, dealt, None, street)
 }
 
-// Puts the cards of a street that so many seats have, from this one on.
+// Appends the cards that the seats from this one on were dealt on a street.
 fn push_seats(
     places: &mut Places,
     dealt: &[DealtCard],
@@ -86,7 +86,7 @@ fn push_seats(
     push_seats(places, dealt, street, first + 1, count - 1)
 }
 
-// Puts the cards of an owner on a street, in the order of dealing.
+// Appends the cards of an owner on a street, in the order of dealing.
 fn push_group(
     places: &mut Places,
     dealt: &[DealtCard],
@@ -105,7 +105,7 @@ fn push_group(
     }
 }
 
-// Puts a card, if it is the owner's on the street.
+// Appends a card, if it belongs to the owner and the street.
 fn push_if(
     places: &mut Places,
     card: &DealtCard,

@@ -1,10 +1,10 @@
-//! The events of a script, one after the other.
+//! Plays the events of a script, one after the other.
 ghost use Rattle.std.specs.Prelude.{◌≡◌, ◌<◌, ◌^◌, ◌++◌, [], length, map, reverse, None, IfErr, IfOk, OnOk};
 ghost use Rattle.betting_numbers.specs.LegalMoves.{past_with, reason_after};
 ghost use Rattle.betting_core.specs.Kept.{IsSameHand};
 ghost use Rattle.replay_core.specs.Together.{StandTogether};
 ghost use Rattle.replay_core.specs.Told.{WhereTogether, moves_told};
-ghost use Rattle.canon_script.specs.PlayedScript.{IsPlayed, IsWithinLimits};
+ghost use Rattle.play_event.specs.PlayedScript.{IsPlayed, IsWithinLimits};
 ghost use Rattle.play_event.specs.Due as dues;
 ghost use Rattle.play_event.specs.Laws.{AreLegal};
 ghost use Rattle.play_event.specs.Played.{move_said};
@@ -24,7 +24,7 @@ use play_event::{Due, Event, Move, Rules, Script, Setup};
 use std::alloc::Global;
 use variant_table::Variant;
 
-/// Plays a script to its end, or tells what keeps it from that.
+/// Plays a script to its end, or reports what prevents it.
 pub fn play_out<V: Variant>(
     alloc: Global,
     setup: &Setup,
@@ -85,7 +85,7 @@ fn play_events<V: Variant>(
     Ok(count)
 }
 
-// Plays one event more, the one with this number.
+// Plays one more event, with this number.
 fn play_event<V: Variant>(
     hand: &mut HandInPlay<V>,
     moves: &mut Moves,
@@ -119,7 +119,7 @@ fn play_event<V: Variant>(
     }
 }
 
-// Puts a move that is told after the others.
+// Appends a move, if there is one.
 fn tell(moves: &mut Moves, told: Option<Move>) -> Result<(), Memory>
     ensures { OnOk result (map move_said moves.new ≡ map move_said moves.old ++ moves_told told) }
 {
@@ -129,7 +129,7 @@ fn tell(moves: &mut Moves, told: Option<Move>) -> Result<(), Memory>
     }
 }
 
-// A script may not end while this is due.
+// Whether a script may not end while this is due.
 fn is_unfinished(due: Due) -> bool
     ensures { result ≡ dues.is_unfinished due }
 {

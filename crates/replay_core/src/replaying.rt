@@ -1,9 +1,9 @@
-//! A script under its setup and rules, to its trace.
+//! Replays a script under its setup and rules, to its trace.
 ghost use Rattle.std.specs.Prelude.{◌≡◌, IfErr, IfOk, OnOk};
 ghost use Rattle.hand_canon.specs.Agreement.{HasBoundedPots};
-ghost use Rattle.canon_script.specs.PlayedScript.{IsWithinLimits};
+ghost use Rattle.play_event.specs.PlayedScript.{IsWithinLimits};
 ghost use Rattle.hand_canon.specs.LegalHand.{IsLegalHand};
-ghost use Rattle.canon_script.specs.Tidy.{IsTidy};
+ghost use Rattle.play_event.specs.Tidy.{IsTidy};
 ghost use Rattle.hand_records.specs.TraceRows.{core_said};
 ghost use Rattle.hand_canon.specs.WholeTrace.{IsTraceOf};
 ghost use Rattle.play_event.specs.Scripts.{past_at_end};
@@ -25,7 +25,7 @@ use variant_table::{Variant, by_code};
 
 /// The trace of a script under its setup and rules, or what is wrong with the script.
 ///
-/// It goes over the events once. Ask for a valid setup and for a script within the limits of a
+/// It goes over the events once. The setup must be valid, and the script within the limits of a
 /// hand.
 pub fn replay(
     alloc: Global,
@@ -36,13 +36,13 @@ pub fn replay(
     requires valid { IsValid setup.now }
     requires within { IsWithinLimits (said_by script.now) }
 
-    // The trace of the rules, where the hand is legal; else what is wrong first.
+    // The trace of the rules, if the hand is legal; else the first fault.
     ensures trace { IfOk result (IsTraceOf setup.now (past_at_end setup.now (said_by script.now))) }
     ensures legal { OnOk result (IsLegalHand setup.now rules.now (said_by script.now)) }
     ensures fault { IfErr result (IsFaultOf setup.now rules.now script.now) }
 
-    // What follows: no chip is made or lost, the canonical script can be written, and stated facts
-    // can be compared.
+    // It follows that no chip is made or lost, that the canonical script can be written, and that
+    // stated facts can be compared.
     ensures conserved { IfOk result
         (IsConserved setup.now (past_at_end setup.now (said_by script.now))) }
     ensures tidy { IfOk result (λ trace. IsTidy (core_said trace)) }
@@ -51,7 +51,7 @@ pub fn replay(
     replay_by_code(alloc, setup, rules, script)
 }
 
-// A script of the game that its setup names.
+// Replays a script of the game that its setup names.
 fn replay_by_code(
     alloc: Global,
     setup: &Setup,
@@ -67,7 +67,7 @@ fn replay_by_code(
     by_code!(setup.code, replay_of(alloc, setup, rules, script))
 }
 
-// A script of the game `V`.
+// Replays a script of the game `V`.
 fn replay_of<V: Variant>(
     alloc: Global,
     setup: &Setup,

@@ -5,8 +5,8 @@ ghost use Rattle.replay_core.specs.EndRows.{flag_count, is_mucked_by, is_shown_b
 
 use chip_ledger::{LiveRow, Seat};
 
-/// Which seats are shown: the live seats of a contested hand that did not muck, and all of whose
-/// cards are known.
+/// Which seats are shown: if the hand is contested, the live seats that did not muck and whose
+/// cards are all known.
 pub fn shown_row(live: &LiveRow, mucked: &LiveRow, unknown: &LiveRow) -> LiveRow
     ensures seats { result.seats ≡ live.now.seats }
     ensures flags { (n : ℕ) → 1 ≤ n → n ≤ live.now.seats
@@ -24,7 +24,7 @@ pub fn shown_row(live: &LiveRow, mucked: &LiveRow, unknown: &LiveRow) -> LiveRow
     row
 }
 
-/// Which seats muck: the live seats of a contested hand that are not shown.
+/// Which seats muck: if the hand is contested, the live seats that are not shown.
 pub fn mucked_row(live: &LiveRow, shown: &LiveRow) -> LiveRow
     ensures seats { result.seats ≡ live.now.seats }
     ensures flags { (n : ℕ) → 1 ≤ n → n ≤ live.now.seats
@@ -41,7 +41,7 @@ pub fn mucked_row(live: &LiveRow, shown: &LiveRow) -> LiveRow
     row
 }
 
-// How many seats of the row are flagged.
+// How many seats of the row have the flag.
 #[tactic(auto, using(chip_ledger::proofs::SeatLists::count_more))]
 fn flag_count(row: &LiveRow) -> u8
     ensures { result ≡ flag_count row.now }

@@ -1,4 +1,4 @@
-//! The pots of a hand, from what its seats put.
+//! The pots of a hand, from what its seats put in.
 ghost use Rattle.std.specs.Prelude.{◌≡◌, ◌≢◌, ◌+◌, ◌≤◌, ℕ, [], All, sum_by};
 ghost use Rattle.chip_ledger.specs.LiveRow.{flagged};
 ghost use Rattle.chip_ledger.specs.PotRow.{pots_in};
@@ -14,8 +14,8 @@ use chip_ledger::{LiveRow, PotRow, Seat, SeatRow, total};
 use play_event::Setup;
 use side_pots::pots;
 
-/// The pots of a hand after which each seat has put so much and these seats are live, and what is
-/// returned.
+/// The pots of a hand in which each seat has put in these chips and these seats are live, and what
+/// is returned.
 pub fn pots_of(setup: &Setup, puts: &SeatRow, live: &LiveRow) -> PotRow
     requires valid { IsValid setup.now }
     requires puts { puts.now.seats ≡ setup.now.stacks.seats }
@@ -26,11 +26,11 @@ pub fn pots_of(setup: &Setup, puts: &SeatRow, live: &LiveRow) -> PotRow
     requires posted { (n : ℕ) → 1 ≤ n → n ≤ setup.now.stacks.seats
         → amount_of setup.now.antes n ≤ amount_of puts.now n }
 
-    // The rule, exactly.
+    // The exact rule.
     ensures pots { (past : Past) → AreRowsOf setup.now (moves_of past) puts.now live.now
         → ArePotsOf setup.now past result }
 
-    // What follows from it.
+    // What follows from the rule.
     ensures conserved { sum_by (λ pot. pot.chips) (pots_in result) + total_of result.returned
         ≡ total_of puts.now }
     ensures eligible { All (λ pot. pot.eligible.seats ≡ setup.now.stacks.seats) (pots_in result) }
@@ -43,7 +43,8 @@ pub fn pots_of(setup: &Setup, puts: &SeatRow, live: &LiveRow) -> PotRow
     pots(&counted, dead, live)
 }
 
-// The chips of each seat that count: all that it put, but for its ante where antes are dead.
+// The chips of each seat that count for the pots: all that it put in, without its ante if antes are
+// dead.
 fn counted_row(setup: &Setup, puts: &SeatRow) -> SeatRow
     requires { setup.now.antes.seats ≡ puts.now.seats }
     ensures seats { result.seats ≡ puts.now.seats }
@@ -61,7 +62,7 @@ fn counted_row(setup: &Setup, puts: &SeatRow) -> SeatRow
     row
 }
 
-// What counts of the chips that a seat put.
+// The chips of a seat that count for the pots.
 fn counted(dead_antes: bool, put: u64, ante: u64) -> u64
     ensures counted { result ≡ counted dead_antes put ante }
     ensures within { result ≤ put }

@@ -1,4 +1,5 @@
--- No seat that contends has more than the most points, and one of them has so many: those that have them are the winners.
+-- No seat that contends has more than the most points, and at least one has them: those that have
+-- them are the winners.
 use Rattle.std.proofs.Common.{◌≡◌, ◌<◌, ◌≤◌, ℕ, zero, suc, ◌+◌, ◌&&◌, Bool, true, false, ◌⊎◌, inl, inr, Option, Some, None, if◌then◌else◌, max, refl, sym, ◌∙◌, ap, subst, arith}
 use Rattle.std.specs.Option.{is_some}
 use Rattle.std.proofs.lemmas.Bool.{and_from, and_parts, cases_lt, eq-eqb, eqb-true}
@@ -56,7 +57,7 @@ best_above test points (suc n) k low high passes =
     kept true rest here other not = better_left rest here other not
     kept false rest here other not = not
 
--- a seat that passes the test and has so many points
+-- a seat that passes the test and has these points
 pub record IsAttained (test : ℕ → Bool) (points : ℕ → Option ℕ) (n v : ℕ) : Type 0 where
   pub seat : ℕ
   pub first : 1 ≤ seat
@@ -98,7 +99,7 @@ not_less_none : (x : Option ℕ) → ¬ (IsLess x None)
 not_less_none None less = less
 not_less_none (Some x) less = less
 
--- a seat has the most points where no seat of the test has more
+-- a seat has the most points if no seat of the test has more
 best_of_unbeaten : (test : ℕ → Bool) (points : ℕ → Option ℕ) (n k : ℕ) → 1 ≤ k → k ≤ n → test k ≡ true → ((other : ℕ) → test other ≡ true → ¬ (IsLess (points k) (points other))) → is_same (points k) (best_to test points n) ≡ true
 best_of_unbeaten test points n k low high passes unbeaten =
     same_from (points k) (best_to test points n) (top (best_to test points n) refl) (best_above test points n k low high passes)
@@ -158,7 +159,7 @@ some_wins seats contending points n low high contends = by (best_to contending p
           win = and_from (contending found.seat) (is_same (points found.seat) (best_to contending points seats)) found.passes same;
         }
 
--- where a seat passes a test the count is above 0
+-- if a seat passes a test, the count is above 0
 pub count_some : (test : ℕ → Bool) (n k : ℕ) → 1 ≤ k → k ≤ n → test k ≡ true → 0 < count_to test n
 count_some test zero k low high passes = absurd (omega (arith, low, high))
 count_some test (suc n) k low high passes =
@@ -169,7 +170,7 @@ count_some test (suc n) k low high passes =
           subst (λ (b : Bool). 0 < count_to test n + (if b then 1 else 0)) (sym (ap test (sym here) ∙ passes)) (omega arith)
     ]
 
--- a low hand is shown exactly where there is a best one
+-- a low hand is shown if and only if there is a best one
 pub no_low_shown : (seats : ℕ) (contending : ℕ → Bool) (points low : ℕ → Option ℕ) → ((n : ℕ) → contending n ≡ true → (1 ≤ n) × (n ≤ seats)) → best_to contending low seats ≡ None → ¬ (IsLowShown contending (ranking_by points low))
 no_low_shown seats contending points low inside none (seat, contends, has) =
     let range = inside seat contends in

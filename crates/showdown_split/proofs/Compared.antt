@@ -1,4 +1,4 @@
--- Shares stay those of a pot where the same seats contend and compare in the same way.
+-- Shares stay those of a pot if the same seats contend and compare in the same way.
 use Rattle.std.proofs.Common.{◌≡◌, ◌/◌, ◌-◌, ℕ, Bool, IsTrue, inl, inr, refl, sym, ◌∙◌, ◌↔◌}
 use Rattle.chip_ledger.specs.Pots.{PlainPot}
 use Rattle.variant_table.specs.Division.{AreParts, TellsWinners}
@@ -38,7 +38,7 @@ same_contested seats p q a b chips share same alike (inr ((seat, contends, has),
       },
     )
 
--- the shares of a pot by one ranking are those by another that says the same
+-- the shares of a pot by one ranking are those by another that agrees with it
 pub same_shares : (seats : ℕ) (contending : ℕ → Bool) (a b : Ranking) (pot : PlainPot) (share : ℕ → ℕ) → AreAlike contending a b → AreShares seats contending a pot share → AreShares seats contending b pot share
 same_shares seats contending a b pot share alike (inl one) = inl one
 same_shares seats contending a b pot share alike (inr shown) = inr (record {
@@ -47,7 +47,7 @@ same_shares seats contending a b pot share alike (inr shown) = inr (record {
   contested = same_contested seats contending contending a b pot.chips share (λ n. refl) alike shown.contested;
 })
 
--- a ranking says what it says
+-- a ranking agrees with itself
 pub alike_itself : (contending : ℕ → Bool) (a : Ranking) → AreAlike contending a a
 alike_itself contending a = record {
   beats = λ m n first second. (λ h. h, λ h. h);

@@ -1,4 +1,5 @@
--- The seats of a row that have the most points are its winners, and chips that are divided among them are theirs by right.
+-- The seats of a row that have the most points are its winners, and the parts of chips that are
+-- divided among them are those of the rule.
 use Rattle.std.proofs.Common.{◌≡◌, ◌≢◌, ◌<◌, ◌≤◌, ℕ, ◌&&◌, Bool, [], Option, sym, ◌∙◌, ap, arith}
 use Rattle.chip_ledger.specs.declared.live_row.LiveRow.{LiveRow}
 use Rattle.chip_ledger.specs.LiveRow.{flag_of, flagged}
@@ -24,7 +25,7 @@ marked_best row marked points marks n low high =
     ∙ ap (λ (b : Bool). b && is_same (points n) (best_to (flag_of row) points row.seats)) (sym (is_flagged-flag row n low))
     ∙ ap (λ (best : Option ℕ). is_flagged row n && is_same (points n) best) (sym (best_flagged row points))
 
--- some seat is marked where the row has one
+-- some seat is marked if the row has one
 pub marked_some : (row marked : LiveRow) (points : ℕ → Option ℕ) → marked.seats ≡ row.seats → Marks row marked points → flagged row ≢ [] → 0 < count_to (flag_of marked) marked.seats
 marked_some row marked points same marks some =
     let one = some_flagged row some in

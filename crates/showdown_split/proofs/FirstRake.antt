@@ -1,4 +1,4 @@
--- The first rake above its pot, looked for pot by pot.
+-- The first rake that is more than its pot, looked for pot by pot.
 use Rattle.std.proofs.Common.{◌≡◌, ◌<◌, ◌≤◌, ◌+◌, ◌-◌, ℕ, Bool, find, List, length, get_or, slice_get, slice_index, Option, Some, None, nat_lt, sym, ◌∙◌, ap, arith, ⊎_elim}
 use Rattle.std.specs.List.{range_with_len}
 use Rattle.std.specs.Option.{option_map, option_map_or}
@@ -12,13 +12,13 @@ use Rattle.chip_ledger.specs.PotRow.{plain, plain_pots, pots_in}
 use Rattle.chip_ledger.specs.Pots.{PlainPot}
 use Rattle.chip_ledger.specs.RakeRow.{rake_of}
 use Rattle.chip_ledger.specs.Rakes.{HaveRakes, chips_in, first_rake_above}
-use Rattle.list_laws.proofs.NumbersOfRange.{find_nothing}
+use Rattle.card_set.proofs.NumbersOfRange.{find_nothing}
 
--- the rake of a pot is above its chips
+-- the rake of a pot is more than its chips
 abbrev pub is_above : List PlainPot → RakeRow → ℕ → Bool
 is_above pots rakes number = nat_lt (chips_in pots number) (rake_of rakes number)
 
--- where none is found each pot has the chips of its rake
+-- if none is found, each pot has the chips for its rake
 pub have_rakes : (pots : List PlainPot) (rakes : RakeRow) → first_rake_above rakes pots ≡ None → HaveRakes pots rakes
 have_rakes pots rakes none number =
     ⊎_elim

@@ -6,10 +6,10 @@ use Rattle.std.proofs.lemmas.List.Elements.{filter-append}
 use Rattle.std.proofs.lemmas.List.Folds.{list_any_at}
 use Rattle.std.proofs.lemmas.List.FromFn.{get_or-range_with_len, length-range_with_len}
 use Rattle.std.proofs.Math.Nat.{mul-suc, mul-zero}
-use Rattle.list_laws.proofs.Lists.{empty_from}
-use Rattle.list_laws.proofs.Ranges.{any_within}
-use Rattle.list_laws.proofs.Any.{none_passes, found_some, list_any-filter}
-use Rattle.list_laws.proofs.Tests.{same_test}
+use Rattle.card_set.proofs.Lists.{empty_from}
+use Rattle.card_set.proofs.Ranges.{any_within}
+use Rattle.card_set.proofs.Any.{none_passes, found_some, list_any-filter}
+use Rattle.card_set.proofs.Tests.{same_test}
 use Rattle.chip_ledger.specs.declared.live_row.LiveRow.{LiveRow}
 use Rattle.chip_ledger.specs.LiveRow.{flag_of, flagged}
 use Rattle.chip_ledger.specs.Seat.{seats_of}
@@ -24,14 +24,14 @@ flagged_inside row n h =
     let range = any_within (flag_of row) n 1 row.seats (sym (list_any-filter (λ m. m == n) (flag_of row) (seats_of row.seats)) ∙ h) in
     (range.0, omega (arith, range.1))
 
--- a seat of the row is flagged exactly where its flag is true
+-- a seat of the row is flagged if and only if its flag is true
 pub is_flagged-flag : (row : LiveRow) (n : ℕ) → 1 ≤ n → is_flagged row n ≡ flag_of row n
 is_flagged-flag row n low = same_test (is_flagged row n) (flag_of row n) (flag-from_flagged row n) (flagged-from_flag row n low)
 
 pub some_flagged : (row : LiveRow) → flagged row ≢ [] → (k : ℕ) × (is_flagged row k ≡ true)
 some_flagged row some = found_some (flagged row) some
 
--- as many seats pass a test as are kept by it
+-- the number of seats that pass a test is that of the seats that it keeps
 kept_count : (p : ℕ → Bool) (n : ℕ) → length (filter p (seats_of n)) ≡ count_to p n
 kept_count p zero = refl
 kept_count p (suc n) =
@@ -71,7 +71,7 @@ sum_for_each p chips (suc n) =
         let same : chips * (count_to p n + 0) ≡ chips * count_to p n = ap (λ (m : ℕ). chips * m) (omega arith) in
         omega arith
 
--- where no seat of a row is flagged, a test that says the same passes nowhere
+-- if no seat of a row is flagged, a test that agrees passes nowhere
 pub none_flagged : (row : LiveRow) (test : ℕ → Bool) (seats : List ℕ) → ¬ (flagged row ≢ []) → ((n : ℕ) → is_flagged row n ≡ test n) → list_any test seats ≡ false
 none_flagged row test seats none same =
     let empty = empty_from (flagged row) none in
@@ -86,7 +86,7 @@ flagged_both both first second same same_first flags n =
     (λ here. let range = flagged_inside both n here in sym (at range.0 (omega (arith, range.1, same))) ∙ here)
     (λ here. let range = flagged_inside first n (and_parts (is_flagged first n) (flag_of second n) here).0 in at range.0 (omega (arith, range.1, same_first)) ∙ here)
 
--- a row that has a flagged seat, and not one alone, has two or more
+-- a row with a flagged seat, but not just one, has two or more
 pub several_flagged : (row : LiveRow) → flagged row ≢ [] → ¬ (count_to (flag_of row) row.seats ≡ 1) → 2 ≤ length (flagged row)
 several_flagged row some not_one = several (flagged row) some (λ one. not_one (sym (length-flagged row) ∙ one))
   where
@@ -95,7 +95,7 @@ several_flagged row some not_one = several (flagged row) some (λ one. not_one (
     several (x ∷ []) some not_one = absurd (not_one refl)
     several (x ∷ y ∷ rest) some not_one = omega arith
 
--- where a seat passes a test it passes among the seats
+-- if a seat passes a test, it passes among the seats
 pub some_passes : (p : ℕ → Bool) (seats n : ℕ) → 1 ≤ n → n ≤ seats → p n ≡ true → list_any p (seats_of seats) ≡ true
 some_passes p seats n low high passes =
     let at : get_or (seats_of seats) (n - 1) 0 ≡ n = get_or-range_with_len 1 seats (n - 1) 0 (omega arith) ∙ omega arith in

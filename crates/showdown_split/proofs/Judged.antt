@@ -1,8 +1,8 @@
--- By their points in a lawful order seats compare as the order of the game says.
+-- By their points in a lawful order seats compare as the order of the game requires.
 use Rattle.std.proofs.Common.{◌≡◌, ◌++◌, ℕ, Bool, true, false, IsTrue, List, Option, Some, None, ◌↔◌, inl, inr, refl, sym, ◌∙◌, ap}
 use Rattle.std.specs.Option.{is_some}
 use Rattle.std.proofs.lemmas.Bool.{true≢false}
-use Rattle.list_laws.proofs.Tests.{flip}
+use Rattle.card_set.proofs.Tests.{flip}
 use Rattle.card_set.specs.declared.card.Card.{Card}
 use Rattle.card_set.specs.Different.{AllDifferent}
 use Rattle.card_set.specs.declared.pick.Pick.{Pick}
@@ -39,7 +39,7 @@ pub record IsJudged (held : ℕ) (is_hand : List Card → Type 0) (is_weaker : L
   pub different : AllDifferent (hole ++ board)
   pub points_are : IsPointsOfHolding is_hand is_weaker points (allowed pick hole board) most
 
--- one seat beats another in the order exactly where it has more points
+-- one seat beats another in the order if and only if it has more points
 pub judged_beats : (held : ℕ) (is_hand : List Card → Type 0) (is_weaker : List Card → List Card → Type 0) (points : List Card → Option ℕ) (order : Order) (pick : Pick) (hole other board : List Card) (ours theirs : Option ℕ) → IsLawful (AreHeld held) is_hand is_weaker points → IsOrder order held is_hand is_weaker → IsJudged held is_hand is_weaker points pick hole board ours → IsJudged held is_hand is_weaker points pick other board theirs → IsLess theirs ours ↔ Beats order.is_hand order.is_weaker (allowed pick hole board) (allowed pick other board)
 judged_beats held is_hand is_weaker points order pick hole other board ours theirs lawful is first second =
     let options = allowed pick hole board in
@@ -52,12 +52,12 @@ judged_beats held is_hand is_weaker points order pick hole other board ours thei
       λ beats. same.1 (beats_like order.is_hand is_hand order.is_weaker is_weaker (λ cards. flip (is_hand cards) (order.is_hand cards) (is.hand_is cards)) (λ a b. flip (is_weaker a b) (order.is_weaker a b) (is.weaker_is a b)) options others beats),
     )
 
--- a seat has a hand in the order exactly where it has points
+-- a seat has a hand in the order if and only if it has points
 pub judged_hand : (is_hand : List Card → Type 0) (is_weaker : List Card → List Card → Type 0) (points : List Card → Option ℕ) (order : Order) (options : List (List Card)) (most : Option ℕ) → ((cards : List Card) → is_hand cards ↔ order.is_hand cards) → IsPointsOfHolding is_hand is_weaker points options most → IsTrue (is_some most) ↔ HasHand order options
 judged_hand is_hand is_weaker points order options None same none = (λ some. absurd (cc (some)), λ (choice, among, hand). absurd (none choice among ((same choice).1 hand)))
 judged_hand is_hand is_weaker points order options (Some value) same best = (λ some. (best.best, best.is_best.among, (same best.best).0 best.is_best.hand), λ has. refl)
 
--- a seat has a low hand in a game that pays by two, and in another game none does
+-- a seat has a low hand in a game that pays by two orders, and in other games no seat does
 pub judged_low : (split paid : Bool) (order : Order) (options : List (List Card)) (most : Option ℕ) → split ≡ paid → (split ≡ false → most ≡ None) → (split ≡ true → IsTrue (is_some most) ↔ HasHand order options) → IsTrue (is_some most) ↔ (IsTrue paid × HasHand order options)
 judged_low true paid order options most same none some = (λ has. (sym same, (some refl).0 has), λ has. (some refl).1 has.1)
 judged_low false paid order options most same none some = (λ has. absurd (true≢false (sym has ∙ ap is_some (none refl))), λ has. absurd (true≢false (sym has.0 ∙ sym same)))

@@ -1,9 +1,9 @@
--- Where one seat is live, the net of each pot goes to this seat.
+-- If one seat is live, the net of each pot goes to this seat.
 use Rattle.std.proofs.Common.{◌≡◌, ◌&&◌, ℕ, Bool, true, false, cond, List, [], ◌∷◌, length, map, filter, nat_le, nat_lt, refl, sym, ◌∙◌, ap, subst, arith, inl}
 use Rattle.std.proofs.lemmas.Bool.{le-leb}
 use Rattle.std.proofs.lemmas.List.{length-map}
 use Rattle.std.proofs.lemmas.List.Sums.{length-filter}
-use Rattle.list_laws.proofs.Sums.{sum_by-map, sum_by-same}
+use Rattle.card_set.proofs.Sums.{sum_by-map, sum_by-same}
 use Rattle.chip_ledger.specs.declared.rakes.RakeRow.{RakeRow}
 use Rattle.chip_ledger.specs.Pots.{PlainPot, Stake, after_return, kept, reaching, whole_share}
 use Rattle.chip_ledger.specs.Rakes.{nets_of}
@@ -14,13 +14,13 @@ use Rattle.play_event.specs.Past.{Move}
 use Rattle.play_event.specs.Seats.{all_seats, live_count}
 use Rattle.play_event.specs.Stakes.{dead_antes_of, nets_after, shares_by_folds, stake_after, stakes_after}
 use Rattle.variant_table.specs.Shares.{AllShared, Showdown}
-use Rattle.list_laws.proofs.Tests.{one_if}
+use Rattle.card_set.proofs.Tests.{one_if}
 
 live_anyway : (live : Bool) (n : ℕ) → (live && nat_le 0 n) ≡ live
 live_anyway true n = le-leb 0 n (omega arith)
 live_anyway false n = refl
 
--- as many seats may win the one pot as are live
+-- as many seats may win the only pot as are live
 winners_of_one_pot : (stakes : List Stake) → length (reaching (after_return stakes) 0) ≡ live_stakes stakes
 unfolding after_return
 winners_of_one_pot stakes =

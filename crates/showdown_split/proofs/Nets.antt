@@ -1,4 +1,4 @@
--- The nets of pots, one pot after another, and what their shares and rakes come to.
+-- The nets of pots, one pot after another, and what their shares and rakes add up to.
 use Rattle.std.proofs.Common.{◌≡◌, ◌<◌, ◌≤◌, ◌+◌, ◌-◌, ℕ, zero, suc, List, [], ◌∷◌, ◌++◌, length, length-take, map, take, get_or, slice_get, slice_index, subst, sym, ◌∙◌, ap, arith}
 use Rattle.std.specs.Option.{option_map, option_map_or}
 use Rattle.std.proofs.lemmas.List.{length-map, map-append}
@@ -12,9 +12,9 @@ use Rattle.chip_ledger.specs.RakeRow.{rake_of}
 use Rattle.chip_ledger.specs.Rakes.{HaveRakes, chips_in, less_rake, nets_from, nets_of}
 use Rattle.chip_ledger.specs.SeatRow.{total_of}
 use Rattle.showdown_split.proofs.Splitting.{plain_more}
-use Rattle.list_laws.proofs.Lists.{same_first, same_rest}
+use Rattle.card_set.proofs.Lists.{same_first, same_rest}
 
--- one pot more
+-- one more pot
 nets_push : (number : ℕ) (rakes : RakeRow) (pots : List PlainPot) (pot : PlainPot)
     → nets_from number rakes (pots ++ pot ∷ []) ≡ nets_from number rakes pots ++ less_rake (rake_of rakes (number + length pots)) pot ∷ []
 nets_push number rakes [] pot =
@@ -41,7 +41,7 @@ nets_more rakes items i count pot net inside is same less =
     ∙ ap (λ (k : ℕ). nets_of rakes before ++ less_rake (slice_index rakes.rakes k) (plain pot) ∷ []) at
     ∙ ap (λ (p : PlainPot). nets_of rakes before ++ p ∷ []) (sym less)
 
--- a pot has the chips of its rake
+-- a pot has the chips for its rake
 pub rake_within : (rakes : RakeRow) (items : List Pot) (i count : ℕ) (pot : Pot)
     → HaveRakes (map plain items) rakes
     → i < length items

@@ -1,4 +1,5 @@
--- The parts of chips that are divided among some winners are at most the chips, and together they are the chips.
+-- The parts of chips that are divided among some winners are at most the chips, and together they
+-- are the chips.
 use Rattle.std.proofs.Common.{◌≡◌, ◌<◌, ◌≤◌, ℕ, zero, suc, ◌+◌, ◌-◌, ◌*◌, ◌/◌, ◌%◌, Bool, true, false, if◌then◌else◌, nat_lt, sum_by, min, refl, sym, ◌∙◌, ap, arith, ⊎_elim}
 use Rattle.std.proofs.Math.Nat.{mod-lt, mul-suc, mul-zero}
 use Rattle.std.proofs.lemmas.Nat.{div-add-mod'}
@@ -24,7 +25,7 @@ divided-agree seats p q chips n same low high =
     ∙ ap (λ (m : ℕ). part (q n) m (count_to p seats)) before
     ∙ ap (λ (m : ℕ). part (q n) (count_to q (n - 1)) m) all
 
--- one seat more takes its part
+-- one more seat takes its part
 step : (b less : Bool) (even count odd : ℕ) → nat_lt count odd ≡ less → even * count + min count odd + (if b then even + (if less then 1 else 0) else 0) ≡ even * (count + (if b then 1 else 0)) + min (count + (if b then 1 else 0)) odd
 step false less even count odd is =
     let same : even * (count + 0) ≡ even * count = ap (λ (n : ℕ). even * n) (omega arith) in

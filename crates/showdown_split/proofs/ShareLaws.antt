@@ -1,9 +1,10 @@
--- Chips go to unbeaten seats alone, and an unbeaten seat without chips came too late.
+-- Chips go to unbeaten seats only, and an unbeaten seat without chips is too late in line for an
+-- odd chip.
 use Rattle.std.proofs.Common.{◌≡◌, ◌<◌, ◌≤◌, ℕ, ◌+◌, ◌-◌, ◌*◌, ◌/◌, ◌%◌, ◌⊎◌, inl, inr, Bool, true, false, if◌then◌else◌, nat_lt, refl, sym, ◌∙◌, ap, subst, arith}
 use Rattle.std.proofs.lemmas.Bool.{cases_lt, lt-ltb, true≢false}
 use Rattle.std.proofs.lemmas.Nat.{div-add-mod'}
 use Rattle.std.proofs.Math.Nat.{mod-lt}
-use Rattle.list_laws.proofs.Tests.{chosen}
+use Rattle.card_set.proofs.Tests.{chosen}
 use Rattle.chip_ledger.specs.Pots.{PlainPot}
 use Rattle.play_event.specs.declared.code.Code.{Code}
 use Rattle.variant_table.specs.Division.{AreHalves, AreParts, count_to}
@@ -18,7 +19,7 @@ part_of_best seats contending beats chips share are seat low high some =
     let part = chips / k + (if nat_lt (count_to are.wins (seat - 1)) (chips % k) then 1 else 0) in
     (are.told seat).0 (chosen (are.wins seat) part (subst (λ (n : ℕ). 0 < n) (are.parts seat low high) some))
 
--- a part of nothing: too few chips, and all of them for winners before
+-- a part of nothing: too few chips, and all of them go to winners before
 no_part : (chips k before : ℕ) → 0 < k → chips / k + (if nat_lt before (chips % k) then 1 else 0) ≡ 0 → (chips < k) × (chips ≤ before)
 no_part chips k before some none = by (cases_lt before (chips % k))
   where
@@ -32,7 +33,7 @@ no_part chips k before some none = by (cases_lt before (chips % k))
         let less = mod-lt chips some in
         (omega arith, omega arith)
 
--- who has no part does not contend, is beaten, or comes too late
+-- who has no part does not contend, is beaten, or is too late in line for an odd chip
 none_left_out : (seats : ℕ) (contending : ℕ → Bool) (beats : ℕ → ℕ → Type 0) (chips : ℕ) (share : ℕ → ℕ) → AreParts seats contending beats chips share → (seat : ℕ) → 1 ≤ seat → seat ≤ seats → share seat ≡ 0 → HasNoPart seats contending beats chips seat
 none_left_out seats contending beats chips share are seat low high none = by (are.wins seat) refl
   where

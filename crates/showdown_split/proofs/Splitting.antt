@@ -1,4 +1,4 @@
--- One pot more is shared, or it is the first without a shown hand.
+-- One more pot is shared, or it is the first without a shown hand.
 use Rattle.std.proofs.Common.{◌≡◌, ◌<◌, ◌+◌, ℕ, suc, Bool, true, false, List, [], ◌∷◌, ◌++◌, Some, None, All, length, length-take, map, take, drop, take-append-drop, get_or, if◌then◌else◌, subst, sym, ◌∙◌, ap, arith}
 use Rattle.std.proofs.lemmas.List.{length-map, map-append, take_more}
 use Rattle.std.proofs.lemmas.List.Elements.{All-push}
@@ -31,12 +31,12 @@ shared_next code showdown pots new_pots rows new_rows pot row next pushed all on
     (subst (λ (ys : List (ℕ → ℕ)). AllShared code showdown (pots ++ pot ∷ []) ys) (sym (ap (map amount_of) pushed ∙ map-append amount_of rows (row ∷ [])))
     (shared_more code showdown pots (map amount_of rows) pot (amount_of row) all one))
 
--- one row more of so many seats
+-- one more row of this many seats
 pub seats_next : (seats : ℕ) (rows new : List SeatRow) (row : SeatRow) → new ≡ rows ++ row ∷ [] → All (λ (r : SeatRow). r.seats ≡ seats) rows → row.seats ≡ seats → All (λ (r : SeatRow). r.seats ≡ seats) new
 seats_next seats rows new row pushed all one =
     subst (λ (ys : List SeatRow). All (λ (r : SeatRow). r.seats ≡ seats) ys) (sym pushed) (All-push (λ (r : SeatRow). r.seats ≡ seats) rows row all one)
 
--- one pot more that has a shown hand
+-- one more pot that has a shown hand
 pub still_shown : (number : ℕ) (showdown : Showdown) (pots : List PlainPot) (pot : PlainPot) → first_unshown_from number showdown pots ≡ None → is_unshown showdown pot ≡ false → first_unshown_from number showdown (pots ++ pot ∷ []) ≡ None
 still_shown number showdown [] pot none shown = ap (λ (b : Bool). if b then Some number else None) shown
 still_shown number showdown (p ∷ pots) pot none shown = by (is_unshown showdown p) none (λ rest. still_shown (suc number) showdown pots pot rest shown)
@@ -45,7 +45,7 @@ still_shown number showdown (p ∷ pots) pot none shown = by (is_unshown showdow
     by true none more = absurd (cc (none))
     by false none more = more none
 
--- one pot more that has none is the first such, whatever comes after it
+-- one more pot without one is the first such, whatever comes after it
 pub now_unshown : (number : ℕ) (showdown : Showdown) (pots : List PlainPot) (pot : PlainPot) (rest : List PlainPot) → first_unshown_from number showdown pots ≡ None → is_unshown showdown pot ≡ true → first_unshown_from number showdown ((pots ++ pot ∷ []) ++ rest) ≡ Some (number + length pots)
 now_unshown number showdown [] pot rest none unshown =
     ap (λ (b : Bool). if b then Some number else first_unshown_from (suc number) showdown rest) unshown
@@ -63,7 +63,7 @@ taken_more items i pot inside is = take_more items i pot inside ∙ ap (λ (p : 
 pub plain_more : (items : List Pot) (i : ℕ) (pot : Pot) → i < length items → pot ≡ get_or items i pot → map plain (take (i + 1) items) ≡ map plain (take i items) ++ plain pot ∷ []
 plain_more items i pot inside is = ap (map plain) (taken_more items i pot inside is) ∙ map-append plain (take i items) (pot ∷ [])
 
--- the first pot without a shown hand, found after so many shares
+-- the first pot without a shown hand, found after this many shares
 pub unshown_at : (showdown : Showdown) (items : List Pot) (i : ℕ) (pot : Pot) (count : ℕ) → i < length items → pot ≡ get_or items i pot → first_unshown showdown (map plain (take i items)) ≡ None → is_unshown showdown (plain pot) ≡ true → count ≡ i → first_unshown showdown (map plain items) ≡ Some (count + 1)
 unshown_at showdown items i pot count inside is none unshown same =
     let rest = map plain (drop (i + 1) items) in

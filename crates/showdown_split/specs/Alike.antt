@@ -1,10 +1,10 @@
--- Two rankings that say the same of the seats that contend.
+-- Two rankings that agree on the seats that contend.
 use Rattle.std.specs.Prelude.{◌≡◌, ◌≤◌, ◌↔◌, ℕ, Bool, true, IsTrue, Option}
 use Rattle.play_event.specs.declared.code.Code.{Code}
 use Rattle.variant_table.specs.Shares.{IsLowShown, Ranking, Showdown, ranking_of}
 use Rattle.showdown_split.specs.SeatPoints.{ranking_by}
 
--- two rankings say the same of the seats that contend, and of their low hands where one is shown
+-- two rankings agree on the seats that contend, and on their low hands if one is shown
 pub record AreAlike (contending : ℕ → Bool) (a b : Ranking) : Type 0 where
   pub beats : (m n : ℕ) → IsTrue (contending m) → IsTrue (contending n) → a.beats m n ↔ b.beats m n
   pub beats_low : IsLowShown contending b → (m n : ℕ) → IsTrue (contending m)

@@ -1,4 +1,4 @@
--- The cards of each seat in a row of hands, and what is seen at the end of a hand.
+-- The cards of each seat in a row of hands, and what is visible at the end of a hand.
 use Rattle.std.specs.Prelude.{ℕ, List}
 use Rattle.card_set.specs.declared.card.Card.{Card}
 use Rattle.card_set.specs.declared.row.CardRow.{CardRow}
@@ -14,7 +14,7 @@ use Rattle.card_set.specs.Known.{known_cards}
 abbrev pub holding : HandRow → ℕ → List Card
 holding hands n = known_cards (slots_of_hand hands n)
 
--- what the rows show
+-- the showdown of these hands, board and shown seats
 abbrev pub showdown_of : HandRow → CardRow → LiveRow → Showdown
 showdown_of hands board shown =
     record {

@@ -1,4 +1,4 @@
--- What the shares of a pot say of each seat.
+-- What the shares of a pot mean for each seat.
 use Rattle.std.specs.Prelude.{◌≡◌, ◌<◌, ◌≤◌, ℕ, ◌-◌, ◌/◌, ◌⊎◌, Bool, IsTrue, length}
 use Rattle.chip_ledger.specs.Pots.{PlainPot}
 use Rattle.play_event.specs.declared.code.Code.{Code}
@@ -10,8 +10,8 @@ abbrev pub IsUnbeaten : (ℕ → Bool) → (ℕ → ℕ → Type 0) → ℕ → 
 IsUnbeaten contending beats seat =
     IsTrue (contending seat) × ((other : ℕ) → IsTrue (contending other) → ¬ (beats other seat))
 
--- so many winners stand before a seat that no chip is left for it: the chips are fewer than the
--- winners, and no more than those before it
+-- a seat comes too late for an odd chip: there are fewer chips than winners, and no more chips than
+-- winners before it
 pub record IsTooLate (seats : ℕ) (contending : ℕ → Bool) (beats : ℕ → ℕ → Type 0) (chips seat : ℕ) :
     Type 0 where
   pub wins : ℕ → Bool
@@ -19,12 +19,13 @@ pub record IsTooLate (seats : ℕ) (contending : ℕ → Bool) (beats : ℕ → 
   pub few : chips < count_to wins seats
   pub late : chips ≤ count_to wins (seat - 1)
 
--- why a seat has no part of chips: it does not contend, or is beaten, or comes too late
+-- why a seat gets no part of chips: it does not contend, or is beaten, or is too late in line for
+-- an odd chip
 abbrev pub HasNoPart : ℕ → (ℕ → Bool) → (ℕ → ℕ → Type 0) → ℕ → ℕ → Type 0
 HasNoPart seats contending beats chips seat =
     (¬ (IsUnbeaten contending beats seat)) ⊎ IsTooLate seats contending beats chips seat
 
--- each chip of a pot that several seats may win goes to an unbeaten seat: high, or low where a low
+-- each chip of a pot that several seats may win goes to an unbeaten seat: high, or low if a low
 -- hand is shown
 abbrev pub GoesToBest : Code → Showdown → PlainPot → (ℕ → ℕ) → Type 0
 GoesToBest code showdown pot share =
@@ -34,7 +35,7 @@ GoesToBest code showdown pot share =
     → IsUnbeaten contending ranking.beats seat
     ⊎ (IsLowShown contending ranking × IsUnbeaten contending ranking.beats_low seat)
 
--- a seat without a share of such a pot has no part of the whole, or none of either half
+-- a seat without a share of such a pot gets no part of the whole, or none of either half
 abbrev pub LeavesNoneOut : Code → Showdown → PlainPot → (ℕ → ℕ) → Type 0
 LeavesNoneOut code showdown pot share =
     let contending = is_contender showdown pot in

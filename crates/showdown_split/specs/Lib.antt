@@ -1,4 +1,4 @@
--- The cards and scores of the seats at the end of a hand, and what a whole split gives.
+-- The cards and scores of the seats at the end of a hand, and the shares of all pots.
 pub mod Hands
 pub mod Scores
 pub mod SeatPoints

@@ -1,4 +1,4 @@
--- What a split takes: hands that can be compared, and pots that can be won.
+-- What the split of pots needs: hands that can be compared, and pots that can be won.
 use Rattle.std.specs.Prelude.{◌≡◌, ◌≢◌, ◌≤◌, ◌++◌, ℕ, true, List, [], All}
 use Rattle.card_set.specs.declared.row.CardRow.{CardRow}
 use Rattle.card_set.specs.Different.{AllDifferent}
@@ -21,12 +21,12 @@ pub record ArePlayableTo (last held : ℕ) (pick : Pick) (hands : HandRow) (boar
   pub different : (n : ℕ) → 1 ≤ n → n ≤ last → flag_of shown n ≡ true
       → AllDifferent (holding hands n ++ cards_of board)
 
--- each shown seat has
+-- this holds for each shown seat
 abbrev pub ArePlayable : ℕ → Pick → HandRow → CardRow → LiveRow → Type 0
 ArePlayable held pick hands board shown = ArePlayableTo shown.seats held pick hands board shown
 
--- each pot is of so many seats, one of them may win it, and it has no more chips than a row may
--- hold
+-- each pot has this number of seats, one of them may win it, and it has no more chips than a row
+-- can hold
 pub record AreWinnable (seats : ℕ) (pots : List Pot) : Type 0 where
   pub same_seats : All (λ (pot : Pot). pot.eligible.seats ≡ seats) pots
   pub winnable : All (λ (pot : Pot). flagged pot.eligible ≢ []) pots

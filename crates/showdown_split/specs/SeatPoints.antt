@@ -1,4 +1,4 @@
--- How seats compare by their points, where a seat that has no hand has none.
+-- How seats compare by their points; a seat without a hand has none.
 use Rattle.std.specs.Prelude.{ℕ, zero, suc, ◌==◌, Bool, true, false, IsTrue, [], Option, Some, None, if◌then◌else◌}
 use Rattle.std.specs.List.{list_any}
 use Rattle.std.specs.Option.{is_some}
@@ -8,7 +8,7 @@ use Rattle.hand_order.specs.Best.{IsLess}
 use Rattle.hand_order.specs.Points.{better}
 use Rattle.variant_table.specs.Shares.{Ranking, Showdown}
 
--- both have the same points, or none
+-- both have the same points, or both have none
 abbrev pub is_same : Option ℕ → Option ℕ → Bool
 is_same None None = true
 is_same None (Some y) = false
@@ -27,7 +27,7 @@ best_to test points (suc seat) =
 abbrev pub is_flagged : LiveRow → ℕ → Bool
 is_flagged row seat = list_any (λ n. n == seat) (flagged row)
 
--- how seats compare by their points
+-- how seats compare, given their points
 abbrev pub ranking_by : (ℕ → Option ℕ) → (ℕ → Option ℕ) → Ranking
 ranking_by points low = record {
   beats = λ seat other. IsLess (points other) (points seat);
@@ -35,7 +35,7 @@ ranking_by points low = record {
   has_low = λ seat. IsTrue (is_some (low seat));
 }
 
--- which seats are shown, and no cards
+-- which seats are shown, without any cards
 abbrev pub shown_only : LiveRow → Showdown
 shown_only shown =
     record { seats = shown.seats; shown = flag_of shown; holding = λ n. []; board = [] }

@@ -1,5 +1,4 @@
-//! Chips are divided evenly among winners, and the chips that remain go one each to the first of
-//! them.
+//! Divides chips evenly among the winners; the odd chips go one each to the first of them.
 ghost use Rattle.std.specs.Prelude.{◌≡◌, ◌≤◌, ◌<◌, ◌+◌, ℕ};
 ghost use Rattle.chip_ledger.specs.declared.seat_row.TheConstants.{MOST_AMOUNT};
 ghost use Rattle.chip_ledger.specs.LiveRow.{flag_of};
@@ -8,7 +7,7 @@ ghost use Rattle.variant_table.specs.Division.{count_to, divided};
 
 use chip_ledger::{LiveRow, Seat, SeatRow};
 
-/// What each seat gets of chips that are divided among the winners.
+/// What each seat gets if chips are divided among the winners.
 pub fn divide(winners: &LiveRow, chips: u64) -> SeatRow
     requires some { 0 < count_to (flag_of winners.now) winners.now.seats }
     requires bounded { chips ≤ MOST_AMOUNT }
@@ -26,7 +25,7 @@ pub fn divide(winners: &LiveRow, chips: u64) -> SeatRow
     row
 }
 
-// What a seat gets of chips that are divided among the winners.
+// What a seat gets if chips are divided among the winners.
 fn part(winners: &LiveRow, chips: u64, seat: Seat) -> u64
     requires in_row { seat.number ≤ winners.now.seats }
     requires some { 0 < count_to (flag_of winners.now) winners.now.seats }
@@ -42,7 +41,7 @@ fn part(winners: &LiveRow, chips: u64, seat: Seat) -> u64
     }
 }
 
-/// How many seats up to this one have the flag.
+/// How many seats up to `last` have the flag.
 pub fn flags_to(row: &LiveRow, last: u8) -> u8
     requires { last ≤ row.now.seats }
     ensures number { result ≡ count_to (flag_of row.now) last }

@@ -1,4 +1,4 @@
-//! Each shown seat has the score of the best choice of its cards and the board's.
+//! The score of each shown seat: its best choice of its cards and the board's.
 ghost use Rattle.std.specs.Prelude.{◌≡◌, ◌≤◌, ◌++◌, ℕ, true, false, None};
 ghost use Rattle.std.specs.Option.{option_map};
 ghost use Rattle.card_set.specs.Different.{AllDifferent};
@@ -18,8 +18,8 @@ use hand_order::{HandOrder, Pick, Score, best_of};
 use play_event::HandRow;
 use variant_table::Variant;
 
-/// The scores of the shown seats in a game: in its first order, and in the second where it pays by
-/// two.
+/// The scores of the shown seats in a game: in its first order of hands, and in its second if it
+/// pays by two.
 pub fn judged<V: Variant>(hands: &HandRow, board: &CardRow, shown: &LiveRow) -> (Scores, Scores)
     requires { ArePlayable V.Award.HELD V.PICK hands.now board.now shown.now }
     ensures { AreJudged V.CODE (showdown_of hands.now board.now shown.now)
@@ -30,8 +30,7 @@ pub fn judged<V: Variant>(hands: &HandRow, board: &CardRow, shown: &LiveRow) -> 
     (high, low)
 }
 
-// The scores of the shown seats in the second order, in a game that pays by two; in another game
-// none.
+// The scores of the shown seats in the second order of hands, if the game pays by two; else none.
 fn low_scores<V: Variant>(hands: &HandRow, board: &CardRow, shown: &LiveRow) -> Scores
     requires { ArePlayable V.Second.HELD V.PICK hands.now board.now shown.now }
     ensures two { V.SPLIT ≡ true

@@ -1,5 +1,5 @@
 //! Each pot of a hand, less its rake, goes to the shown seats that no other one beats, or in halves
-//! where a low hand is shown.
+//! if a low hand is shown.
 #![tactic(auto)]
 
 ghost use Rattle.std.specs.Prelude.{◌≡◌, ◌+◌, ℕ, None, Some, All, IfOk, IfErr, OnOk};
@@ -29,7 +29,7 @@ use pot::shares_of;
 pub use rakes::first_rake_above;
 use variant_table::Variant;
 
-/// A pot that two or more seats may win has no shown hand among them.
+/// In a pot that two or more seats may win, none of these seats is shown.
 #[derive(Clone, Copy, Debug, PartialEq, Eq)]
 pub struct NoShownHand {
     /// The number of the first such pot, from 1.
@@ -38,10 +38,10 @@ pub struct NoShownHand {
 
 /// What each seat gets of each pot of a hand, less its rake, the lowest pot first.
 ///
-/// `hands` are the hole cards of the seats, of which the known ones count, and `shown` says which
-/// seats are shown: of other seats no card is looked at. A shown seat and the board have as many
-/// cards as the game's pick can use. Without a shown hand for a pot that two or more seats may win
-/// nothing is paid.
+/// `hands` are the hole cards of the seats; only known cards count. `shown` says which seats are
+/// shown: the cards of other seats are not looked at. A shown seat and the board have as many cards
+/// as the game's pick can use. If a pot that two or more seats may win has no shown hand, nothing
+/// is paid.
 pub fn split<V: Variant>(
     pots: &PotRow,
     rakes: &RakeRow,
@@ -54,7 +54,7 @@ pub fn split<V: Variant>(
     requires rakes { HaveRakes (plain_pots pots.now) rakes.now }
     requires playable { ArePlayable V.Award.HELD V.PICK hands.now board.now shown.now }
 
-    // The rule, exactly.
+    // The exact rule.
     ensures shares { IfOk result (λ shares.
         AllShared V.CODE (showdown_of hands.now board.now shown.now)
         (nets_of rakes.now (plain_pots pots.now)) (plain_shares shares)) }
@@ -63,7 +63,7 @@ pub fn split<V: Variant>(
     ensures first_unshown { IfErr result (λ fault. first_unshown
         (showdown_of hands.now board.now shown.now) (plain_pots pots.now) ≡ Some fault.pot) }
 
-    // What follows from it.
+    // What follows from the rule.
     ensures conserved { IfOk result (λ shares. (number : ℕ) → shared_in shares number
         + rake_of rakes.now number ≡ chips_in (plain_pots pots.now) number) }
     ensures seats { IfOk result (λ shares.

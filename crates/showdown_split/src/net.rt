@@ -1,4 +1,4 @@
-//! What is shared of a pot is what its rake leaves.
+//! The part of a pot that is shared is what its rake leaves.
 ghost use Rattle.std.specs.Prelude.{◌≡◌, ◌≤◌};
 ghost use Rattle.chip_ledger.specs.PotRow.{plain};
 ghost use Rattle.chip_ledger.specs.Rakes.{less_rake};

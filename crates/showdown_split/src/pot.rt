@@ -1,4 +1,4 @@
-//! A pot goes to the one seat that may win it, or to the shown seats among those that may.
+//! A pot goes to the only seat that may win it, or to the shown seats among those that may.
 ghost use Rattle.std.specs.Prelude.{◌≡◌, ◌≢◌, ◌≤◌, ◌&&◌, ℕ, true, [], IfSome, IfNone, OnSome, false, if◌then◌else◌};
 ghost use Rattle.chip_ledger.specs.declared.seat_row.TheConstants.{MOST_AMOUNT};
 ghost use Rattle.chip_ledger.specs.LiveRow.{flag_of, flagged};
@@ -13,7 +13,7 @@ use crate::scores::Scores;
 use crate::winners::{best, winners};
 use chip_ledger::{LiveRow, Pot, Seat, SeatRow};
 
-/// What each seat gets of the pot, none where two or more seats may win it and none of them is
+/// What each seat gets of the pot; `None` if two or more seats may win it and none of them is
 /// shown.
 pub fn shares_of(pot: &Pot, shown: &LiveRow, high: &Scores, low: &Scores) -> Option<SeatRow>
     requires seats { pot.now.eligible.seats ≡ shown.now.seats }
@@ -58,8 +58,8 @@ fn chips_if(flag: bool, chips: u64) -> u64
     if flag { chips } else { 0 }
 }
 
-// What each seat gets of chips for which some seats contend: where one of them has a low hand, the
-// chips are halved, and the high half has the odd one.
+// What each seat gets of chips that some seats contend for: if one of them has a low hand, the
+// chips are halved, and the odd chip goes to the high half.
 fn contested(chips: u64, contending: &LiveRow, high: &Scores, low: &Scores) -> SeatRow
     requires some { flagged contending.now ≢ [] }
     requires bounded { chips ≤ MOST_AMOUNT }

@@ -1,11 +1,11 @@
-//! A row of scores has one for each seat that has a hand.
+//! A row of scores: one for each seat that has a hand.
 ghost use Rattle.std.specs.Prelude.{◌≡◌, ◌≢◌, ◌≤◌, ℕ, None, length};
 ghost use Rattle.std.specs.Option.{option_map};
 
 use chip_ledger::Seat;
 use hand_order::Score;
 
-/// The score of each seat in one order, where it has a hand of the order.
+/// The score of each seat in one order, if it has a hand of the order.
 #[derive(Clone, Copy, Debug)]
 pub struct Scores {
     scores: [Option<Score>; 10],
@@ -15,7 +15,7 @@ pub struct Scores {
 impl Scores {
     ghost use Rattle.showdown_split.specs.Scores.{points_of};
 
-    /// No seat has a score.
+    /// A row without scores.
     pub fn new() -> Self
         ensures { (n : ℕ) → points_of result n ≡ None }
     {

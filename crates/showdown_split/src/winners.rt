@@ -1,4 +1,4 @@
-//! The winners are the seats that contend and that have as many points as the best of them.
+//! The winners are the seats that contend and have the best score.
 ghost use Rattle.std.specs.Prelude.{◌≡◌, ◌≤◌, ◌&&◌, ℕ, if◌then◌else◌};
 ghost use Rattle.std.specs.Option.{option_map};
 ghost use Rattle.chip_ledger.specs.LiveRow.{flag_of};
@@ -29,7 +29,7 @@ pub fn winners(contending: &LiveRow, scores: &Scores) -> LiveRow
     row
 }
 
-/// The best score of the seats that contend, none where none of them has a hand.
+/// The best score of the seats that contend; `None` if none of them has a hand.
 pub fn best(contending: &LiveRow, scores: &Scores) -> Option<Score>
     ensures { option_map (λ s. s.points) result
         ≡ best_to (flag_of contending.now) (points_of scores.now) contending.now.seats }
@@ -62,7 +62,7 @@ fn better_of_seat(
     }
 }
 
-// Both are the same score, or none.
+// Whether both are the same score, or both are missing.
 fn is_same(first: Option<Score>, second: Option<Score>) -> bool
     ensures { result
         ≡ is_same (option_map (λ s. s.points) first) (option_map (λ s. s.points) second) }

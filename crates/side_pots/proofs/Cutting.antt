@@ -4,8 +4,8 @@ use Rattle.std.proofs.lemmas.List.{append-nil, map-append}
 use Rattle.std.proofs.lemmas.Bool.{cond-false, cond-true, cond_both}
 use Rattle.std.proofs.lemmas.List.Elements.{All-push}
 use Rattle.std.proofs.lemmas.List.FromFn.{length-map-range_with_len}
-use Rattle.list_laws.proofs.Rising.{first_and_rest, above_first, filter-Rising}
-use Rattle.list_laws.proofs.Lists.{no_first}
+use Rattle.card_set.proofs.Rising.{first_and_rest, above_first, filter-Rising}
+use Rattle.card_set.proofs.Lists.{no_first}
 use Rattle.chip_ledger.specs.declared.pots.Pot.{Pot}
 use Rattle.chip_ledger.specs.declared.live_row.LiveRow.{LiveRow}
 use Rattle.chip_ledger.specs.declared.seat_row.SeatRow.{SeatRow}
@@ -73,7 +73,8 @@ pub plain-added : (old new : List Pot) (pot : Pot)
     → map plain new ≡ map plain old ++ with_chips (plain pot ∷ [])
 plain-added old new pot e = ap (map plain) e ∙ plain_added old pot (nat_lt 0 pot.chips)
 
--- a loop's step: the pot of the next level comes to the pots, and the higher ones are left to be cut
+-- a loop's step: the pot of the next level is added to the pots, and the higher ones are left to be
+-- cut
 pub cut_step : (stakes : List Stake) (below level dead : ℕ) (old new : List Pot) (pot : Pot)
     (start : List PlainPot)
     → slice_get (levels_above stakes below) 0 ≡ Some level
@@ -102,7 +103,7 @@ cut_end stakes below dead pots start last so_far =
     ∙ ap (λ xs. pots ++ with_chips (with_dead dead (layers stakes below xs))) (sym none)
     ∙ so_far
 
--- a fact of every pot stays when a pot comes to them
+-- a fact of every pot stays true when a pot is added
 pub All-added : (P : Pot → Type 0) (old new : List Pot) (pot : Pot)
     → new ≡ (if nat_lt 0 pot.chips then old ++ pot ∷ [] else old)
     → All P old
@@ -121,7 +122,7 @@ length-levels_above puts live =
     let c = length-map-range_with_len (stake_of puts live) 1 puts.seats in
     omega arith
 
--- a pot of so many chips and of the seats that reach a level
+-- a pot of these chips and of the seats that reach a level
 pub plain_pot : (left : SeatRow) (live eligible : LiveRow) (level m n : ℕ)
     → m ≡ n
     → eligible.seats ≡ left.seats
@@ -147,7 +148,7 @@ levels_first : (stakes : List Stake) (first : ℕ)
     → levels stakes ≡ first ∷ levels_above stakes first
 levels_first stakes first next = sym (levels_above-zero stakes) ∙ levels_from_next stakes 0 first next
 
--- dead chips are in the first pot where every live seat reaches the first level
+-- dead chips are in the first pot if every live seat reaches the first level
 pub pots_at-together : (stakes : List Stake) (dead first : ℕ)
     → slice_get (levels_above stakes 0) 0 ≡ Some first
     → is_reached_by_all stakes first ≡ true
@@ -161,7 +162,7 @@ pots_at-together stakes dead first next all =
     ∙ cond-true (is_reached_by_all stakes first) (with_dead dead cut) (own ∷ cut) all
     ∙ ap (λ ys. with_dead dead (layers stakes 0 ys)) (sym xs)
 
--- and else they are a pot of their own
+-- otherwise they are a pot of their own
 pub pots_at-apart : (stakes : List Stake) (dead first : ℕ)
     → slice_get (levels_above stakes 0) 0 ≡ Some first
     → is_reached_by_all stakes first ≡ false
@@ -179,7 +180,7 @@ pots_at-apart stakes dead first next some =
     ∙ ap (λ ys. with_chips (own ∷ []) ++ with_chips (layers stakes 0 ys)) (sym xs)
     ∙ ap (λ ps. with_chips (own ∷ []) ++ with_chips ps) (sym (with_no_dead (layers stakes 0 (levels stakes))))
 
--- a pot of so many chips and of all live seats
+-- a pot of these chips and of all live seats
 pub plain_pot-live : (left : SeatRow) (live : LiveRow) (m n : ℕ)
     → m ≡ n
     → live.seats ≡ left.seats

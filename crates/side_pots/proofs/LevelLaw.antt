@@ -3,8 +3,8 @@ use Rattle.std.proofs.Common.{◌≡◌, ℕ, ◌<◌, true, ◌&&◌, ◌==◌,
 use Rattle.std.specs.List.{Any, list_any}
 use Rattle.std.proofs.lemmas.Bool.{and_from, and_parts, eq-eqb, eqb-true, lt-ltb, ltb-true}
 use Rattle.std.proofs.lemmas.List.Folds.{Any-from_list_any, list_any-from_Any}
-use Rattle.list_laws.proofs.Rising.{pairs_rise}
-use Rattle.list_laws.proofs.Any.{any_from_contains, contains_from_any}
+use Rattle.card_set.proofs.Rising.{pairs_rise}
+use Rattle.card_set.proofs.Any.{any_from_contains, contains_from_any}
 use Rattle.chip_ledger.specs.Pots.{Stake, levels}
 use Rattle.chip_ledger.proofs.PotLevels.{Rising-levels, list_any-levels, makes_level}
 use Rattle.side_pots.specs.Levels.{AreLevels}

@@ -1,5 +1,5 @@
-//! The chips that are left are cut into pots, the lowest first, and dead chips join the lowest pot
-//! or make one of their own.
+//! Cuts the chips that are left into pots, the lowest first; dead chips join the lowest pot or make
+//! a pot of their own.
 ghost use Rattle.std.specs.Prelude.{◌≡◌, ◌+◌, ◌<◌, ◌≤◌, ◌∷◌, [], ◌++◌, if◌then◌else◌, map, nat_lt, All};
 ghost use Rattle.chip_ledger.specs.declared.seat_row.TheConstants.{MOST_AMOUNT};
 ghost use Rattle.chip_ledger.specs.PotRow.{plain, pots_in};
@@ -11,7 +11,7 @@ use crate::levels::{every_live_seat_reaches, next_level};
 use crate::stakes::Stakes;
 use chip_ledger::{Pot, PotRow, SeatRow, total};
 
-/// The pots of what is left of each seat's chips, and of the dead chips.
+/// The pots made of what is left of each seat's chips, and of the dead chips.
 pub fn cut(stakes: &Stakes<'_>, dead: u64, returned: SeatRow) -> PotRow
     requires bounded { dead ≤ MOST_AMOUNT }
     ensures pots { map plain (pots_in result)
@@ -46,7 +46,7 @@ pub fn cut(stakes: &Stakes<'_>, dead: u64, returned: SeatRow) -> PotRow
     row
 }
 
-/// Puts a pot for each level above the others, with the dead chips in the first of them.
+/// Adds a pot for each level, with the dead chips in the first of them.
 fn add_layers(row: &mut PotRow, stakes: &Stakes<'_>, dead: u64)
     requires room { row.old.count ≤ 1 }
     requires bounded { dead ≤ MOST_AMOUNT }
@@ -68,7 +68,7 @@ fn add_layers(row: &mut PotRow, stakes: &Stakes<'_>, dead: u64)
     }
 }
 
-/// Puts a pot above the others, unless it has no chips.
+/// Adds a pot, unless it has no chips.
 fn add_pot(row: &mut PotRow, pot: Pot)
     requires { row.old.count < 11 }
     ensures pots { pots_in row.new

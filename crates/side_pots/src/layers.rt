@@ -1,4 +1,4 @@
-//! A level's pot has every seat's chips between the level below and it, for the live seats that
+//! The pot of a level: every seat's chips between the level below and it, for the live seats that
 //! reach it.
 ghost use Rattle.std.specs.Prelude.{◌≡◌, ◌+◌, ◌*◌, ◌≤◌, ◌&&◌, ℕ, nat_le};
 ghost use Rattle.chip_ledger.specs.declared.live_row.LiveRow.{LiveRow};
@@ -23,7 +23,7 @@ pub fn layer_chips(stakes: &Stakes<'_>, below: u64, level: u64) -> u64
     chips_between(stakes.chips, below, level) + joining_chips(stakes, level)
 }
 
-/// Every seat's chips above one level and up to another.
+/// All seats' chips above one level and up to another.
 #[tactic(auto, using(chip_ledger::proofs::Stakes::between_more))]
 fn chips_between(left: &SeatRow, below: u64, level: u64) -> u64
     ensures sum { (live : LiveRow) → result ≡ between (stakes_of left.now live) below level }
@@ -37,7 +37,7 @@ fn chips_between(left: &SeatRow, below: u64, level: u64) -> u64
     chips
 }
 
-/// The chips above a level that join its pot.
+/// The chips above a level that join its pot: those of folded seats, if no level is higher.
 fn joining_chips(stakes: &Stakes<'_>, level: u64) -> u64
     ensures sum { result
         ≡ joining (stakes_in stakes.now) level (levels_above (stakes_in stakes.now) level) }

@@ -1,4 +1,4 @@
-//! The next level is the least of the live seats' chips above the last one.
+//! The next level is the smallest amount of a live seat above the last level.
 ghost use Rattle.std.specs.Prelude.{◌≡◌, min, slice_get};
 ghost use Rattle.std.specs.Option.{option_map_or};
 ghost use Rattle.chip_ledger.specs.Pots.{is_reached_by_all};
@@ -8,7 +8,7 @@ ghost use Rattle.side_pots.specs.Stakes.{stakes_in};
 use crate::stakes::Stakes;
 use chip_ledger::Seat;
 
-/// The next level above so many chips, if there is one.
+/// The next level above `below` chips, if there is one.
 #[tactic(auto, using(chip_ledger::proofs::Stakes::first_level_more))]
 pub fn next_level(stakes: &Stakes<'_>, below: u64) -> Option<u64>
     ensures { result ≡ slice_get (levels_above (stakes_in stakes.now) below) 0 }
@@ -33,7 +33,7 @@ fn lesser(chips: u64, next: Option<u64>) -> u64
     }
 }
 
-/// Whether every live seat has so many chips.
+/// Whether every live seat has at least `level` chips.
 #[tactic(auto, using(chip_ledger::proofs::Stakes::all_reach_more, chip_ledger::proofs::Stakes::all_reach_fails))]
 pub fn every_live_seat_reaches(stakes: &Stakes<'_>, level: u64) -> bool
     ensures { result ≡ is_reached_by_all (stakes_in stakes.now) level }

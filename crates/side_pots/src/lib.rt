@@ -1,4 +1,4 @@
-//! The chips that the seats put into a hand are returned or cut into pots, as the rule says.
+//! Returns the uncalled chips of a hand and cuts the rest into pots, as the rule says.
 #![tactic(auto)]
 
 ghost use Rattle.std.specs.Prelude.{◌≡◌, ◌≢◌, ◌+◌, ◌<◌, ◌≤◌, ℕ, true, [], map, sum_by, All, AllPairs};
@@ -19,23 +19,23 @@ use chip_ledger::{LiveRow, PotRow, SeatRow};
 pub use laws::levels_are_the_chips_of_live_seats;
 use stakes::Stakes;
 
-/// The pots of a hand, the lowest first, and what returns to each seat.
+/// The pots of a hand, the lowest first, and what is returned to each seat.
 ///
-/// `puts` are the chips of each seat that count: all that it put, but for its ante where antes are
-/// dead. `dead` are the dead antes of all seats together.
+/// `puts` are the chips of each seat that count for the pots: all that it put in, without its ante
+/// if antes are dead. `dead` is the sum of the dead antes of all seats.
 pub fn pots(puts: &SeatRow, dead: u64, live: &LiveRow) -> PotRow
     requires seats { live.now.seats ≡ puts.now.seats }
     requires live { flagged live.now ≢ [] }
     requires bounded { total_of puts.now + dead ≤ MOST_AMOUNT }
 
-    // The rule, exactly.
+    // The exact rule.
     ensures pots { map plain (pots_in result) ≡ pots_of (stakes_of puts.now live.now) dead }
     ensures seats { All (λ pot. pot.eligible.seats ≡ puts.now.seats) (pots_in result) }
     ensures returned_seats { result.returned.seats ≡ puts.now.seats }
     ensures returned { (n : ℕ) → 1 ≤ n → n ≤ puts.now.seats → amount_of result.returned n
         ≡ returned (stakes_of puts.now live.now) (stake_of puts.now live.now n) }
 
-    // What follows from it.
+    // What follows from the rule.
     ensures conserved { sum_by (λ pot. pot.chips) (pots_in result) + total_of result.returned
         ≡ total_of puts.now + dead }
     ensures each_has_chips { All (λ pot. 0 < pot.chips) (pots_in result) }

@@ -1,4 +1,4 @@
-//! A live seat gets back the chips by which it put more than every other seat.
+//! A live seat gets back the chips that it put in beyond what every other seat put in.
 ghost use Rattle.std.specs.Prelude.{◌≡◌, ◌-◌, ◌≤◌, ℕ};
 ghost use Rattle.chip_ledger.specs.declared.live_row.LiveRow.{LiveRow};
 ghost use Rattle.chip_ledger.specs.SeatRow.{amount_of};

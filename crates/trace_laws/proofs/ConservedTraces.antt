@@ -1,9 +1,9 @@
--- Where the shares of each pot and its rake are its chips, no chip of a whole trace is made or lost.
+-- If the shares of each pot and its rake are its chips, no chip of a whole trace is made or lost.
 use Rattle.std.proofs.Common.{◌≡◌, ℕ, zero, suc, ◌+◌, ◌-◌, List, [], ◌∷◌, length, reverse, sum_by, ap, arith}
 use Rattle.std.specs.List.{range_with_len}
 use Rattle.std.proofs.lemmas.List.{length-map}
 use Rattle.std.proofs.lemmas.List.Sums.{sum_by-cons}
-use Rattle.list_laws.proofs.Sums.{sum_by-map}
+use Rattle.card_set.proofs.Sums.{sum_by-map}
 use Rattle.chip_ledger.specs.declared.rakes.RakeRow.{RakeRow}
 use Rattle.chip_ledger.specs.declared.seat_row.SeatRow.{SeatRow}
 use Rattle.chip_ledger.specs.PotRow.{plain, plain_pots, pots_in, shared_in, shares_in}
@@ -11,7 +11,7 @@ use Rattle.chip_ledger.specs.Pots.{PlainPot}
 use Rattle.chip_ledger.specs.RakeRow.{rake_of}
 use Rattle.chip_ledger.specs.Rakes.{chips_in}
 use Rattle.chip_ledger.specs.SeatRow.{total_of}
-use Rattle.canon_script.specs.PlayedScript.{IsPlayed}
+use Rattle.play_event.specs.PlayedScript.{IsPlayed}
 use Rattle.hand_canon.specs.WholeTrace.{IsTraceOf}
 use Rattle.hand_records.specs.declared.trace.Trace.{Trace}
 use Rattle.play_event.specs.declared.setup.Rules.{Rules}
@@ -64,7 +64,7 @@ whole_sums rakes first (pot ∷ pots) (row ∷ rows) each =
           omega (arith, each (suc k), ap (rake_of rakes) later)),
     )
 
--- where the shares of each pot and its rake are its chips, the chips of a trace are those of its past
+-- if the shares of each pot and its rake are its chips, the chips of a trace are those of its past
 pub conserved : (setup : Setup) (rules : Rules) (script : List Said) (trace : Trace) → IsValid setup → IsPlayed setup rules script → IsTraceOf setup (past_at_end setup script) trace
     → ((number : ℕ) → shared_in trace.shares number + rake_of setup.rakes number ≡ chips_in (plain_pots trace.pots) number)
     → IsConserved setup (past_at_end setup script) trace

@@ -1,5 +1,6 @@
--- Rows are equal where they say the same, shares are unique, and so a past has at most one whole trace; no chips are
--- made or lost where shares and rakes are the pots, and only unbeaten seats win contested pots.
+-- Rows are equal if they say the same, shares are unique, and so a past has at most one whole
+-- trace; no chips are made or lost if shares and rakes are the pots, and only unbeaten seats win
+-- contested pots.
 pub mod Readings
 pub mod SameRows
 pub mod OneSharing

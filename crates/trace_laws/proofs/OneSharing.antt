@@ -1,6 +1,6 @@
 -- The rules leave no choice of shares: two sharings of the same pots give each seat the same.
 use Rattle.std.proofs.Common.{◌≡◌, ℕ, zero, suc, ◌+◌, ◌-◌, ◌/◌, ◌≤◌, inl, inr, Bool, List, [], ◌∷◌, All, map, refl, sym, ap, ◌∙◌, arith}
-use Rattle.list_laws.proofs.Tests.{same_test}
+use Rattle.card_set.proofs.Tests.{same_test}
 use Rattle.chip_ledger.specs.declared.seat_row.SeatRow.{SeatRow}
 use Rattle.chip_ledger.specs.Pots.{PlainPot}
 use Rattle.chip_ledger.specs.SeatRow.{amount_of}
@@ -10,7 +10,7 @@ use Rattle.variant_table.specs.Division.{AreHalves, AreParts}
 use Rattle.variant_table.specs.Shares.{AllShared, AreContested, AreShares, Ranking, Showdown, is_contender, ranking_of}
 use Rattle.showdown_split.proofs.Parts.{divided-agree}
 
--- the winners are told, and the parts with them
+-- the winners are determined, and their parts with them
 parts_same : (seats : ℕ) (contending : ℕ → Bool) (beats : ℕ → ℕ → Type 0) (chips : ℕ) (share other : ℕ → ℕ) → AreParts seats contending beats chips share → AreParts seats contending beats chips other → (seat : ℕ) → 1 ≤ seat → seat ≤ seats → share seat ≡ other seat
 parts_same seats contending beats chips share other a b seat least most =
     a.parts seat least most

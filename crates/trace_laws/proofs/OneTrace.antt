@@ -1,4 +1,4 @@
--- Whole traces of one core are one trace.
+-- Whole traces with the same core are the same.
 use Rattle.std.proofs.Common.{◌≡◌, ◌↔◌, ◌≤◌, List, map, refl, sym, ap, ◌∙◌, subst, arith}
 use Rattle.chip_ledger.specs.declared.pots.PotRow.{PotRow}
 use Rattle.chip_ledger.specs.declared.shares.ShareRow.{ShareRow}
@@ -17,17 +17,17 @@ use Rattle.play_event.specs.Past.{Past}
 use Rattle.play_event.specs.Played.{move_said}
 use Rattle.play_event.specs.Stakes.{finishing_stack}
 use Rattle.hand_records.specs.declared.trace.Trace.{Trace}
-use Rattle.canon_script.specs.CanonScript.{plain_moves}
+use Rattle.play_event.specs.CanonScript.{plain_moves}
 use Rattle.hand_canon.specs.LegalHand.{showdown_in}
-use Rattle.canon_script.specs.TraceCore.{TraceCore, core_of}
+use Rattle.play_event.specs.TraceCore.{TraceCore, core_of}
 use Rattle.hand_records.specs.TraceRows.{core_said, place_said}
 use Rattle.hand_canon.specs.WholeTrace.{HasSeats, HasShares, IsTraceOf}
 use Rattle.trace_laws.proofs.Readings.{move_same, place_same}
 use Rattle.trace_laws.proofs.SameRows.{flags_same, pot_rows_same}
 use Rattle.trace_laws.proofs.OneSharing.{share_lists_same}
-use Rattle.list_laws.proofs.Lists.{lists_same}
+use Rattle.card_set.proofs.Lists.{lists_same}
 
--- a trace of this setup and core: its rows are of so many seats, and share as the rules share
+-- a trace of this setup and core: its rows have this many seats, and its shares follow the rules
 record IsWhole (setup : Setup) (core : TraceCore) (trace : Trace) : Type 0 where
   same_setup : trace.setup ≡ setup
   seats : HasSeats setup.stacks.seats trace
@@ -60,7 +60,7 @@ trace_by : Setup → List Place → List Move → LiveRow → LiveRow → PotRow
 trace_by setup places moves shown mucked pots shares finish =
     record { setup = setup; places = places; moves = moves; shown = shown; mucked = mucked; pots = pots; shares = shares; finish = finish }
 
--- so they are one trace
+-- so they are the same trace
 whole_same : (setup : Setup) (core : TraceCore) (a b : Trace) → IsWhole setup core a → IsWhole setup core b → a ≡ b
 unfolding trace_by
 whole_same setup core a b one other =
@@ -79,7 +79,7 @@ whole_same setup core a b one other =
 whole : (setup : Setup) (past : Past) (trace : Trace) → IsTraceOf setup past trace → IsWhole setup (core_of setup past) trace
 whole setup past trace is = record { same_setup = is.same_setup; seats = is.seats; said = is.core; shares = is.shares }
 
--- whole traces of two pasts are one exactly where the pasts leave one core
+-- whole traces of two pasts are the same if and only if the pasts have the same core
 pub one_core : (setup : Setup) (past later : Past) (trace other : Trace) → IsTraceOf setup past trace → IsTraceOf setup later other → (trace ≡ other) ↔ (core_of setup past ≡ core_of setup later)
 one_core setup past later trace other is also =
     let P : TraceCore → Type 0 = λ core. IsWhole setup core other in (
@@ -87,6 +87,6 @@ one_core setup past later trace other is also =
       (λ same. whole_same setup (core_of setup past) trace other (whole setup past trace is) (subst P (sym same) (whole setup later other also))),
     )
 
--- so those of one past are one
+-- so those of one past are the same
 pub one_past : (setup : Setup) (past : Past) (trace other : Trace) → IsTraceOf setup past trace → IsTraceOf setup past other → trace ≡ other
 one_past setup past trace other is also = (one_core setup past past trace other is also).1 refl

@@ -1,4 +1,4 @@
--- Moves and places that say the same are one.
+-- Moves and places are equal if the definitions see them as equal.
 use Rattle.std.proofs.Common.{◌≡◌, ◌↔◌, ℕ, Bool, Option, refl, sym, ap, ◌∙◌}
 use Rattle.card_set.specs.declared.card.Slot.{Slot}
 use Rattle.chip_ledger.specs.declared.numbers.Seat.{Seat}
@@ -11,9 +11,9 @@ use Rattle.play_event.specs.Past.{Act, Folded, Called, Raised, BroughtIn}
 use Rattle.play_event.specs.Played.{IsPlace, act_said, move_said}
 use Rattle.play_event.specs.Trace.{TracedPlace}
 use Rattle.hand_records.specs.TraceRows.{place_said}
-use Rattle.list_laws.proofs.Options.{options_same}
+use Rattle.card_set.proofs.Options.{options_same}
 
--- the act of a row that says this
+-- the act of a row, by its definition
 act_from : Act → rows.Act
 act_from Folded = acts.Fold
 act_from Called = acts.Call
@@ -30,7 +30,7 @@ act_back acts.BringIn = refl
 act_same : (a b : rows.Act) → act_said a ≡ act_said b → a ≡ b
 act_same a b same = sym (act_back a) ∙ (ap act_from same ∙ act_back b)
 
--- moves that say the same are one
+-- moves that the definitions see as equal are equal
 pub move_same : (a b : Move) → move_said a ≡ move_said b → a ≡ b
 move_same a b same =
     let move : ℕ → Seat → rows.Act → ℕ → ℕ → ℕ → Bool → ℕ → Move =
@@ -44,7 +44,7 @@ move_same a b same =
     ∙ (ap (λ closed. move b.street b.seat b.act b.from b.to b.price closed a.unit_to) (ap (λ said. said.closed) same)
     ∙ ap (λ unit_to. move b.street b.seat b.act b.from b.to b.price b.closed unit_to) (ap (λ said. said.unit_to) same)))))))
 
--- places that say the same are one
+-- places that the definitions see as equal are equal
 pub place_same : (a b : Place) → place_said a ≡ place_said b → a ≡ b
 place_same a b same =
     let place : Option Seat → ℕ → Slot → ℕ → Place =
@@ -55,7 +55,7 @@ place_same a b same =
     ∙ (ap (λ slot. place b.owner b.street slot a.gone) (ap (λ said. said.slot) same)
     ∙ ap (λ gone. place b.owner b.street b.slot gone) (ap (λ said. said.discarded) same)))
 
--- a row says a place exactly where the place is what it says
+-- a row agrees with a place if and only if the definitions see it as this place
 pub says_place : (row : Place) (place : TracedPlace) → IsPlace row place ↔ (place_said row ≡ place)
 says_place row place = (
   λ is.

@@ -1,7 +1,7 @@
--- Rows of one number of seats that say the same are one.
+-- Rows with the same number of seats are equal if the definitions see them as equal.
 use Rattle.std.proofs.Common.{◌≡◌, ℕ, zero, suc, ◌≤◌, ◌==◌, true, List, [], ◌∷◌, All, map, refl, sym, ap, ◌∙◌, arith}
 use Rattle.std.specs.List.{list_any}
-use Rattle.list_laws.proofs.Tests.{same_test}
+use Rattle.card_set.proofs.Tests.{same_test}
 use Rattle.chip_ledger.specs.declared.pots.Pot.{Pot}
 use Rattle.chip_ledger.specs.declared.pots.PotRow.{PotRow}
 use Rattle.chip_ledger.specs.declared.live_row.LiveRow.{LiveRow}
@@ -13,7 +13,7 @@ use Rattle.chip_ledger.specs.SeatRow.{amount_of}
 use Rattle.chip_ledger.proofs.Flags.{flag-from_flagged, flagged-from_flag}
 use Rattle.chip_ledger.proofs.Same.{live_row_same_by_seats, seat_row_same_by_seats}
 use Rattle.chip_ledger.proofs.SameEntries.{pot_row_same_by_pots}
-use Rattle.list_laws.proofs.NumbersOfRange.{along_range}
+use Rattle.card_set.proofs.NumbersOfRange.{along_range}
 
 -- a flag of one row is set in another with the same flagged seats
 flag_too : (a b : LiveRow) → flagged a ≡ flagged b → (seat : ℕ) → 1 ≤ seat → flag_of a seat ≡ true → flag_of b seat ≡ true

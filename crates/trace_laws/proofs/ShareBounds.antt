@@ -4,7 +4,7 @@ use Rattle.std.specs.List.{list_any}
 use Rattle.std.specs.Option.{option_map_or}
 use Rattle.std.proofs.Math.Nat.{mul-one}
 use Rattle.std.proofs.lemmas.Bool.{cases_lt}
-use Rattle.list_laws.proofs.Sums.{sum_by-plus}
+use Rattle.card_set.proofs.Sums.{sum_by-plus}
 use Rattle.chip_ledger.specs.declared.pots.Pot.{Pot}
 use Rattle.chip_ledger.specs.declared.rakes.RakeRow.{RakeRow}
 use Rattle.chip_ledger.specs.declared.live_row.LiveRow.{LiveRow}
@@ -29,7 +29,7 @@ use Rattle.showdown_split.proofs.Flagged.{is_flagged-flag, length-flagged, sum_f
 use Rattle.showdown_split.proofs.Parts.{parts_total}
 use Rattle.hand_records.specs.declared.trace.Trace.{Trace}
 use Rattle.hand_canon.specs.LegalHand.{IsShareable, showdown_in}
-use Rattle.canon_script.specs.TraceCore.{core_of}
+use Rattle.play_event.specs.TraceCore.{core_of}
 use Rattle.hand_canon.specs.WholeTrace.{IsTraceOf}
 
 -- a seat that does not win has no part
@@ -39,7 +39,7 @@ no_part seats wins chips n false is not =
     let part = chips / count_to wins seats + (if nat_lt (count_to wins (n - 1)) (chips % count_to wins seats) then 1 else 0) in
     ap (λ (b : Bool). if b then part else 0) is
 
--- the parts of chips are all of them, or none where nobody wins
+-- the parts of chips are all of them, or none if nobody wins
 parts_within : (seats : ℕ) (contending : ℕ → Bool) (beats : ℕ → ℕ → Type 0) (chips : ℕ) (share : ℕ → ℕ) → AreParts seats contending beats chips share → sum_by share (seats_of seats) ≤ chips
 parts_within seats contending beats chips share are =
     let same = sum-seats share (divided seats are.wins chips) seats are.parts in
@@ -88,7 +88,7 @@ pot_within code showdown row pot share same is (inl one) = omega (arith, one_who
 pot_within code showdown row pot share same is (inr shown) =
     contested_within showdown.seats (is_contender showdown pot) (ranking_of code showdown) pot.chips share shown.contested
 
--- the chips of a pot at an index, and the shares of it
+-- the chips of a pot at an index, and its shares
 abbrev pub pot_at : List PlainPot → ℕ → ℕ
 pot_at pots k = option_map_or (λ (p : PlainPot). p.chips) (slice_get pots k) 0
 

@@ -3,11 +3,11 @@ use Rattle.std.proofs.Common.{◌≡◌, ℕ, true, false, ◌&&◌, not, nat_le
 use Rattle.std.specs.List.{flat_map, range_with_len}
 use Rattle.std.proofs.lemmas.Bool.{and_parts, not-true}
 use Rattle.std.proofs.lemmas.List.{map-append}
-use Rattle.canon_blocks.proofs.TracedSlots.{dealt_same}
-use Rattle.canon_blocks.proofs.TraceOrder.{finals_group, finals_of, the_board}
-use Rattle.canon_script.specs.CanonScript as canon
-use Rattle.list_laws.proofs.Numbers.{many_not_few}
-use Rattle.list_laws.proofs.NumbersOfRange.{flat_same}
+use Rattle.canon_laws.proofs.TracedSlots.{dealt_same}
+use Rattle.canon_laws.proofs.TraceOrder.{finals_group, finals_of, the_board}
+use Rattle.play_event.specs.CanonScript as canon
+use Rattle.card_set.proofs.Numbers.{many_not_few}
+use Rattle.card_set.proofs.NumbersOfRange.{flat_same}
 use Rattle.play_event.specs.declared.setup.Rules.{Rules}
 use Rattle.play_event.specs.declared.setup.Setup.{Setup}
 use Rattle.play_event.specs.Games.{street_count}
@@ -23,8 +23,8 @@ use Rattle.play_event.specs.Table.{places_of}
 use Rattle.play_event.specs.Trace.{has_unknown_card, is_contested, is_shown, streets_of, traced_places}
 use Rattle.play_laws.proofs.LegalPlaces.{legal_past}
 use Rattle.play_laws.proofs.UnknownOrder.{legal_sorted}
-use Rattle.showdown_laws.proofs.StreetSplits.{by_streets}
-use Rattle.showdown_laws.proofs.WholeBoards.{board_is}
+use Rattle.play_laws.proofs.StreetSplits.{by_streets}
+use Rattle.play_laws.proofs.WholeBoards.{board_is}
 
 -- what a shown seat is
 pub record IsShownSeat (setup : Setup) (past : Past) (seat : ℕ) : Type 0 where

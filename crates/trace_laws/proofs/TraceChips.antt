@@ -1,7 +1,7 @@
--- The pots of a whole trace and what is returned are all chips that were put.
+-- The pots of a whole trace and what is returned are all chips that were put in.
 use Rattle.std.proofs.Common.{◌≡◌, ◌+◌, List, map, sum, sum_by, sym, ap, ◌∙◌, arith}
 use Rattle.std.proofs.lemmas.List.Sums.{sum-map}
-use Rattle.list_laws.proofs.Sums.{sum_by-map}
+use Rattle.card_set.proofs.Sums.{sum_by-map}
 use Rattle.chip_ledger.specs.declared.pots.Pot.{Pot}
 use Rattle.chip_ledger.specs.PotRow.{plain, pots_in}
 use Rattle.chip_ledger.specs.Pots.{PlainPot, returned}
@@ -10,7 +10,7 @@ use Rattle.chip_ledger.specs.SeatRow.{amount_of, total_of}
 use Rattle.chip_ledger.proofs.PotSums.{pot_chips, pots_sum}
 use Rattle.play_event.specs.declared.setup.Setup.{Setup}
 use Rattle.play_event.specs.Past.{Move, Past, moves_of}
-use Rattle.play_event.specs.Price.{all_chips_put}
+use Rattle.play_event.specs.CurrentBet.{all_chips_put}
 use Rattle.play_event.specs.Seats.{all_seats}
 use Rattle.play_event.specs.Stakes.{dead_antes_of, pots_after, returned_after, stake_after, stakes_after}
 use Rattle.hand_records.specs.declared.trace.Trace.{Trace}
@@ -27,7 +27,7 @@ rules_keep setup moves =
       sum_by-map (returned (stakes_after setup moves)) (stake_after setup moves) (all_seats setup),
     )
 
--- what the trace says is returned
+-- what the trace has as returned
 pub returned_total : (setup : Setup) (past : Past) (trace : Trace) → IsTraceOf setup past trace → total_of trace.pots.returned ≡ sum_by (returned_after setup (moves_of past)) (all_seats setup)
 returned_total setup past trace is =
     let seats : map (amount_of trace.pots.returned) (all_seats setup) ≡ map (returned_after setup (moves_of past)) (all_seats setup) =

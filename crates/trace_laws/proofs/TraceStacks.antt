@@ -1,7 +1,7 @@
 -- The finishing stacks of a whole trace and its pots are the starting stacks and the shares.
 use Rattle.std.proofs.Common.{◌≡◌, ℕ, suc, ◌+◌, List, [], ◌∷◌, All, map, sum_by, ap, ◌∙◌, arith}
 use Rattle.std.proofs.lemmas.List.Sums.{sum-map, sum_by-cons}
-use Rattle.list_laws.proofs.Sums.{sum_by-none, sum_by-plus, sum_by-same}
+use Rattle.card_set.proofs.Sums.{sum_by-none, sum_by-plus, sum_by-same}
 use Rattle.chip_ledger.specs.declared.pots.Pot.{Pot}
 use Rattle.chip_ledger.specs.declared.seat_row.SeatRow.{SeatRow}
 use Rattle.chip_ledger.specs.PotRow.{plain_shares, pots_in, shares_in}
@@ -13,7 +13,7 @@ use Rattle.play_event.specs.declared.setup.Setup.{Setup}
 use Rattle.play_event.specs.Chips.{chips_left, chips_put}
 use Rattle.play_event.specs.Laws.{AreLegal}
 use Rattle.play_event.specs.Past.{Past, moves_of}
-use Rattle.play_event.specs.Price.{all_chips_put}
+use Rattle.play_event.specs.CurrentBet.{all_chips_put}
 use Rattle.play_event.specs.Said.{Said}
 use Rattle.play_event.specs.Scripts.{past_of}
 use Rattle.play_event.specs.Seats.{all_seats}
@@ -44,7 +44,7 @@ shares_total (row ∷ rows) seats same =
       shares_total rows seats (λ k d within. same (suc k) d (omega (arith, within))),
     )
 
--- what the seats end with
+-- what the players finish with
 finish_total : (setup : Setup) (past : Past) (trace : Trace) → IsTraceOf setup past trace
     → total_of trace.finish ≡ sum_by (chips_left setup (moves_of past)) (all_seats setup) + (total_of trace.pots.returned + sum_by total_of (shares_in trace.shares))
 finish_total setup past trace is =
@@ -65,7 +65,7 @@ finish_total setup past trace is =
       shares_total (shares_in trace.shares) setup.stacks.seats is.seats.shares,
     )
 
--- what is put and what is left are the stacks
+-- what is put in and what is left are the stacks
 stacks_total : (setup : Setup) (rules : Rules) (events : List Said) → IsValid setup → AreLegal setup rules events
     → all_chips_put setup (moves_of (past_of setup events)) + sum_by (chips_left setup (moves_of (past_of setup events))) (all_seats setup) ≡ total_of setup.stacks
 stacks_total setup rules events valid legal =

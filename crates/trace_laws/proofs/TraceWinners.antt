@@ -10,7 +10,7 @@ use Rattle.variant_table.specs.Shares.{AllShared, Showdown}
 use Rattle.showdown_split.proofs.ShareLaws.{goes_to_best}
 use Rattle.hand_records.specs.declared.trace.Trace.{Trace}
 use Rattle.hand_canon.specs.LegalHand.{showdown_in}
-use Rattle.canon_script.specs.TraceCore.{core_of}
+use Rattle.play_event.specs.TraceCore.{core_of}
 use Rattle.hand_canon.specs.WholeTrace.{IsTraceOf}
 use Rattle.trace_laws.specs.Winners.{AllGoToBest}
 

@@ -1,3 +1,3 @@
--- What laws of whole traces say of pots, shares and stacks.
+-- What the laws of whole traces say about pots, shares and stacks.
 pub mod Winners
 pub mod Conserved

@@ -1,4 +1,4 @@
--- Who has chips of the pots of a hand.
+-- Who gets chips of the pots of a hand.
 use Rattle.std.specs.Prelude.{ℕ, List, [], ◌∷◌}
 use Rattle.chip_ledger.specs.Pots.{PlainPot}
 use Rattle.play_event.specs.declared.code.Code.{Code}

@@ -1,4 +1,4 @@
-//! The laws of whole traces: a past has at most one, its pots and returns are what was put, and
+//! The laws of whole traces: a past has at most one, its pots and returns are what was put in, and
 //! only unbeaten shown hands win contested pots.
 #![tactic(auto)]
 

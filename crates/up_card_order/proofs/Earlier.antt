@@ -1,4 +1,5 @@
--- Up-cards that open at least as early as others open before all that those open before, and else it is the other way round.
+-- Up-cards that open at least as early as others open before all that those open before; if they do
+-- not, it is the other way round.
 use Rattle.std.proofs.Common.{◌≡◌, ℕ, ◌<◌, ◌≤◌, Bool, true, false, ◌&&◌, ◌||◌, ◌==◌, not, nat_lt, inl, inr, List, [], ◌∷◌, sym, arith}
 use Rattle.std.proofs.lemmas.Bool.{and_from, cases_lt, eq-eqb, leb-false, leb-true, lt-ltb, ltb-false, ltb-true, not-true, not_from_false, or_cases, or_left, or_parts, or_right, true≢false}
 use Rattle.card_set.specs.declared.card.Card.{Card}
@@ -8,11 +9,12 @@ use Rattle.card_set.specs.UpCards.{up_high_class, low_class}
 use Rattle.play_event.specs.declared.limit.Opener.{Opener}
 use Rattle.play_event.specs.declared.limit.Opener.TheVariants.{Blinds, LowUp, HighUp}
 use Rattle.play_event.specs.Openers.{is_lower, is_opener_before, card_stands, razz_place}
-use Rattle.up_card_order.specs.Earliest.{is_as_high, is_as_low, is_as_early}
+use Rattle.up_card_order.specs.Earliest.{is_as_high, is_as_low, opens_no_later}
 use Rattle.play_event.proofs.OpenerOrder.{lower_step, worse_trans}
-use Rattle.list_laws.proofs.Tests.{second_fails}
+use Rattle.card_set.proofs.Tests.{second_fails}
 
--- a test by a number, and by more where the numbers are equal, that fails: the other number is less, or they are equal and more fails
+-- a test by a number, and by more if the numbers are equal, that fails: the other number is less,
+-- or they are equal and more fails
 turned : (x y : ℕ) (e f l : Bool) → (x ≡ y → e ≡ true) → (x ≡ y → f ≡ true) → (nat_lt x y || (e && l)) ≡ false → (nat_lt y x || (f && not l)) ≡ true
 turned x y e f l e_is f_is fails =
     let parts = or_parts (nat_lt x y) (e && l) fails in
@@ -24,7 +26,7 @@ turned x y e f l e_is f_is fails =
           or_right (nat_lt y x) (f && not l) (and_from f (not l) (f_is same) (not_from_false l (second_fails e l (e_is same) parts.1)))
     ]
 
--- lists of heights, where higher ones open
+-- lists of ranks, if higher ones open
 high_early : (a b x : List ℕ) → is_as_high a b ≡ true → is_lower x b ≡ true → is_lower x a ≡ true
 high_early a b [] p q = absurd (true≢false (sym q))
 high_early a [] (z ∷ zs) p q = absurd (true≢false (sym q))
@@ -40,7 +42,7 @@ high_late (x ∷ xs) (y ∷ ys) (z ∷ zs) p q =
     lower_step z x y (is_lower zs xs) (not (is_as_high xs ys)) (is_lower zs ys) (λ m l. high_late xs ys zs (not-true (is_as_high xs ys) l) m) (or_cases (nat_lt z x) ((z == x) && is_lower zs xs) q)
     (or_cases (nat_lt x y) ((x == y) && not (is_as_high xs ys)) (turned y x (y == x) (x == y) (is_as_high xs ys) (eq-eqb y x) (λ same. eq-eqb x y (sym same)) p))
 
--- and where lower ones do
+-- and if lower ones do
 low_early : (a b x : List ℕ) → is_as_low a b ≡ true → is_lower b x ≡ true → is_lower a x ≡ true
 low_early a [] x p q = absurd (true≢false (sym q))
 low_early [] (y ∷ ys) x p q = absurd (true≢false (sym p))
@@ -57,7 +59,7 @@ low_late (x ∷ xs) (y ∷ ys) (z ∷ zs) p q =
     (or_cases (nat_lt y x) ((y == x) && not (is_as_low xs ys)) (turned x y (x == y) (y == x) (is_as_low xs ys) (eq-eqb x y) (λ same. eq-eqb y x (sym same)) p)) (or_cases (nat_lt x z) ((x == z) && is_lower xs zs) q)
 
 -- what the others open before is opened before by those that open as early
-pub early_opens : (opener : Opener) (first : Bool) (a b x : List Card) → is_as_early opener first a b ≡ true → is_opener_before opener first b x ≡ true → is_opener_before opener first a x ≡ true
+pub early_opens : (opener : Opener) (first : Bool) (a b x : List Card) → opens_no_later opener first a b ≡ true → is_opener_before opener first b x ≡ true → is_opener_before opener first a x ≡ true
 early_opens LowUp true a b x p q =
     let stand : List Card → ℕ = card_stands deck_place in
     lt-ltb (stand a) (stand x) (let one : stand a ≤ stand b = leb-true (stand a) (stand b) p in let two : stand b < stand x = ltb-true (stand b) (stand x) q in omega (arith, one, two))
@@ -73,7 +75,7 @@ early_opens HighUp false a b x p q =
 early_opens Blinds first a b x p q = absurd (true≢false (sym q))
 
 -- what is opened before by those that do not open as early is opened before by the others too
-pub late_opens : (opener : Opener) (first : Bool) (a b x : List Card) → is_as_early opener first a b ≡ false → is_opener_before opener first a x ≡ true → is_opener_before opener first b x ≡ true
+pub late_opens : (opener : Opener) (first : Bool) (a b x : List Card) → opens_no_later opener first a b ≡ false → is_opener_before opener first a x ≡ true → is_opener_before opener first b x ≡ true
 late_opens LowUp true a b x p q =
     let stand : List Card → ℕ = card_stands deck_place in
     lt-ltb (stand b) (stand x) (let one : stand b < stand a = leb-false (stand a) (stand b) p in let two : stand a < stand x = ltb-true (stand a) (stand x) q in omega (arith, one, two))

@@ -8,31 +8,32 @@ use Rattle.play_event.specs.declared.limit.Opener.{Opener}
 use Rattle.play_event.specs.declared.limit.Opener.TheVariants as openers
 use Rattle.play_event.specs.Openers.{card_stands, razz_place}
 
--- at the first place where the lists differ the left one is higher, or it alone goes on
+-- at the first place where the lists differ, the left one is higher, or the left list is longer
 abbrev pub is_as_high : List ℕ → List ℕ → Bool
 is_as_high heights [] = true
 is_as_high [] (other ∷ others) = false
 is_as_high (height ∷ rest) (other ∷ others) =
     nat_lt other height || ((other == height) && is_as_high rest others)
 
--- at the first place where the lists differ the left one is lower, or it alone goes on
+-- at the first place where the lists differ, the left one is lower, or the left list is longer
 abbrev pub is_as_low : List ℕ → List ℕ → Bool
 is_as_low heights [] = true
 is_as_low [] (other ∷ others) = false
 is_as_low (height ∷ rest) (other ∷ others) =
     nat_lt height other || ((height == other) && is_as_low rest others)
 
--- Up-cards open at least as early as others: before all that those open before. Of up-cards that
--- are the same as far as both go the longer ones are earlier: neither opens before the other, but
--- the longer ones open before more.
-abbrev pub is_as_early : Opener → Bool → List Card → List Card → Bool
-is_as_early openers.LowUp true a b = nat_le (card_stands deck_place a) (card_stands deck_place b)
-is_as_early openers.HighUp true a b = nat_le (card_stands razz_place b) (card_stands razz_place a)
-is_as_early openers.LowUp false a b =
+-- Up-cards open at least as early as others if they open before all up-cards that those open
+-- before. If two rows of up-cards are the same as far as the shorter goes, the longer is earlier:
+-- neither opens before the other, but the longer opens before more.
+abbrev pub opens_no_later : Opener → Bool → List Card → List Card → Bool
+opens_no_later openers.LowUp true a b = nat_le (card_stands deck_place a) (card_stands deck_place b)
+opens_no_later openers.HighUp true a b = nat_le (card_stands razz_place b)
+    (card_stands razz_place a)
+opens_no_later openers.LowUp false a b =
     nat_lt (up_high_class a) (up_high_class b)
     || ((up_high_class b == up_high_class a)
     && is_as_high (ranks_of high_ace a) (ranks_of high_ace b))
-is_as_early openers.HighUp false a b =
+opens_no_later openers.HighUp false a b =
     nat_lt (low_class a) (low_class b)
     || ((low_class b == low_class a) && is_as_low (ranks_of low_ace a) (ranks_of low_ace b))
-is_as_early openers.Blinds first a b = true
+opens_no_later openers.Blinds first a b = true

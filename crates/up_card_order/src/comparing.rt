@@ -1,4 +1,4 @@
-//! Which up-cards open before others, whatever cards they are.
+//! Whose up-cards open before others', for any number of cards.
 ghost use Rattle.std.specs.Prelude.{false, ◌≡◌, ◌+◌, ◌*◌, ◌<◌, ◌≤◌, ◌++◌, length};
 ghost use Rattle.std.specs.List.{list_any};
 ghost use Rattle.card_set.specs.Deck as deck;
@@ -19,7 +19,7 @@ use card_set::{CardRow, Slot, SlotRow, place_in_deck, place_of_suit};
 use hand_order::{Ace, all_heights, count_of_ranks, height_of, times_of};
 use play_event::Opener;
 
-/// One of the slots is unknown.
+/// Whether one of the cards is unknown.
 pub fn has_unknown(slots: &[Slot]) -> bool
     ensures { result ≡ list_any is_unknown slots.now }
 {
@@ -39,7 +39,7 @@ pub fn known(row: &SlotRow) -> CardRow
     cards
 }
 
-// Puts the known cards of some slots after the others.
+// Appends the known ones of some cards.
 fn push_known(cards: &mut CardRow, slots: &[Slot])
     requires { cards.old.len + length slots.now ≤ 7 }
     ensures { cards_of cards.new ≡ cards_of cards.old ++ known_cards slots.now }
@@ -77,7 +77,7 @@ pub fn is_opener_before(opener: Opener, first: bool, a: &CardRow, b: &CardRow) -
     }
 }
 
-// The up-cards are weaker, the ace high.
+// The up-cards are weaker, with aces high.
 fn worse_high(a: &CardRow, b: &CardRow) -> bool
     ensures { result ≡ openers.is_weaker_up_high (cards_of a.now) (cards_of b.now) }
 {
@@ -99,7 +99,7 @@ fn worse_low(a: &CardRow, b: &CardRow) -> bool
     other < class || (class == other && lower(others.as_slice(), ranks.as_slice()))
 }
 
-// At the first place where the heights differ the left one is lower.
+// At the first place where the ranks differ, the left one is lower.
 fn lower(a: &[u8], b: &[u8]) -> bool
     ensures { result ≡ is_lower a.now b.now }
 {
@@ -112,10 +112,10 @@ fn lower(a: &[u8], b: &[u8]) -> bool
     }
 }
 
-/// The up-cards of one seat open before all that those of another open before. Of all seats, one
-/// that is as early as each other opens before each seat before which some seat opens.
-pub fn is_as_early(opener: Opener, first: bool, a: &CardRow, b: &CardRow) -> bool
-    ensures { result ≡ earliest.is_as_early opener first (cards_of a.now) (cards_of b.now) }
+/// The up-cards of one seat open before all up-cards that those of another open before. A seat that
+/// is as early as every other seat opens before each seat that some seat opens before.
+pub fn opens_no_later(opener: Opener, first: bool, a: &CardRow, b: &CardRow) -> bool
+    ensures { result ≡ earliest.opens_no_later opener first (cards_of a.now) (cards_of b.now) }
 {
     match opener {
         Opener::Blinds => true,
@@ -136,7 +136,7 @@ pub fn is_as_early(opener: Opener, first: bool, a: &CardRow, b: &CardRow) -> boo
     }
 }
 
-// Where the first card stands in the deck.
+// The position of the first card in the deck's order.
 fn deck_stand(cards: &CardRow) -> u8
     ensures { result ≡ card_stands deck.deck_place (cards_of cards.now) }
 {
@@ -146,9 +146,10 @@ fn deck_stand(cards: &CardRow) -> u8
     }
 }
 
-// The up-cards are better than others, the ace high, or open before all that those open before.
+// The up-cards are better, with aces high, or open before all that the others open before.
 fn as_good_high(a: &CardRow, b: &CardRow) -> bool
-    ensures { result ≡ earliest.is_as_early openings.LowUp false (cards_of a.now) (cards_of b.now) }
+    ensures { result ≡ earliest.opens_no_later openings.LowUp false (cards_of a.now)
+        (cards_of b.now) }
 {
     let class = high_class_of(a);
     let other = high_class_of(b);
@@ -157,7 +158,7 @@ fn as_good_high(a: &CardRow, b: &CardRow) -> bool
     class < other || (other == class && as_high(ranks.as_slice(), others.as_slice()))
 }
 
-// The class of high up-cards.
+// The class of up-cards in games where the high hand opens.
 #[tactic(auto, unfolding(card_set::specs::UpCards::up_high_class))]
 fn high_class_of(cards: &CardRow) -> u8
     ensures { result ≡ up_cards.up_high_class (cards_of cards.now) }
@@ -169,7 +170,7 @@ fn high_class_of(cards: &CardRow) -> u8
     )
 }
 
-// The classes of high up-cards, from the best.
+// The classes of high up-cards, numbered from the best.
 fn high_class(fours: usize, threes: usize, pairs: usize) -> u8
     ensures { result ≡ high_class_by fours threes pairs }
 {
@@ -188,7 +189,7 @@ fn high_class(fours: usize, threes: usize, pairs: usize) -> u8
     }
 }
 
-// At the first place where the heights differ the left one is higher, or it alone goes on.
+// At the first place where the ranks differ, the left one is higher, or the left list is longer.
 fn as_high(a: &[u8], b: &[u8]) -> bool
     ensures { result ≡ earliest.is_as_high a.now b.now }
 {
@@ -201,7 +202,7 @@ fn as_high(a: &[u8], b: &[u8]) -> bool
     }
 }
 
-// Where the first card stands in razz.
+// The position of the first card in the order of razz.
 fn razz_stand(cards: &CardRow) -> u8
     ensures { result ≡ card_stands razz_place (cards_of cards.now) }
 {
@@ -211,10 +212,10 @@ fn razz_stand(cards: &CardRow) -> u8
     }
 }
 
-// The up-cards are better than others in razz, or open before all that those open before.
+// The up-cards are better in razz, or open before all that the others open before.
 fn as_good_low(a: &CardRow, b: &CardRow) -> bool
     ensures { result
-        ≡ earliest.is_as_early openings.HighUp false (cards_of a.now) (cards_of b.now) }
+        ≡ earliest.opens_no_later openings.HighUp false (cards_of a.now) (cards_of b.now) }
 {
     let class = low_class_of(a);
     let other = low_class_of(b);
@@ -223,7 +224,7 @@ fn as_good_low(a: &CardRow, b: &CardRow) -> bool
     class < other || (other == class && as_low(ranks.as_slice(), others.as_slice()))
 }
 
-// The class of low up-cards.
+// The class of up-cards in razz.
 #[tactic(auto, unfolding(card_set::specs::UpCards::low_class))]
 fn low_class_of(cards: &CardRow) -> u8
     ensures { result ≡ up_cards.low_class (cards_of cards.now) }
@@ -235,7 +236,7 @@ fn low_class_of(cards: &CardRow) -> u8
     )
 }
 
-// The classes of low cards, from the best.
+// The classes of low up-cards, numbered from the best.
 fn low_class(fours: usize, threes: usize, pairs: usize) -> u8
     ensures { result ≡ low_class_by fours threes pairs }
 {
@@ -256,7 +257,7 @@ fn low_class(fours: usize, threes: usize, pairs: usize) -> u8
     }
 }
 
-// The different heights of the cards, first those that occur oftener, then the greater.
+// The different ranks of the cards: first those that occur more often, then the higher ones.
 #[tactic(auto, unfolding(card_set::specs::Ranks::ranks_of))]
 fn heights_of(cards: &CardRow, ace: Ace) -> Heights
     ensures { heights_in result ≡ ranks_of (height_with ace) (cards_of cards.now) }
@@ -269,7 +270,7 @@ fn heights_of(cards: &CardRow, ace: Ace) -> Heights
     row
 }
 
-// Puts the heights that occur so many times after the others.
+// Appends the ranks that occur `occurrences` times.
 fn push_occurring(row: &mut Heights, cards: &CardRow, ace: Ace, occurrences: usize)
     requires { row.old.len ≤ 42 }
     ensures entries { heights_in row.new
@@ -284,7 +285,7 @@ fn push_occurring(row: &mut Heights, cards: &CardRow, ace: Ace, occurrences: usi
     }
 }
 
-// At the first place where the heights differ the left one is lower, or it alone goes on.
+// At the first place where the ranks differ, the left one is lower, or the left list is longer.
 fn as_low(a: &[u8], b: &[u8]) -> bool
     ensures { result ≡ earliest.is_as_low a.now b.now }
 {

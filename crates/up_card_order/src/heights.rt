@@ -1,7 +1,7 @@
-//! Heights in order, for any up-cards that a row holds.
+//! Ranks in order, for any up-cards that a row holds.
 ghost use Rattle.std.specs.Prelude.{◌≡◌, ◌+◌, ◌<◌, ◌≤◌, [], ◌∷◌, ◌++◌, length};
 
-/// Heights in order: the first `len` of `heights`.
+/// Ranks in order, as numbers: the first `len` of `heights`.
 #[derive(Clone, Copy, Debug)]
 pub struct Heights {
     pub len: u8,
@@ -13,7 +13,7 @@ pub struct Heights {
 impl Heights {
     ghost use Rattle.up_card_order.specs.HeightRow.{heights_in};
 
-    /// A row without heights.
+    /// A row without ranks.
     pub fn new() -> Self
         ensures empty { heights_in result ≡ [] }
         ensures len { result.len ≡ 0 }
@@ -24,7 +24,7 @@ impl Heights {
         }
     }
 
-    /// Puts a height after the others.
+    /// Appends a rank.
     pub fn push(&mut self, height: u8)
         requires { self.old.len < 56 }
         ensures entries { heights_in self.new ≡ heights_in self.old ++ height ∷ [] }
@@ -34,7 +34,7 @@ impl Heights {
         self.len += 1;
     }
 
-    /// The heights, in order.
+    /// The ranks, in order.
     pub fn as_slice(&self) -> &[u8]
         ensures { result.now ≡ heights_in self.now }
     {

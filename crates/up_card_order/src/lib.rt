@@ -4,4 +4,4 @@
 mod comparing;
 mod heights;
 
-pub use comparing::{has_unknown, is_as_early, is_opener_before, known};
+pub use comparing::{has_unknown, is_opener_before, known, opens_no_later};

@@ -6,8 +6,8 @@ abbrev pub count_to : (ℕ → Bool) → ℕ → ℕ
 count_to test zero = 0
 count_to test (suc seat) = count_to test seat + (if test (suc seat) then 1 else 0)
 
--- what a seat gets of chips that are divided among the winners of so many seats: the even part, and
--- one of the chips that remain, which go one each to the winners from p1 upward
+-- what a seat gets of chips that are divided evenly among the winners, with this number of seats:
+-- the even part, and perhaps an odd chip; the odd chips go one each to the winners from p1 upward
 abbrev pub divided : ℕ → (ℕ → Bool) → ℕ → ℕ → ℕ
 divided seats wins chips seat =
     if wins seat
@@ -15,8 +15,8 @@ divided seats wins chips seat =
     + (if nat_lt (count_to wins (seat - 1)) (chips % count_to wins seats) then 1 else 0)
     else 0
 
--- a test is true exactly of the winners: the seats that contend and that no other contending seat
--- beats
+-- a test is true for a seat if and only if it is a winner: it contends, and no other contending
+-- seat beats it
 abbrev pub TellsWinners : (ℕ → Bool) → (ℕ → ℕ → Type 0) → (ℕ → Bool) → Type 0
 TellsWinners contending beats wins =
     (seat : ℕ)
@@ -24,14 +24,14 @@ TellsWinners contending beats wins =
     ↔ (IsTrue (contending seat)
     × ((other : ℕ) → IsTrue (contending other) → ¬ (beats other seat)))
 
--- each of so many seats has its part of chips that are divided among the winners
+-- each of this many seats gets its part of chips that are divided among the winners
 pub record AreParts (seats : ℕ) (contending : ℕ → Bool) (beats : ℕ → ℕ → Type 0) (chips : ℕ)
     (share : ℕ → ℕ) : Type 0 where
   pub wins : ℕ → Bool
   pub told : TellsWinners contending beats wins
   pub parts : (seat : ℕ) → 1 ≤ seat → seat ≤ seats → share seat ≡ divided seats wins chips seat
 
--- each seat has its parts of both halves of a pot, of which the high half has the odd chip
+-- each seat gets its parts of both halves of a pot; the odd chip goes to the high half
 pub record AreHalves (seats : ℕ) (contending : ℕ → Bool) (beats beats_low : ℕ → ℕ → Type 0)
     (chips : ℕ) (share : ℕ → ℕ) : Type 0 where
   pub high : ℕ → ℕ

@@ -1,4 +1,4 @@
--- The orders by code, what a variant and a table keep, and who gets what of a pot.
+-- The orders of hands by game, what a variant and a table guarantee, and who gets what of each pot.
 pub mod Orders
 pub mod Variants
 pub mod TableLaws

@@ -1,6 +1,6 @@
--- Who gets what of each pot: the shown seats that may win it and that no other one beats, in halves
--- where a low hand is shown. What is shared of a pot is its net, the chips that its rake leaves: a
--- pot is given here with these chips.
+-- Who gets what of each pot: the shown seats that may win it and that no other such seat beats, in
+-- halves if a low hand is shown. A pot is given here with its net chips: those that its rake
+-- leaves.
 use Rattle.std.specs.Prelude.{◌≡◌, ◌≤◌, ℕ, suc, ◌&&◌, Bool, IsTrue, not, nat_le, ◌⊎◌, List, [], ◌∷◌, length, Option, Some, None, if◌then◌else◌}
 use Rattle.std.specs.List.{list_any}
 use Rattle.card_set.specs.declared.card.Card.{Card}
@@ -13,7 +13,7 @@ use Rattle.play_event.specs.Games.{game_of}
 use Rattle.variant_table.specs.Division.{AreHalves, AreParts}
 use Rattle.variant_table.specs.Orders.{Order, award_of, second_of}
 
--- what is seen at the end of a hand: how many seats it has, which of them are shown, the cards of
+-- what is visible at the end of a hand: the number of seats, which of them are shown, the cards of
 -- each, and the board
 pub record Showdown : Type 0 where
   pub seats : ℕ
@@ -25,7 +25,7 @@ pub record Showdown : Type 0 where
 abbrev pub is_contender : Showdown → PlainPot → ℕ → Bool
 is_contender showdown pot seat = may_win pot seat && showdown.shown seat
 
--- the choices of cards that a game allows a seat
+-- the choices of cards that a game allows a player
 abbrev pub choices_for : Code → Showdown → ℕ → List (List Card)
 choices_for code showdown seat = allowed (game_of code).pick (showdown.holding seat) showdown.board
 
@@ -33,9 +33,9 @@ choices_for code showdown seat = allowed (game_of code).pick (showdown.holding s
 abbrev pub HasHand : Order → List (List Card) → Type 0
 HasHand order options = (choice : List Card) × IsAmong choice options × order.is_hand choice
 
--- how the seats of a hand compare: whether one beats another by the best choice of cards, in the
+-- how the seats of a hand compare: whether one beats another by its best choice of cards, in the
 -- first order and in the second, and whether a seat has a hand in the second order, in a game that
--- pays by two
+-- pays by two orders
 pub record Ranking : Type 1 where
   pub beats : ℕ → ℕ → Type 0
   pub beats_low : ℕ → ℕ → Type 0
@@ -61,8 +61,8 @@ ranking_of code showdown = record {
 abbrev pub IsLowShown : (ℕ → Bool) → Ranking → Type 0
 IsLowShown contending ranking = (seat : ℕ) × IsTrue (contending seat) × ranking.has_low seat
 
--- chips for which several seats contend: all are divided among the winners, or they are halved
--- where a low hand is shown
+-- chips that several seats contend for: all are divided among the winners, or they are halved if a
+-- low hand is shown
 abbrev pub AreContested : ℕ → (ℕ → Bool) → Ranking → ℕ → (ℕ → ℕ) → Type 0
 AreContested seats contending ranking chips share =
     (¬ (IsLowShown contending ranking) × AreParts seats contending ranking.beats chips share)
@@ -74,7 +74,7 @@ pub record AreOfOne (seats : ℕ) (pot : PlainPot) (share : ℕ → ℕ) : Type 
   pub one : length pot.eligible ≡ 1
   pub all : (seat : ℕ) → 1 ≤ seat → seat ≤ seats → share seat ≡ whole_share pot seat
 
--- a pot that two or more seats may win goes to those of them that are shown
+-- a pot that two or more seats may win goes to the shown ones among them
 pub record AreOfShown (seats : ℕ) (contending : ℕ → Bool) (ranking : Ranking) (pot : PlainPot)
     (share : ℕ → ℕ) : Type 0 where
   pub several : 2 ≤ length pot.eligible
@@ -99,13 +99,13 @@ AllShared code showdown (pot ∷ pots) [] = ⊥
 AllShared code showdown (pot ∷ pots) (share ∷ shares) =
     AreSharesOf code showdown pot share × AllShared code showdown pots shares
 
--- a pot that two or more seats may win, of which none is shown
+-- a pot that two or more seats may win, but none of them is shown
 abbrev pub is_unshown : Showdown → PlainPot → Bool
 is_unshown showdown pot =
     nat_le 2 (length pot.eligible)
     && not (list_any (is_contender showdown pot) (seats_of showdown.seats))
 
--- the number of the first such pot, where the first pot has this number
+-- the number of the first such pot; the first of these pots has this number
 abbrev pub first_unshown_from : ℕ → Showdown → List PlainPot → Option ℕ
 first_unshown_from number showdown [] = None
 first_unshown_from number showdown (pot ∷ pots) =

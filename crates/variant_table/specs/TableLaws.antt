@@ -1,4 +1,4 @@
--- The table of games keeps what a variant keeps, for each code.
+-- What holds of each variant holds of the table of games, for each code.
 -- This is a proof: no reader needs it.
 use Rattle.std.proofs.Common.{◌≡◌, ℕ, length, refl, sym, ◌∙◌, subst, arith}
 use Rattle.play_event.specs.declared.code.Code.{Code}
@@ -8,7 +8,7 @@ use Rattle.card_set.specs.declared.pick.Pick.{Pick}
 use Rattle.variant_table.specs.Orders.{Order, award_of, second_of}
 use Rattle.variant_table.specs.Variants.{AreValuesOf, IsOrder, IsUsable, AddsUp}
 
--- an order is itself
+-- an order is the same as itself
 pub same_order : (order : Order) → IsOrder order order.held order.is_hand order.is_weaker
 same_order order = record {
   held_is = refl;
@@ -16,25 +16,25 @@ same_order order = record {
   weaker_is = λ a b. (λ weaker. weaker, λ weaker. weaker);
 }
 
--- the streets deal a whole hand and board, and the deck has the cards of a full table: this is
+-- the streets deal a whole hand and board, and the deck has enough cards for a full table: this is
 -- computed for each code
 pub table_adds_up : (code : Code) → AddsUp (game_of code)
 table_adds_up games.FT = record { hole = refl; board = refl; fits = omega arith }
 table_adds_up _ = record { hole = refl; board = refl; fits = omega arith }
 
--- the pick of a game can use the cards of a whole hand and board, in the order of the award
+-- the pick of a game works on a whole hand and board, in the order of the award
 award_can_pick : (code : Code) → IsUsable (game_of code) (award_of code).held (game_of code).pick
 award_can_pick games.N2L1D = λ hole board holes boards. holes
 award_can_pick games.F2L3D = λ hole board holes boards. holes
 award_can_pick games.FB = λ hole board holes boards. holes
 award_can_pick _ = λ hole board holes boards. (refl, omega arith, omega arith)
 
--- hands of both orders have as many cards
+-- hands of both orders have the same number of cards
 pub same_held : (code : Code) → (second_of code).held ≡ (award_of code).held
 same_held games.FT = refl
 same_held _ = refl
 
--- so does a pick that is that of the game, in an order whose hands have as many cards as the
+-- the pick of the game also works in an order whose hands have the same number of cards as the
 -- award's
 pub usable_award : (code : Code) (held : ℕ) (pick : Pick) → held ≡ (award_of code).held
     → pick ≡ (game_of code).pick → IsUsable (game_of code) held pick
@@ -43,7 +43,7 @@ usable_award code held pick same_held same_pick =
     (subst (λ (h : ℕ). IsUsable (game_of code) h (game_of code).pick) (sym same_held)
     (award_can_pick code))
 
--- or as many as the second order's
+-- or the same number as the second order's
 pub usable_second : (code : Code) (held : ℕ) (pick : Pick) → held ≡ (second_of code).held
     → pick ≡ (game_of code).pick → IsUsable (game_of code) held pick
 usable_second code held pick same same_pick =

@@ -1,7 +1,7 @@
-//! A function that is generic over the games is called at the game with a code.
+//! Calls a function that is generic over the games for the game with a code.
 
-/// `by_code!(code, replay_of(alloc, setup))` is `replay_of::<NT>(alloc, setup)` where the code is
-/// `NT`, and so for each of the eleven games.
+/// `by_code!(code, replay_of(alloc, setup))` is `replay_of::<NT>(alloc, setup)` if the code is
+/// `NT`, and likewise for each of the eleven games.
 #[macro_export]
 macro_rules! by_code {
     ($code:expr, $call:ident($($arg:expr),* $(,)?)) => {

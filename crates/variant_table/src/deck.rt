@@ -1,7 +1,7 @@
-//! The decks.
+//! The sizes of the decks.
 
 /// How many cards the whole deck has.
 pub const WHOLE_DECK: u8 = 52;
 
-/// How many cards the short deck has, from the six up.
+/// The number of cards of the short deck, from the six up.
 pub const SHORT_DECK: u8 = 36;

@@ -1,4 +1,5 @@
-//! Draw: hole cards alone, which a seat may exchange, and all that it holds at the end.
+//! Draw games: hole cards only, which a seat may exchange; the hand is all that it holds at the
+//! end.
 ghost use Rattle.std.specs.Prelude.{◌≡◌, ◌≤◌, ◌-◌, Some, slice_get, false};
 ghost use Rattle.play_event.specs.declared.code.Code.TheVariants as codes;
 ghost use Rattle.play_event.specs.Games.{draw_street, draw_streets};
@@ -180,7 +181,7 @@ impl Variant for FB {
     ghost second = { same_order badugi_order };
 }
 
-// The hole cards, and then three draws. The bets grow with the third street.
+// The hole cards, and then three draws. From the third street on, the big bet applies.
 fn triple_draw_street(number: u8, cards: u8) -> Street
     requires first { 1 ≤ number }
     requires last { number ≤ 4 }

@@ -1,4 +1,4 @@
-//! Hold'em: two hole cards, a board of five, and any five of these seven cards.
+//! Hold'em: two hole cards, a board of five, and any five of these seven cards make the hand.
 ghost use Rattle.std.specs.Prelude.{false};
 ghost use Rattle.play_event.specs.declared.code.Code.TheVariants as codes;
 ghost use Rattle.card_set.specs.declared.pick.Pick.TheVariants as picks;

@@ -1,4 +1,4 @@
-//! The eleven games as types: each has the table of its code, and one generic function over
+//! The eleven games as types: each has the table of its code, and one function that is generic over
 //! `Variant` plays them all.
 #![tactic(auto)]
 

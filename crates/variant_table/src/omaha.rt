@@ -1,4 +1,4 @@
-//! Omaha: four hole cards, a board of five, and exactly two of the hole with three of the board.
+//! Omaha: four hole cards, a board of five, and exactly two hole cards with three of the board.
 ghost use Rattle.std.specs.Prelude.{true, false};
 ghost use Rattle.play_event.specs.declared.code.Code.TheVariants as codes;
 ghost use Rattle.card_set.specs.declared.pick.Pick.TheVariants as picks;
@@ -69,7 +69,8 @@ impl Variant for PO {
     ghost second = { same_order high_order };
 }
 
-/// Fixed-limit Omaha eight-or-better. The low hand too takes two hole cards and three of the board.
+/// Fixed-limit Omaha eight-or-better. The low hand, too, takes two hole cards and three of the
+/// board.
 #[derive(Clone, Copy, Debug)]
 pub struct FO8;
 

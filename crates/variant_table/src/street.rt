@@ -1,10 +1,11 @@
-//! A street deals hole cards or board cards, or draws, and then bets in one size.
+//! A street deals hole cards or board cards, or draws, and then has a betting round of one bet
+//! size.
 ghost use Rattle.std.specs.Prelude.{◌≡◌, ◌≤◌, ◌-◌, Some, slice_get};
 ghost use Rattle.play_event.specs.Games.{board_street, flop_streets, stud_street};
 
 use play_event::{Size, Street};
 
-/// A street that deals nothing, as stands past the last one.
+/// A street that deals nothing, for numbers past the last street.
 pub const NO_STREET: Street = Street {
     down: 0,
     up: 0,
@@ -17,7 +18,7 @@ pub const NO_STREET: Street = Street {
 pub const FLOP_SEATS: u8 = 10;
 
 /// The street of a game with a flop that has this number, from 1: hole cards, then three, one and
-/// one on the board. The bets grow with the third street.
+/// one on the board. `early` is the bet size of the first two streets, `late` that of the others.
 pub fn flop_street(number: u8, cards: u8, early: Size, late: Size) -> Street
     requires first { 1 ≤ number }
     requires last { number ≤ 4 }
@@ -31,7 +32,7 @@ pub fn flop_street(number: u8, cards: u8, early: Size, late: Size) -> Street
     }
 }
 
-/// A street that deals each live seat so many cards face down and face up.
+/// A street that deals each live seat `down` cards face down and `up` cards face up.
 pub fn hole_cards(down: u8, up: u8, size: Size) -> Street
     ensures { result ≡ stud_street down up size }
 {
@@ -43,7 +44,7 @@ pub fn hole_cards(down: u8, up: u8, size: Size) -> Street
     }
 }
 
-// A street that deals so many cards to the board.
+// A street that deals `cards` cards to the board.
 fn board_cards(cards: u8, size: Size) -> Street
     ensures { result ≡ board_street cards size }
 {

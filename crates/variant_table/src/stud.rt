@@ -1,4 +1,5 @@
-//! Stud: seven hole cards, of which four are dealt face up, no board, and any five of them.
+//! Stud: seven hole cards, four of them dealt face up, no board, and any five of the seven make the
+//! hand.
 ghost use Rattle.std.specs.Prelude.{◌≡◌, ◌≤◌, ◌-◌, Some, slice_get, true, false};
 ghost use Rattle.play_event.specs.declared.code.Code.TheVariants as codes;
 ghost use Rattle.play_event.specs.Games.{stud_streets};
@@ -125,7 +126,7 @@ impl Variant for F7S8 {
     ghost second = { same_order eight_low_order };
 }
 
-/// Fixed-limit razz: the lowest hand wins, and the highest up-card brings it in.
+/// Fixed-limit razz: the lowest hand wins, and the highest up-card brings in.
 #[derive(Clone, Copy, Debug)]
 pub struct FR;
 
@@ -177,8 +178,8 @@ impl Variant for FR {
     ghost second = { same_order razz_order };
 }
 
-// Two cards down and one up, then three times one up, and one down. The bets grow with the third
-// street.
+// Two cards down and one up, then three times one up, and one down. From the third street on, the
+// big bet applies.
 fn stud_street(number: u8) -> Street
     requires first { 1 ≤ number }
     requires last { number ≤ 5 }

@@ -1,4 +1,4 @@
-//! The table of a game by its code has the values of the type with this code.
+//! The table of each game by its code, with the values of the type of this game.
 ghost use Rattle.std.specs.Prelude.{◌≡◌, ◌≤◌};
 ghost use Rattle.play_event.specs.Games.{game_of};
 ghost use Rattle.variant_table.specs.Tables.{IsTableOf, street_at};
@@ -14,13 +14,13 @@ pub struct GameTable {
     pub limit: Limit,
     pub opener: Opener,
     pub pick: Pick,
-    /// Whether half of a pot goes to the best low hand, where there is one.
+    /// Whether half of a pot goes to the best low hand, if there is one.
     pub split: bool,
     /// How many cards the deck has.
     pub deck: u8,
     /// The most seats.
     pub seats: u8,
-    /// How many streets there are.
+    /// The number of streets.
     pub streets: u8,
     /// The streets in order. Past the last one they deal nothing, draw nothing, and have the least
     /// bet.
@@ -56,7 +56,7 @@ fn table<V: Variant>() -> GameTable
     }
 }
 
-// The street with this number, or past the last one a street that deals nothing.
+// The street with this number; past the last one, a street that deals nothing.
 fn row<V: Variant>(number: u8) -> Street
     requires { 1 ≤ number }
     ensures { result ≡ street_at (game_of V.CODE) number }

@@ -1,4 +1,4 @@
-//! Whether a setup is that of a hand.
+//! Whether a setup is valid for a hand.
 ghost use Rattle.std.specs.Prelude.{◌≡◌, ◌≤◌, ℕ, true, nat_lt, IsTrue, slice_index};
 ghost use Rattle.std.specs.List.{list_any};
 ghost use Rattle.chip_ledger.specs.Seat.{seats_of};
@@ -11,7 +11,7 @@ use crate::table::table_of;
 use chip_ledger::{MOST_AMOUNT, MOST_CHIPS, Seat, SeatRow};
 use play_event::{Limit, Opener, Setup};
 
-/// The setup is that of a hand.
+/// Whether the setup is valid for a hand of its game.
 pub fn is_valid(setup: &Setup) -> bool
     ensures { IsTrue result → IsValid setup.now }
 {
@@ -57,7 +57,7 @@ fn is_stud(opener: Opener) -> bool
     }
 }
 
-// Each seat has a size.
+// Whether each amount is within the limits of a stack or a bet size.
 fn are_sizes(row: &SeatRow) -> bool
     ensures { IsTrue result
         → (seat : ℕ) → 1 ≤ seat → seat ≤ row.now.seats → IsSize (amount_of row.now seat) }
@@ -69,7 +69,7 @@ fn are_sizes(row: &SeatRow) -> bool
     sizes
 }
 
-// No entry is above the other row's.
+// Whether no amount is more than the other row's at the same seat.
 fn are_within(row: &SeatRow, other: &SeatRow) -> bool
     ensures { IsTrue result → (seat : ℕ) → amount_of row.now seat ≤ amount_of other.now seat }
 {
@@ -80,21 +80,21 @@ fn are_within(row: &SeatRow, other: &SeatRow) -> bool
     within
 }
 
-// A bet size that the game uses, or 0 where it does not use it.
+// Whether it is a bet size if the game uses it, and 0 if not.
 fn is_size_where(used: bool, chips: u64) -> bool
     ensures { IsTrue result → IsSizeWhere used chips }
 {
     if used { is_size(chips) } else { chips == 0 }
 }
 
-// A stack or a bet size.
+// Whether it is within the limits of a stack or a bet size.
 fn is_size(chips: u64) -> bool
     ensures { IsTrue result → IsSize chips }
 {
     1 <= chips && chips <= MOST_CHIPS
 }
 
-// Some seat has an amount, where it has to be so.
+// Whether some seat has an amount, if that is required.
 fn have_some_if(asked: bool, row: &SeatRow) -> bool
     ensures { IsTrue result → asked ≡ true
         → list_any (λ seat. nat_lt 0 (amount_of row.now seat)) (seats_of row.now.seats) ≡ true }
@@ -102,7 +102,7 @@ fn have_some_if(asked: bool, row: &SeatRow) -> bool
     !asked || has_some(row)
 }
 
-// Some seat has an amount.
+// Whether some seat has an amount.
 #[tactic(auto, using(chip_ledger::proofs::SeatLists::any_more))]
 fn has_some(row: &SeatRow) -> bool
     ensures { result
@@ -115,21 +115,21 @@ fn has_some(row: &SeatRow) -> bool
     found
 }
 
-// The second seat has no more than the first, where it has to be so.
+// Whether the second seat has no more than the first, if that is required.
 fn fall_if(asked: bool, row: &SeatRow) -> bool
     ensures { IsTrue result → asked ≡ true → amount_of row.now 2 ≤ amount_of row.now 1 }
 {
     !asked || row.amounts[1] <= row.amounts[0]
 }
 
-// No seat has an amount, where it has to be so.
+// Whether no seat has an amount, if that is required.
 fn are_none_if(asked: bool, row: &SeatRow) -> bool
     ensures { IsTrue result → asked ≡ true → (seat : ℕ) → amount_of row.now seat ≡ 0 }
 {
     !asked || are_few(&row.amounts, 0)
 }
 
-// No amount is above this.
+// Whether no amount is more than `most`.
 fn are_few(amounts: &[u64], most: u64) -> bool
     ensures { IsTrue result → (k : ℕ) → slice_index amounts.now k ≤ most }
 {

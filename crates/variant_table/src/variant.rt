@@ -1,4 +1,4 @@
-//! A variant is a type with the table of a game: generic code above rests on its laws alone.
+//! A variant is a type with the table of a game: generic code relies on its laws alone.
 ghost use Rattle.std.specs.Prelude.{◌≡◌, ℕ, ◌≤◌, ◌-◌, Bool, Some, slice_get};
 ghost use Rattle.card_set.specs.declared.card.Card.{Card};
 ghost use Rattle.play_event.specs.declared.code.Code.{Code};
@@ -18,9 +18,9 @@ use play_event::{Code, Limit, Opener, Street};
 
 /// A game with its table.
 pub trait Variant {
-    /// The order by which a pot is paid, or the first half of it.
+    /// The order of hands that a pot is paid by, or its first half.
     type Award: HandOrder;
-    /// The order by which the second half is paid where `SPLIT` is true; else `Award`, and not
+    /// The order of hands that the second half is paid by if `SPLIT` is true; else `Award`, and not
     /// used.
     type Second: HandOrder;
 
@@ -42,20 +42,20 @@ pub trait Variant {
 
     /// The code of the game.
     const CODE: Code;
-    /// Whether half of a pot goes to the best low hand, where there is one.
+    /// Whether half of a pot goes to the best low hand, if there is one.
     const SPLIT: bool;
-    /// Which of a seat's cards and the board's count.
+    /// Which of a player's cards and the board's count.
     const PICK: Pick;
 
-    /// What bounds the amounts of bets and raises.
+    /// What limits the amounts of bets and raises.
     const LIMIT: Limit;
-    /// Who opens the streets: by the blinds or by the up-cards.
+    /// Who opens the streets: decided by the blinds or by the up-cards.
     const OPEN: Opener;
     /// How many cards the deck has.
     const DECK: u8;
     /// The most seats.
     const SEATS: u8;
-    /// How many streets the game has.
+    /// The number of streets of the game.
     const STREETS: u8;
 
     /// The street with this number, from 1 to `STREETS`.
@@ -71,20 +71,20 @@ pub trait Variant {
         Self::DECK != SHORT_DECK || place_of_rank(card.rank) >= place_of_rank(Rank::Six)
     }
 
-    /// The constants are those of the table.
+    /// The constants are those of the table of games.
     ghost values: { AreValuesOf (game_of CODE) SPLIT PICK LIMIT OPEN DECK SEATS STREETS };
 
-    /// The orders are those of the code.
+    /// The orders are those of the game's code.
     ghost award: { IsOrder (award_of CODE)
         Self.Award.HELD Self.Award.is_hand Self.Award.is_weaker };
 
     ghost second: { IsOrder (second_of CODE)
         Self.Second.HELD Self.Second.is_hand Self.Second.is_weaker };
 
-    /// The streets deal a whole hand and board, and the deck has the cards of a full table.
+    /// The streets deal a whole hand and board, and the deck has enough cards for a full table.
     ghost adds_up: { AddsUp (game_of CODE) } = { table_adds_up CODE };
 
-    /// The pick can use the cards of a whole hand and board, in both orders.
+    /// The pick works on a whole hand and board, in both orders.
     ghost award_usable: { IsUsable (game_of CODE) Self.Award.HELD PICK } = { usable_award CODE
         Self.Award.HELD PICK award.held_is values.pick_is };
 

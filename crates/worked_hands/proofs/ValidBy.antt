@@ -2,7 +2,7 @@
 use Rattle.std.proofs.Common.{◌≡◌, ℕ, zero, suc, ◌-◌, ◌<◌, ◌≤◌, ◌==◌, Bool, true, false, ◌&&◌, ◌||◌, not, nat_le, List, [], ◌∷◌, slice_index, arith}
 use Rattle.std.specs.List.{list_all}
 use Rattle.std.proofs.lemmas.Bool.{and_parts, leb-true, eqb-true, eq-eqb}
-use Rattle.list_laws.proofs.Tests.{false_true, implied}
+use Rattle.card_set.proofs.Tests.{false_true, implied}
 use Rattle.chip_ledger.specs.declared.seat_row.TheConstants.{MOST_AMOUNT}
 use Rattle.chip_ledger.specs.SeatRow.{amount_of}
 use Rattle.play_event.specs.declared.setup.Setup.{Setup}
@@ -22,7 +22,7 @@ size_where : (used : Bool) (chips : ℕ) → is_size_where used chips ≡ true �
 size_where true chips passes = size_is chips passes
 size_where false chips passes = eqb-true chips 0 passes
 
--- the first so many amounts are sizes
+-- the first amounts, this many, are sizes
 abbrev are_sizes : ℕ → List ℕ → Bool
 are_sizes zero amounts = true
 are_sizes (suc n) [] = false

@@ -1,4 +1,4 @@
--- Scripts that tell of betting.
+-- Scripts about betting.
 use Rattle.std.specs.Prelude.{ℕ, List, [], ◌∷◌, ◌++◌, codes}
 use Rattle.play_event.specs.Said.{Said}
 use Rattle.worked_hands.specs.Words.{board, fold, call, call_adding, raise, bring_in, folds, calls, raises, raises_by, raises_to}
@@ -48,7 +48,7 @@ raised_and_won = raised_again ++ fold 2 ∷ []
 abbrev pub over_short : ℕ → List Said
 over_short target = short_all_in ++ raises_to target ∷ []
 
--- p3 is all-in for a raise to 3, over a price of 2, and p1 raises
+-- p3 is all-in for a raise to 3, over a current bet of 2, and p1 raises
 abbrev pub over_three : ℕ → List Said
 over_three target = unseen_twos ++ raise 3 3 ∷ raise 1 target ∷ []
 
@@ -65,54 +65,55 @@ pot_raised_to target = unseen_fours ++ raise 3 target ∷ []
 abbrev pub pot_raised_again : List Said
 pot_raised_again = pot_raised_to 7 ++ raise 1 9 ∷ call 2 ∷ raise 3 20 ∷ []
 
--- p3 raises to 20 in fixed limit, p1 goes all-in to 25, half a unit more, p2 calls, and p3 raises
--- to 30
+-- p3 raises to 20 in fixed limit, p1 goes all-in to 25, half a raise unit more, p2 calls, and p3
+-- raises to 30
 abbrev pub half_bet_more : List Said
 half_bet_more = unseen_twos ++ raise 3 20 ∷ raise 1 25 ∷ call 2 ∷ raise 3 30 ∷ []
 
--- one raise by the unit
+-- one raise by the raise unit
 abbrev pub one_unit : List Said
 one_unit = heads_up_deals ++ raises ∷ []
 
--- two raises by the unit, and a call
+-- two raises by the raise unit, and a call
 abbrev pub two_units : List Said
 two_units = one_unit ++ raises ∷ calls ∷ []
 
--- four raises by the unit
+-- four raises by the raise unit
 abbrev pub four_units : List Said
 four_units = one_unit ++ raises ∷ raises ∷ raises ∷ []
 
--- two raises by the unit on the second street
+-- two raises by the raise unit on the second street
 abbrev pub two_units_later : List Said
 two_units_later = heads_up_deals ++ calls ∷ calls ∷ board (codes "AhQh2s") ∷ raises ∷ raises ∷ []
 
--- p1 brings in, and p2 raises by the unit
+-- p1 brings in, and p2 raises by the raise unit
 abbrev pub unit_over_bring_in : List Said
 unit_over_bring_in = two_deuces ++ bring_in 1 ∷ raises ∷ []
 
--- p1 brings in 3, above the small bet of 2; p2 goes all-in to 4, and p3 raises to the bring-in and
--- a unit
+-- p1 brings in 3, above the small bet of 2; p2 goes all-in to 4, and p3 raises to the bring-in plus
+-- one raise unit
 abbrev pub full_bring_in : List Said
 full_bring_in =
     three_dealt (codes "????2c") (codes "????3d") (codes "????4h") ++ bring_in 1 ∷ raise 2 4
     ∷ raise 3 5 ∷ []
 
--- p3 raises to 10 over blinds that are below the unit, and p1 raises to 14
+-- p3 raises to 10 over blinds that are below the raise unit, and p1 raises to 14
 abbrev pub over_low_blinds : List Said
 over_low_blinds = unseen_twos ++ raise 3 10 ∷ raise 1 14 ∷ []
 
--- a call of the blind, and a fold where nothing is owed
+-- a call of the blind, and a fold with nothing to call
 abbrev pub free_fold : List Said
 free_fold = heads_up_deals ++ calls ∷ folds ∷ []
 
--- p2 raises by 250, and p1, which owes 200, calls and is said to add so many chips
+-- p2 raises by 250, and p1, who has 200 to call, calls and is stated to add this many chips
 abbrev pub call_stating : ℕ → List Said
 call_stating stated = heads_up_deals ++ raises_by 250 ∷ call_adding 1 stated ∷ []
 
--- p3 raises to 20, and p1, which owes 19, calls with its last 13 chips and is said to add so many
+-- p3 raises to 20, and p1, who has 19 to call, calls with the last 13 chips and is stated to add
+-- this many
 abbrev pub short_call : ℕ → List Said
 short_call stated = unseen_twos ++ raise 3 20 ∷ call_adding 1 stated ∷ []
 
--- two calls, a board of three cards, and a bet to 300 of the hand
+-- two calls, a board of three cards, and a bet to 300 counted over the whole hand
 abbrev pub bet_by_total : List Said
 bet_by_total = heads_up_deals ++ calls ∷ calls ∷ board (codes "AhQh2s") ∷ raises_to 300 ∷ []

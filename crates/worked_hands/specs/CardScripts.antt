@@ -1,4 +1,4 @@
--- Scripts that tell of cards: who brings in and opens by them, deals, and draws.
+-- Scripts about cards: who brings in and opens by them, deals, and draws.
 use Rattle.std.specs.Prelude.{ℕ, List, [], ◌∷◌, ◌++◌, codes}
 use Rattle.play_event.specs.Said.{Said}
 use Rattle.worked_hands.specs.Words.{deal, board, fold, call, raise, bring_in, calls, discard, stand_pat, show}
@@ -8,22 +8,21 @@ use Rattle.worked_hands.specs.Deals.{two_dealt, three_dealt, unseen_twos, unseen
 abbrev pub brought_in : List Said → ℕ → List Said
 brought_in deals seat = deals ++ bring_in seat ∷ []
 
--- p2 has no known up-card, and p1 brings in, which its ante has left without chips
+-- p2 has no known up-card, and p1, whose ante took all its chips, brings in
 abbrev pub without_chips : List Said
 without_chips = brought_in (three_dealt (codes "????2c") (codes "??????") (codes "????4h")) 1
 
--- p1 brings in with a deuce of clubs, p2 calls, both have a second up-card, and a seat checks
+-- p1 brings in with a deuce of clubs, p2 calls, both get a second up-card, and a seat checks
 abbrev pub opened_by : ℕ → List ℕ → List ℕ → List Said
 opened_by seat first second =
     two_deuces ++ bring_in 1 ∷ call 2 ∷ deal 1 first ∷ deal 2 second ∷ call seat ∷ []
 
--- p1 of razz brings in with a king, p2 calls with a deuce, they get a nine and a trey, and p2
--- checks
+-- razz: p1 brings in with a king, p2 calls with a deuce, they get a nine and a trey, and p2 checks
 abbrev pub razz_opened : List Said
 razz_opened =
     king_and_deuce ++ bring_in 1 ∷ call 2 ∷ deal 1 (codes "9h") ∷ deal 2 (codes "3h") ∷ call 2 ∷ []
 
--- cards for one seat alone
+-- cards for one seat only
 abbrev pub dealt : ℕ → List ℕ → List Said
 dealt seat cards = deal seat cards ∷ []
 
@@ -77,11 +76,11 @@ abbrev pub second_draw : List ℕ → List Said
 second_draw cards =
     thirty_cards ++ (first_draw ++ stand_pat 1 ∷ discard 2 cards ∷ deal 2 (codes "2c") ∷ [])
 
--- p3 raises to 10, by which p1 is all-in, and p1 draws first
+-- p3 raises to 10, which puts p1 all-in, and p1 draws first
 abbrev pub all_in_draws : List Said
 all_in_draws = unseen_fives ++ raise 3 10 ∷ call 1 ∷ call 2 ∷ stand_pat 1 ∷ []
 
--- p1 keeps the five and the seven of clubs in a draw, and shows these two alone
+-- p1 keeps the five and the seven of clubs in a draw, and shows only these two
 abbrev pub kept_cards_shown : List Said
 kept_cards_shown =
     two_dealt (codes "2c3c4c5c7c") (codes "??????????") ++ call 2 ∷ call 1

@@ -1,4 +1,4 @@
--- The deals with which the worked hands begin.
+-- The deals that the worked hands begin with.
 use Rattle.std.specs.Prelude.{ℕ, List, [], ◌∷◌, codes}
 use Rattle.play_event.specs.Said.{Said}
 use Rattle.worked_hands.specs.Words.{deal}
@@ -11,15 +11,15 @@ two_dealt first second = deal 1 first ∷ deal 2 second ∷ []
 abbrev pub three_dealt : List ℕ → List ℕ → List ℕ → List Said
 three_dealt first second third = deal 1 first ∷ deal 2 second ∷ deal 3 third ∷ []
 
--- two unseen cards for each of three seats
+-- two unknown cards for each of three seats
 abbrev pub unseen_twos : List Said
 unseen_twos = three_dealt (codes "????") (codes "????") (codes "????")
 
--- four unseen cards for each of three seats
+-- four unknown cards for each of three seats
 abbrev pub unseen_fours : List Said
 unseen_fours = three_dealt (codes "????????") (codes "????????") (codes "????????")
 
--- five unseen cards for each of three seats
+-- five unknown cards for each of three seats
 abbrev pub unseen_fives : List Said
 unseen_fives = three_dealt (codes "??????????") (codes "??????????") (codes "??????????")
 
@@ -27,7 +27,7 @@ unseen_fives = three_dealt (codes "??????????") (codes "??????????") (codes "???
 abbrev pub heads_up_deals : List Said
 heads_up_deals = two_dealt (codes "9s8h") (codes "KdTc")
 
--- the first cards of two seats of stud, p1 with the lower up-card by its suit
+-- the first cards of two seats of stud; p1 has the lower up-card, by its suit
 abbrev pub two_deuces : List Said
 two_deuces = two_dealt (codes "????2c") (codes "????2d")
 

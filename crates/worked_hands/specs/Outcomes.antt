@@ -15,7 +15,7 @@ use Rattle.play_event.specs.HistoryRules.{history_rules}
 use Rattle.play_event.specs.Trace.{TracedMove, traced_moves, traced_places, is_shown, is_mucked}
 use Rattle.play_event.specs.Scripts.{past_at_end, illegal_event}
 
--- no event of a script is illegal
+-- the event with this number is the first illegal one of a script, for this reason
 abbrev pub AllLegalBy : Rules → Setup → List Said → Type 0
 AllLegalBy rules setup script = illegal_event setup rules script ≡ None
 
@@ -37,12 +37,12 @@ IllegalAt number reason setup script = IllegalAtBy history_rules number reason s
 abbrev pub due_after : Setup → List Said → ℕ × Due
 due_after setup script = turn setup (past_at_end setup script)
 
--- the chips that each seat put by the end of a script
+-- the chips that each seat put in by the end of a script
 abbrev pub puts_after : Setup → List Said → List ℕ
 puts_after setup script =
     map (chips_put setup (moves_of (past_at_end setup script))) (all_seats setup)
 
--- what each seat ends with after a script that is won by folds
+-- what each player finishes with after a script that is won by folds
 abbrev pub ends_with : Setup → List Said → List ℕ
 ends_with setup script =
     map (stack_by_folds setup (moves_of (past_at_end setup script))) (all_seats setup)
@@ -59,12 +59,13 @@ mucked_after setup script = filter (is_mucked setup (past_at_end setup script)) 
 abbrev pub moves_after : Setup → List Said → List TracedMove
 moves_after setup script = traced_moves setup (moves_of (past_at_end setup script))
 
--- the targets of its raises that need rules by which betting always reopens
+-- the targets of its raises that are legal only under rules by which every raise reopens the
+-- betting
 abbrev pub closed_after : Setup → List Said → List ℕ
 closed_after setup script =
     map (λ move. move.to) (filter (λ move. move.closed) (moves_after setup script))
 
--- where a raise by the unit would have gone at each of its moves
+-- the target of a raise by the raise unit, at each of its moves
 abbrev pub units_after : Setup → List Said → List ℕ
 units_after setup script = map (λ move. move.unit_to) (moves_after setup script)
 

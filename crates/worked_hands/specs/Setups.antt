@@ -18,23 +18,23 @@ deep_stacks =
     hand_of games.NT false 0 0 0 2 (MOST_CHIPS ∷ MOST_CHIPS ∷ MOST_CHIPS ∷ []) (0 ∷ 0 ∷ 0 ∷ [])
     (1 ∷ 2 ∷ 0 ∷ []) refl refl refl
 
--- the same with such a rake of the lowest pot
+-- the same with this rake of the lowest pot
 abbrev pub raked : ℕ → Setup
 raked rake = record no_limit { rakes = record { rakes = rake ∷ replicate 10 0; full = refl } }
 
--- the first with 14 chips before p1
+-- the first one, but p1 has 14 chips
 abbrev pub first_short : Setup
 first_short =
     hand_of games.NT false 0 0 0 2 (14 ∷ 100 ∷ 100 ∷ []) (0 ∷ 0 ∷ 0 ∷ []) (1 ∷ 2 ∷ 0 ∷ []) refl refl
     refl
 
--- the same with 3 chips before p3
+-- the same, but p3 has 3 chips
 abbrev pub third_short : Setup
 third_short =
     hand_of games.NT false 0 0 0 2 (100 ∷ 100 ∷ 3 ∷ []) (0 ∷ 0 ∷ 0 ∷ []) (1 ∷ 2 ∷ 0 ∷ []) refl refl
     refl
 
--- the same with an ante of p2 that is dead
+-- the same with a dead ante of p2
 abbrev pub one_dead_ante : Setup
 one_dead_ante =
     hand_of games.NT true 0 0 0 2 (100 ∷ 100 ∷ 100 ∷ []) (0 ∷ 2 ∷ 0 ∷ []) (1 ∷ 2 ∷ 0 ∷ []) refl refl
@@ -58,7 +58,7 @@ pot_limit =
     hand_of games.PO false 0 0 0 2 (100 ∷ 100 ∷ 100 ∷ []) (0 ∷ 0 ∷ 0 ∷ []) (1 ∷ 2 ∷ 0 ∷ []) refl
     refl refl
 
--- the same with 9 chips before p1
+-- the same, but p1 has 9 chips
 abbrev pub pot_short : Setup
 pot_short =
     hand_of games.PO false 0 0 0 2 (9 ∷ 100 ∷ 100 ∷ []) (0 ∷ 0 ∷ 0 ∷ []) (1 ∷ 2 ∷ 0 ∷ []) refl refl
@@ -69,12 +69,12 @@ abbrev pub fixed_limit : Setup
 fixed_limit =
     hand_of games.FT false 0 10 20 0 (20000 ∷ 20000 ∷ []) (0 ∷ 0 ∷ []) (10 ∷ 5 ∷ []) refl refl refl
 
--- the same with 15 chips before p2
+-- the same, but p2 has 15 chips
 abbrev pub limit_short : Setup
 limit_short =
     hand_of games.FT false 0 10 20 0 (20000 ∷ 15 ∷ []) (0 ∷ 0 ∷ []) (10 ∷ 5 ∷ []) refl refl refl
 
--- three seats of fixed limit with the blinds 5 and 10, and 25 chips before p1
+-- three seats of fixed limit with the blinds 5 and 10; p1 has 25 chips
 abbrev pub limit_three : Setup
 limit_three =
     hand_of games.FT false 0 10 20 0 (25 ∷ 100 ∷ 100 ∷ []) (0 ∷ 0 ∷ 0 ∷ []) (5 ∷ 10 ∷ 0 ∷ []) refl
@@ -90,21 +90,21 @@ low_blinds =
 abbrev pub stud : Setup
 stud = hand_of games.F7S false 1 2 4 0 (100 ∷ 100 ∷ []) (1 ∷ 1 ∷ []) (0 ∷ 0 ∷ []) refl refl refl
 
--- the same with 2 chips before p1, which the ante and the bring-in take
+-- the same, but p1 has 2 chips, which the ante and the bring-in take
 abbrev pub stud_short : Setup
 stud_short = hand_of games.F7S false 1 2 4 0 (2 ∷ 100 ∷ []) (1 ∷ 1 ∷ []) (0 ∷ 0 ∷ []) refl refl refl
 
--- the same with 1 chip before p1, which the ante takes
+-- the same, but p1 has 1 chip, which the ante takes
 abbrev pub one_able : Setup
 one_able = hand_of games.F7S false 1 2 4 0 (1 ∷ 100 ∷ []) (1 ∷ 1 ∷ []) (0 ∷ 0 ∷ []) refl refl refl
 
--- three seats of stud of which p1 is all-in by its ante
+-- three seats of stud; p1 is all-in by its ante
 abbrev pub ante_all_in : Setup
 ante_all_in =
     hand_of games.F7S false 1 2 4 0 (1 ∷ 100 ∷ 100 ∷ []) (1 ∷ 1 ∷ 1 ∷ []) (0 ∷ 0 ∷ 0 ∷ []) refl refl
     refl
 
--- three seats of stud with a bring-in above the small bet, and 5 chips before p2
+-- three seats of stud with a bring-in above the small bet; p2 has 5 chips
 abbrev pub stud_three : Setup
 stud_three =
     hand_of games.F7S false 3 2 4 0 (100 ∷ 5 ∷ 100 ∷ []) (1 ∷ 1 ∷ 1 ∷ []) (0 ∷ 0 ∷ 0 ∷ []) refl refl
@@ -119,7 +119,7 @@ abbrev pub single_draw : Setup
 single_draw =
     hand_of games.N2L1D false 0 0 0 2 (100 ∷ 100 ∷ []) (0 ∷ 0 ∷ []) (2 ∷ 1 ∷ []) refl refl refl
 
--- three seats of single draw, with 10 chips before p1
+-- three seats of single draw; p1 has 10 chips
 abbrev pub draw_short : Setup
 draw_short =
     hand_of games.N2L1D false 0 0 0 2 (10 ∷ 100 ∷ 100 ∷ []) (0 ∷ 0 ∷ 0 ∷ []) (1 ∷ 2 ∷ 0 ∷ []) refl
@@ -131,12 +131,12 @@ triple_draw =
     hand_of games.F2L3D false 0 2 4 0 (100 ∷ 100 ∷ 100 ∷ 100 ∷ 100 ∷ 100 ∷ [])
     (0 ∷ 0 ∷ 0 ∷ 0 ∷ 0 ∷ 0 ∷ []) (1 ∷ 2 ∷ 0 ∷ 0 ∷ 0 ∷ 0 ∷ []) refl refl refl
 
--- not valid: of two seats p2 has the greater blind
+-- not valid: with two seats, p2 has the greater blind
 abbrev pub greater_second_blind : Setup
 greater_second_blind =
     hand_of games.NT false 0 0 0 2 (100 ∷ 100 ∷ []) (0 ∷ 0 ∷ []) (1 ∷ 2 ∷ []) refl refl refl
 
--- not valid: p1 has no stack
+-- not valid: p1 has no chips
 abbrev pub no_stack : Setup
 no_stack =
     hand_of games.NT false 0 0 0 2 (0 ∷ 100 ∷ 100 ∷ []) (0 ∷ 0 ∷ 0 ∷ []) (1 ∷ 2 ∷ 0 ∷ []) refl refl
@@ -148,7 +148,7 @@ unused_small_bet =
     hand_of games.NT false 0 1 0 2 (100 ∷ 100 ∷ 100 ∷ []) (0 ∷ 0 ∷ 0 ∷ []) (1 ∷ 2 ∷ 0 ∷ []) refl
     refl refl
 
--- not valid: dead antes, and no ante
+-- not valid: antes are said to be dead, but there are none
 abbrev pub no_dead_antes : Setup
 no_dead_antes =
     hand_of games.NT true 0 0 0 2 (100 ∷ 100 ∷ 100 ∷ []) (0 ∷ 0 ∷ 0 ∷ []) (1 ∷ 2 ∷ 0 ∷ []) refl refl

@@ -1,4 +1,4 @@
--- Scripts that tell how hands end: shows, mucks, and showdowns.
+-- Scripts about the end of hands: shows, mucks, and showdowns.
 use Rattle.std.specs.Prelude.{ℕ, List, [], ◌∷◌, ◌++◌, codes}
 use Rattle.play_event.specs.Said.{Said}
 use Rattle.worked_hands.specs.Words.{deal, board, fold, call, raise, bring_in, show, muck}
@@ -20,15 +20,15 @@ checked cards =
     ∷ board (codes "KhKdQs") ∷ call 2 ∷ call 3 ∷ board (codes "Qc") ∷ call 2 ∷ call 3
     ∷ board (codes "Js") ∷ call 2 ∷ call 3 ∷ []
 
--- the same, where p2 holds the ace of spades and the deuce of diamonds
+-- the same; p2 holds the ace of spades and the deuce of diamonds
 abbrev pub checked_down : List Said
 checked_down = checked (codes "As2d")
 
--- a hand that is checked down where p2's cards are not known, and p2 shows the king of the board
+-- a hand that is checked down; p2's cards are unknown, and p2 shows the king that is on the board
 abbrev pub board_card_shown : List Said
 board_card_shown = checked (codes "????") ++ show 2 (codes "AsKh") ∷ []
 
--- the same where the deuce is known, and p2 does not name it
+-- the same, but p2's deuce is known, and p2 does not name it
 abbrev pub deuce_left_out : List Said
 deuce_left_out = checked (codes "??2d") ++ show 2 (codes "KhTh") ∷ []
 
@@ -44,7 +44,7 @@ all_cards_shown = codes "????As2dAc2hKhKdQsQcJs"
 abbrev pub other_hand_shown : List Said
 other_hand_shown = checked_down ++ show 2 (codes "AsTh") ∷ []
 
--- p2 shows, and mucks then
+-- p2 shows, and then mucks
 abbrev pub shown_and_mucked : List Said
 shown_and_mucked = checked_down ++ show 2 (codes "As2d") ∷ muck 2 ∷ []
 
@@ -56,15 +56,15 @@ known_mucked = checked_down ++ muck 2 ∷ []
 abbrev pub won_unseen : List Said
 won_unseen = unseen_twos ++ raise 3 6 ∷ fold 1 ∷ fold 2 ∷ []
 
--- the last seat shows
+-- the last live seat shows
 abbrev pub winner_shows : List Said
 winner_shows = won_unseen ++ show 3 (codes "AhKh") ∷ []
 
--- the last seat mucks
+-- the last live seat mucks
 abbrev pub winner_mucks : List Said
 winner_mucks = won_unseen ++ muck 3 ∷ []
 
--- the last seat shows, and mucks then
+-- the last live seat shows, and then mucks
 abbrev pub winner_does_both : List Said
 winner_does_both = winner_shows ++ muck 3 ∷ []
 
@@ -88,8 +88,8 @@ shown_called = all_in ++ call 1 ∷ show 1 (codes "9s8h") ∷ []
 abbrev pub mucked_called : List Said
 mucked_called = all_in ++ call 1 ∷ muck 1 ∷ []
 
--- p1 of stud is all-in by its bring-in, both are dealt all cards, of which this is p1's second
--- up-card, and p1 shows its three down-cards
+-- p1 of stud is all-in by its bring-in, both are dealt all cards, this is p1's second up-card, and
+-- p1 shows its three down-cards
 abbrev pub three_shown : List ℕ → List Said
 three_shown second =
     two_dealt (codes "????2c") (codes "????3d") ++ bring_in 1 ∷ call 2

@@ -13,11 +13,11 @@ use Rattle.play_event.specs.declared.setup.Reopen.TheVariants as reopen
 use Rattle.play_event.specs.Said.{Said, Hole, Board, Fold, Call, Raise, BringIn, Discard, Show, Muck}
 use Rattle.play_event.specs.Rows.{row_of, is_row}
 
--- the slots that a text spells, and none where a letter is wrong
+-- the cards of a text, known or unknown; none if a letter is wrong
 abbrev pub slots_named : List ℕ → List Slot
 slots_named text = unwrap_or (slots_spelled text) []
 
--- the known cards that a text spells
+-- the known cards of a text
 abbrev pub cards_named : List ℕ → List Card
 cards_named text = known_cards (slots_named text)
 
@@ -39,7 +39,8 @@ hand_of code dead bring_in small big least stacks antes blinds stacks_fit antes_
       rakes = no_rakes;
     }
 
--- the rules of a match: betting always reopens, folds are not free, and raises have these caps
+-- the rules of a match: every raise reopens the betting, a fold with nothing to call is illegal,
+-- and raises have these caps
 abbrev pub match_rules : Option (List ℕ) → Rules
 match_rules caps = record { reopen = reopen.Always; free_fold = false; caps = caps }
 
@@ -51,11 +52,11 @@ capped = match_rules (Some (3 ∷ 1 ∷ 4 ∷ 4 ∷ []))
 abbrev pub uncapped : Rules
 uncapped = match_rules None
 
--- cards of a text for a seat
+-- the cards of a text are dealt to a seat
 abbrev pub deal : ℕ → List ℕ → Said
 deal seat cards = Hole seat (slots_named cards)
 
--- cards of a text for the board
+-- the cards of a text are dealt to the board
 abbrev pub board : List ℕ → Said
 board cards = Board (cards_named cards)
 
@@ -67,11 +68,11 @@ fold seat = Fold (Some seat)
 abbrev pub call : ℕ → Said
 call seat = Call (Some seat) None
 
--- a named seat calls, and is said to add so many chips
+-- a named seat calls, and is stated to add this many chips
 abbrev pub call_adding : ℕ → ℕ → Said
 call_adding seat stated = Call (Some seat) (Some stated)
 
--- a named seat bets or raises to so many chips of the street
+-- a named seat bets or raises to this many chips on the street
 abbrev pub raise : ℕ → ℕ → Said
 raise seat target = Raise (Some seat) (spelled.To target)
 
@@ -79,27 +80,27 @@ raise seat target = Raise (Some seat) (spelled.To target)
 abbrev pub bring_in : ℕ → Said
 bring_in seat = BringIn (Some seat)
 
--- the seat in turn folds
+-- the player to act folds
 abbrev pub folds : Said
 folds = Fold None
 
--- the seat in turn checks or calls
+-- the player to act checks or calls
 abbrev pub calls : Said
 calls = Call None None
 
--- the seat in turn bets or raises by so many chips
+-- the player to act bets or raises by this many chips
 abbrev pub raises_by : ℕ → Said
 raises_by chips = Raise None (spelled.Added chips)
 
--- the seat in turn bets or raises to so many chips of the hand
+-- the player to act bets or raises to this many chips, counted over the whole hand
 abbrev pub raises_to : ℕ → Said
 raises_to total = Raise None (spelled.HandTotal total)
 
--- the seat in turn bets or raises by the unit
+-- the player to act bets or raises by the raise unit
 abbrev pub raises : Said
 raises = Raise None spelled.Unit
 
--- a seat discards cards of a text
+-- a seat discards the cards of a text
 abbrev pub discard : ℕ → List ℕ → Said
 discard seat cards = Discard seat (slots_named cards)
 
@@ -107,7 +108,7 @@ discard seat cards = Discard seat (slots_named cards)
 abbrev pub stand_pat : ℕ → Said
 stand_pat seat = Discard seat []
 
--- a seat shows cards of a text
+-- a seat shows the cards of a text
 abbrev pub show : ℕ → List ℕ → Said
 show seat cards = Show seat (cards_named cards)
 

@@ -1,12 +1,12 @@
-//! Deals, draws, and cards that are taken or not held. Each function does nothing: its contract is
-//! computed from the rules.
+//! Deals, draws, and cards that are already taken or not held. Each function does nothing: its
+//! contract is computed from the rules.
 ghost use Rattle.std.specs.Prelude.{codes};
 ghost use Rattle.play_event.specs.declared.reason.Illegal.TheVariants.{WrongKind, WrongSeat, WrongCount, CardTaken, NotHeld};
 ghost use Rattle.worked_hands.specs.Outcomes.{AllLegal, IllegalAt};
 ghost use Rattle.worked_hands.specs.Setups.{draw_short, heads_up, no_limit, single_draw, triple_draw};
 ghost use Rattle.worked_hands.specs.CardScripts.{ace_dealt_twice, all_in_draws, dealt, dealt_after_pat, dealt_again, discarded, early_flop, flop_of, fold_before_deals, kept_cards_shown, second_draw, third_card};
 
-/// How many cards may come, when, and for whom.
+/// How many cards are dealt, when, and to whom.
 pub fn deals()
     ensures a_third_hole_card { IllegalAt 1 WrongCount no_limit (dealt 1 (codes "??????")) }
     ensures a_misspelled_card { IllegalAt 1 WrongCount no_limit (dealt 1 (codes "AhXh")) }
@@ -20,7 +20,7 @@ pub fn deals()
     ensures a_board_of_four_cards { IllegalAt 5 WrongCount heads_up (flop_of (codes "AhQh2s3s")) }
 {}
 
-/// Discards, replacements, and deals past the deck.
+/// Discards, replacements, and deals past the end of the deck.
 pub fn draws()
     ensures a_deal_past_the_deck { AllLegal triple_draw (second_draw (codes "??????????")) }
     ensures within_the_deck { IllegalAt 33 CardTaken triple_draw (second_draw (codes "????????")) }

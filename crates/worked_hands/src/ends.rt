@@ -1,5 +1,5 @@
-//! How hands end: shows, mucks, the showdown, and scripts that stop too early or go on. Each
-//! function does nothing: its contract is computed from the rules.
+//! How hands end: shows, mucks, the showdown, and scripts that stop too early or go on too long.
+//! Each function does nothing: its contract is computed from the rules.
 ghost use Rattle.std.specs.Prelude.{[], codes, false, ◌∷◌, ◌≡◌};
 ghost use Rattle.play_event.specs.declared.reason.Due.TheVariants as dues;
 ghost use Rattle.play_event.specs.declared.reason.Illegal.TheVariants.{HandOver, WrongKind, WrongSeat, WrongCount, CardTaken, NotHeld};
@@ -20,7 +20,7 @@ pub fn showdowns()
     ensures a_muck_after_a_show { IllegalAt 17 WrongSeat no_limit shown_and_mucked }
 {}
 
-/// Shows and mucks of a hand that is settled, before its last card.
+/// Shows and mucks before the last card, in a hand without further betting.
 pub fn shows_before_the_end()
     ensures shows_before_the_river { AllLegal antes_and_blinds early_shows }
     ensures its_chips { puts_after antes_and_blinds early_shows ≡ 1125600 ∷ 2500 ∷ 553500 ∷ [] }

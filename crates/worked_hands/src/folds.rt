@@ -7,7 +7,7 @@ ghost use Rattle.worked_hands.specs.Outcomes.{AllLegal, IllegalAt, ends_with};
 ghost use Rattle.worked_hands.specs.Setups.{deep_stacks, no_limit, one_dead_ante, raked};
 ghost use Rattle.worked_hands.specs.BetScripts.{early_fold, folded_to_blind, one_fold, raised_to, three_folds, two_folds};
 
-/// A raise and two folds: what may not come in it, and what it ends with.
+/// A raise and two folds: what is illegal in it, and what the players finish with.
 pub fn hands_won_by_folds()
     ensures a_raise_and_two_folds { AllLegal no_limit two_folds }
     ensures it_is_complete { has_early_end no_limit two_folds ≡ false }
@@ -24,7 +24,7 @@ pub fn hands_won_by_folds()
     ensures a_rake_of_the_whole_pot { ends_with (raked 5) two_folds ≡ 99 ∷ 98 ∷ 98 ∷ [] }
 {}
 
-/// Stacks of 10^12 are counted to the last chip.
+/// Stacks of 10^12 chips are counted to the last chip.
 pub fn deep_stacks_won_by_folds()
     ensures stack_of_p1 { slice_get (ends_with deep_stacks two_folds) 0 ≡ Some 999999999999 }
     ensures stack_of_p2 { slice_get (ends_with deep_stacks two_folds) 1 ≡ Some 999999999998 }

@@ -6,7 +6,7 @@ ghost use Rattle.worked_hands.specs.Outcomes.{AllLegal, AllLegalBy, IllegalAt, I
 ghost use Rattle.worked_hands.specs.Setups.{first_short, fixed_limit, heads_up, limit_short, limit_three, low_blinds, pot_limit, pot_short, stud, stud_three, third_short};
 ghost use Rattle.worked_hands.specs.BetScripts.{bet_by_total, call_stating, four_units, free_fold, full_bring_in, half_bet_more, one_unit, opened_to, over_low_blinds, over_short, over_three, pot_raised_again, pot_raised_to, raised_again, raised_and_won, short_call, small_bet_later, two_units_later, unit_over_bring_in};
 
-/// The least raise in no limit, where betting reopens in full, and where it always does.
+/// The least raise in no limit, if only a full raise reopens the betting, and if every raise does.
 pub fn raises_in_no_limit()
     ensures below_the_least_raise { IllegalAt 3 RaiseTooSmall heads_up (opened_to 150) }
     ensures eighteen_is_no_full_raise { IllegalAt 6 RaiseTooSmall first_short (over_short 18) }
@@ -18,7 +18,7 @@ pub fn raises_in_no_limit()
     ensures and_where_betting_always_reopens { AllLegalBy uncapped heads_up small_bet_later }
 {}
 
-/// When a seat that has moved may raise again.
+/// When a player who has acted may raise again.
 pub fn reopened_betting()
     ensures a_short_all_in_does_not_reopen { IllegalAt 7 RaiseClosed first_short raised_again }
     ensures it_does_where_betting_always_reopens { AllLegalBy uncapped first_short raised_and_won }
@@ -26,14 +26,14 @@ pub fn reopened_betting()
     ensures half_a_bet_reopens_in_fixed_limit { AllLegal limit_three half_bet_more }
 {}
 
-/// The pot bounds a raise.
+/// The pot limits a raise.
 pub fn raises_in_pot_limit()
     ensures the_pot { AllLegal pot_limit (pot_raised_to 7) }
     ensures above_the_pot { IllegalAt 4 RaiseTooBig pot_limit (pot_raised_to 8) }
     ensures too_small { IllegalAt 4 RaiseTooSmall pot_limit (pot_raised_to 3) }
 {}
 
-/// Units, full bets, and caps.
+/// Raise units, full bets, and caps.
 pub fn raises_in_fixed_limit()
     ensures a_fourth_raise { IllegalAtBy capped 6 RaiseClosed fixed_limit four_units }
     ensures a_second_raise_later { IllegalAtBy capped 7 RaiseClosed fixed_limit two_units_later }
@@ -43,7 +43,7 @@ pub fn raises_in_fixed_limit()
     ensures low_blinds_are_no_full_bet { IllegalAt 5 RaiseTooSmall low_blinds over_low_blinds }
 {}
 
-/// A fold with nothing to call, and calls that state what they add.
+/// A fold with nothing to call, and calls that state the chips that they add.
 pub fn folds_and_calls()
     ensures a_free_fold { AllLegal heads_up free_fold }
     ensures a_fold_with_nothing_to_call { IllegalAtBy uncapped 4 NothingToCall heads_up free_fold }

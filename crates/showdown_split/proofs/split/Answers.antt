@@ -1,4 +1,4 @@
--- Each turn shares the net of one pot more, or finds the first without a shown hand.
+-- Each turn shares the net of one more pot, or finds the first without a shown hand.
 use Rattle.std.proofs.Common.{◌≡◌, ◌≤◌, ◌+◌, ℕ, true, List, map, take, sym, ◌∙◌, ap, arith}
 use Rattle.std.proofs.lemmas.Bool.{and_parts}
 use Rattle.std.proofs.lemmas.List.{take_all}

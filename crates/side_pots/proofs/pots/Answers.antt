@@ -4,7 +4,7 @@ use Rattle.std.specs.List.{All}
 use Rattle.std.proofs.lemmas.Bool.{ltb-true}
 use Rattle.std.proofs.lemmas.List.Elements.{All-weaker, filter_passes}
 use Rattle.std.proofs.lemmas.List.Sums.{get_or-le-sum_by}
-use Rattle.list_laws.proofs.Sums.{sum_by-map}
+use Rattle.card_set.proofs.Sums.{sum_by-map}
 use Rattle.chip_ledger.specs.declared.pots.Pot.{Pot}
 use Rattle.chip_ledger.specs.SeatRow.{total_of}
 use Rattle.chip_ledger.specs.PotRow.{plain, pots_in, stakes_of}

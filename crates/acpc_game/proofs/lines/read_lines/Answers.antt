@@ -1,6 +1,6 @@
 use Rattle.std.proofs.Common.{◌≡◌, ◌+◌, [], Ok, map, ap, refl, arith, length}
 use Rattle.std.proofs.lemmas.Result.{err_from_is_err_and}
-use Rattle.acpc_text.specs.Parts.{lines_of}
+use Rattle.acpc_game.specs.Parts.{lines_of}
 use Rattle.acpc_game.specs.Entries.{entry_said}
 use Rattle.acpc_game.specs.GameFile.{entries_after}
 use Rattle.acpc_game.proofs.Steps.{fails_first, line_read, line_fails, lines_done}

@@ -1,5 +1,5 @@
 use Rattle.std.proofs.Common.{◌≡◌, ◌+◌, ◌≤◌, [], length, map}
-use Rattle.acpc_text.specs.Parts.{lines_of}
+use Rattle.acpc_game.specs.Parts.{lines_of}
 use Rattle.acpc_game.specs.Entries.{entry_said}
 use Rattle.acpc_game.specs.GameFile.{entries_after}
 use Rattle.acpc_game.proofs.lines.read_lines.Given as goal

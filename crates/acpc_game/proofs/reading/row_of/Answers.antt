@@ -2,7 +2,7 @@ use Rattle.std.proofs.Common.{◌≡◌, ℕ, ◌<◌, ◌≤◌, ◌++◌, ◌�
 use Rattle.std.proofs.lemmas.List.{length-set, take_more, take_more_set}
 use Rattle.acpc_game.proofs.Bounds.{chips_within}
 use Rattle.acpc_game.proofs.reading.row_of.Goals as goal
-use Rattle.list_laws.proofs.Entries.{set_bounded, set_zeros}
+use Rattle.card_set.proofs.Entries.{set_bounded, set_zeros}
 use Rattle.chip_ledger.specs.declared.seat_row.TheConstants.{MOST_AMOUNT}
 use Rattle.chip_ledger.specs.declared.numbers.TheConstants.{MOST_CHIPS}
 

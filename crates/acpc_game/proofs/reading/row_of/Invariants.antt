@@ -2,7 +2,7 @@ use Rattle.std.proofs.Common.{◌≡◌, ℕ, ◌≤◌, length, take, slice_ind
 use Rattle.acpc_game.proofs.reading.row_of.Given as goal
 use Rattle.chip_ledger.specs.declared.seat_row.TheConstants.{MOST_AMOUNT}
 
--- the amounts so far are written, and zeros stand behind them
+-- the amounts so far are written, followed by zeros
 abbrev pub invariant-loop-index : goal.invariant-loop-index
 invariant-loop-index l = record {
   ten : length l.amounts ≡ 10;

@@ -1,5 +1,5 @@
 use Rattle.std.proofs.Common.{◌≡◌, ℕ, ◌+◌, List, ◌∷◌, ◌∙◌, length, ap, arith}
-use Rattle.acpc_text.specs.Parts.{parts_of}
+use Rattle.acpc_game.specs.Parts.{parts_of}
 use Rattle.acpc_reading.specs.Left.{len_left, parts_left}
 use Rattle.acpc_reading.proofs.SixFields.{sixth_colon}
 use Rattle.acpc_reading.proofs.cutting.cut_fields.Goals as goal
@@ -26,4 +26,4 @@ returns-in-Some-clause-fields c =
     let sixth_len : length c.in_default-Some-cut_at-4.rest.now ≡ length g + (1 + length c.in-Some.more.now) = (rw c.in_default-Some-cut_at-4.rest-is at c.cut_at-6.ensures.len) ∙ ap (λ rest. length g + len_left rest) c.in-Some.is in
     let cut : parts_of 58 c.args.line.now ≡ a ∷ b ∷ d ∷ e ∷ f ∷ g ∷ parts_of 58 c.in-Some.more.now = first ∙ ap (λ (rest : List (List ℕ)). a ∷ rest) (second ∙ ap (λ (rest : List (List ℕ)). b ∷ rest) (third ∙ ap (λ (rest : List (List ℕ)). d ∷ rest) (fourth ∙ ap (λ (rest : List (List ℕ)). e ∷ rest) (fifth ∙ ap (λ (rest : List (List ℕ)). f ∷ rest) (sixth))))) in
     let len : length c.args.line.now ≡ length a + (1 + (length b + (1 + (length d + (1 + (length e + (1 + (length f + (1 + (length g + (1 + length c.in-Some.more.now))))))))))) = omega (arith, first_len, second_len, third_len, fourth_len, fifth_len, sixth_len) in
-    rw c.wrong-in-Some.ensures (sixth_colon c.args.line.now a b d e f g c.in-Some.more.now cut len)
+    rw c.fault_at-in-Some.ensures (sixth_colon c.args.line.now a b d e f g c.in-Some.more.now cut len)

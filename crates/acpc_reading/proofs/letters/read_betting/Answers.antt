@@ -1,7 +1,7 @@
 use Rattle.std.proofs.Common.{rules, ◌≡◌, ◌∙◌, ◌+◌, ap, arith, length, refl}
 use Rattle.std.proofs.lemmas.List.{nil_from_length}
 use Rattle.std.proofs.lemmas.Result.{err_from_is_err_and}
-use Rattle.acpc_text.specs.Letters.{scan}
+use Rattle.acpc_game.specs.Letters.{scan}
 use Rattle.acpc_reading.specs.Betting.{bets_after, betting_said}
 use Rattle.acpc_reading.specs.Views.{bets_in}
 use Rattle.acpc_reading.proofs.EachLetter.{begins_bare, goes_on, ends, is_done}
@@ -35,5 +35,5 @@ loop-letter-init c =
     record {
       begins = none;
       place_is = refl;
-      read = ap (λ bets. bets_after c.args.no_limit bets c.args.at (scan c.args.text.now).1) c.begin.ensures ∙ begins_bare c.args.no_limit c.args.betting.now.file_moves c.args.at c.args.text.now none;
+      read = ap (λ bets. bets_after c.args.no_limit bets c.args.at (scan c.args.text.now).1) c.clear.ensures ∙ begins_bare c.args.no_limit c.args.betting.now.file_moves c.args.at c.args.text.now none;
     }

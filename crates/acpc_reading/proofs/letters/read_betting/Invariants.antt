@@ -1,10 +1,10 @@
 use Rattle.std.proofs.Common.{◌≡◌, ◌+◌, [], length}
-use Rattle.acpc_text.specs.Letters.{scan}
+use Rattle.acpc_game.specs.Letters.{scan}
 use Rattle.acpc_reading.specs.Betting.{bets_after, betting_said}
 use Rattle.acpc_reading.specs.Views.{bets_in}
 use Rattle.acpc_reading.proofs.letters.read_betting.Given as goal
 
--- the betting so far and that of the letters that are left are all of it
+-- the betting so far and that of the letters that are left make the whole betting
 abbrev pub invariant-loop-letter : goal.invariant-loop-letter
 invariant-loop-letter l = record {
   begins : (scan l.rest).0 ≡ [];

@@ -1,5 +1,5 @@
--- One hand more is one of the game, and within the limits.
-use Rattle.acpc_text.specs.Parts.{parts_of}
+-- One more hand is one of the game, and within the limits.
+use Rattle.acpc_game.specs.Parts.{parts_of}
 use Rattle.acpc_reading.specs.Views.{bets_in}
 use Rattle.acpc_reading.proofs.MatchRecords.{one_more_hand}
 use Rattle.acpc_reading.proofs.ScriptCounts.{within_limits, file_moves_after, file_moves_few}

@@ -1,7 +1,7 @@
 use Rattle.std.proofs.Common.{◌+◌, [], Ok, map, ap, arith}
 use Rattle.std.proofs.lemmas.Result.{err_from_is_err_and}
 use Rattle.first_fault.specs.Reading.{◌>>=◌}
-use Rattle.acpc_text.specs.Parts.{lines_of}
+use Rattle.acpc_game.specs.Parts.{lines_of}
 use Rattle.acpc_reading.specs.Logs.{hands_after, reading}
 use Rattle.acpc_reading.specs.RecordView.{record_said}
 use Rattle.acpc_game.proofs.Steps.{fails_first}

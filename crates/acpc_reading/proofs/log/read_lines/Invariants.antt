@@ -1,5 +1,5 @@
 use Rattle.std.proofs.Common.{◌≡◌, ◌+◌, ◌≤◌, [], length, map}
-use Rattle.acpc_text.specs.Parts.{lines_of}
+use Rattle.acpc_game.specs.Parts.{lines_of}
 use Rattle.acpc_reading.specs.Logs.{hands_after}
 use Rattle.acpc_reading.specs.RecordView.{AreOfGame, record_said}
 use Rattle.acpc_reading.proofs.log.read_lines.Given as goal

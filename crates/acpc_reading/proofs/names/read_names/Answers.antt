@@ -4,7 +4,7 @@ use Rattle.std.proofs.lemmas.Result.{err_from_is_err_and}
 use Rattle.hand_records.specs.AllowedNotes.{IsName}
 use Rattle.acpc_reading.specs.Left.{parts_left}
 use Rattle.acpc_reading.specs.Names.{names_said}
-use Rattle.list_laws.proofs.Entries.{set_each}
+use Rattle.card_set.proofs.Entries.{set_each}
 use Rattle.acpc_reading.proofs.Rows.{name_read, name_fails, names_done}
 use Rattle.acpc_reading.proofs.names.read_names.Goals as goal
 

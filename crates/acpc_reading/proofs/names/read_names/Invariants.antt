@@ -4,7 +4,7 @@ use Rattle.acpc_reading.specs.Left.{len_left, parts_left}
 use Rattle.acpc_reading.specs.Names.{names_after, names_said}
 use Rattle.acpc_reading.proofs.names.read_names.Given as goal
 
--- the names so far are written, none stand behind them, and with those that are left they are all
+-- the names so far are written and no others, and with the rest of the field they are all names
 abbrev pub invariant-loop-part : goal.invariant-loop-part
 invariant-loop-part l = record {
   ten : length l.names ≡ 10;

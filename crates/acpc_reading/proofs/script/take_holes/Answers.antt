@@ -1,7 +1,7 @@
 use Rattle.std.proofs.Common.{map, ap, arith, length}
 use Rattle.std.proofs.lemmas.Result.{err_from_is_err_and}
 use Rattle.play_event.specs.Said.{numbered}
-use Rattle.acpc_text.specs.Parts.{parts_of}
+use Rattle.acpc_game.specs.Parts.{parts_of}
 use Rattle.acpc_reading.specs.Left.{parts_left}
 use Rattle.acpc_reading.specs.Cards.{holes_after}
 use Rattle.acpc_reading.proofs.Dealing.{hole_read, hole_fails, holes_done}

@@ -1,6 +1,6 @@
 use Rattle.std.proofs.Common.{◌≡◌, ◌+◌, ◌≤◌, length, map}
 use Rattle.play_event.specs.Said.{numbered}
-use Rattle.acpc_text.specs.Parts.{parts_of}
+use Rattle.acpc_game.specs.Parts.{parts_of}
 use Rattle.acpc_reading.specs.Left.{len_left, parts_left}
 use Rattle.acpc_reading.specs.Cards.{holes_after}
 use Rattle.acpc_reading.proofs.script.take_holes.Given as goal

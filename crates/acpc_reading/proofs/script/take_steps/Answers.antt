@@ -41,6 +41,6 @@ unfolding steps_said
 returns-in-Some-clause-err c =
     let l = c.loop-step in
     let whole = steps_after c.args.at (dealt (map numbered c.args.script.now) (parts_left 47 c.args.boards)) c.args.steps.now in
-    rw c.wrong.ensures
+    rw c.fault_at.ensures
     (ap (λ read. read >>= without_rest c.args.at) (steps_done c.args.at (written_by l.script l.pending) (drop l.step-index c.args.steps.now) whole (drop_all l.step-index c.args.steps.now c.loop-step-test.false) l.invariant.read)
     ∙ rw c.in-Some.is (some_left c.args.at (map numbered l.script) l.pending.number l.pending.size c.in-Some.field-0.now))

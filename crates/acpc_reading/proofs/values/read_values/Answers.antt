@@ -5,7 +5,7 @@ use Rattle.std.proofs.lemmas.List.{length-set, take_more_set}
 use Rattle.std.proofs.lemmas.Result.{err_from_is_err_and}
 use Rattle.acpc_reading.specs.Left.{parts_left}
 use Rattle.acpc_reading.specs.Values.{values_said}
-use Rattle.list_laws.proofs.Entries.{set_each}
+use Rattle.card_set.proofs.Entries.{set_each}
 use Rattle.acpc_reading.proofs.Rows.{value_read, value_fails, values_done}
 use Rattle.acpc_reading.proofs.values.read_values.Goals as goal
 

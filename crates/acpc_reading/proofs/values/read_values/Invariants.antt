@@ -3,7 +3,8 @@ use Rattle.acpc_reading.specs.Left.{len_left, parts_left}
 use Rattle.acpc_reading.specs.Values.{values_after, values_said}
 use Rattle.acpc_reading.proofs.values.read_values.Given as goal
 
--- the values so far are written, zeros stand behind them, and with those that are left they are all
+-- the values so far are written, followed by zeros, and with the rest of the field they are all
+-- values
 abbrev pub invariant-loop-part : goal.invariant-loop-part
 invariant-loop-part l = record {
   ten : length l.nets ≡ 10;

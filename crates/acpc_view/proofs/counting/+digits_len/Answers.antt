@@ -1,4 +1,4 @@
--- A number below ten has one digit, and another one more than its tenth part.
+-- A number below ten has one digit, and any other has one more than its tenth part.
 use Rattle.std.proofs.Common.{◌≡◌, ◌+◌, decimal, length, ap, ◌∙◌, arith}
 use Rattle.acpc_view.proofs.LineLengths.{few_digits, more_digits, one_digit}
 use Rattle.acpc_view.proofs.counting.+digits_len.Goals as goal

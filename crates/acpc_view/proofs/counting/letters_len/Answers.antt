@@ -1,6 +1,6 @@
--- One letter more.
+-- One more letter.
 use Rattle.std.proofs.Common.{map, take, sym, refl, arith}
-use Rattle.canon_script.specs.CanonScript.{plain_moves}
+use Rattle.play_event.specs.CanonScript.{plain_moves}
 use Rattle.play_event.specs.Played.{move_said}
 use Rattle.acpc_writing.specs.Betting.{letters_on}
 use Rattle.acpc_writing.proofs.Letters.{may_add, put_next}

@@ -1,6 +1,6 @@
 -- The moves so far are counted, and the bytes of their letters.
 use Rattle.std.proofs.Common.{◌≡◌, ◌≤◌, ◌*◌, length, map, take}
-use Rattle.canon_script.specs.CanonScript.{plain_moves}
+use Rattle.play_event.specs.CanonScript.{plain_moves}
 use Rattle.play_event.specs.Played.{move_said}
 use Rattle.acpc_writing.specs.Betting.{letters_on}
 use Rattle.acpc_writing.specs.Puts.{HavePut}

@@ -1,6 +1,6 @@
 -- The betting and the cards that are seen.
 use Rattle.std.proofs.Common.{List, sym, subst, take}
-use Rattle.list_laws.proofs.Results.{on_ok}
+use Rattle.card_set.proofs.Results.{on_ok}
 use Rattle.play_event.specs.declared.played.Move.{Move}
 use Rattle.acpc_writing.specs.Puts.{HaveFewChips}
 use Rattle.acpc_view.proofs.Writing.{few_chips, seen_written}

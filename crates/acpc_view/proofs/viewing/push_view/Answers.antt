@@ -1,6 +1,6 @@
 -- A line is made of its pieces.
 use Rattle.std.proofs.Common.{[], ◌∷◌, ◌++◌}
-use Rattle.list_laws.proofs.Results.{on_ok}
+use Rattle.card_set.proofs.Results.{on_ok}
 use Rattle.acpc_writing.proofs.Totals.{sound_few}
 use Rattle.acpc_view.specs.View.{head_text, seen_text, view_line}
 use Rattle.acpc_view.proofs.Writing.{four_pieces, when_ok}

@@ -1,7 +1,7 @@
 use Rattle.std.proofs.Common.{◌≡◌, drop, map}
 use Rattle.std.specs.List.{list_any}
 use Rattle.card_set.specs.Known.{is_unknown}
-use Rattle.canon_script.specs.CanonScript.{dealt_slots}
+use Rattle.play_event.specs.CanonScript.{dealt_slots}
 use Rattle.play_event.specs.Said.{seat_named}
 use Rattle.hand_records.specs.TraceRows.{place_said}
 use Rattle.acpc_writing.proofs.cards.has_unknown.Given as goal

@@ -1,4 +1,4 @@
--- One seat more.
+-- One more seat.
 use Rattle.std.proofs.Common.{map}
 use Rattle.hand_records.specs.TraceRows.{place_said}
 use Rattle.acpc_writing.specs.Cards.{hole_text}

@@ -1,6 +1,6 @@
 use Rattle.std.proofs.Common.{◌≡◌, ◌++◌, length, map}
 use Rattle.card_set.specs.Spelling.{spelling}
-use Rattle.canon_script.specs.CanonScript.{dealt_slots}
+use Rattle.play_event.specs.CanonScript.{dealt_slots}
 use Rattle.play_event.specs.Said.{seat_named}
 use Rattle.hand_records.specs.TraceRows.{place_said}
 use Rattle.acpc_writing.proofs.cards.push_dealt.Given as goal

@@ -1,4 +1,4 @@
--- The parts of the line stand one behind the other.
+-- The parts of the line follow one another.
 use Rattle.std.proofs.Common.{◌≡◌, ◌++◌, ◌∙◌, ℕ, List, [], ap, rules}
 use Rattle.acpc_writing.specs.Line.{end_text, head_text, line_text, play_text}
 use Rattle.acpc_writing.proofs.Pieces.{line_is}

@@ -1,4 +1,4 @@
--- One play more.
+-- One more play.
 use Rattle.acpc_writing.proofs.Lines.{line_next, texts_next}
 use Rattle.acpc_writing.proofs.log.write.Goals as goal
 

@@ -1,4 +1,4 @@
--- One player more.
+-- One more player.
 use Rattle.std.proofs.Common.{ℕ, List, Option, IfSome, IsUtf8, ◌+◌, ◌++◌, ◌∙◌, ap, subst}
 use Rattle.acpc_writing.specs.Names.{name_or_default, name_text}
 use Rattle.acpc_writing.proofs.SeatTexts.{text_more, texts_more}

@@ -1,6 +1,6 @@
--- One seat more, or one that was found.
+-- One more seat, or one that was found.
 use Rattle.std.proofs.Common.{◌+◌, List, map, ap, sym, ◌∙◌, arith}
-use Rattle.list_laws.proofs.NumbersOfRange.{any_in_range}
+use Rattle.card_set.proofs.NumbersOfRange.{any_in_range}
 use Rattle.chip_ledger.proofs.SeatLists.{any_more}
 use Rattle.hand_records.specs.TraceRows.{core_said, place_said}
 use Rattle.play_event.specs.declared.played.Place.{Place}

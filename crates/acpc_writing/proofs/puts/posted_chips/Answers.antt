@@ -1,4 +1,4 @@
--- One seat more.
+-- One more seat.
 use Rattle.std.proofs.Common.{◌∙◌, length-set}
 use Rattle.acpc_writing.proofs.Posting.{posted_more}
 use Rattle.acpc_writing.proofs.puts.posted_chips.Goals as goal

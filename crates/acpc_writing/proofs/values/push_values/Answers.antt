@@ -1,4 +1,4 @@
--- One seat more.
+-- One more seat.
 use Rattle.acpc_writing.specs.Values.{value_text}
 use Rattle.acpc_writing.proofs.SeatTexts.{text_more}
 use Rattle.acpc_writing.proofs.values.push_values.Goals as goal

@@ -6,24 +6,24 @@ use Rattle.chip_ledger.specs.Seat.{seats_of}
 use Rattle.chip_ledger.specs.SeatRow.{amount_of}
 use Rattle.chip_ledger.proofs.SeatLists.{count_seats}
 use Rattle.chip_ledger.proofs.Seats.{map-seats}
-use Rattle.list_laws.proofs.Counting.{count_all}
+use Rattle.card_set.proofs.Counting.{count_all}
 use Rattle.play_event.specs.declared.setup.Setup.{Setup}
 use Rattle.play_event.specs.Chips.{blind_posted, posted}
 use Rattle.play_event.specs.Streets.{unit}
-use Rattle.street_laws.proofs.AtStart.{all_live, first_deal}
+use Rattle.play_laws.proofs.AtStart.{all_live, first_deal}
 use Rattle.betting_numbers.specs.Posting.{HasPosted}
 use Rattle.betting_numbers.specs.declared.starting.Posted.{Posted}
-use Rattle.betting_numbers.proofs.Posting.{bet_inside, price_at_start, put_within, sum_seats}
+use Rattle.betting_numbers.proofs.Posting.{bet_inside, blind_bet_at_start, put_within, sum_seats}
 use Rattle.betting_numbers.proofs.starting.start.Goals as goal
-use Rattle.street_laws.proofs.LiveSeats.{one_of_several}
+use Rattle.play_laws.proofs.LiveSeats.{one_of_several}
 
 -- all seats have posted
 all_posted : (setup : Setup) (count : ℕ) (p : Posted) → count ≡ setup.stacks.seats → HasPosted setup count p → HasPosted setup setup.stacks.seats p
 all_posted setup count p all has = subst (λ (n : ℕ). HasPosted setup n p) all has
 
-pub invariant_of-result-clause-first_price_is : goal.invariant_of-result-clause-first_price_is
-invariant_of-result-clause-first_price_is c =
-    price_at_start c.args.setup.now c.loop-index.posted (all_posted c.args.setup.now c.loop-index.index c.loop-index.posted (omega (arith, c.loop-index.auto.index-end, c.loop-index-test.false)) c.loop-index.invariant)
+pub invariant_of-result-clause-blind_bet_is : goal.invariant_of-result-clause-blind_bet_is
+invariant_of-result-clause-blind_bet_is c =
+    blind_bet_at_start c.args.setup.now c.loop-index.posted (all_posted c.args.setup.now c.loop-index.index c.loop-index.posted (omega (arith, c.loop-index.auto.index-end, c.loop-index-test.false)) c.loop-index.invariant)
 
 pub returns-clause-stands : goal.returns-clause-stands
 returns-clause-stands c =
@@ -36,16 +36,16 @@ returns-clause-stands c =
         bets = λ seat i. omega (arith, posts.bets seat i.first i.last);
         live = λ seat i. posts.live seat i.first i.last;
         moved = λ seat i. c.new.ensures.all_false seat;
-        since_rise = λ seat i. c.new-2.ensures.all_false seat;
+        acted_since_raise = λ seat i. c.new-2.ensures.all_false seat;
         last = refl;
         raises = refl;
         full_raise = refl;
         full_bet =
             c.full_bet.ensures
-            ∙ ap (λ (size : ℕ). if nat_le size c.loop-index.posted.price then c.loop-index.posted.price else 0) c.requires.size
-            ∙ ap (λ (price : ℕ). if nat_le (unit setup 1) price then price else 0) (price_at_start setup c.loop-index.posted posts);
-        doubled = refl;
-        opened = refl;
+            ∙ ap (λ (size : ℕ). if nat_le size c.loop-index.posted.current_bet then c.loop-index.posted.current_bet else 0) c.requires.size
+            ∙ ap (λ (current_bet : ℕ). if nat_le (unit setup 1) current_bet then current_bet else 0) (blind_bet_at_start setup c.loop-index.posted posts);
+        always_floor = refl;
+        bet_or_bring_in_made = refl;
       };
       turn_is = first_deal c.args.setup.now;
       someone = one_of_several c.args.setup.now [] (all_live c.args.setup.now);
@@ -68,11 +68,11 @@ invariant_of-result-clause-pot_is c =
     ∙ sym (sum_seats (amount_of puts) (posted setup) setup.stacks.seats posts.puts)
     ∙ sym (ap (λ (n : ℕ). sum_by (amount_of puts) (seats_of n)) posts.put_seats)
 
-pub invariant_of-result-clause-price_is : goal.invariant_of-result-clause-price_is
-invariant_of-result-clause-price_is c =
+pub invariant_of-result-clause-current_bet_is : goal.invariant_of-result-clause-current_bet_is
+invariant_of-result-clause-current_bet_is c =
     let posts = (all_posted c.args.setup.now c.loop-index.index c.loop-index.posted (omega (arith, c.loop-index.auto.index-end, c.loop-index-test.false)) c.loop-index.invariant) in
     let setup = c.args.setup.now in
-    posts.price ∙ sym (ap greatest (map-seats (amount_of c.loop-index.posted.bets) (blind_posted setup) setup.stacks.seats posts.bets))
+    posts.current_bet ∙ sym (ap greatest (map-seats (amount_of c.loop-index.posted.bets) (blind_posted setup) setup.stacks.seats posts.bets))
 
 pub invariant_of-result-clause-live_is : goal.invariant_of-result-clause-live_is
 invariant_of-result-clause-live_is c =

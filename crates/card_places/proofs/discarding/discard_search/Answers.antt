@@ -1,4 +1,4 @@
--- A discard covers all cards of its seat.
+-- A discard applies to all cards of its seat.
 use Rattle.std.proofs.Common.{◌≡◌, ℕ, Bool, List, filter, length, ap, ◌∙◌}
 use Rattle.card_set.specs.declared.card.Card.{Card}
 use Rattle.card_set.specs.Row.{cards_of, slots_of}
@@ -20,11 +20,11 @@ returns c =
     let mark = discarded_now c.args.on (length ps) in
     let blanks : c.blanks-blanks.result ≡ blanks_in cards = c.blanks-blanks.ensures.blanks ∙ ap blanks_in c.as_slice.ensures in
     record {
-      after = c.search_of.ensures.after
+      after = c.named_cards.ensures.after
           ∙ ap (λ (p : Place → Bool). after_names p mark names (other_names (filter p ps) names) c.blanks-blanks.result ps) all
           ∙ ap (λ (cs : List Card). after_names (is_held_by seat) mark cs (other_names (filter (is_held_by seat) ps) cs) c.blanks-blanks.result ps) c.known-names.ensures
           ∙ ap (λ (n : ℕ). after_names (is_held_by seat) mark (known_cards cards) (other_names (filter (is_held_by seat) ps) (known_cards cards)) n ps) blanks;
-      lacking = c.search_of.ensures.lacking
+      lacking = c.named_cards.ensures.lacking
           ∙ ap (λ (p : Place → Bool). has_no_place (filter p ps) names c.blanks-blanks.result) all
           ∙ ap (λ (cs : List Card). has_no_place (filter (is_held_by seat) ps) cs c.blanks-blanks.result) c.known-names.ensures
           ∙ ap (λ (n : ℕ). has_no_place (filter (is_held_by seat) ps) (known_cards cards) n) blanks;

@@ -1,4 +1,4 @@
--- One card more is looked at in each turn.
+-- One more card is looked at in each step.
 use Rattle.std.proofs.Common.{ℕ, ◌∷◌, map, get_or, ap, sym, ◌∙◌, arith}
 use Rattle.play_event.specs.Places.{Place, folded_place}
 use Rattle.card_places.specs.Placed.{placed}

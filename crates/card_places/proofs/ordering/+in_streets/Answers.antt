@@ -1,14 +1,14 @@
--- The first street, and those behind it.
+-- The first street, and those after it.
 use Rattle.std.proofs.Common.{◌+◌, ◌-◌, ℕ, List}
 use Rattle.play_event.specs.Places.{Place}
 use Rattle.card_places.specs.Ordered.{on_street, on_streets}
 use Rattle.card_places.specs.Placed.{placed}
 use Rattle.card_places.specs.Plain.{place_of}
 use Rattle.card_places.proofs.InOrder.{in_front, is_behind, past_both, split_streets}
-use Rattle.list_laws.proofs.Numbers.{positive}
-use Rattle.list_laws.proofs.Options.{along}
+use Rattle.card_set.proofs.Numbers.{positive}
+use Rattle.card_set.proofs.Options.{along}
 use Rattle.card_places.proofs.ordering.+in_streets.Goals as goal
-use Rattle.list_laws.proofs.Results.{if_err}
+use Rattle.card_set.proofs.Results.{if_err}
 
 pub returns-in-Ok-clause-found : goal.returns-in-Ok-clause-found
 returns-in-Ok-clause-found t c =

@@ -1,13 +1,13 @@
--- The seats, and the board behind them.
+-- The seats, and then the board.
 use Rattle.std.proofs.Common.{ℕ, None, List, map, subst, sym}
 use Rattle.play_event.specs.Places.{Place, group_of}
 use Rattle.card_places.specs.Ordered.{on_seats, on_street}
 use Rattle.card_places.specs.Placed.{placed}
 use Rattle.card_places.specs.Plain.{place_of}
 use Rattle.card_places.proofs.InOrder.{in_front, is_behind, past_both, split_board, Splits}
-use Rattle.list_laws.proofs.Options.{along}
+use Rattle.card_set.proofs.Options.{along}
 use Rattle.card_places.proofs.ordering.in_street.Goals as goal
-use Rattle.list_laws.proofs.Results.{if_err}
+use Rattle.card_set.proofs.Results.{if_err}
 
 pub returns-in-Ok-clause-found : goal.returns-in-Ok-clause-found
 returns-in-Ok-clause-found c =

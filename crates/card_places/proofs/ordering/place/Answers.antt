@@ -1,4 +1,4 @@
--- No index below the count is past all cards.
+-- An index below the count is never past all cards.
 use Rattle.std.proofs.Common.{ℕ, List, length, ap, arith}
 use Rattle.play_event.specs.Places.{Place}
 use Rattle.card_places.specs.Ordered.{on_streets}

@@ -1,4 +1,5 @@
--- The seats before the one that is found are owed nothing, and where none is found no seat is.
+-- The seats before the one that is found are owed nothing, and if none is found no seat is owed
+-- cards.
 use Rattle.std.proofs.Common.{◌≡◌, nat_lt, sym, ap, ◌∙◌, arith}
 use Rattle.std.proofs.lemmas.Bool.{lt-ltb}
 use Rattle.card_places.specs.Refusals.{owed_in}

@@ -1,4 +1,5 @@
--- The seats before the one that is found draw no more, and where none is found no seat has to draw.
+-- The seats before the one that is found do not draw any more, and if none is found no seat has to
+-- draw.
 use Rattle.std.proofs.Common.{◌≡◌, ◌+◌, not, sym, ap, ◌∙◌, arith}
 use Rattle.std.proofs.lemmas.Bool.{and_from}
 use Rattle.chip_ledger.specs.LiveRow.{flag_of}

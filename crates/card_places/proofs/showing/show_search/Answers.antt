@@ -1,4 +1,4 @@
--- All cards are covered, or those face down.
+-- It applies to all cards, or to those face down.
 use Rattle.std.proofs.Common.{Bool, ◌||◌, filter, ap, ◌∙◌}
 use Rattle.card_set.specs.Row.{cards_of}
 use Rattle.play_event.specs.CardReasons.{has_no_place, is_show_of_others}
@@ -15,9 +15,9 @@ returns c =
     let names = cards_of c.args.cards.now in
     let held = filter (is_covered code seat c.is_show_of_all-all.result) ps in
     record {
-      after = c.search_of.ensures.after
+      after = c.named_cards.ensures.after
           ∙ ap (λ (all : Bool). after_names (is_covered code seat all) (λ place. place) names (other_names (filter (is_covered code seat all) ps) names) 0 ps) c.is_show_of_all-all.ensures;
-      others = ap (λ b. b || has_left_out_card code c.search_of.result ps) c.search_of.ensures.lacking
-          ∙ ap (λ b. has_no_place held names 0 || b) c.search_of.ensures.left_out
+      others = ap (λ b. b || has_left_out_card code c.named_cards.result ps) c.named_cards.ensures.lacking
+          ∙ ap (λ b. has_no_place held names 0 || b) c.named_cards.ensures.left_out
           ∙ ap (λ (all : Bool). is_show_of_others (filter (is_covered code seat all) ps) names) c.is_show_of_all-all.ensures;
     }

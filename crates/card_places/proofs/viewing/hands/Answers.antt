@@ -1,4 +1,4 @@
--- A card that is held is of a seat of the hand, and its row has room for it.
+-- A card that is held belongs to a seat of the hand, and its row has room for it.
 use Rattle.std.proofs.Common.{List, arith}
 use Rattle.play_event.specs.Places.{is_held_by}
 use Rattle.play_event.specs.SeatSlots.{slots_of_hand}

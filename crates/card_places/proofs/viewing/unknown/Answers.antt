@@ -1,4 +1,4 @@
--- A card that is held is of a seat of the hand.
+-- A card that is held belongs to a seat of the hand.
 use Rattle.std.proofs.Common.{arith}
 use Rattle.card_places.proofs.Rooms.{seat_parts}
 use Rattle.card_places.proofs.SeatRoom.{holder_in}

@@ -1,7 +1,7 @@
--- A card that is up is of a seat of the hand, and its row has room for it.
+-- An up-card belongs to a seat of the hand, and its row has room for it.
 use Rattle.std.proofs.Common.{Bool, ◌&&◌, List, sym, ◌∙◌, arith}
 use Rattle.std.proofs.lemmas.Bool.{and_from}
-use Rattle.list_laws.proofs.Tests.{first_of_both}
+use Rattle.card_set.proofs.Tests.{first_of_both}
 use Rattle.play_event.specs.Places.{Place, is_held_by, is_up}
 use Rattle.play_event.specs.SeatSlots.{ups_of}
 use Rattle.card_places.specs.Plain.{place_of}

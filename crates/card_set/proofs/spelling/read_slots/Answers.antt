@@ -1,4 +1,4 @@
--- The fault of the bytes is one, and so is the row that they spell.
+-- The fault of the bytes is unique, and so is the row that they write.
 use Rattle.std.proofs.Common.{◌≤◌, ◌*◌, length, Err, sym, ◌∙◌, ap, arith, length-take}
 use Rattle.std.proofs.lemmas.List.{take_all}
 use Rattle.card_set.specs.declared.spelling.CardFault.TheVariants as faults
@@ -14,7 +14,7 @@ pub returns-then-bytes-gt14-clause-only : goal.returns-then-bytes-gt14-clause-on
 returns-then-bytes-gt14-clause-only c =
     fault_spells_nothing c.args.bytes.now faults.TooMany (omega (arith, c.if-bytes-eq1.false), omega (arith, c.if-bytes-gt14.true))
 
--- the fault of the first pair that spells no slot
+-- the fault of the first pair that writes no slot
 module _ (c : goal.In-Err) where
   bad : HasFault c.args.bytes.now c.in-Err.fault
   bad =

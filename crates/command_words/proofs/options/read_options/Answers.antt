@@ -1,4 +1,4 @@
--- One option more, whose value is in its word or behind it, or the flag.
+-- One more option, whose value is in its word or in the next, or the flag.
 use Rattle.std.proofs.Common.{rules, ◌≡◌, true, false, ◌∷◌, map, string_bytes, option_map, ap, sym, ◌∙◌, Some, None}
 use Rattle.std.proofs.lemmas.List.{nil_from_length}
 use Rattle.clap.specs.Lexer.{long_of}

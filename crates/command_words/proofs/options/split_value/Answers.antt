@@ -1,4 +1,4 @@
--- The parts of a text round its first equals sign.
+-- The parts of a text before and after its first equals sign.
 use Rattle.std.proofs.Common.{Some, None, arith, ap, sym, ◌∙◌}
 use Rattle.std.proofs.lemmas.Str.Pattern.{split_parts}
 use Rattle.clap.specs.Lexer.{name_and_value}

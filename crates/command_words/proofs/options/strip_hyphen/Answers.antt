@@ -1,4 +1,4 @@
--- What follows a hyphen at the front.
+-- What comes after a hyphen at the front.
 use Rattle.std.proofs.Common.{arith}
 use Rattle.std.proofs.lemmas.Str.Pattern.{strip_prefix_char}
 use Rattle.clap.proofs.LexerLemmas.{strip_byte-from}

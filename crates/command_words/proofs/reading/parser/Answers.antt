@@ -6,7 +6,7 @@ use Rattle.clap.specs.Words.{App, app_of, new_rule, rule_of, with_rule}
 use Rattle.command_words.specs.Parser.{without_own_name}
 use Rattle.command_words.proofs.reading.parser.Goals as goal
 
--- a parser that is given all words, and none of them is its own name
+-- a parser that is given all words; its own name is not among them
 abbrev all_words : App → App
 all_words app = record app { top = record app.top { no_binary_name = true } }
 

@@ -16,7 +16,7 @@ returns-clause-read c =
     ∙ ap (request_by c.in-Some.word.now) (c.options_found.ensures said.options said.values)
     ∙ said_again (map string_bytes c.args.words.now) found c.in-Some.word.now said first
 
--- what asks for nothing is no request
+-- words that ask for nothing are no request
 none_in : (request : Option Request) → option_map request_in request ≡ None → is_none request ≡ true
 none_in None none = refl
 none_in (Some request) none = cc

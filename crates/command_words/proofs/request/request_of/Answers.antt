@@ -1,7 +1,7 @@
 -- A word of no command asks for nothing.
 use Rattle.std.proofs.Common.{codes, refl}
 use Rattle.command_words.proofs.request.request_of.Goals as goal
-use Rattle.list_laws.proofs.Bytes.{different_bytes}
+use Rattle.card_set.proofs.Bytes.{different_bytes}
 
 pub returns-in_default : goal.returns-in_default
 returns-in_default c =

@@ -1,4 +1,4 @@
--- One line more.
+-- One more line.
 use Rattle.convert_core.specs.AcpcLaws.{one_line_more}
 use Rattle.convert_core.proofs.acpc.push_acpc_line.Goals as goal
 

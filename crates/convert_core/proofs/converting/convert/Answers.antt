@@ -1,4 +1,4 @@
--- What the records come to is what the bytes come to.
+-- The result for the records is that for the bytes.
 use Rattle.std.proofs.Common.{rules, ◌≡◌, List, None, subst}
 use Rattle.std.proofs.lemmas.List.Elements.{recursion_from_All}
 use Rattle.hand_canon.specs.Sound.{IsSound}

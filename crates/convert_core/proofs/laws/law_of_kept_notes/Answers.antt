@@ -1,4 +1,4 @@
--- What is kept of notes of which each is spelled are these notes.
+-- If all notes can be expressed, the kept notes are these notes.
 use Rattle.hand_records.specs.SaidNotes.{notes_of}
 use Rattle.convert_core.proofs.laws.law_of_kept_notes.Goals as goal
 

@@ -1,4 +1,4 @@
--- At the end all hands are written, or the first fact without a spelling is told.
+-- At the end all hands are written, or the first fact that cannot be expressed is reported.
 use Rattle.std.proofs.Common.{false, rules, refl, subst, ◌∙◌}
 use Rattle.convert_core.specs.Judged.{IsPlaysFaultOf}
 use Rattle.convert_core.specs.declared.refusal.PlaysFault.{PlaysFault}
@@ -8,8 +8,8 @@ use Rattle.convert_core.specs.Verdicts.{legal_plays}
 use Rattle.convert_core.specs.Lines.{IsWritten}
 use Rattle.convert_core.proofs.lines.write_records.Goals as goal
 
-pub take_each-requires-clause-begun : goal.take_each-requires-clause-begun
-take_each-requires-clause-begun g c = (
+pub judge_all-requires-clause-begun : goal.judge_all-requires-clause-begun
+judge_all-requires-clause-begun g c = (
   refl,
   refl,
   none_written (g.N.Notation.is_lined c.args.to.now) (g.N.Notation.unspelled c.args.to.now c.args.keep) (g.N.Notation.Spell c.args.to.now) _
@@ -29,7 +29,7 @@ pub returns-in-None : goal.returns-in-None
 returns-in-None g c =
     let taken = c.in-Ok.ensures.taken in
     let took = taken.took in
-    let now = c.take_each.new.taker in
+    let now = c.judge_all.new.visitor in
     let written = subst (λ x. IsWritten (g.N.Notation.is_lined x) (g.N.Notation.unspelled x c.args.keep) (g.N.Notation.Spell x) now.refusal now.out.items taken.verdicts) took.0
     (subst (λ k. IsWritten (g.N.Notation.is_lined now.to.now) (g.N.Notation.unspelled now.to.now k) (g.N.Notation.Spell now.to.now) now.refusal now.out.items taken.verdicts) took.1 took.2) in
     let are = plays_are false _ c.args.records _ _ taken in
@@ -45,7 +45,7 @@ pub returns-in-Some-Unspelled : goal.returns-in-Some-Unspelled
 returns-in-Some-Unspelled g c =
     let taken = c.in-Ok.ensures.taken in
     let took = taken.took in
-    let now = c.take_each.new.taker in
+    let now = c.judge_all.new.visitor in
     let written = subst (λ x. IsWritten (g.N.Notation.is_lined x) (g.N.Notation.unspelled x c.args.keep) (g.N.Notation.Spell x) now.refusal now.out.items taken.verdicts) took.0
     (subst (λ k. IsWritten (g.N.Notation.is_lined now.to.now) (g.N.Notation.unspelled now.to.now k) (g.N.Notation.Spell now.to.now) now.refusal now.out.items taken.verdicts) took.1 took.2) in
     let first = written.first in

@@ -1,10 +1,10 @@
--- What is wrong with the hand is taken, where one goes on behind it.
+-- The refused hand is visited, if the visitor continues after one.
 use Rattle.std.proofs.Common.{rules, ◌≡◌, true, sym}
 use Rattle.convert_core.proofs.Taken.{now_passed}
 use Rattle.convert_core.proofs.taking.pass_hand.Goals as goal
 
 pub returns-clause-passed : goal.returns-clause-passed
 returns-clause-passed g c = λ start kept hands hand refused before.
-    let on : g.T.Taker.GOES_ON ≡ true = search rules in
-    now_passed g.T.Taker.GOES_ON g.T.Taker.KEEPS (g.T.Taker.Took start c.args.taker.now) (g.T.Taker.Took start c.pass.new.self) hands c.args.place kept hand c.args.why before on refused
+    let on : g.T.VerdictVisitor.CONTINUES ≡ true = search rules in
+    now_passed g.T.VerdictVisitor.CONTINUES g.T.VerdictVisitor.KEEPS (g.T.VerdictVisitor.Took start c.args.visitor.now) (g.T.VerdictVisitor.Took start c.pass.new.self) hands c.args.place kept hand c.args.why before on refused
     (c.in_ok-pass.ensures start before.verdicts hand on (sym before.counted) refused before.took)

@@ -1,4 +1,4 @@
--- The play that was made is handed on.
+-- The play that was made is passed to the visitor.
 use Rattle.std.proofs.Common.{◌≡◌, List, ◌∷◌, [], ◌++◌, length, ap, subst, sym, ◌∙◌, arith}
 use Rattle.convert_core.proofs.JudgedPlays.{judged_sound}
 use Rattle.convert_core.specs.Judged.{IsOneMorePlay}
@@ -12,17 +12,17 @@ use Rattle.convert_core.proofs.taking.take_hand.Goals as goal
 pub take-requires-clause-sound : goal.take-requires-clause-sound
 take-requires-clause-sound g c =
     let before = c.drop_taken.new.kept.items in
-    let more : IsOneMorePlay before c.args.hand c.push_play.new.plays.items = c.in-Ok.ensures.pushed in
-    let same : c.index.result.now ≡ more.play = last_is before c.push_play.new.plays.items more.play c.index.result.now c.len-behind.result more.behind (c.len-behind.ensures ∙ c.drop_taken.new.kept.ok.0) c.index.ensures in
+    let more : IsOneMorePlay before c.args.hand c.replay_and_check.new.plays.items = c.in-Ok.ensures.pushed in
+    let same : c.index.result.now ≡ more.play = last_is before c.replay_and_check.new.plays.items more.play c.index.result.now c.len-behind.result more.behind (c.len-behind.ensures ∙ c.drop_taken.new.kept.ok.0) c.index.ensures in
     subst IsSound (sym same) (judged_sound more.play (subst IsSoundRecord (sym more.same) c.requires.sound) more.judged)
 
 pub returns-in_ok-take-in-Ok-clause-taken : goal.returns-in_ok-take-in-Ok-clause-taken
 returns-in_ok-take-in-Ok-clause-taken g c = λ start hands taken.
     let before = c.drop_taken.new.kept.items in
     let old = c.args.kept.now.items in
-    let more : IsOneMorePlay before c.args.hand c.push_play.new.plays.items = c.in-Ok.ensures.pushed in
-    let same : c.index.result.now ≡ more.play = last_is before c.push_play.new.plays.items more.play c.index.result.now c.len-behind.result more.behind (c.len-behind.ensures ∙ c.drop_taken.new.kept.ok.0) c.index.ensures in
-    now_taken g.T.Taker.GOES_ON g.T.Taker.KEEPS (g.T.Taker.Took start c.args.taker.now) (g.T.Taker.Took start c.take.new.self) hands c.args.place old c.push_play.new.plays.items c.index.result.now c.args.hand taken
+    let more : IsOneMorePlay before c.args.hand c.replay_and_check.new.plays.items = c.in-Ok.ensures.pushed in
+    let same : c.index.result.now ≡ more.play = last_is before c.replay_and_check.new.plays.items more.play c.index.result.now c.len-behind.result more.behind (c.len-behind.ensures ∙ c.drop_taken.new.kept.ok.0) c.index.ensures in
+    now_taken g.T.VerdictVisitor.CONTINUES g.T.VerdictVisitor.KEEPS (g.T.VerdictVisitor.Took start c.args.visitor.now) (g.T.VerdictVisitor.Took start c.take.new.self) hands c.args.place old c.replay_and_check.new.plays.items c.index.result.now c.args.hand taken
     (ap (λ (p : Play). p.hand) same ∙ more.same) (subst IsJudged (sym same) more.judged)
     (λ keep. more.behind ∙ ap (λ (ps : List Play). ps ++ more.play ∷ []) (c.drop_taken.ensures.stay keep) ∙ ap (λ (p : Play). old ++ p ∷ []) (sym same))
     (λ drops. let empty = c.drop_taken.ensures.gone drops in omega (arith, ap (λ (ps : List Play). length ps) more.behind, ap (λ (ps : List Play). length (ps ++ more.play ∷ [])) empty))

@@ -1,6 +1,6 @@
 use Rattle.std.proofs.Common.{◌∙◌, sym, arith, length, length-drop, not, ◌<◌, refl}
 use Rattle.std.proofs.lemmas.List.Sums.{prefix_len-le-length}
-use Rattle.list_laws.proofs.Words.{first_word, begins_word}
+use Rattle.card_set.proofs.Words.{first_word, begins_word}
 use Rattle.first_fault.proofs.words.next_word.Goals as goal
 use Rattle.first_fault.specs.Words.{is_space}
 

@@ -1,17 +1,17 @@
--- The streets one after another, the showdown behind them, and few enough events that each has its number.
+-- The streets one after another, then the showdown, and few enough events that each has its number.
 use Rattle.std.proofs.Common.{◌≡◌, ◌≤◌, ◌∙◌, ◌++◌, ℕ, ap, arith, length, sym, List, ◌+◌}
 use Rattle.std.specs.List.{flat_map}
 use Rattle.std.proofs.lemmas.List.{length-map}
 use Rattle.chip_ledger.specs.Seat.{seats_of}
 use Rattle.play_event.specs.Games.{street_count}
 use Rattle.play_event.specs.Said.{Said, said_of}
-use Rattle.canon_script.specs.CanonScript.{canonical_script, deals_said, discards_said, moves_named, plain_moves, showdown_said, street_said}
+use Rattle.play_event.specs.CanonScript.{canonical_script, deals_said, discards_said, moves_named, plain_moves, showdown_said, street_said}
 use Rattle.hand_canon.specs.RowTests.{said_on}
 use Rattle.hand_records.specs.TraceRows.{core_said}
 use Rattle.hand_canon.specs.SaidSoFar.{words_of}
 use Rattle.hand_canon.proofs.MoveRows.{moves_are}
 use Rattle.hand_canon.proofs.OneByOne.{flat_more}
-use Rattle.list_laws.proofs.Lists.{same_behind, two_behind}
+use Rattle.card_set.proofs.Lists.{same_behind, two_behind}
 use Rattle.hand_canon.proofs.ShortScripts.{canon_short, numbers_are}
 use Rattle.hand_canon.proofs.StreetRows.{streets_few}
 use Rattle.hand_canon.proofs.canonical.canon.Goals as goal

@@ -4,14 +4,14 @@ use Rattle.std.specs.List.{flat_map}
 use Rattle.chip_ledger.specs.Seat.{seats_of}
 use Rattle.play_event.specs.SeatSlots.{slots_of_hand}
 use Rattle.card_set.specs.Row.{slots_of}
-use Rattle.canon_script.specs.CanonScript.{deal_said, dealt_slots}
+use Rattle.play_event.specs.CanonScript.{deal_said, dealt_slots}
 use Rattle.hand_records.specs.TraceRows.{place_said}
 use Rattle.hand_canon.specs.SaidSoFar.{words_of}
 use Rattle.hand_canon.proofs.OneByOne.{seat_more}
 use Rattle.hand_canon.proofs.CanonParts.{deals_are}
 use Rattle.hand_canon.proofs.canonical.write_deals.Goals as goal
-use Rattle.list_laws.proofs.Results.{on_ok}
-use Rattle.list_laws.proofs.Lists.{same_behind, two_behind}
+use Rattle.card_set.proofs.Results.{on_ok}
+use Rattle.card_set.proofs.Lists.{same_behind, two_behind}
 
 pub returns : goal.returns
 returns c =

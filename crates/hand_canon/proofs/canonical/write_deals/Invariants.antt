@@ -2,7 +2,7 @@ use Rattle.std.proofs.Common.{◌≡◌, ◌++◌}
 use Rattle.std.specs.List.{flat_map}
 use Rattle.chip_ledger.specs.Seat.{seats_of}
 use Rattle.play_event.specs.SeatSlots.{slots_of_hand}
-use Rattle.canon_script.specs.CanonScript.{deal_said}
+use Rattle.play_event.specs.CanonScript.{deal_said}
 use Rattle.hand_canon.specs.SaidSoFar.{words_of}
 use Rattle.hand_canon.proofs.canonical.write_deals.Given as goal
 

@@ -1,8 +1,9 @@
--- Nothing is written where the street does not draw or is not reached, and else the discards of the seats.
+-- Nothing is written if the street does not draw or is not reached, and otherwise the discards of
+-- the seats.
 use Rattle.std.proofs.Common.{◌≡◌, ◌∙◌, ◌++◌, ℕ, ap, arith, map, subst, sym}
 use Rattle.std.specs.List.{flat_map, list_any}
 use Rattle.chip_ledger.specs.Seat.{seats_of}
-use Rattle.canon_script.specs.CanonScript.{discarded_slots, plain_moves}
+use Rattle.play_event.specs.CanonScript.{discarded_slots, plain_moves}
 use Rattle.hand_canon.specs.RowTests.{discards_from, is_fold_before}
 use Rattle.hand_records.specs.TraceRows.{core_said, place_said}
 use Rattle.hand_canon.specs.SaidSoFar.{words_of}
@@ -10,7 +11,7 @@ use Rattle.hand_canon.proofs.OneByOne.{seat_more}
 use Rattle.hand_canon.proofs.CanonParts.{discards_are, not_reached}
 use Rattle.hand_canon.proofs.MoveRows.{folded_before}
 use Rattle.hand_canon.proofs.canonical.write_discards.Goals as goal
-use Rattle.list_laws.proofs.Lists.{nothing_behind, same_behind}
+use Rattle.card_set.proofs.Lists.{nothing_behind, same_behind}
 
 pub returns-then-count_unfolded-lt2 : goal.returns-then-count_unfolded-lt2
 returns-then-count_unfolded-lt2 c =

@@ -1,8 +1,8 @@
--- Nothing is written where fewer than two seats are live, and else the show or muck of each.
+-- Nothing is written if fewer than two seats are live, and otherwise the show or muck of each.
 use Rattle.std.proofs.Common.{◌≡◌, ◌∙◌, ◌++◌, ℕ, ap, arith, map, subst, sym}
 use Rattle.std.specs.List.{flat_map, list_any}
 use Rattle.chip_ledger.specs.Seat.{seats_of}
-use Rattle.canon_script.specs.CanonScript.{held_slots, plain_moves}
+use Rattle.play_event.specs.CanonScript.{held_slots, plain_moves}
 use Rattle.hand_canon.specs.RowTests.{is_fold_of, showings_from}
 use Rattle.hand_records.specs.TraceRows.{core_said, place_said}
 use Rattle.hand_canon.specs.SaidSoFar.{words_of}
@@ -10,7 +10,7 @@ use Rattle.hand_canon.proofs.OneByOne.{seat_more}
 use Rattle.hand_canon.proofs.CanonParts.{no_showdown, showdown_are}
 use Rattle.hand_canon.proofs.MoveRows.{folded_all}
 use Rattle.hand_canon.proofs.canonical.write_showdown.Goals as goal
-use Rattle.list_laws.proofs.Lists.{nothing_behind, same_behind}
+use Rattle.card_set.proofs.Lists.{nothing_behind, same_behind}
 
 pub returns-then-count_unfolded-lt2 : goal.returns-then-count_unfolded-lt2
 returns-then-count_unfolded-lt2 c =

@@ -1,6 +1,6 @@
 use Rattle.std.proofs.Common.{◌≡◌, ◌++◌, None, length, map}
 use Rattle.card_set.specs.Row.{slots_of}
-use Rattle.canon_script.specs.CanonScript.{dealt_slots}
+use Rattle.play_event.specs.CanonScript.{dealt_slots}
 use Rattle.hand_records.specs.TraceRows.{place_said}
 use Rattle.hand_canon.proofs.gathered.board_with_street.Given as goal
 

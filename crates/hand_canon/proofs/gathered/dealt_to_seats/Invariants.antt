@@ -1,6 +1,6 @@
 use Rattle.std.proofs.Common.{◌≡◌, ◌≤◌, ◌++◌, ℕ, Some, length, map}
 use Rattle.play_event.specs.SeatSlots.{slots_of_hand}
-use Rattle.canon_script.specs.CanonScript.{dealt_slots}
+use Rattle.play_event.specs.CanonScript.{dealt_slots}
 use Rattle.hand_records.specs.TraceRows.{place_said}
 use Rattle.hand_canon.proofs.gathered.dealt_to_seats.Given as goal
 

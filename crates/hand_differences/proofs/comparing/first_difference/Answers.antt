@@ -1,4 +1,5 @@
--- What differs beside the notes is told first; the notes of hands with as many seats are looked at then.
+-- A difference outside the notes is reported first; after that the notes of hands with the same
+-- number of seats are compared.
 use Rattle.std.proofs.Common.{◌∙◌, ap, cond, sym, ℕ, Bool, None}
 use Rattle.hand_records.specs.SaidNotes.{notes_of, said_notes}
 use Rattle.hand_differences.proofs.FirstOf.{none_then, or_first, or_later}

@@ -1,4 +1,4 @@
--- Where both lists have the same entry, the first number comes later.
+-- If both lists have the same entry, the first number comes later.
 use Rattle.std.proofs.Common.{◌∙◌, ap, arith, length, max, not, sym}
 use Rattle.hand_differences.proofs.FirstNumbers.{next_number}
 use Rattle.hand_differences.specs.FirstNumbers.{is_same_at}

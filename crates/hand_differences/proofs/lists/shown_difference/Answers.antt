@@ -1,4 +1,4 @@
--- Where a seat was shown in both hands or in neither, the first one comes later.
+-- If a seat was shown in both hands or in neither, the first one comes later.
 use Rattle.std.proofs.Common.{◌∙◌, not, sym}
 use Rattle.chip_ledger.specs.LiveRow.{flag_of}
 use Rattle.hand_differences.proofs.FirstNumbers.{next_number}

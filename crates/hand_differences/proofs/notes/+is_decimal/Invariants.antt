@@ -1,4 +1,4 @@
--- The number grows less.
+-- The number gets smaller.
 use Rattle.hand_differences.proofs.notes.+is_decimal.Given as goal
 
 abbrev pub decreases-is_decimal : goal.decreases-is_decimal

@@ -1,4 +1,4 @@
--- Where a seat's names are the same, all are where those of the later seats are.
+-- If the names of a seat are the same, all are if those of the later seats are.
 use Rattle.std.proofs.Common.{◌∙◌, arith, sym}
 use Rattle.hand_records.specs.SaidNotes.{name_said}
 use Rattle.hand_differences.proofs.FirstNumbers.{next_entry}

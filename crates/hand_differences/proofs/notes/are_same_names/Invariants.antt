@@ -5,7 +5,7 @@ use Rattle.hand_records.specs.SaidNotes.{name_said}
 use Rattle.hand_differences.specs.SameParts.{are_same_entries, is_same_text}
 use Rattle.hand_differences.proofs.notes.are_same_names.Given as goal
 
--- the names are the same where those of the seats to come are
+-- the names are the same if those of the later seats are
 abbrev pub invariant-loop-index : goal.invariant-loop-index
 invariant-loop-index l =
     are_same_entries is_same_text (map (name_said l.names) (range_with_len (l.index + 1) (l.count - l.index))) (map (name_said l.others) (range_with_len (l.index + 1) (l.count - l.index)))

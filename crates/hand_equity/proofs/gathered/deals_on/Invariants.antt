@@ -1,6 +1,6 @@
--- The board was dealt as many cards by the places that are left as by all.
+-- Among the dealt cards that are left, those of the board are the same as among all.
 use Rattle.std.proofs.Common.{◌≡◌, None, length, map}
-use Rattle.canon_script.specs.CanonScript.{dealt_slots}
+use Rattle.play_event.specs.CanonScript.{dealt_slots}
 use Rattle.hand_records.specs.TraceRows.{place_said}
 use Rattle.hand_equity.proofs.gathered.deals_on.Given as goal
 

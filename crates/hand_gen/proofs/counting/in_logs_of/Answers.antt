@@ -1,4 +1,4 @@
--- The logs of the game spell the play, or they do not.
+-- The logs of the game can express the play, or they cannot.
 use Rattle.std.proofs.Common.{◌≡◌, ◌⊎◌, List, [], ◌∷◌, length, Some, sym, ap, subst, ◌∙◌}
 use Rattle.acpc_writing.specs.Line.{log_text}
 use Rattle.acpc_writing.specs.Spelled.{unspelled}
@@ -8,7 +8,7 @@ use Rattle.hand_records.specs.declared.writing.WriteRefusal.TheVariants as refus
 use Rattle.hand_gen.specs.Load.{fits}
 use Rattle.hand_gen.proofs.CountLaws.{refused_is, written_is}
 use Rattle.hand_gen.proofs.counting.in_logs_of.Goals as goal
-use Rattle.hand_records.specs.WriteRefusals.{IsWant, first_refusal}
+use Rattle.hand_records.specs.WriteRefusals.{IsOutOfMemory, first_refusal}
 
 pub returns-in-Ok : goal.returns-in-Ok
 returns-in-Ok c = λ play one game_is.
@@ -26,5 +26,5 @@ returns-in-Err-Unspelled c = λ play one game_is.
     fits game game_is
     (refused_is (unspelled game keeps.All play) (length (log_text game.no_limit (play ∷ []))) c.not_spelled.result
     refusal c.in-Err-Unspelled.field-0-0 c.in-Err-Unspelled.field-0-1 c.in-Err-Unspelled.field-0-is
-    (subst (λ (file : List Play). IsWant refusal ⊎ (first_refusal (unspelled game keeps.All) file ≡ Some refusal)) one c.in-Err-Unspelled.ensures.refused)
+    (subst (λ (file : List Play). IsOutOfMemory refusal ⊎ (first_refusal (unspelled game keeps.All) file ≡ Some refusal)) one c.in-Err-Unspelled.ensures.refused)
     c.not_spelled.ensures.hands c.not_spelled.ensures.bytes)

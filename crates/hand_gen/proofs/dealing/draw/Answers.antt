@@ -1,4 +1,5 @@
--- The seat that draws next by the cards draws next after the past, and where none does what is owed is dealt.
+-- The seat that draws next by the cards is the next to draw after the past, and if there is none,
+-- the cards that are due are dealt.
 use Rattle.std.proofs.Common.{ℕ, Option, Some, sym, ap, ◌∙◌}
 use Rattle.chip_ledger.specs.SeatsSaid.{seat_said}
 use Rattle.play_event.specs.declared.code.Code.{Code}

@@ -1,4 +1,4 @@
--- One event more is made, or the script is whole.
+-- One more event is made, or the script is complete.
 use Rattle.std.proofs.Common.{◌≡◌, ◌+◌, List, [], ◌∷◌, ◌++◌, length, refl, sym, ap, subst, ◌∙◌, arith, length-append}
 use Rattle.play_event.specs.declared.event.Event.{Event}
 use Rattle.play_event.specs.Past.{Past}

@@ -1,6 +1,7 @@
--- Each step makes one event more, which comes nearer to the limits, or the script is whole, and so it is legal.
+-- Each step makes one more event, which comes nearer to the limits, or the script is complete, and
+-- so it is legal.
 use Rattle.std.proofs.Common.{◌≡◌, Bool, List, None, map, sym, subst, ◌∙◌, arith}
-use Rattle.canon_script.specs.PlayedScript.{IsWithinLimits}
+use Rattle.play_event.specs.PlayedScript.{IsWithinLimits}
 use Rattle.hand_canon.specs.LegalHand.{IsLegalHand}
 use Rattle.play_event.specs.HistoryRules.{history_rules}
 use Rattle.play_event.specs.declared.event.Event.{Event}

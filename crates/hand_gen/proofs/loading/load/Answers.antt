@@ -1,4 +1,4 @@
--- One play more is counted.
+-- One more play is counted.
 use Rattle.std.proofs.Common.{◌≡◌, ◌+◌, List, [], ◌∷◌, ◌++◌, ap, ◌∙◌}
 use Rattle.hand_records.specs.declared.trace.Play.{Play}
 use Rattle.hand_gen.proofs.LoadLaws.{one_play_more}

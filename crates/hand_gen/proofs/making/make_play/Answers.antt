@@ -4,10 +4,10 @@ use Rattle.hand_canon.specs.LegalHand.{IsLegalHand}
 use Rattle.play_event.specs.declared.setup.Rules.{Rules}
 use Rattle.play_event.specs.Said.{said_of}
 use Rattle.replay_core.proofs.OneFault.{no_fault}
-use Rattle.hand_gen.specs.Made.{IsMadeScript, stock_of}
-use Rattle.hand_gen.specs.Stock.{Stock, full_deck}
+use Rattle.hand_gen.specs.GeneratedHand.{IsMadeScript, source_of}
+use Rattle.hand_gen.specs.HandSource.{HandSource, full_deck}
 use Rattle.hand_gen.specs.Setups.{number_behind_setup}
-use Rattle.hand_gen.proofs.RecordLaws.{none_allowed, same_stock}
+use Rattle.hand_gen.proofs.RecordLaws.{none_allowed, same_source}
 use Rattle.hand_gen.proofs.SetupLaws.{made_small, made_valid}
 use Rattle.hand_gen.proofs.making.make_play.Goals as goal
 
@@ -30,12 +30,12 @@ replay-requires-clause-valid c = made_valid c.args.place c.args.number c.setup_a
 pub returns-clause-made : goal.returns-clause-made
 returns-clause-made c =
     let setup = c.setup_at-setup.result in
-    let start : c.in-Ok.stock ≡ stock_of c.args.number setup =
-    same_stock c.in-Ok.stock (number_behind_setup c.args.number setup) (full_deck setup.code) (c.in-Ok.ensures.number ∙ c.number_behind_setup-start.ensures) c.in-Ok.ensures.deck in
+    let start : c.in-Ok.stock ≡ source_of c.args.number setup =
+    same_source c.in-Ok.stock (number_behind_setup c.args.number setup) (full_deck setup.code) (c.in-Ok.ensures.number ∙ c.number_behind_setup-start.ensures) c.in-Ok.ensures.deck in
     record {
       setup = c.setup_at-setup.ensures;
       rules = c.history_rules-rules.ensures;
-      script = subst (λ (s : Stock). IsMadeScript setup s c.in-Ok-script_by_code.script) start c.in-Ok-script_by_code.ensures.made;
+      script = subst (λ (s : HandSource). IsMadeScript setup s c.in-Ok-script_by_code.script) start c.in-Ok-script_by_code.ensures.made;
       stated = c.nothing.ensures;
       notes = c.none.ensures;
     }

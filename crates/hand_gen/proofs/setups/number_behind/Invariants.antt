@@ -1,4 +1,4 @@
--- So many draws were made.
+-- This number of draws was made.
 use Rattle.std.proofs.Common.{◌≡◌}
 use Rattle.hand_gen.specs.Draws.{number_after}
 use Rattle.hand_gen.proofs.setups.number_behind.Given as goal

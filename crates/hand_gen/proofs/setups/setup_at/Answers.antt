@@ -5,7 +5,7 @@ use Rattle.hand_gen.specs.Draws.{drawn, number_after}
 use Rattle.hand_gen.specs.Setups.{blind_of, seats_drawn}
 use Rattle.hand_gen.proofs.SetupLaws.{behind_one}
 use Rattle.hand_gen.proofs.setups.setup_at.Goals as goal
-use Rattle.list_laws.proofs.Tests.{if_not_none}
+use Rattle.card_set.proofs.Tests.{if_not_none}
 use Rattle.chip_ledger.proofs.RowLists.{no_rake}
 
 pub returns : goal.returns

@@ -1,4 +1,4 @@
--- Each event is legal, and is played behind those so far.
+-- Each event is legal, and is played after those so far.
 use Rattle.std.proofs.Common.{◌≡◌, ℕ, List, sym, subst, ◌∙◌, arith}
 use Rattle.play_event.specs.declared.setup.Setup.{Setup}
 use Rattle.play_event.specs.Said.{Said, said_of}

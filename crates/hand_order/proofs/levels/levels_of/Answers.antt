@@ -1,5 +1,5 @@
 use Rattle.hand_order.proofs.levels.levels_of.Goals as goal
-use Rattle.list_laws.proofs.Bits.{all_level, four_level, three_level, two_level}
+use Rattle.card_set.proofs.Bits.{all_level, four_level, three_level, two_level}
 
 pub returns-clause-all : goal.returns-clause-all
 returns-clause-all c = λ k. all_level c.args.c c.args.d c.args.h c.args.s k

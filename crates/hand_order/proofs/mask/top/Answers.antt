@@ -1,6 +1,6 @@
 use Rattle.std.proofs.Common.{refl}
 use Rattle.hand_order.proofs.mask.top.Goals as goal
-use Rattle.list_laws.proofs.Bits.{top_highest, top_set}
+use Rattle.card_set.proofs.Bits.{top_highest, top_set}
 
 pub returns-clause-set : goal.returns-clause-set
 returns-clause-set c = top_set c.args.mask _ c.requires c.ranges.mask.fits refl

@@ -4,7 +4,7 @@ use Rattle.hand_order.proofs.BestPatterns.{cleared_at, written_one, written_two,
 use Rattle.hand_order.proofs.Digits.{with_digits-nil}
 use Rattle.hand_order.proofs.TopDigits.{digits_fit}
 use Rattle.hand_order.proofs.pattern.best_pattern.Goals as goal
-use Rattle.list_laws.proofs.Numbers.{positive}
+use Rattle.card_set.proofs.Numbers.{positive}
 
 pub with_top_digits-number-requires : goal.with_top_digits-number-requires
 with_top_digits-number-requires c =

@@ -5,7 +5,7 @@ use Rattle.hand_order.specs.Height.{height_with}
 use Rattle.hand_order.specs.Heights.{heights_of}
 use Rattle.hand_order.proofs.RankDigits.{all_grown, few_ranks}
 use Rattle.hand_order.proofs.ranks.ranks_of.Goals as goal
-use Rattle.list_laws.proofs.Lists.{length_grown}
+use Rattle.card_set.proofs.Lists.{length_grown}
 
 pub push_occurring-requires : goal.push_occurring-requires
 push_occurring-requires c =

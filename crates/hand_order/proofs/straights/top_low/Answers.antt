@@ -3,7 +3,7 @@ use Rattle.hand_order.specs.declared.straights.LowStraight.{LowStraight}
 use Rattle.hand_order.specs.StraightRanks.{HasLow}
 use Rattle.hand_order.proofs.StraightBits.{five_bits, five_heights, nine_bits, nine_heights}
 use Rattle.hand_order.proofs.straights.top_low.Goals as goal
-use Rattle.list_laws.proofs.Tests.{not_set}
+use Rattle.card_set.proofs.Tests.{not_set}
 
 pub returns-then-has_ace_and_four-clause-found : goal.returns-then-has_ace_and_four-clause-found
 returns-then-has_ace_and_four-clause-found c = λ T shows.

@@ -1,7 +1,7 @@
 use Rattle.std.proofs.Common.{◌-◌, arith, inr}
 use Rattle.hand_order.proofs.StraightBits.{run_most, run_found}
 use Rattle.hand_order.proofs.straights.top_run.Goals as goal
-use Rattle.list_laws.proofs.Bits.{no_bit}
+use Rattle.card_set.proofs.Bits.{no_bit}
 
 pub returns-then-runs-eq0-clause-most : goal.returns-then-runs-eq0-clause-most
 returns-then-runs-eq0-clause-most c = λ T top shows run.

@@ -1,4 +1,4 @@
--- The first stack, the gaps and the net of each row are its last stack.
+-- The first stack, the gaps and the net results of each row add up to its last stack.
 use Rattle.std.proofs.Common.{◌≡◌, map, pos, ◌+ℤ◌}
 use Rattle.hand_session.specs.declared.session_rows.SessionRow.{SessionRow}
 use Rattle.hand_session.specs.Hands.{hand_of}

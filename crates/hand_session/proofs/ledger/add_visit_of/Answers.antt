@@ -1,6 +1,6 @@
 -- The row of the name gets the visit.
 use Rattle.std.proofs.Common.{◌≡◌, ℕ, ◌≤◌, ◌-◌, ◌++◌, List, slice_set, sym, ap, subst, ◌∙◌, arith}
-use Rattle.name_index.specs.Indexed.{AreIndexed}
+use Rattle.report_layout.specs.Indexed.{AreIndexed}
 use Rattle.hand_session.specs.declared.session_rows.SessionRow.{SessionRow}
 use Rattle.hand_session.specs.declared.steps.Step.{Step}
 use Rattle.hand_session.specs.Visits.{IsOfHands, MOST_OF_HAND, row_at, row_names, visit_steps, with_row, with_visit}

@@ -2,7 +2,7 @@
 use Rattle.std.proofs.Common.{not, arith}
 use Rattle.std.proofs.lemmas.List.{length-map}
 use Rattle.std.proofs.lemmas.List.Sums.{count_by-le-length}
-use Rattle.canon_script.specs.PlayedScript.{is_move}
+use Rattle.play_event.specs.PlayedScript.{is_move}
 use Rattle.play_event.specs.Said.{Said, said_of}
 use Rattle.replay_core.specs.Events.{said_by}
 use Rattle.hand_table.proofs.hands.is_short.Goals as goal

@@ -1,6 +1,6 @@
--- The buffer's front, and then the bytes behind it, are the bytes from that place on.
+-- The front of the buffer, and then the bytes after it, are the bytes from that place on.
 use Rattle.std.proofs.Common.{ℕ, arith, length-take}
-use Rattle.list_laws.proofs.Lists.{front_and_rest}
+use Rattle.card_set.proofs.Lists.{front_and_rest}
 use Rattle.host_io.proofs.mem_source.copy_from.Goals as goal
 
 pub returns-clause-copied : goal.returns-clause-copied

@@ -7,7 +7,7 @@ use Rattle.low_rank.proofs.EightBest.{eight_best, eight_none, low_number}
 use Rattle.low_rank.proofs.EightMask.{mask_tells}
 use Rattle.low_rank.proofs.EightRanks.{low_ranks_few, low_ranks_five}
 use Rattle.low_rank.proofs.eight.best_eight.Goals as goal
-use Rattle.list_laws.proofs.Bits.{all_level, or_four}
+use Rattle.card_set.proofs.Bits.{all_level, or_four}
 
 pub class_above-requires-clause-below : goal.class_above-requires-clause-below
 class_above-requires-clause-below c = low_number (has_height (bit_or (bit_or (bit_or c.rank_mask-clubs.result c.rank_mask-diamonds.result) c.rank_mask-hearts.result) c.rank_mask-spades.result)) c.as_slice.result.now (c.as_slice.ensures ∙ c.lowest_ranks-ranks.ensures.list)

@@ -4,7 +4,7 @@ use Rattle.hand_records.specs.AllowedNotes.{IsName}
 use Rattle.ohh_facts.specs.Notes.{names_from}
 use Rattle.ohh_members.specs.Players.{plain_player}
 use Rattle.ohh_facts.proofs.NamesFrom.{name_read, names_read}
-use Rattle.list_laws.proofs.Entries.{set_each}
+use Rattle.card_set.proofs.Entries.{set_each}
 use Rattle.ohh_facts.proofs.notes.names_of.Goals as goal
 
 pub loop-index-preserved : goal.loop-index-preserved

@@ -4,7 +4,8 @@ use Rattle.ohh_facts.specs.Notes.{names_from}
 use Rattle.ohh_members.specs.Players.{plain_player}
 use Rattle.ohh_facts.proofs.notes.names_of.Given as goal
 
--- the names so far and those of the players that are left are all of them, and behind those so far stand none
+-- the names so far and those of the players that are left are all of them, and there are none after
+-- those so far
 abbrev pub invariant-loop-index : goal.invariant-loop-index
 invariant-loop-index l = record {
   ten : length l.names ≡ 10;

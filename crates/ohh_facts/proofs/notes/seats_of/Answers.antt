@@ -2,7 +2,7 @@ use Rattle.std.proofs.Common.{◌≡◌, ◌+◌, ◌<◌, ◌≤◌, sym, arith
 use Rattle.std.proofs.lemmas.List.{length-set}
 use Rattle.hand_records.specs.AllowedNotes.{IsWithin}
 use Rattle.ohh_members.specs.Players.{plain_player}
-use Rattle.list_laws.proofs.Entries.{set_each, all_taken, one_more_taken}
+use Rattle.card_set.proofs.Entries.{set_each, all_taken, one_more_taken}
 use Rattle.ohh_facts.proofs.notes.seats_of.Goals as goal
 
 pub loop-index-preserved : goal.loop-index-preserved

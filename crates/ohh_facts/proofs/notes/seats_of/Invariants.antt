@@ -3,7 +3,7 @@ use Rattle.hand_records.specs.AllowedNotes.{IsWithin}
 use Rattle.ohh_members.specs.Players.{plain_player}
 use Rattle.ohh_facts.proofs.notes.seats_of.Given as goal
 
--- the seats so far are those of the players so far, and behind them stand zeros
+-- the seats so far are those of the players so far, and after them come zeros
 abbrev pub invariant-loop-index : goal.invariant-loop-index
 invariant-loop-index l = record {
   ten : length l.seats ≡ 10;

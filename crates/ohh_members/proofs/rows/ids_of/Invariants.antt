@@ -1,5 +1,5 @@
 use Rattle.std.proofs.Common.{◌≡◌, length, map, take}
-use Rattle.ohh_members.specs.Front.{ids_of}
+use Rattle.ohh_members.specs.Header.{ids_of}
 use Rattle.ohh_members.specs.Players.{plain_player}
 use Rattle.ohh_members.proofs.rows.ids_of.Given as goal
 

@@ -2,7 +2,7 @@ use Rattle.std.proofs.Common.{◌≡◌, ◌+◌, ◌<◌, ◌≤◌, sym, arith
 use Rattle.std.proofs.lemmas.List.{length-set}
 use Rattle.chip_ledger.specs.declared.numbers.TheConstants.{MOST_CHIPS}
 use Rattle.ohh_members.specs.Players.{plain_player}
-use Rattle.list_laws.proofs.Entries.{set_each, all_taken, one_more_taken}
+use Rattle.card_set.proofs.Entries.{set_each, all_taken, one_more_taken}
 use Rattle.ohh_members.proofs.rows.stack_row.Goals as goal
 
 pub loop-index-preserved : goal.loop-index-preserved

@@ -3,7 +3,8 @@ use Rattle.std.specs.Option.{option_map_or}
 use Rattle.ohh_reading.specs.Blocks.{blocks_from, blocks_of, lines_of}
 use Rattle.ohh_reading.proofs.blocks.cut_blocks.Given as goal
 
--- the blocks so far, the one that is not ended and those of the lines that are left are all of them
+-- the blocks so far, the block that is not complete and those of the lines that are left are all of
+-- them
 abbrev pub invariant-loop-rest : goal.invariant-loop-rest
 invariant-loop-rest l = map (λ block. block.items) l.found.items ++ blocks_from (option_map (λ block. block.items) l.begun) (option_map_or (λ text. lines_of text.now) l.rest []) ≡ blocks_of l.fn.text
 

@@ -2,7 +2,7 @@ use Rattle.std.proofs.Common.{◌∷◌, [], length, map, sum_by, sym, ap, ◌�
 use Rattle.std.proofs.lemmas.List.{map_push}
 use Rattle.std.proofs.lemmas.List.Sums.{sum_by_push}
 use Rattle.std.proofs.lemmas.Result.{err_from_is_err_and}
-use Rattle.list_laws.proofs.Entries.{all_push}
+use Rattle.card_set.proofs.Entries.{all_push}
 use Rattle.first_fault.proofs.Thread.{threads_on, thread_ends, thread_done}
 use Rattle.ohh_reading.specs.Reading.{hands_said, numbered_hand}
 use Rattle.ohh_reading.proofs.file.read_blocks.Goals as goal

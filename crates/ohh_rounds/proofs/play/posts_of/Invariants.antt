@@ -1,5 +1,5 @@
 use Rattle.std.proofs.Common.{◌≡◌, ◌++◌, map, drop}
-use Rattle.ohh_posts.specs.Posts.{plain_post}
+use Rattle.ohh_rounds.specs.Posts.{plain_post}
 use Rattle.ohh_rounds.specs.Play.{posts_in}
 use Rattle.ohh_rounds.specs.Steps.{plain_step}
 use Rattle.ohh_rounds.proofs.play.posts_of.Given as goal

@@ -3,11 +3,11 @@ use Rattle.std.proofs.lemmas.List.{map_push}
 use Rattle.std.proofs.lemmas.Result.{err_from_is_err_and}
 use Rattle.serde_json.specs.View.{view}
 use Rattle.first_fault.specs.Reading.{◌>>=◌, Fails}
-use Rattle.ohh_posts.specs.declared.post.ActionPlace.{ActionPlace}
-use Rattle.ohh_rounds.specs.declared.setting.Setting.{Setting}
+use Rattle.ohh_rounds.specs.declared.post.ActionPlace.{ActionPlace}
+use Rattle.ohh_rounds.specs.declared.hand_context.HandContext.{HandContext}
 use Rattle.ohh_rounds.specs.Actions.{step_said}
 use Rattle.ohh_rounds.specs.Rounds.{action_added, actions_said}
-use Rattle.ohh_rounds.specs.Setting.{plain_setting}
+use Rattle.ohh_rounds.specs.HandContext.{plain_setting}
 use Rattle.ohh_rounds.specs.Steps.{plain_step}
 use Rattle.first_fault.proofs.Added.{added, all_added, not_added}
 use Rattle.first_fault.proofs.FailsThen.{fails_then}
@@ -21,7 +21,7 @@ returns-in_err-step-clause-said c =
     let steps = map plain_step l.told.steps.items in
     let place : ActionPlace = record { round = c.args.index; action = l.action } in
     let read = step_said (plain_setting setting) steps place (view c.index-values-action.result) in
-    let fails = subst (λ (s : Setting). Fails c.in_err-step.field-0.0 (step_said (plain_setting s) steps place (view c.index-values-action.result))) l.invariant.setting c.in_err-step.ensures.said in
+    let fails = subst (λ (s : HandContext). Fails c.in_err-step.field-0.0 (step_said (plain_setting s) steps place (view c.index-values-action.result))) l.invariant.setting c.in_err-step.ensures.said in
     rw (p.1, p.2) (not_added view (action_added (plain_setting setting) c.args.index) c.in_err-step.field-0.0 steps c.in_ok-values.values.now l.action c.index-values-action.result (actions_said (plain_setting setting) c.args.index (map plain_step c.args.told.now.steps.items) (view c.args.round.now)) c.loop-action-test.true (sym c.index-values-action.is) (fails_then c.in_err-step.field-0.0 read (λ step. Ok (steps ++ step ∷ [])) fails) l.invariant.read)
 
 pub loop-action-preserved : goal.loop-action-preserved
@@ -31,7 +31,7 @@ loop-action-preserved c =
     let steps = map plain_step l.told.steps.items in
     let step = c.in_ok-step.step in
     let place : ActionPlace = record { round = c.args.index; action = l.action } in
-    let read = subst (λ (s : Setting). step_said (plain_setting s) steps place (view c.index-values-action.result) ≡ Ok (plain_step step)) l.invariant.setting c.in_ok-step.ensures.said in
+    let read = subst (λ (s : HandContext). step_said (plain_setting s) steps place (view c.index-values-action.result) ≡ Ok (plain_step step)) l.invariant.setting c.in_ok-step.ensures.said in
     let items = ap (map plain_step) c.in_ok-push.ensures.steps ∙ map_push plain_step l.told.steps.items step in
     record {
       setting = c.push.ensures.setting ∙ l.invariant.setting;

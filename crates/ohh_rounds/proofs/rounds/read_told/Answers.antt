@@ -2,9 +2,9 @@ use Rattle.std.proofs.Common.{◌≡◌, [], ◌∙◌, None, Some, Ok, ap, map,
 use Rattle.std.proofs.lemmas.Result.{err_from_is_err_and}
 use Rattle.serde_json.specs.View.{view}
 use Rattle.first_fault.specs.Reading.{◌>>=◌, Fails, added_from}
-use Rattle.ohh_rounds.specs.declared.setting.Setting.{Setting}
+use Rattle.ohh_rounds.specs.declared.hand_context.HandContext.{HandContext}
 use Rattle.ohh_rounds.specs.Rounds.{round_said, steps_said}
-use Rattle.ohh_rounds.specs.Setting.{plain_setting}
+use Rattle.ohh_rounds.specs.HandContext.{plain_setting}
 use Rattle.ohh_rounds.specs.Steps.{plain_step}
 use Rattle.first_fault.proofs.Added.{added, all_added, not_added}
 use Rattle.first_fault.proofs.FailsThen.{fails_then}
@@ -18,7 +18,7 @@ returns-in_err-street-clause-said c =
     let setting = c.args.setting.now in
     let form = round_said (plain_setting setting) in
     let whole = added_from (round_said (plain_setting setting)) (None, []) 0 (map view c.in_ok-values.values.now) in
-    let fails = subst (λ (s : Setting). Fails c.in_err-street.field-0.0 (round_said (plain_setting s) (l.last, map plain_step l.told.steps.items) l.index (view c.index-values-index.result))) l.invariant.setting c.in_err-street.ensures.said in
+    let fails = subst (λ (s : HandContext). Fails c.in_err-street.field-0.0 (round_said (plain_setting s) (l.last, map plain_step l.told.steps.items) l.index (view c.index-values-index.result))) l.invariant.setting c.in_err-street.ensures.said in
     rw (p.1, p.2, c.in_ok-values.ensures) (fails_then c.in_err-street.field-0.0 whole (λ found. Ok found.1) (not_added view form c.in_err-street.field-0.0 (l.last, map plain_step l.told.steps.items) c.in_ok-values.values.now l.index c.index-values-index.result whole c.loop-index-test.true (sym c.index-values-index.is) fails l.invariant.read))
 
 pub loop-index-preserved : goal.loop-index-preserved
@@ -26,7 +26,7 @@ loop-index-preserved c =
     let l = c.loop-index in
     let setting = c.args.setting.now in
     let steps = map plain_step c.read_round.new.told.steps.items in
-    let read = subst (λ (s : Setting). round_said (plain_setting s) (l.last, map plain_step l.told.steps.items) l.index (view c.index-values-index.result) ≡ Ok (Some c.in_ok-street.street, steps)) l.invariant.setting c.in_ok-street.ensures.said in
+    let read = subst (λ (s : HandContext). round_said (plain_setting s) (l.last, map plain_step l.told.steps.items) l.index (view c.index-values-index.result) ≡ Ok (Some c.in_ok-street.street, steps)) l.invariant.setting c.in_ok-street.ensures.said in
     record {
       setting = c.read_round.ensures.setting ∙ l.invariant.setting;
       read = added view (round_said (plain_setting setting)) (l.last, map plain_step l.told.steps.items) (Some c.in_ok-street.street, steps) c.in_ok-values.values.now l.index c.index-values-index.result (added_from (round_said (plain_setting setting)) (None, []) 0 (map view c.in_ok-values.values.now)) c.loop-index-test.true (sym c.index-values-index.is) read l.invariant.read;

@@ -2,11 +2,11 @@ use Rattle.std.proofs.Common.{◌≡◌, [], None, map, drop}
 use Rattle.serde_json.specs.View.{view}
 use Rattle.first_fault.specs.Reading.{added_from}
 use Rattle.ohh_rounds.specs.Rounds.{round_said}
-use Rattle.ohh_rounds.specs.Setting.{plain_setting}
+use Rattle.ohh_rounds.specs.HandContext.{plain_setting}
 use Rattle.ohh_rounds.specs.Steps.{plain_step}
 use Rattle.ohh_rounds.proofs.rounds.read_told.Given as goal
 
--- what is told so far, and the rounds that are left, tell all of them
+-- the steps so far, and those of the rounds that are left, are all of them
 abbrev pub invariant-loop-index : goal.invariant-loop-index
 invariant-loop-index l = record {
   setting : l.told.setting ≡ l.setting;

@@ -1,6 +1,6 @@
 use Rattle.std.proofs.Common.{◌≡◌, ◌++◌, length, map}
 use Rattle.card_set.specs.Row.{slots_of}
-use Rattle.canon_script.specs.CanonScript.{held_slots}
+use Rattle.play_event.specs.CanonScript.{held_slots}
 use Rattle.hand_records.specs.TraceRows.{place_said}
 use Rattle.ohh_writing.proofs.cards.held_cards.Given as goal
 

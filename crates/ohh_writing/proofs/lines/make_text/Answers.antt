@@ -8,7 +8,7 @@ use Rattle.ohh_writing.specs.Tree.{hand_tree}
 use Rattle.ohh_writing.proofs.Plain.{hand_plain}
 use Rattle.ohh_writing.proofs.lines.make_text.Goals as goal
 use Rattle.canon_laws.proofs.MoveCounts.{tidy_within}
-use Rattle.canon_script.specs.Tidy.{IsTidy}
+use Rattle.play_event.specs.Tidy.{IsTidy}
 use Rattle.hand_records.specs.SoundRecord.{script_said}
 
 pub hand_value-requires : goal.hand_value-requires

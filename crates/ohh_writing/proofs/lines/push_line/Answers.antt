@@ -1,4 +1,4 @@
--- One line more.
+-- One more line.
 use Rattle.std.proofs.Common.{List, ℕ, ◌++◌, ◌∙◌, ap}
 use Rattle.ohh_writing.specs.Lines.{empty_line_behind}
 use Rattle.ohh_writing.proofs.Behind.{one_line_more}

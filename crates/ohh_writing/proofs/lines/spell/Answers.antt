@@ -1,4 +1,4 @@
--- One play more.
+-- One more play.
 use Rattle.std.proofs.Common.{arith, take}
 use Rattle.std.proofs.lemmas.List.{length-take-le}
 use Rattle.ohh_writing.proofs.Behind.{next_spelled}

@@ -2,7 +2,7 @@ use Rattle.std.proofs.Common.{◌≡◌, ◌==◌, ◌-◌, ◌∙◌, ℕ, List
 use Rattle.std.proofs.lemmas.List.{length-set}
 use Rattle.play_event.specs.declared.played.Move.{Move}
 use Rattle.play_event.specs.Played.{move_said}
-use Rattle.canon_script.specs.CanonScript.{plain_move}
+use Rattle.play_event.specs.CanonScript.{plain_move}
 use Rattle.ohh_writing.specs.Actions.{PlainAction, act_written, action_said, moves_written}
 use Rattle.ohh_writing.proofs.Lefts.{chips_after, left_after}
 use Rattle.ohh_writing.proofs.moves.push_moves.Goals as goal

@@ -5,7 +5,8 @@ use Rattle.play_event.specs.Played.{move_said}
 use Rattle.ohh_writing.specs.Actions.{action_said, moves_written}
 use Rattle.ohh_writing.proofs.moves.push_moves.Given as goal
 
--- after the moves so far, each seat has so many chips left, and the moves to come complete the actions
+-- after the moves so far, each seat has these chips left, and the moves to come complete the
+-- actions
 abbrev pub invariant-loop-played : goal.invariant-loop-played
 invariant-loop-played l =
     (before : List Move)

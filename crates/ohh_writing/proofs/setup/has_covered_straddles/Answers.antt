@@ -3,7 +3,7 @@ use Rattle.std.specs.List.{list_all}
 use Rattle.play_event.specs.Seats.{all_seats}
 use Rattle.ohh_writing.specs.Spelled.{is_covered_straddle}
 use Rattle.ohh_writing.proofs.setup.has_covered_straddles.Goals as goal
-use Rattle.list_laws.proofs.Ranges.{all_goes_on}
+use Rattle.card_set.proofs.Ranges.{all_goes_on}
 
 pub loop-index-preserved : goal.loop-index-preserved
 loop-index-preserved c =

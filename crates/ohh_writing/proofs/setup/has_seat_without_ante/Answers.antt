@@ -3,7 +3,7 @@ use Rattle.std.specs.List.{list_any}
 use Rattle.play_event.specs.Seats.{all_seats}
 use Rattle.ohh_writing.specs.Spelled.{has_no_ante}
 use Rattle.ohh_writing.proofs.setup.has_seat_without_ante.Goals as goal
-use Rattle.list_laws.proofs.Ranges.{any_goes_on}
+use Rattle.card_set.proofs.Ranges.{any_goes_on}
 
 pub loop-index-preserved : goal.loop-index-preserved
 loop-index-preserved c =

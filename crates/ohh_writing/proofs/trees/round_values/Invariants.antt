@@ -5,7 +5,8 @@ use Rattle.ohh_writing.specs.Rounds.{round_said}
 use Rattle.ohh_writing.specs.Tree.{round_trees}
 use Rattle.ohh_writing.proofs.trees.round_values.Given as goal
 
--- the trees so far and those of the rounds to come are those of all rounds, and the numbers to come are few
+-- the trees so far and those of the rounds to come are those of all rounds, and the numbers to come
+-- are small
 abbrev pub invariant-loop-rest : goal.invariant-loop-rest
 invariant-loop-rest l = record {
   few : l.number + sum_by (λ (round : Round). length round.actions.items) l.rest ≤ 2 ^ 32 + 1;

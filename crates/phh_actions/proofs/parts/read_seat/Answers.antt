@@ -1,6 +1,6 @@
 use Rattle.std.proofs.Common.{◌≡◌, ◌+◌, ◌-◌, arith, bytes_eq, false, ◌∙◌, ap, find}
 use Rattle.std.specs.List.{range_with_len}
-use Rattle.list_laws.proofs.Ranges.{find_next}
+use Rattle.card_set.proofs.Ranges.{find_next}
 use Rattle.phh_actions.proofs.parts.read_seat.Goals as goal
 use Rattle.chip_ledger.specs.SeatsSaid.{default_name}
 

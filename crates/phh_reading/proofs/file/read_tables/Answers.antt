@@ -6,7 +6,7 @@ use Rattle.toml.specs.View.{table_view}
 use Rattle.first_fault.proofs.Thread.{threads_on, thread_ends, thread_done}
 use Rattle.phh_reading.specs.Reading.{hands_said, numbered_hand}
 use Rattle.phh_reading.proofs.file.read_tables.Goals as goal
-use Rattle.list_laws.proofs.Entries.{all_push}
+use Rattle.card_set.proofs.Entries.{all_push}
 use Rattle.hand_records.specs.Histories.{IsHistory}
 use Rattle.hand_records.specs.Moves.{moves_of}
 use Rattle.hand_records.specs.PlainHands.{plain}

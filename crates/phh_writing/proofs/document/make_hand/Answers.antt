@@ -1,6 +1,6 @@
 use Rattle.std.proofs.Common.{subst, sym}
 use Rattle.canon_laws.proofs.MoveCounts.{tidy_within}
-use Rattle.canon_script.specs.Tidy.{IsTidy}
+use Rattle.play_event.specs.Tidy.{IsTidy}
 use Rattle.hand_records.specs.SoundRecord.{script_said}
 use Rattle.phh_writing.proofs.document.make_hand.Goals as goal
 

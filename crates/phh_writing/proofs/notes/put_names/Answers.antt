@@ -3,7 +3,7 @@ use Rattle.std.specs.List.{range_with_len}
 use Rattle.std.proofs.lemmas.List.{map_push}
 use Rattle.toml.specs.Data.{Data, string}
 use Rattle.toml.specs.View.{view}
-use Rattle.list_laws.proofs.Ranges.{range_more}
+use Rattle.card_set.proofs.Ranges.{range_more}
 use Rattle.phh_writing.proofs.notes.put_names.Goals as goal
 use Rattle.hand_records.specs.AllowedNotes.{name_written}
 

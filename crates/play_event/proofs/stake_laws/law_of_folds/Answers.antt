@@ -1,4 +1,4 @@
--- What a seat ends with where one seat at most is live.
+-- What a seat ends with if at most one seat is live.
 use Rattle.play_event.proofs.StakeLaws.{folded_stack, last_stack}
 use Rattle.play_event.proofs.stake_laws.law_of_folds.Goals as goal
 

@@ -1,4 +1,4 @@
--- What a seat saw is told as it is viewed.
+-- What a seat saw is printed as it is viewed.
 use Rattle.std.proofs.Common.{IfOk, subst, sym}
 use Rattle.poker_cli.specs.Answer.{IsAnswerOf}
 use Rattle.poker_cli.specs.Told.{answer_told}

@@ -1,4 +1,4 @@
--- Each question is answered as what is asked of the plays is.
+-- Each question is answered as the question about the plays is.
 use Rattle.std.proofs.Common.{IfOk, subst, sym}
 use Rattle.command_words.specs.declared.task.Question.{Question}
 use Rattle.poker_cli.specs.Answer.{IsAnswerTo, IsReply}

@@ -1,4 +1,4 @@
--- The bytes of the other notation are the output, or what is told is why there are none.
+-- The bytes in the other notation are the output, or the answer says why there are none.
 use Rattle.std.proofs.Common.{ℕ, Global}
 use Rattle.std.specs.Prelude.{Vec}
 use Rattle.std.proofs.lemmas.Result.{IfOk-weaker}

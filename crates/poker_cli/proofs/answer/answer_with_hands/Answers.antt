@@ -1,4 +1,4 @@
--- What is written in each notation is what the conversion into it writes.
+-- What is written in each notation is what the conversion to it writes.
 use Rattle.std.proofs.Common.{IfOk, subst, sym}
 use Rattle.poker_cli.specs.Answer.{IsAnswerTo, IsConversion}
 use Rattle.poker_cli.specs.Told.{answer_told}

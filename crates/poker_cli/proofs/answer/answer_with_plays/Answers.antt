@@ -1,4 +1,4 @@
--- The plays are answered, or what is told is why there are none.
+-- The answer is made from the plays, or says why there are none.
 use Rattle.std.proofs.Common.{List, subst}
 use Rattle.std.proofs.lemmas.Result.{IfOk-weaker}
 use Rattle.hand_records.specs.declared.trace.Play.{Play}

@@ -1,4 +1,4 @@
--- The verdicts on the hands are told, or why the bytes do not read.
+-- The verdicts on the hands are the output, or the answer says why the bytes cannot be read.
 use Rattle.std.proofs.Common.{ap, subst, sym, ◌∙◌}
 use Rattle.std.proofs.lemmas.Result.{IfOk-weaker}
 use Rattle.poker_cli.specs.Answer.{IsJudgement, done}

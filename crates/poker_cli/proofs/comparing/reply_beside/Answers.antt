@@ -1,10 +1,10 @@
--- The answer is by the bytes of the file, or says that they are too many.
+-- The answer follows from the bytes of the file, or says that they exceed the limit.
 use Rattle.std.proofs.Common.{IfOk, IfSome, List, ℕ, subst}
 use Rattle.poker_cli.specs.Answer.{Files, IsComparison}
 use Rattle.poker_cli.specs.Lacking.{HasNoFile}
 use Rattle.poker_cli.specs.Run.{OfBytes}
 use Rattle.poker_cli.specs.Told.{answer_told}
-use Rattle.poker_cli.specs.declared.comparing.NoFile.{NoFile}
+use Rattle.poker_cli.specs.declared.comparing.NoFileError.{NoFileError}
 use Rattle.poker_cli.proofs.OwnStatus.{of_both}
 use Rattle.poker_cli.proofs.Replied.{keeps_read}
 use Rattle.poker_cli.proofs.Replying.{beside_reply, long_reply}
@@ -21,7 +21,7 @@ pub returns-in-Ok-answer_to_long_file-clause-answer : goal.returns-in-Ok-answer_
 returns-in-Ok-answer_to_long_file-clause-answer g c =
     let told = g.H.Shelf.files c.args.shelf.now in
     long_reply told (g.S.Source.left c.args.input.now) c.args.name.now c.args.by.now (answer_told c.in-Ok-answer_to_long_file.answer)
-    (subst (λ (reason : NoFile). IfSome told (λ (files : Files). HasNoFile (files c.args.name.now) reason)) c.in-Err-TooLong.field-0-is c.in-Err-TooLong.ensures.none)
+    (subst (λ (reason : NoFileError). IfSome told (λ (files : Files). HasNoFile (files c.args.name.now) reason)) c.in-Err-TooLong.field-0-is c.in-Err-TooLong.ensures.none)
     c.in-Ok-answer_to_long_file.ensures
 
 pub returns-in-Ok-clause-kept : goal.returns-in-Ok-clause-kept

@@ -1,14 +1,14 @@
--- The answer is by the two files, or tells what that of the game lacks.
+-- The answer follows from the two files, or reports what is wrong with the game file.
 use Rattle.std.proofs.Common.{◌≡◌, IfOk, IfSome, Option, None, subst}
 use Rattle.command_words.specs.Requests.{sides_in}
 use Rattle.poker_cli.specs.Answer.{Files, IsComparedTo}
-use Rattle.poker_cli.specs.Lacking.{HasNoGameFor, IsLackTold}
+use Rattle.poker_cli.specs.Lacking.{HasNoGameFor, IsGameFileErrorTold}
 use Rattle.poker_cli.specs.Run.{IsNotThere, OfBytes}
 use Rattle.poker_cli.specs.Told.{answer_told}
-use Rattle.poker_cli.specs.declared.games.Lack.{Lack}
-use Rattle.poker_cli.specs.declared.games.NoGame.{NoGame}
+use Rattle.poker_cli.specs.declared.games.GameFileError.{GameFileError}
+use Rattle.poker_cli.specs.declared.games.NoGameError.{NoGameError}
 use Rattle.poker_cli.proofs.Replied.{keeps_later, none_beside}
-use Rattle.poker_cli.proofs.Replying.{both_asked, compared_lack, compared_reply, where_lacking}
+use Rattle.poker_cli.proofs.Replying.{both_asked, compared_game_file_error, compared_reply, where_lacking}
 use Rattle.poker_cli.proofs.comparing.reply_to_comparison.Goals as goal
 
 pub returns-in-Ok-clause-answer : goal.returns-in-Ok-clause-answer
@@ -26,13 +26,13 @@ returns-in-Ok-clause-without_file g c =
     (subst (λ (shelf : Option Files). IfSome shelf (λ files. IsNotThere (files c.args.name.now) → c.reply_beside.new.input ≡ c.args.input.now)) c.in-Ok.ensures.unchanged
     c.reply_beside.ensures.without_file)
 
-pub returns-in-Ok-answer_to_lack-clause-answer : goal.returns-in-Ok-answer_to_lack-clause-answer
-returns-in-Ok-answer_to_lack-clause-answer g c =
+pub returns-in-Ok-game_file_answer-clause-answer : goal.returns-in-Ok-game_file_answer-clause-answer
+returns-in-Ok-game_file_answer-clause-answer g c =
     let told = g.H.Shelf.files c.args.shelf.now in
-    compared_lack told (g.S.Source.left c.args.input.now) (sides_in c.args.sides) c.args.name.now c.args.notes c.in-Err-Lacking.lack
-    (answer_told c.in-Ok-answer_to_lack.answer)
-    (subst (λ (reason : NoGame). IfSome told (λ (files : Files). HasNoGameFor files (sides_in c.args.sides) reason)) c.in-Err-Lacking.field-0-is c.in-Err-Lacking.ensures.none)
-    (subst (λ (lack : Lack). IsLackTold lack (answer_told c.in-Ok-answer_to_lack.answer)) c.in-Err-Lacking.lack-is c.in-Ok-answer_to_lack.ensures)
+    compared_game_file_error told (g.S.Source.left c.args.input.now) (sides_in c.args.sides) c.args.name.now c.args.notes c.in-Err-Lacking.lack
+    (answer_told c.in-Ok-game_file_answer.answer)
+    (subst (λ (reason : NoGameError). IfSome told (λ (files : Files). HasNoGameFor files (sides_in c.args.sides) reason)) c.in-Err-Lacking.field-0-is c.in-Err-Lacking.ensures.none)
+    (subst (λ (lack : GameFileError). IsGameFileErrorTold lack (answer_told c.in-Ok-game_file_answer.answer)) c.in-Err-Lacking.lack-is c.in-Ok-game_file_answer.ensures)
 
 pub returns-in-Ok-clause-asks : goal.returns-in-Ok-clause-asks
 returns-in-Ok-clause-asks g c =

@@ -1,4 +1,4 @@
--- The hands of both files are compared, or what is wrong inside the other file is told.
+-- The hands of both files are compared, or a fault inside the other file is reported.
 use Rattle.std.proofs.Common.{◌≡◌, IfOk, List, subst, sym}
 use Rattle.std.proofs.lemmas.Result.{IfOk-weaker}
 use Rattle.hand_records.specs.declared.trace.Play.{Play}

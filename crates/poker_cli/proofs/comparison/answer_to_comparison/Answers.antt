@@ -1,4 +1,4 @@
--- The plays of the input are compared, or what is told is why there are none.
+-- The plays of the input are compared, or the answer says why there are none.
 use Rattle.std.proofs.Common.{List, subst}
 use Rattle.std.proofs.lemmas.Result.{IfOk-weaker}
 use Rattle.hand_records.specs.declared.trace.Play.{Play}

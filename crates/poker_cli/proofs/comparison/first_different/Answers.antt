@@ -1,4 +1,4 @@
--- A hand differs or is the same, and where one side has no more hands none differs.
+-- A hand differs or is the same, and if one side has no more hands, none differs.
 use Rattle.std.proofs.Common.{rules, ◌≡◌, ◌∙◌, ◌≤◌, Some, None, ap, sym, length, option_map}
 use Rattle.hand_differences.specs.FirstDifference.{difference_said}
 use Rattle.poker_cli.specs.Compared.{hand_difference_said}

@@ -1,4 +1,4 @@
--- Made hands are answered by their summary, and other requests by what is read.
+-- Generated hands are answered by their summary, and other requests by what is read.
 use Rattle.std.proofs.Common.{IfErr, IfOk, subst, sym}
 use Rattle.std.proofs.lemmas.Result.{IfErr-weaker}
 use Rattle.command_words.specs.Requests.{request_in}
@@ -22,7 +22,7 @@ pub returns-in-Plain-clause-kept : goal.returns-in-Plain-clause-kept
 returns-in-Plain-clause-kept g c =
     let read = c.reply_with.ensures in
     keeps_read _ _ _ _ c.reply_with.result
-    (of_way (g.S.Source.left c.args.input.now) c.plain_way.result c.reply_with.result read.answer) read.read_fault read.read_alone
+    (of_way (g.S.Source.left c.args.input.now) c.plain_job.result c.reply_with.result read.answer) read.read_fault read.read_alone
 
 pub returns-in-Plain-clause-none : goal.returns-in-Plain-clause-none
 returns-in-Plain-clause-none g c =

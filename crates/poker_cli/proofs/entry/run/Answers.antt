@@ -1,4 +1,4 @@
--- Want of memory is told before anything is read.
+-- Out of memory for the words is reported before anything is read.
 use Rattle.std.proofs.Common.{ap, map, refl, string_bytes, sym, ◌∙◌}
 use Rattle.std.specs.Option.{option_map}
 use Rattle.command_words.specs.Requests.{request_in}
@@ -11,7 +11,7 @@ use Rattle.poker_cli.proofs.entry.run.Goals as goal
 
 pub returns-in-Err-clause-ends : goal.returns-in-Err-clause-ends
 returns-in-Err-clause-ends g c =
-    ends_unread (request_said (map string_bytes c.args.words.now)) (g.S.Source.left c.args.input.now) (g.H.Shelf.files c.args.shelf.now) _ _ _
+    ends_unread (request_said (map string_bytes c.args.words.now)) (g.S.Source.left c.args.input.now) (g.H.Shelf.files c.args.shelf.now) _ _ _ c.in-Err.memory.refused
 
 pub returns-in-Err-clause-without_file : goal.returns-in-Err-clause-without_file
 returns-in-Err-clause-without_file g c =
@@ -26,10 +26,10 @@ returns-in-Err-clause-headline g c =
     let said = request_said (map string_bytes c.args.words.now) in
     let left = g.S.Source.left c.args.input.now in
     let told = g.H.Shelf.files c.args.shelf.now in
-    headline_told said left told _ _ statuses.Memory (Unit {0}) (ends_unread said left told _ _ _)
-    (record { unwritten = λ nothing. refl; failed = λ is. cc; quiet = λ is. cc; fixed = c.tell-in-Err.ensures })
+    headline_told said left told _ _ statuses.Memory (Unit {0}) (ends_unread said left told _ _ _ c.in-Err.memory.refused)
+    (record { unwritten = λ nothing. refl; failed = λ is. cc; quiet = λ is. cc; fixed = c.print_line-in-Err.ensures })
 
--- The headline follows from how the request ends that the words are read as.
+-- The headline follows from how the request in the words ends.
 pub returns-in-Ok-Some-clause-headline : goal.returns-in-Ok-Some-clause-headline
 returns-in-Ok-Some-clause-headline g c =
     let ends = c.run_request.ensures in
@@ -45,4 +45,4 @@ returns-in-Ok-Some-clause-headline g c =
 
 pub returns-in-Ok-None-clause-tells : goal.returns-in-Ok-None-clause-tells
 returns-in-Ok-None-clause-tells g c =
-    record { read_fault = λ is. cc; write_fault = λ is. cc; shelf_fault = λ is. cc; fixed_line = c.tell.ensures }
+    record { read_fault = λ is. cc; write_fault = λ is. cc; shelf_fault = λ is. cc; fixed_line = c.print_line.ensures }

@@ -15,21 +15,21 @@ returns-in-Ok-clause-ends g c =
 pub returns-in-Err-ReadFault-clause-tells : goal.returns-in-Err-ReadFault-clause-tells
 returns-in-Err-ReadFault-clause-tells g c =
     let rose : Rose (g.S.Source.faults c.args.input.now) (g.S.Source.faults c.reply.new.input) = search rules in
-    record { read_fault = λ is. rose; write_fault = λ is. cc; shelf_fault = λ is. cc; fixed_line = c.tell.ensures }
+    record { read_fault = λ is. rose; write_fault = λ is. cc; shelf_fault = λ is. cc; fixed_line = c.print_line.ensures }
 
 pub returns-in-Err-GameMissing-clause-tells : goal.returns-in-Err-GameMissing-clause-tells
 returns-in-Err-GameMissing-clause-tells g c =
-    record { read_fault = λ is. cc; write_fault = λ is. cc; shelf_fault = λ is. cc; fixed_line = c.tell-in-Err-GameMissing.ensures }
+    record { read_fault = λ is. cc; write_fault = λ is. cc; shelf_fault = λ is. cc; fixed_line = c.print_line-in-Err-GameMissing.ensures }
 
 pub returns-in-Err-FileMissing-clause-tells : goal.returns-in-Err-FileMissing-clause-tells
 returns-in-Err-FileMissing-clause-tells g c =
-    record { read_fault = λ is. cc; write_fault = λ is. cc; shelf_fault = λ is. cc; fixed_line = c.tell-in-Err-FileMissing.ensures }
+    record { read_fault = λ is. cc; write_fault = λ is. cc; shelf_fault = λ is. cc; fixed_line = c.print_line-in-Err-FileMissing.ensures }
 
 pub returns-in-Err-ShelfFault-clause-tells : goal.returns-in-Err-ShelfFault-clause-tells
 returns-in-Err-ShelfFault-clause-tells g c =
     let rose : Rose (g.H.Shelf.faults c.args.shelf.now) (g.H.Shelf.faults c.reply.new.shelf) = search rules in
-    record { read_fault = λ is. cc; write_fault = λ is. cc; shelf_fault = λ is. rose; fixed_line = c.tell-in-Err-ShelfFault.ensures }
+    record { read_fault = λ is. cc; write_fault = λ is. cc; shelf_fault = λ is. rose; fixed_line = c.print_line-in-Err-ShelfFault.ensures }
 
 pub returns-in-Err-Memory-clause-ends : goal.returns-in-Err-Memory-clause-ends
 returns-in-Err-Memory-clause-ends g c =
-    ends_memory (request_in c.args.request) (g.S.Source.left c.args.input.now) (g.H.Shelf.files c.args.shelf.now) _ _ _
+    ends_memory (request_in c.args.request) (g.S.Source.left c.args.input.now) (g.H.Shelf.files c.args.shelf.now) _ _ _ c.in-Err-Memory.memory.refused

@@ -1,4 +1,4 @@
--- A fault at a member is told by its name.
+-- A fault at a member is reported by its name.
 use Rattle.std.proofs.Common.{rules, ◌≡◌, ◌∙◌, List, ℕ, Some, ap, sym}
 use Rattle.std.proofs.lemmas.Result.{IfOk-weaker}
 use Rattle.std.specs.Option.{option_map}

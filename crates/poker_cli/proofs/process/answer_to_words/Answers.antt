@@ -1,4 +1,4 @@
--- The words that are run are those behind the name of the process.
+-- The words that are run are those after the name of the process.
 use Rattle.std.proofs.Common.{◌≡◌, ◌≢◌, ℕ, List, [], drop, map, string_bytes, IfErr, IfOk, Result, Ok, Err, Option, None, ap, refl, sym, subst, inl, inr, ◌∙◌}
 use Rattle.std.specs.IoError.{error_kind}
 use Rattle.std.specs.Vec.Iter.{into_iter_items}
@@ -21,7 +21,7 @@ words_are : {E : Type 0} (all : Result (IntoIter (String Global) Global) E) (ite
 words_are (Ok args) items is none = ap (map string_bytes) is
 words_are (Err error) items is none = ap (map string_bytes) none
 
--- words that are no text are no command
+-- words that are not text are no command
 no_command : (all : Result (IntoIter (String Global) Global) Error) (items : List (String Global)) (status : Status) → IfErr all (λ error. items ≡ [])
     → (request_said (map string_bytes items) ≡ None → status ≡ statuses.Usage)
     → IfErr all (λ error. error_kind error ≢ OutOfMemory → status ≡ statuses.Usage)
@@ -29,7 +29,7 @@ no_command (Ok args) items status none usage = tt
 no_command (Err error) items status none usage =
     λ kind. usage (subst (λ (words : List (String Global)). request_said (map string_bytes words) ≡ None) (sym none) refl)
 
--- what is kept on some words is kept on the same words
+-- what is promised for some words is promised for the same words
 moved : {S H K D : Type 0} {words given : List (List ℕ)} {left : Option (List ℕ)} {told : Option Files} {Asked : H → H → List ℕ → Type 0} {reads asks : ℕ × ℕ}
     {out diag : Sinks} {status : Status} {input read : S} {shelf seen : H} {sink written : K} {lines heard : D}
     → words ≡ given → RunKeeps words left told Asked reads asks out diag status input read shelf seen sink written lines heard
@@ -44,6 +44,7 @@ returns-in-Ok-clause-run g c =
     let given = ap (map string_bytes) c.deref.ensures.value ∙ words_are c.args.all c.in-Ok.words.items c.in-Ok.ensures.words c.in-Ok.ensures.no_words in
     inr (moved given
     (record {
+      memory = run.memory;
       usage = run.usage;
       ends = run.ends;
       headline = run.headline;
@@ -61,4 +62,4 @@ returns-in-Ok-clause-no_text g c =
 
 pub returns-in-Err-clause-run : goal.returns-in-Err-clause-run
 returns-in-Err-clause-run g c =
-    inl (record { memory = refl; told = c.tell.ensures; unread = refl; unasked = refl; unwritten = refl })
+    inl (record { memory = refl; refused = c.in-Err.memory.refused; told = c.print_line.ensures; unread = refl; unasked = refl; unwritten = refl })

@@ -1,4 +1,4 @@
--- The equity of the hand is told, or that there is no such hand, street or known card.
+-- The equity of the hand is the output, or there is no such hand, street or known card.
 use Rattle.std.proofs.Common.{◌≤◌, length, ap, subst, sym, ◌∙◌, rules}
 use Rattle.std.proofs.lemmas.Result.{IfOk-weaker}
 use Rattle.chip_ledger.specs.declared.numbers.Seat.{Seat}

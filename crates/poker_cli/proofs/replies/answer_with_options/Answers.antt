@@ -1,4 +1,4 @@
--- The options of the hand are told, or that there is no such hand, or no such event.
+-- The options of the hand are the output, or there is no such hand, or no such event.
 use Rattle.std.proofs.Common.{◌≤◌, ◌<◌, length, ap, subst, sym, ◌∙◌, arith, rules}
 use Rattle.std.proofs.lemmas.Result.{IfOk-weaker}
 use Rattle.poker_cli.specs.AnswerParts.{done}

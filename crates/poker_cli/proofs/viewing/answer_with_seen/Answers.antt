@@ -1,4 +1,4 @@
--- The lines are told, or that the game has no such seat, or that the lines are too many bytes.
+-- The lines are the output, or the game has no such seat, or the lines exceed the limit of bytes.
 use Rattle.std.proofs.Common.{◌≡◌, ◌≤◌, ◌<◌, true, false, ap, subst, sym, ◌∙◌, arith, rules}
 use Rattle.std.proofs.lemmas.Result.{IfOk-weaker}
 use Rattle.poker_cli.specs.AnswerParts.{done, refusal}

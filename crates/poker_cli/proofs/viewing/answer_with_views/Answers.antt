@@ -1,4 +1,5 @@
--- What a seat saw of the hands is told, or which hand is refused, or why the bytes do not read.
+-- What a seat saw of the hands is the output, or the answer says which hand is refused or why the
+-- bytes cannot be read.
 use Rattle.std.proofs.Common.{subst}
 use Rattle.std.proofs.lemmas.Result.{IfOk-weaker}
 use Rattle.convert_core.specs.Judged.{IsPlaysFaultOf}

@@ -1,4 +1,5 @@
--- Before the first hand the lines are kept if the game has the seat; at the end they are told, or why not.
+-- Before the first hand the lines are kept if the game has the seat; at the end they are the
+-- output, or the answer says why not.
 use Rattle.std.proofs.Common.{refl, subst}
 use Rattle.acpc_game.specs.declared.game.Game.{Game}
 use Rattle.chip_ledger.specs.declared.numbers.Seat.{Seat}

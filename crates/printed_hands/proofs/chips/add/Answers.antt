@@ -1,4 +1,4 @@
--- What is put is what the move adds.
+-- What is put in is what the move adds.
 use Rattle.std.proofs.Common.{refl, arith}
 use Rattle.printed_hands.proofs.Moves.{has_put_more, has_put_same}
 use Rattle.printed_hands.proofs.chips.add.Goals as goal

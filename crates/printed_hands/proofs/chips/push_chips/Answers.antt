@@ -1,4 +1,4 @@
--- The rows are printed one behind the other.
+-- The rows are printed one after the other.
 use Rattle.std.proofs.Common.{string_bytes, arith}
 use Rattle.printed_hands.proofs.Rows.{chips_printed}
 use Rattle.printed_hands.proofs.chips.push_chips.Goals as goal

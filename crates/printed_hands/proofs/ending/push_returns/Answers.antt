@@ -1,4 +1,4 @@
--- One seat more, or none is left.
+-- One more seat, or none is left.
 use Rattle.std.proofs.Common.{◌≡◌, ◌<◌, ◌≤◌, ◌+◌, ◌++◌, ◌∷◌, ◌∙◌, ℕ, List, drop, length, slice_index, string_bytes, ap, append_assoc, sym, arith}
 use Rattle.std.proofs.lemmas.List.{append-nil, drop_all, drop_more, get_or-take, length-take-le}
 use Rattle.chip_ledger.specs.SeatRow.{amounts_in}

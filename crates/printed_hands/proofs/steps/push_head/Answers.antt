@@ -1,4 +1,4 @@
--- The number and the game stand before the chips.
+-- The number and the game come before the chips.
 use Rattle.std.proofs.Common.{◌≡◌, List, ℕ, [], ◌∷◌, ◌++◌, ◌∙◌, ap, append_assoc, codes, decimal, string_bytes}
 use Rattle.printed_hands.specs.Steps.{chips_text}
 use Rattle.printed_hands.proofs.steps.push_head.Goals as goal

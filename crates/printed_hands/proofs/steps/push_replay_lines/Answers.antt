@@ -2,7 +2,7 @@
 use Rattle.std.proofs.Common.{◌≡◌, ◌+◌, ◌++◌, ◌∙◌, List, ℕ, map, sym, ap, subst, append_assoc, string_bytes, arith}
 use Rattle.std.proofs.lemmas.List.{length-map}
 use Rattle.std.proofs.lemmas.Option.{slice_get_within}
-use Rattle.list_laws.proofs.Results.{on_ok}
+use Rattle.card_set.proofs.Results.{on_ok}
 use Rattle.hand_records.specs.SoundRecord.{script_said}
 use Rattle.play_event.specs.Past.{moves_of}
 use Rattle.play_event.specs.Scripts.{past_at_end}
@@ -61,7 +61,7 @@ loop-event-preserved c =
     (sym (c.in_ok-push_event.ensures base inv.has_put))
     (cards_printed play c.loop-event.number c.loop-event.made c.loop-event.put c.loop-event.cursor c.next.new.self c.in-Some.event before (string_bytes c.loop-event.text) inv (sym c.in-Some.ensures.first) (sym c.is_move.ensures ∙ c.if-is_move.false))
 
--- the head, the steps and the ending, one behind the other
+-- the head, the steps and the ending, one after the other
 three_parts : (before head steps ending text printed end : List ℕ) → text ≡ before ++ head → printed ≡ text ++ steps → end ≡ printed ++ ending
     → end ≡ before ++ (head ++ (steps ++ ending))
 three_parts before head steps ending text printed end first second third =

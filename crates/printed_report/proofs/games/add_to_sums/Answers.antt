@@ -1,4 +1,4 @@
--- One of the sums more.
+-- One more of the sums.
 use Rattle.std.proofs.Common.{◌≡◌, List, suc, ◌+◌, ◌<◌, length, slice_set, get_or, ap, ◌∙◌, arith}
 use Rattle.printed_report.specs.Games.{with_hand}
 use Rattle.printed_report.specs.Report.{hand_of}

@@ -1,4 +1,4 @@
--- The sums so far are those of no hands.
+-- The sums so far are those before the first hand.
 use Rattle.std.proofs.Common.{◌≡◌, [], map, take}
 use Rattle.printed_report.specs.Games.{sums_of}
 use Rattle.printed_report.proofs.games.no_sums.Given as goal

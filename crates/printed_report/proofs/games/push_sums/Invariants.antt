@@ -1,4 +1,4 @@
--- The lines so far are put.
+-- The lines so far are appended.
 use Rattle.std.proofs.Common.{◌≡◌, ◌++◌, flat_map, string_bytes, take}
 use Rattle.printed_report.specs.Games.{sums_line}
 use Rattle.printed_report.proofs.games.push_sums.Given as goal

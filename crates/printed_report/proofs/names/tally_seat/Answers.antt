@@ -2,9 +2,9 @@
 use Rattle.std.proofs.Common.{◌≡◌, ◌≢◌, ◌<◌, ℕ, List, length, Some, bytes_eq, sym, ap, subst, ◌∙◌, arith}
 use Rattle.std.specs.List.{position_from}
 use Rattle.indexmap.specs.IndexMap.{insert_entry}
-use Rattle.name_index.specs.Indexed.{AreIndexed}
-use Rattle.name_index.specs.Names.{with_name}
-use Rattle.name_index.specs.declared.index.NameIndex.{NameIndex}
+use Rattle.report_layout.specs.Indexed.{AreIndexed}
+use Rattle.report_layout.specs.Names.{with_name}
+use Rattle.report_layout.specs.declared.index.NameIndex.{NameIndex}
 use Rattle.printed_report.specs.Report.{seated_in}
 use Rattle.printed_report.specs.Tallies.{AreTallied, IsWithin, MOST_SEATS, row_names, rows_of, tally_at, with_seat}
 use Rattle.printed_report.specs.declared.tally.NamedTally.{NamedTally}

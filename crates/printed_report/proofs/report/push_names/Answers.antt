@@ -1,7 +1,7 @@
--- Each row is within what a line can say, and adds its line.
+-- Each row is within the limits of a line, and adds its line.
 use Rattle.std.proofs.Common.{◌≡◌, ℕ, ◌+◌, ◌++◌, ◌∙◌, List, Some, ap, append_assoc, drop, flat_map, rules, slice_get, string_bytes, sym}
 use Rattle.std.specs.Option.{option_to_list}
-use Rattle.list_laws.proofs.FlatMaps.{next_part}
+use Rattle.card_set.proofs.FlatMaps.{next_part}
 use Rattle.printed_report.specs.Tallies.{row_line, rows_of}
 use Rattle.printed_report.proofs.RowLines.{line_here, within_here}
 use Rattle.printed_report.proofs.report.push_names.Goals as goal

@@ -1,4 +1,4 @@
--- The lines so far are put.
+-- The lines so far are appended.
 use Rattle.std.proofs.Common.{◌≡◌, ◌++◌, drop, flat_map, string_bytes}
 use Rattle.printed_report.specs.Tallies.{row_line, rows_of}
 use Rattle.printed_report.proofs.report.push_names.Given as goal

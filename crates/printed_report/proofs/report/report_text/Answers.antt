@@ -1,4 +1,4 @@
--- One hand more, and the report on all hands.
+-- One more hand, and the report on all hands.
 use Rattle.std.proofs.Common.{◌≡◌, ◌+◌, ◌++◌, [], ◌∷◌, take, sym, ap, subst, ◌∙◌, arith}
 use Rattle.std.proofs.lemmas.List.{length-take-le, take_all, take_more}
 use Rattle.printed_report.specs.SoFar.{IsReportSoFar}

@@ -1,4 +1,4 @@
--- The rows say what the past says, since betting and cards stand for it.
+-- The rows agree with the past, since betting and cards describe it.
 use Rattle.std.proofs.Common.{reverse, sym, ap, ◌∙◌}
 use Rattle.play_event.specs.declared.setup.Setup.{Setup}
 use Rattle.play_event.specs.Scripts.{past_at_end}

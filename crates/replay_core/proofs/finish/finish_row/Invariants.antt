@@ -1,4 +1,4 @@
--- The seats so far have what they end with.
+-- The seats so far have what they finish with.
 use Rattle.std.proofs.Common.{◌≡◌, ◌+◌, ◌≤◌, ℕ, sum_by}
 use Rattle.chip_ledger.specs.PotRow.{shares_in}
 use Rattle.chip_ledger.specs.SeatRow.{amount_of}

@@ -1,4 +1,4 @@
--- What asks nothing of the pasts serves where they are asked something.
+-- What needs nothing of the pasts also serves if something is required of them.
 use Rattle.std.proofs.Common.{Result}
 use Rattle.chip_ledger.specs.declared.live_row.LiveRow.{LiveRow}
 use Rattle.play_event.specs.declared.reason.Due.{Due}

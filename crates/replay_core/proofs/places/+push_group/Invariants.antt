@@ -1,4 +1,4 @@
--- A card less is left.
+-- One card less is left.
 use Rattle.std.proofs.Common.{length}
 use Rattle.replay_core.proofs.places.+push_group.Given as goal
 

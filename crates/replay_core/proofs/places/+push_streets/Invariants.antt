@@ -1,4 +1,4 @@
--- A street less is left.
+-- One street less is left.
 use Rattle.replay_core.proofs.places.+push_streets.Given as goal
 
 abbrev pub decreases-push_streets : goal.decreases-push_streets

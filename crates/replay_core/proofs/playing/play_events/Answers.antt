@@ -1,4 +1,4 @@
--- Each event is played behind those so far, and in the end all are played.
+-- Each event is played after those so far, and in the end all are played.
 use Rattle.std.proofs.Common.{◌≡◌, ℕ, None, List, sym, ap, subst, ◌∙◌, arith}
 use Rattle.replay_core.specs.Together.{StandTogether}
 use Rattle.play_event.specs.declared.setup.Rules.{Rules}

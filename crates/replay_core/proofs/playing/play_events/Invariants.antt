@@ -1,4 +1,4 @@
--- The events so far were played, and those that are left are behind them.
+-- The events so far were played, and those that are left come after them.
 use Rattle.std.proofs.Common.{◌≡◌, ◌≤◌, length, drop}
 use Rattle.replay_core.proofs.SoFar.{IsPlayedTo}
 use Rattle.replay_core.proofs.playing.play_events.Given as goal

@@ -1,4 +1,4 @@
--- All events are played, and betting and cards stand at the end.
+-- All events are played, and betting and cards describe the end.
 use Rattle.std.proofs.Common.{sym, subst, ◌∙◌, arith}
 use Rattle.play_event.specs.declared.setup.Setup.{Setup}
 use Rattle.play_event.specs.Scripts.{past_at_end}

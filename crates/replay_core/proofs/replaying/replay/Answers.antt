@@ -1,8 +1,8 @@
--- Each fact is one of what a replay is.
+-- Each fact is one of those of a replay.
 use Rattle.std.proofs.lemmas.Result.{IfOk-weaker}
 use Rattle.hand_canon.specs.Agreement.{HasBoundedPots}
 use Rattle.hand_canon.specs.LegalHand.{IsLegalHand}
-use Rattle.canon_script.specs.Tidy.{IsTidy}
+use Rattle.play_event.specs.Tidy.{IsTidy}
 use Rattle.hand_records.specs.TraceRows.{core_said}
 use Rattle.hand_canon.specs.WholeTrace.{IsTraceOf}
 use Rattle.play_event.specs.Scripts.{past_at_end}

@@ -1,4 +1,4 @@
--- The seats so far are flagged where they are shown.
+-- The seats so far have the flag if they are shown.
 use Rattle.std.proofs.Common.{◌≡◌, ◌≤◌, ℕ}
 use Rattle.chip_ledger.specs.LiveRow.{flag_of}
 use Rattle.replay_core.specs.EndRows.{is_shown_by}

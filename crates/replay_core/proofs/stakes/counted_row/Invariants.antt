@@ -1,4 +1,4 @@
--- The seats so far have what counts of their chips.
+-- The seats so far have their chips that count.
 use Rattle.std.proofs.Common.{◌≡◌, ◌≤◌, ℕ}
 use Rattle.chip_ledger.specs.Pots.{counted}
 use Rattle.chip_ledger.specs.SeatRow.{amount_of}

@@ -1,4 +1,4 @@
--- The stakes of the rows are those of the moves, and no more than a row may hold.
+-- The stakes of the rows are those of the moves, and no more than a row can hold.
 use Rattle.std.proofs.Common.{List, ap, ◌∙◌, arith}
 use Rattle.chip_ledger.specs.PotRow.{stake_of}
 use Rattle.chip_ledger.specs.Pots.{Stake, pots_of, returned}

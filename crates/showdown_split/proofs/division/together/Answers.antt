@@ -1,6 +1,6 @@
 -- The sums together are the sum of both rows.
 use Rattle.std.proofs.Common.{ℕ, ap, sym, ◌∙◌, ◌+◌, sum_by, arith}
-use Rattle.list_laws.proofs.Sums.{sum_by-plus}
+use Rattle.card_set.proofs.Sums.{sum_by-plus}
 use Rattle.chip_ledger.specs.Seat.{seats_of}
 use Rattle.chip_ledger.specs.SeatRow.{amount_of}
 use Rattle.chip_ledger.proofs.Seats.{sum-seats}

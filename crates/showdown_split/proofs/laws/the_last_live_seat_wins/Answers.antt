@@ -1,4 +1,4 @@
--- The one pot goes to the one live seat.
+-- The only pot goes to the only live seat.
 use Rattle.showdown_split.proofs.LastSeat.{last_seat_wins}
 use Rattle.showdown_split.proofs.laws.the_last_live_seat_wins.Goals as goal
 

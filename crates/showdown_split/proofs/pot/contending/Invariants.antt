@@ -1,4 +1,4 @@
--- The seats so far are marked where they may win the pot and are shown.
+-- The seats so far are marked if they may win the pot and are shown.
 use Rattle.std.proofs.Common.{◌≡◌, ◌≤◌, ◌&&◌, ℕ}
 use Rattle.chip_ledger.specs.LiveRow.{flag_of}
 use Rattle.showdown_split.proofs.pot.contending.Given as goal

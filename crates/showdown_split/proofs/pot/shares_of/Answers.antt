@@ -1,9 +1,10 @@
--- A pot of one seat is all its own, and one of several goes to those that are shown.
+-- A pot that one seat may win is all its own, and one that several may win goes to those that are
+-- shown.
 use Rattle.std.proofs.Common.{◌≡◌, ◌≤◌, ◌*◌, ◌&&◌, ℕ, Bool, not, nat_le, length, if◌then◌else◌, sum_by, sym, ◌∙◌, ap, subst, arith, inl, inr}
 use Rattle.std.specs.List.{list_any}
 use Rattle.std.proofs.lemmas.Bool.{and_from, le-leb, true≢false}
 use Rattle.std.proofs.Math.Nat.{mul-one}
-use Rattle.list_laws.proofs.Tests.{and_false}
+use Rattle.card_set.proofs.Tests.{and_false}
 use Rattle.chip_ledger.specs.LiveRow.{flag_of, flagged}
 use Rattle.chip_ledger.specs.PotRow.{plain}
 use Rattle.chip_ledger.specs.Seat.{seats_of}

@@ -1,4 +1,4 @@
--- The seats so far have the chips where they may win the pot.
+-- The seats so far have the chips if they may win the pot.
 use Rattle.std.proofs.Common.{◌≡◌, ◌≤◌, ℕ, if◌then◌else◌}
 use Rattle.chip_ledger.specs.LiveRow.{flag_of}
 use Rattle.chip_ledger.specs.SeatRow.{amount_of}

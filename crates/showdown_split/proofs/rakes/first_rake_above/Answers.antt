@@ -1,8 +1,8 @@
--- Each turn looks at one pot more.
+-- Each turn looks at one more pot.
 use Rattle.std.proofs.Common.{◌≡◌, ◌+◌, ◌-◌, true, false, find, slice_index, sym, ap, ◌∙◌, arith}
 use Rattle.std.specs.List.{range_with_len}
 use Rattle.std.proofs.lemmas.Bool.{le-ltb, lt-ltb}
-use Rattle.list_laws.proofs.Ranges.{find_here, find_next}
+use Rattle.card_set.proofs.Ranges.{find_here, find_next}
 use Rattle.chip_ledger.specs.PotRow.{plain_pots}
 use Rattle.chip_ledger.specs.RakeRow.{rake_of}
 use Rattle.chip_ledger.specs.Rakes.{chips_in}

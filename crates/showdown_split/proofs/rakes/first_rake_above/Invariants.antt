@@ -1,4 +1,4 @@
--- No pot so far has a rake above its chips.
+-- No pot so far has a rake that is more than its chips.
 use Rattle.std.proofs.Common.{◌≡◌, ◌+◌, ◌-◌, find}
 use Rattle.std.specs.List.{range_with_len}
 use Rattle.chip_ledger.specs.PotRow.{plain_pots}

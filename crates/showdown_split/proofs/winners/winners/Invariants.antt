@@ -1,4 +1,4 @@
--- The seats so far are marked where they contend and have the best score.
+-- The seats so far are marked if they contend and have the best score.
 use Rattle.std.proofs.Common.{◌≡◌, ◌≤◌, ◌&&◌, ℕ}
 use Rattle.chip_ledger.specs.LiveRow.{flag_of}
 use Rattle.showdown_split.specs.Scores.{points_of}

@@ -1,4 +1,4 @@
--- The seats so far are marked where they are live and reach the level.
+-- The seats so far are marked if they are live and reach the level.
 use Rattle.std.proofs.Common.{◌≡◌, ◌≤◌, ◌&&◌, ℕ, nat_le}
 use Rattle.chip_ledger.specs.LiveRow.{flag_of}
 use Rattle.chip_ledger.specs.SeatRow.{amount_of}

@@ -1,6 +1,6 @@
 -- Each setup breaks one condition.
 use Rattle.std.proofs.Common.{◌≡◌, ◌≤◌, ℕ, refl, arith, lit≤}
-use Rattle.list_laws.proofs.Tests.{false_true}
+use Rattle.card_set.proofs.Tests.{false_true}
 use Rattle.worked_hands.proofs.setups.invalid_setups.Goals as goal
 
 pub returns-clause-of_two_seats_the_second_has_the_greater_blind : goal.returns-clause-of_two_seats_the_second_has_the_greater_blind

@@ -1,6 +1,6 @@
 -- The betting is that of four rounds.
 use Rattle.std.proofs.Common.{List, length, map, take, sym, ap, subst, ◌∙◌, arith}
-use Rattle.canon_script.specs.CanonScript.{plain_moves}
+use Rattle.play_event.specs.CanonScript.{plain_moves}
 use Rattle.play_event.specs.Played.{move_said}
 use Rattle.std.proofs.lemmas.List.{length-take-le}
 use Rattle.play_event.specs.declared.played.Move.{Move}

@@ -1,6 +1,6 @@
 -- A board that is seen has a stroke and its cards.
 use Rattle.std.proofs.Common.{List, None, length, map, sym, ap, ◌∙◌, arith}
-use Rattle.canon_script.specs.CanonScript.{dealt_slots}
+use Rattle.play_event.specs.CanonScript.{dealt_slots}
 use Rattle.card_set.specs.Spelling.{spelling}
 use Rattle.hand_records.specs.TraceRows.{core_said, place_said}
 use Rattle.play_event.specs.declared.played.Place.{Place}

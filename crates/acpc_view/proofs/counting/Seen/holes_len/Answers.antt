@@ -1,4 +1,4 @@
--- One seat more.
+-- One more seat.
 use Rattle.std.proofs.Common.{◌≡◌, ℕ, length, ap, ◌∙◌, arith}
 use Rattle.acpc_writing.specs.Cards.{hole_text, holes_text}
 use Rattle.acpc_writing.specs.Seats.{for_seats}

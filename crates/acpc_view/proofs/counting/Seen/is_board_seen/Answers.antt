@@ -1,4 +1,4 @@
--- A board is seen where it has begun and is there.
+-- A board is seen if it has begun and is there.
 use Rattle.std.proofs.Common.{List, map, sym, ap, ◌∙◌}
 use Rattle.hand_records.specs.TraceRows.{core_said, place_said}
 use Rattle.play_event.specs.Played.{move_said}

@@ -1,4 +1,4 @@
--- One move more.
+-- One more move.
 use Rattle.std.proofs.Common.{sym}
 use Rattle.acpc_writing.proofs.Letters.{letter_next, may_add, no_letters, put_next}
 use Rattle.acpc_writing.proofs.betting.SpelledMoves.push_letters.Goals as goal

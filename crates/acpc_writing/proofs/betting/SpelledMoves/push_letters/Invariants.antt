@@ -1,5 +1,5 @@
 use Rattle.std.proofs.Common.{◌≡◌, ◌++◌, map, take}
-use Rattle.canon_script.specs.CanonScript.{plain_moves}
+use Rattle.play_event.specs.CanonScript.{plain_moves}
 use Rattle.play_event.specs.Played.{move_said}
 use Rattle.acpc_writing.specs.Betting.{letters_on}
 use Rattle.acpc_writing.specs.Puts.{HavePut}

@@ -1,9 +1,10 @@
--- After the showdown the hand is over; after a deal or a draw what is due next is read from the numbers, which stand.
+-- After the showdown the hand is over; after a deal or a draw the next due is read from the
+-- numbers, which stand for the past.
 use Rattle.std.proofs.Common.{◌≢◌, ◌≤◌, sym, subst, arith}
 use Rattle.play_event.specs.declared.code.Code.{Code}
 use Rattle.play_event.specs.declared.reason.Due.TheVariants as dues
 use Rattle.play_event.specs.Games.{street_count}
-use Rattle.betting_numbers.specs.declared.running.RunningNumbers.{RunningNumbers}
+use Rattle.betting_numbers.specs.declared.betting_state.BettingState.{BettingState}
 use Rattle.betting_numbers.specs.Standing.{StandsFor}
 use Rattle.betting_numbers.proofs.Dealt.{show_ended, showdown_dealt, stands_dealt, up_to_dealt}
 use Rattle.betting_core.specs.Kept.{AreOfGame}
@@ -12,7 +13,7 @@ use Rattle.betting_core.proofs.betting.Betting.dealt.Goals as goal
 pub returns-in-Show-clause-stands : goal.returns-in-Show-clause-stands
 returns-in-Show-clause-stands g c =
     let b = c.self.inside.numbers in
-    rw (← c.self.view_is) (λ past up unended. subst (λ (t : RunningNumbers). StandsFor t past) (sym c.set_due.ensures) (show_ended b past up c.in-Show.is))
+    rw (← c.self.view_is) (λ past up unended. subst (λ (t : BettingState). StandsFor t past) (sym c.set_due.ensures) (show_ended b past up c.in-Show.is))
 
 pub returns-in_default : goal.returns-in_default
 returns-in_default g c =

@@ -1,7 +1,7 @@
 -- The numbers are those of the past.
 use Rattle.std.proofs.Common.{ℕ, sym, ap}
 use Rattle.play_event.specs.declared.reason.Due.{Due}
-use Rattle.street_laws.proofs.DueStreets.{here_within}
+use Rattle.play_laws.proofs.DueStreets.{here_within}
 use Rattle.betting_core.proofs.betting.Betting.due.Goals as goal
 
 pub returns-clause-stands : goal.returns-clause-stands

@@ -1,6 +1,6 @@
 -- The numbers after the move stand for the past with the event, which is the past with the move.
 use Rattle.std.proofs.Common.{◌≡◌, ◌≤◌, ◌∙◌, ℕ, nat_le, List, ap, rules, subst, sym, arith}
-use Rattle.list_laws.proofs.Options.{some_more}
+use Rattle.card_set.proofs.Options.{some_more}
 use Rattle.play_event.specs.declared.code.Code.{Code}
 use Rattle.play_event.specs.declared.setup.Setup.{Setup}
 use Rattle.play_event.specs.Games.{street_count}
@@ -22,10 +22,10 @@ pub returns-clause-stands : goal.returns-clause-stands
 returns-clause-stands g c =
     let b = c.args.self.now in
     let legal = c.args.legal in
-    let mid = c.make.new.self in
+    let mid = c.apply_move.new.self in
     let next = c.pass.new.table in
     let game : AreOfGame g.V.Variant.CODE g.V.Variant.STREETS b = rw (← c.self.view_is) c.self.invariant in
-    let moved : IsMoved b mid legal.seat.number (act_said legal.act) legal.target c.unit-size.result = rw (← c.self.view_is) c.make.ensures in
+    let moved : IsMoved b mid legal.seat.number (act_said legal.act) legal.target c.unit-size.result = rw (← c.self.view_is) c.apply_move.ensures in
     let most : b.street ≤ street_count g.V.Variant.CODE = omega (arith, game.kept.last, g.met.V.Variant.values.streets_is) in
     let within : b.street ≤ street_count b.setup.code = subst (λ (code : Code). b.street ≤ street_count code) (sym game.code) most in
     let settled : IsSettledTo mid next = subst (λ (n : ℕ). IsPassedTo (nat_le n 1) mid next) c.live_count-over.ensures c.pass.ensures.passed in
@@ -48,8 +48,8 @@ pass-requires g c =
     let b = c.args.self.now in
     let legal = c.args.legal in
     let game : AreOfGame g.V.Variant.CODE g.V.Variant.STREETS b = rw (← c.self.view_is) c.self.invariant in
-    let next = c.make.new.self in
-    let moved : IsMoved b next legal.seat.number (act_said legal.act) legal.target c.unit-size.result = rw (← c.self.view_is) c.make.ensures in
+    let next = c.apply_move.new.self in
+    let moved : IsMoved b next legal.seat.number (act_said legal.act) legal.target c.unit-size.result = rw (← c.self.view_is) c.apply_move.ensures in
     record {
       code = ap (λ (s : Setup). s.code) moved.setup ∙ game.code;
       on = search rules;

@@ -1,4 +1,4 @@
--- The seat in turn that is kept, or that opens by up-cards, is the seat in turn by the rules.
+-- The player to act that is kept, or that opens by up-cards, is the player to act by the rules.
 use Rattle.std.proofs.Common.{refl, sym, ap, ◌∙◌}
 use Rattle.play_event.specs.declared.code.Code.{Code}
 use Rattle.play_event.specs.declared.limit.Opener.TheVariants as openers

@@ -1,11 +1,11 @@
--- Another thing is due, or the seat in turn moves, or it is not known.
+-- Something else is due, or the player to act moves, or it is not known who that is.
 use Rattle.std.proofs.Common.{rules, ℕ, true, false, sym, subst, ◌∙◌}
 use Rattle.std.proofs.lemmas.Result.{err_from_is_err_and}
 use Rattle.chip_ledger.specs.SeatsSaid.{seat_said}
 use Rattle.play_event.specs.Said as said
 use Rattle.play_event.specs.Past.{Called}
 use Rattle.betting_numbers.specs.LegalMoves.{IsLegalMove}
-use Rattle.betting_numbers.proofs.Answered.{no_mover_answer, refused_answer, moves}
+use Rattle.betting_numbers.proofs.Answered.{no_player_to_act_answer, refused_answer, moves}
 use Rattle.betting_numbers.proofs.InTurn.{call_moves, call_is_legal, call_unknown, call_now, move_fits, bets_now}
 use Rattle.betting_numbers.proofs.legal_moves.Turn.call.Goals as goal
 
@@ -14,7 +14,7 @@ returns-in_err-seat c =
     let b = c.args.self.now.numbers.now in
     let p = err_from_is_err_and c.from_residual.result c.from_residual.ensures.1 in
     rw (p.1, p.2)
-    (no_mover_answer b c.args.self.now.seat (seat_said c.args.actor) (said.Call (seat_said c.args.actor) c.args.stated) true false c.in_err-seat.field-0.0 c.in_err-seat.ensures
+    (no_player_to_act_answer b c.args.self.now.seat (seat_said c.args.actor) (said.Call (seat_said c.args.actor) c.args.stated) true false c.in_err-seat.field-0.0 c.in_err-seat.ensures
     (λ past stands. call_now b past stands (seat_said c.args.actor) c.args.stated)
     (λ past stands. call_unknown b past stands c.args.actor c.args.stated))
 

@@ -1,4 +1,4 @@
--- Each number counts one seat more.
+-- Each number counts one more seat.
 use Rattle.std.proofs.Common.{◌≡◌, ℕ, ◌+◌, ◌-◌, ◌≤◌, ◌==◌, Bool, true, nat_lt, cond, max, count_by, sym, ap, ◌∙◌, arith}
 use Rattle.chip_ledger.specs.LiveRow.{flag_of}
 use Rattle.chip_ledger.specs.Seat.{seats_of}
@@ -33,8 +33,8 @@ returns c =
       live = one_more (λ k. flag_of c.set-3.new.self k ≡ true) n (λ k low high. c.set-3.ensures.others k low (λ same. omega (arith, same, high)) ∙ was.live k low high) c.set-3.ensures.flag;
       pot = omega (arith, was.pot, put, sum_of_seats_more (posted setup) n);
       pot_bounded = omega (arith, was.pot_bounded, put, most, c.requires.posts.reach (n + 1));
-      price = omega (arith, c.max-self.ensures, was.price, bet, greatest_more (blind_posted setup) n);
-      price_bounded = omega (arith, c.max-self.ensures, was.price_bounded, bet, most);
+      current_bet = omega (arith, c.max-self.ensures, was.current_bet, bet, greatest_more (blind_posted setup) n);
+      current_bet_bounded = omega (arith, c.max-self.ensures, was.current_bet_bounded, bet, most);
       able =
           c.one_more-self.ensures.value
           ∙ ap (λ (count : ℕ). count + cond (nat_lt (c.get-ante.result + c.min-bet.result) c.get-stack.result) 1 0) was.able

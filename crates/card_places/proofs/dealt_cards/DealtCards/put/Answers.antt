@@ -1,4 +1,4 @@
--- One card more is dealt in each turn.
+-- One more card is dealt in each step.
 use Rattle.std.proofs.Common.{ℕ, ◌+◌, take, length, count_by, arith}
 use Rattle.play_event.specs.Places.{is_in_group}
 use Rattle.card_places.specs.Placed.{placed}

@@ -2,7 +2,7 @@
 use Rattle.std.proofs.Common.{◌+◌, ◌-◌, ◌*◌, refl, arith}
 use Rattle.play_event.specs.Rows.{zeros}
 use Rattle.card_places.proofs.draws.Draws.new.Goals as goal
-use Rattle.list_laws.proofs.Entries.{only_false}
+use Rattle.card_set.proofs.Entries.{only_false}
 
 pub invariant_of-result : goal.invariant_of-result
 invariant_of-result c =

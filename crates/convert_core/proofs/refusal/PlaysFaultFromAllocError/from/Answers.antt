@@ -1,4 +1,4 @@
--- The want of memory is the one that the door gave.
+-- The value of `Memory` is the one that the refused request gave.
 use Rattle.std.proofs.Common.{refl}
 use Rattle.convert_core.proofs.refusal.PlaysFaultFromAllocError.from.Goals as goal
 

@@ -5,7 +5,7 @@ use Rattle.card_set.specs.Row.{cards_of}
 use Rattle.play_event.specs.Said.{kind_said}
 use Rattle.play_event.specs.Said as said
 use Rattle.card_places.specs.Dealt.{IsDealt}
-use Rattle.card_places.specs.Refusals.{board_why}
+use Rattle.card_places.specs.Refusals.{illegal_board_deal}
 use Rattle.card_places.proofs.Fits.{hole_owed, board_owed}
 use Rattle.deal_core.proofs.Answers.{board_answered, hole_answered}
 use Rattle.deal_core.proofs.Games.{due_in}
@@ -16,15 +16,15 @@ pub put-requires : goal.put-requires
 put-requires g c =
     rw (← c.self.view_is) λ on street.
     hole_owed c.self.inside.state c.args.live.now c.args.due on c.in-Hole.seat.number c.as_slice-known.result.now street
-    (due_in c.self.inside.state.table.code g.V.Variant.CODE _ c.args.due c.self.invariant g.met.V.Variant.values.streets_is c.requires.due) (sym c.hole_why.ensures ∙ c.in-None.is)
+    (due_in c.self.inside.state.table.code g.V.Variant.CODE _ c.args.due c.self.invariant g.met.V.Variant.values.streets_is c.requires.due) (sym c.illegal_hole_deal.ensures ∙ c.in-None.is)
 
-pub put-requires-in-None-board_why : goal.put-requires-in-None-board_why
-put-requires-in-None-board_why g c =
-    let same = c.as_slice-in-None-board_why.ensures ∙ sym c.as_slice.ensures in
+pub put-requires-in-None-illegal_board_deal : goal.put-requires-in-None-illegal_board_deal
+put-requires-in-None-illegal_board_deal g c =
+    let same = c.as_slice-in-None-illegal_board_deal.ensures ∙ sym c.as_slice.ensures in
     rw (← c.self-in-Board.view_is) λ on street.
-    board_owed c.self-in-Board.inside.state c.args.due on c.as_slice-in-None-board_why.result.now street
+    board_owed c.self-in-Board.inside.state c.args.due on c.as_slice-in-None-illegal_board_deal.result.now street
     (due_in c.self-in-Board.inside.state.table.code g.V.Variant.CODE _ c.args.due c.self-in-Board.invariant g.met.V.Variant.values.streets_is c.requires.due)
-    (ap (board_why c.self-in-Board.inside.state c.args.due) same ∙ sym c.board_why.ensures ∙ c.in-None-board_why.is)
+    (ap (illegal_board_deal c.self-in-Board.inside.state c.args.due) same ∙ sym c.illegal_board_deal.ensures ∙ c.in-None-illegal_board_deal.is)
 
 pub returns-in-Some : goal.returns-in-Some
 returns-in-Some g c =
@@ -32,7 +32,7 @@ returns-in-Some g c =
     rw (← c.self.view_is)
     (hole_answered t t c.args.due c.args.live.now c.in-Hole.seat.number c.as_slice-known.result.now c.args.event.now.kind _
     (ap kind_said c.in-Hole.is ∙ ap (said.Hole c.in-Hole.seat.number) (sym c.as_slice-known.ensures))
-    tt (sym c.hole_why.ensures ∙ c.in-Some.is) (λ on street. tt) (of_itself t) refl)
+    tt (sym c.illegal_hole_deal.ensures ∙ c.in-Some.is) (λ on street. tt) (of_itself t) refl)
 
 pub returns-in-None : goal.returns-in-None
 returns-in-None g c =
@@ -40,23 +40,23 @@ returns-in-None g c =
     rw (← c.self.view_is)
     (hole_answered t c.put.new.self c.args.due c.args.live.now c.in-Hole.seat.number c.as_slice-known.result.now c.args.event.now.kind _
     (ap kind_said c.in-Hole.is ∙ ap (said.Hole c.in-Hole.seat.number) (sym c.as_slice-known.ensures))
-    (sym c.hole_why.ensures ∙ c.in-None.is) tt (rw c.self.view_is c.put.ensures.dealt) (rw c.self.view_is c.put.ensures.hand) tt)
+    (sym c.illegal_hole_deal.ensures ∙ c.in-None.is) tt (rw c.self.view_is c.put.ensures.dealt) (rw c.self.view_is c.put.ensures.hand) tt)
 
-pub returns-in-Some-board_why : goal.returns-in-Some-board_why
-returns-in-Some-board_why g c =
+pub returns-in-Some-illegal_board_deal : goal.returns-in-Some-illegal_board_deal
+returns-in-Some-illegal_board_deal g c =
     let t = c.self-in-Board.inside.state in
     let same = c.as_slice.ensures ∙ c.slots-known.ensures in
     rw (← c.self-in-Board.view_is)
     (board_answered t t c.args.due c.args.live.now (cards_of c.in-Board.cards) c.args.event.now.kind _ (ap kind_said c.in-Board.is)
-    tt (ap (board_why t c.args.due) (sym same) ∙ sym c.board_why.ensures ∙ c.in-Some-board_why.is) (λ on street. tt) (of_itself t) refl)
+    tt (ap (illegal_board_deal t c.args.due) (sym same) ∙ sym c.illegal_board_deal.ensures ∙ c.in-Some-illegal_board_deal.is) (λ on street. tt) (of_itself t) refl)
 
-pub returns-in-None-board_why : goal.returns-in-None-board_why
-returns-in-None-board_why g c =
+pub returns-in-None-illegal_board_deal : goal.returns-in-None-illegal_board_deal
+returns-in-None-illegal_board_deal g c =
     let t = c.self-in-Board.inside.state in
     let same = c.as_slice.ensures ∙ c.slots-known.ensures in
-    let laid = c.as_slice-in-None-board_why.ensures ∙ c.slots-known.ensures in
-    let put = c.put-in-None-board_why in
+    let laid = c.as_slice-in-None-illegal_board_deal.ensures ∙ c.slots-known.ensures in
+    let put = c.put-in-None-illegal_board_deal in
     rw (← c.self-in-Board.view_is)
     (board_answered t put.new.self c.args.due c.args.live.now (cards_of c.in-Board.cards) c.args.event.now.kind _ (ap kind_said c.in-Board.is)
-    (ap (board_why t c.args.due) (sym same) ∙ sym c.board_why.ensures ∙ c.in-None-board_why.is) tt
+    (ap (illegal_board_deal t c.args.due) (sym same) ∙ sym c.illegal_board_deal.ensures ∙ c.in-None-illegal_board_deal.is) tt
     (λ on street. subst (λ (cards : List Slot). IsDealt t put.new.self None on cards) laid (rw c.self-in-Board.view_is (put.ensures.dealt on street))) (rw c.self-in-Board.view_is put.ensures.hand) tt)

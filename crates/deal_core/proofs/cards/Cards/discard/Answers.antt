@@ -1,7 +1,7 @@
--- A discard is answered as the rules do, and where it is refused the state is as it was.
+-- A discard is answered as the rules do, and if it is refused the state is unchanged.
 use Rattle.std.proofs.Common.{◌≡◌, ℕ, Some, OnOk, rules, ap, subst, refl, ◌∙◌}
 use Rattle.card_places.specs.Discarded.{IsDiscarded}
-use Rattle.card_places.specs.Refusals.{discard_why}
+use Rattle.card_places.specs.Refusals.{illegal_discard}
 use Rattle.card_set.specs.Row.{slots_of}
 use Rattle.play_event.specs.declared.reason.Due.{Due}
 use Rattle.play_event.specs.declared.reason.Illegal.TheVariants as reasons
@@ -9,7 +9,7 @@ use Rattle.play_event.specs.Said.{kind_said}
 use Rattle.deal_core.proofs.Answers.{discard_answered}
 use Rattle.deal_core.proofs.Same.{of_itself, one_hand}
 use Rattle.deal_core.proofs.cards.Cards.discard.Goals as goal
-use Rattle.list_laws.proofs.Results.{if_err, on_ok}
+use Rattle.card_set.proofs.Results.{if_err, on_ok}
 
 pub returns-in-Over : goal.returns-in-Over
 returns-in-Over g c =
@@ -17,28 +17,28 @@ returns-in-Over g c =
     let cards = slots_of c.in-Discard.cards in
     rw (← c.self.view_is)
     (discard_answered t t c.args.due c.args.live.now c.in-Discard.seat.number cards c.args.event.now.kind _
-    (ap kind_said c.in-Discard.is) tt (ap (λ (due : Due). discard_why t c.args.live.now due c.in-Discard.seat.number cards) c.in-Over.is) (λ on street. tt) (of_itself t) refl)
+    (ap kind_said c.in-Discard.is) tt (ap (λ (due : Due). illegal_discard t c.args.live.now due c.in-Discard.seat.number cards) c.in-Over.is) (λ on street. tt) (of_itself t) refl)
 
 pub returns-in-Draw : goal.returns-in-Draw
 returns-in-Draw g c =
     let t = c.self.inside.state in
     let seat = c.in-Discard.seat.number in
     let cards = slots_of c.in-Discard.cards in
-    let on_draw = ap (λ (due : Due). discard_why t c.args.live.now due seat cards) c.in-Draw.is in
-    let answer = c.discard_on.result in
+    let on_draw = ap (λ (due : Due). illegal_discard t c.args.live.now due seat cards) c.in-Draw.is in
+    let answer = c.discard_cards.result in
     rw (← c.self.view_is)
-    (discard_answered t c.discard_on.new.state c.args.due c.args.live.now seat cards c.args.event.now.kind answer
+    (discard_answered t c.discard_cards.new.state c.args.due c.args.live.now seat cards c.args.event.now.kind answer
     (ap kind_said c.in-Discard.is)
-    (on_ok answer (λ none. on_draw ∙ none) c.discard_on.ensures.right) (if_err answer (λ reason is. on_draw ∙ is) c.discard_on.ensures.wrong)
+    (on_ok answer (λ none. on_draw ∙ none) c.discard_cards.ensures.right) (if_err answer (λ reason is. on_draw ∙ is) c.discard_cards.ensures.wrong)
     (λ on street.
     let same : c.in-Draw.on ≡ on = cc in
-    subst (λ (s : ℕ). OnOk answer (IsDiscarded t c.discard_on.new.state s seat cards)) same c.discard_on.ensures.discarded) (one_hand t c.discard_on.new.state c.discard_on.ensures.table c.discard_on.ensures.seats) c.discard_on.ensures.unchanged)
+    subst (λ (s : ℕ). OnOk answer (IsDiscarded t c.discard_cards.new.state s seat cards)) same c.discard_cards.ensures.discarded) (one_hand t c.discard_cards.new.state c.discard_cards.ensures.table c.discard_cards.ensures.seats) c.discard_cards.ensures.unchanged)
 
 pub returns-in-Deal : goal.returns-in-Deal
 returns-in-Deal g c =
     let t = c.self.inside.state in
     let cards = slots_of c.in-Discard.cards in
-    let wrong : discard_why t c.args.live.now c.args.due c.in-Discard.seat.number cards ≡ Some reasons.WrongKind = search rules in
+    let wrong : illegal_discard t c.args.live.now c.args.due c.in-Discard.seat.number cards ≡ Some reasons.WrongKind = search rules in
     rw (← c.self.view_is)
     (discard_answered t t c.args.due c.args.live.now c.in-Discard.seat.number cards c.args.event.now.kind _
     (ap kind_said c.in-Discard.is) tt wrong (λ on street. tt) (of_itself t) refl)

@@ -1,4 +1,4 @@
--- What the street deals next by the state it deals next after the past.
+-- What the street deals next by the state is what it deals next after the past.
 use Rattle.deal_core.proofs.Owing.{next_deal_is}
 use Rattle.deal_core.proofs.cards.Cards.next_deal.Goals as goal
 

@@ -1,7 +1,7 @@
--- One hand more.
+-- One more hand.
 use Rattle.std.proofs.Common.{◌≡◌, ℕ, ◌+◌, ◌-◌, cond, List, [], ◌∷◌, ◌++◌, map, fold, sum_by, length, length-append, sym, ap, subst, ◌∙◌, arith}
 use Rattle.std.proofs.lemmas.List.{length-map, map-append}
-use Rattle.name_index.specs.Names.{with_name}
+use Rattle.report_layout.specs.Names.{with_name}
 use Rattle.hand_session.specs.declared.steps.Step.{Step}
 use Rattle.hand_session.specs.Hands.{Hand, hand_of}
 use Rattle.hand_session.specs.Sessions.{names_among, names_of, row_of, steps_after}

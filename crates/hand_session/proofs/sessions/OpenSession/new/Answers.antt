@@ -1,6 +1,6 @@
 -- A session of no hands.
 use Rattle.std.proofs.Common.{List, ap, sym, subst, refl, arith}
-use Rattle.name_index.specs.Indexed.{AreIndexed}
+use Rattle.report_layout.specs.Indexed.{AreIndexed}
 use Rattle.hand_session.specs.declared.session_rows.SessionRow.{SessionRow}
 use Rattle.hand_session.specs.Visits.{row_at, row_names}
 use Rattle.hand_session.proofs.HandByHand.{within_none}

@@ -1,4 +1,4 @@
--- The want of memory is the one that the door gave.
+-- The value of `Memory` is the one that the refused request gave.
 use Rattle.std.proofs.Common.{refl}
 use Rattle.host_io.proofs.shelf.ShelfFaultFromAllocError.from.Goals as goal
 

@@ -4,7 +4,7 @@ use Rattle.ohh_facts.specs.PotSums.{all_of, plain_listed_pot, rakes_said}
 use Rattle.ohh_facts.specs.Won.{plain_win, won_by}
 use Rattle.ohh_facts.proofs.PaidSame.{paid_same}
 use Rattle.ohh_facts.proofs.listed_pots.ListedPots.paid.Goals as goal
-use Rattle.list_laws.proofs.NumbersOfRange.{taken_from_one}
+use Rattle.card_set.proofs.NumbersOfRange.{taken_from_one}
 
 pub returns-clause-said : goal.returns-clause-said
 returns-clause-said c =

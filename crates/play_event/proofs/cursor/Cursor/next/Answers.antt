@@ -1,7 +1,7 @@
 use Rattle.std.proofs.Common.{◌≡◌, [], sym, ◌∙◌}
 use Rattle.play_event.proofs.PackedScripts.{first_read, rest_script, first_given, none_read}
 use Rattle.play_event.proofs.cursor.Cursor.next.Goals as goal
-use Rattle.list_laws.proofs.Options.{on_none}
+use Rattle.card_set.proofs.Options.{on_none}
 
 pub returns-in_err-event-clause-end : goal.returns-in_err-event-clause-end
 returns-in_err-event-clause-end c =

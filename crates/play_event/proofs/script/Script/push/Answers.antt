@@ -2,7 +2,7 @@ use Rattle.std.proofs.Common.{[], ◌∷◌, ap, length, arith, length-append, r
 use Rattle.play_event.specs.PackedForm.{packed_event}
 use Rattle.play_event.proofs.PackedScripts.{kept, unchanged_events, pushed, pushed_events, length-packed_events}
 use Rattle.play_event.proofs.script.Script.push.Goals as goal
-use Rattle.list_laws.proofs.Results.{on_err}
+use Rattle.card_set.proofs.Results.{on_err}
 
 pub overflow_add-self : goal.overflow_add-self
 overflow_add-self c =

@@ -1,4 +1,4 @@
--- The lines of the games and of all hands, and those of the names behind them.
+-- The lines of the games and of all hands, and then those of the names.
 use Rattle.std.proofs.Common.{◌≤◌, ◌*◌, ◌++◌, ◌∙◌, ap, append_assoc, arith, codes, flat_map, length, map, subst, sym}
 use Rattle.std.specs.List.{AllByRecursion}
 use Rattle.printed_report.specs.Games.{sums_line}

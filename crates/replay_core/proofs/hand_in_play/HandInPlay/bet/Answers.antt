@@ -1,4 +1,4 @@
--- The move is that of both machines.
+-- The move is that of both betting and cards.
 use Rattle.std.proofs.Common.{◌≡◌, sym, ap, refl, ◌∙◌}
 use Rattle.play_event.specs.declared.setup.Setup.{Setup}
 use Rattle.play_event.specs.Said.{said_of}

@@ -1,4 +1,4 @@
--- What is complete behind what was ended is the showdown, and behind that nothing is due.
+-- What is complete after what was ended is the showdown, and after that nothing is due.
 use Rattle.replay_core.proofs.Joined.{end_by}
 use Rattle.replay_core.proofs.hand_in_play.HandInPlay.end.Goals as goal
 

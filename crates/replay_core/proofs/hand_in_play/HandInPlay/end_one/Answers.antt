@@ -1,8 +1,8 @@
--- What is due is ended where it is complete.
+-- What is due is ended if it is complete.
 use Rattle.std.proofs.Common.{◌≡◌, true, false, sym, ap, ◌∙◌}
 use Rattle.play_event.specs.declared.setup.Setup.{Setup}
 use Rattle.play_event.specs.Due.{turn}
-use Rattle.street_laws.specs.Done.{is_done}
+use Rattle.play_laws.specs.Done.{is_done}
 use Rattle.replay_core.proofs.Joined.{now_up_to}
 use Rattle.replay_core.proofs.hand_in_play.HandInPlay.end_one.Goals as goal
 

@@ -1,4 +1,4 @@
--- An event of cards is that of both machines.
+-- An event of cards is handled by both betting and cards.
 use Rattle.std.proofs.Common.{◌≡◌, ◌≤◌, None, refl, sym, subst, ◌∙◌, arith}
 use Rattle.betting_numbers.specs.LegalMoves.{reason_after}
 use Rattle.deal_core.specs.Standing.{IsNow}

@@ -1,0 +1,112 @@
+//! The faults of a log or a game file, each with its line and the byte that shows it.
+ghost use Rattle.std.specs.Prelude.{◌≡◌};
+ghost use Rattle.acpc_game.specs.Faults.{fault_in_line as fault_in_line_said};
+ghost use Rattle.first_fault.specs.Numbers.{kept_number as kept_said};
+
+use card_set::Memory;
+use first_fault::Quantity;
+
+/// What is wrong with a line.
+#[derive(Clone, Copy, Debug, PartialEq, Eq)]
+pub enum LineFaultKind {
+    /// A line of a log without STATE, with too many or too few fields, without a hand number, or
+    /// with a name that is no text.
+    LineShape,
+    BadBetting,
+    BadCards,
+    BadValue,
+    /// The number of hole cards, values or names is not the number of players.
+    SeatCount,
+    /// A game file or a line of it that is not well formed.
+    GameShape,
+    /// A game that handref does not support.
+    UnsupportedGame,
+    /// A number that is too great.
+    AmountLimit,
+    TooMany(Quantity),
+}
+
+/// What is wrong with a line, and the byte that shows it, from 1.
+#[derive(Clone, Copy, Debug, PartialEq, Eq)]
+pub struct LineFault {
+    pub what: LineFaultKind,
+    pub byte: u64,
+}
+
+/// Why a log or a game file cannot be read. Lines, and the bytes of a line, are counted from 1; a
+/// number above 4294967295 is reported as 4294967295.
+#[derive(Clone, Copy, Debug, PartialEq, Eq)]
+pub enum AcpcFault {
+    LineShape {
+        line: u32,
+        byte: u32,
+    },
+    BadBetting {
+        line: u32,
+        byte: u32,
+    },
+    BadCards {
+        line: u32,
+        byte: u32,
+    },
+    BadValue {
+        line: u32,
+        byte: u32,
+    },
+    SeatCount {
+        line: u32,
+        byte: u32,
+    },
+    GameShape {
+        line: u32,
+        byte: u32,
+    },
+    UnsupportedGame {
+        line: u32,
+        byte: u32,
+    },
+    AmountLimit {
+        line: u32,
+        byte: u32,
+    },
+    TooMany {
+        quantity: Quantity,
+        line: u32,
+        byte: u32,
+    },
+    Memory(Memory),
+}
+
+/// The fault of a line with this number.
+pub fn fault_in_line(line: u64, fault: LineFault) -> AcpcFault
+    ensures { result ≡ fault_in_line_said line fault }
+{
+    let byte = saturating_u32(fault.byte);
+    let line = saturating_u32(line);
+    match fault.what {
+        LineFaultKind::LineShape => AcpcFault::LineShape { line, byte },
+        LineFaultKind::BadBetting => AcpcFault::BadBetting { line, byte },
+        LineFaultKind::BadCards => AcpcFault::BadCards { line, byte },
+        LineFaultKind::BadValue => AcpcFault::BadValue { line, byte },
+        LineFaultKind::SeatCount => AcpcFault::SeatCount { line, byte },
+        LineFaultKind::GameShape => AcpcFault::GameShape { line, byte },
+        LineFaultKind::UnsupportedGame => AcpcFault::UnsupportedGame { line, byte },
+        LineFaultKind::AmountLimit => AcpcFault::AmountLimit { line, byte },
+        LineFaultKind::TooMany(quantity) => AcpcFault::TooMany {
+            quantity,
+            line,
+            byte,
+        },
+    }
+}
+
+/// The number, or the greatest that a fault reports.
+pub fn saturating_u32(number: u64) -> u32
+    ensures { result ≡ kept_said number }
+{
+    if number > 4_294_967_295 {
+        4_294_967_295
+    } else {
+        number as u32
+    }
+}

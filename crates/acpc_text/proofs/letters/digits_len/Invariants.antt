@@ -1,6 +1,0 @@
-use Rattle.std.proofs.Common.{◌≡◌, ℕ, ◌<◌, get_or, true}
-use Rattle.std.specs.Char.{is_digit}
-use Rattle.acpc_text.proofs.letters.digits_len.Given as goal
-
-abbrev pub invariant-loop-index : goal.invariant-loop-index
-invariant-loop-index l = (k : ℕ) → k < l.index → is_digit (get_or l.text k 0) 10 ≡ true

@@ -1,2 +1,0 @@
--- What holds of the events of a canonical script.
-pub mod Deals

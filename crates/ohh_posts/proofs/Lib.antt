@@ -1,4 +1,0 @@
--- Laws of posts.
-pub mod Stacks
-pub mod Noted
-pub mod SeatBySeat

@@ -1,0 +1,21 @@
+use Rattle.std.proofs.Common.{◌≡◌, ◌≤◌, ◌+◌, zero, suc, ◌∙◌, arith}
+use Rattle.chip_ledger.specs.SeatRow.{amount_of}
+use Rattle.ohh_rounds.specs.AntesAndBlinds.{held_ante}
+use Rattle.ohh_rounds.specs.NamedBlinds.{plain_named_blinds}
+use Rattle.ohh_rounds.proofs.SeatBySeat.{each_seat}
+use Rattle.ohh_rounds.proofs.antes_and_blinds.antes_of.Goals as goal
+
+pub loop-index-preserved : goal.loop-index-preserved
+loop-index-preserved c =
+    let l = c.loop-index in
+    let inv = l.invariant in
+    let held = c.held.ensures in
+    record {
+      seats = c.set.ensures.seats ∙ inv.seats;
+      antes = λ posts first seat from to. each_seat (λ n amount. n ≤ l.index + 1 → amount ≡ held_ante (plain_named_blinds c.args.table.now) posts n) c.set.new.self l.row (l.index + 1) c.held.result c.set.ensures.amount c.set.ensures.others (λ to. held.ante posts first) (λ n from apart to. inv.antes posts first n from (omega (arith, apart, to))) seat from to;
+      most = each_seat (λ n amount. amount ≤ amount_of c.args.table.now.stacks n) c.set.new.self l.row (l.index + 1) c.held.result c.set.ensures.amount c.set.ensures.others held.most (λ n from apart. inv.most n from);
+    }
+
+pub returns-clause-most : goal.returns-clause-most
+returns-clause-most c zero = c.loop-index.invariant.most 1 (omega arith)
+returns-clause-most c (suc seat) = c.loop-index.invariant.most (suc seat) (omega arith)

@@ -1,0 +1,104 @@
+//! Reads where a hand was played from its fields.
+ghost use Rattle.std.specs.Prelude.{[], IfOk, IfSome};
+ghost use Rattle.std.specs.Fmt.{decimal};
+ghost use Rattle.toml.specs.View.{table_view};
+ghost use Rattle.hand_records.specs.AllowedNotes.{IsNoteText};
+ghost use Rattle.first_fault.specs.Reading.{Gives, or_none};
+ghost use Rattle.phh_reading.specs.declared.field_fault.FieldKey.TheVariants as keys;
+ghost use Rattle.phh_reading.specs.Fields.{at_key, field as field_said};
+ghost use Rattle.phh_reading.specs.NoteFields.{label_said, labels_said, text_note_said};
+
+use crate::field_fault::{FieldFault, FieldKey, FieldPlace};
+use crate::texts::{read_label, read_text_note};
+use crate::values::field;
+use first_fault::{ReadError, Text};
+use std::alloc::Global;
+use toml::Table;
+
+/// Where a hand was played: its name, its table, and the rest.
+#[derive(Debug, Drop)]
+pub struct Labels {
+    pub hand: Option<Text>,
+    pub table: Option<Text>,
+    pub venue: Option<Text>,
+    pub currency: Option<Text>,
+}
+
+/// The labels of the hand at this place of its file, from 0.
+#[tactic(auto, unfolding(crate::specs::NoteFields::labels_said))]
+pub fn read_labels(
+    alloc: Global,
+    table: &Table,
+    place: u32,
+) -> Result<Labels, ReadError<FieldFault>>
+    ensures said { Gives (λ labels. labels) result (labels_said place (table_view table.now)) }
+    ensures hand { IfOk result (λ labels. IfSome labels.hand IsNoteText) }
+    ensures table { IfOk result (λ labels. IfSome labels.table IsNoteText) }
+    ensures venue { IfOk result (λ labels. IfSome labels.venue IsNoteText) }
+    ensures currency { IfOk result (λ labels. IfSome labels.currency IsNoteText) }
+{
+    let hand = hand_at(alloc, table, place)?;
+    let label = label_at(alloc, table, FieldKey::Table)?;
+    let venue = text_at(alloc, table, FieldKey::Venue)?;
+    let currency = text_at(alloc, table, FieldKey::Currency)?;
+    Ok(Labels {
+        hand,
+        table: label,
+        venue,
+        currency,
+    })
+}
+
+// The name of the hand at this place of its file, from 0, if there is one. Most files have none, so
+// the number of the place is made into text only if there is a name to compare it with.
+fn hand_at(alloc: Global, table: &Table, place: u32) -> Result<Option<Text>, ReadError<FieldFault>>
+    ensures said { Gives (λ note. note) result
+        (or_none (label_said (decimal place) (at_key keys.Hand))
+        (field_said keys.Hand (table_view table.now))) }
+    ensures allowed { IfOk result (λ note. IfSome note IsNoteText) }
+{
+    match field(table, FieldKey::Hand) {
+        Some(value) => {
+            let usual = place.to_string(alloc)?;
+            read_label(
+                alloc,
+                value,
+                usual.as_str(),
+                FieldPlace::at_key(FieldKey::Hand),
+            )
+        }
+        None => Ok(None),
+    }
+}
+
+// The label at a key, if there is one that is not empty.
+fn label_at(
+    alloc: Global,
+    table: &Table,
+    key: FieldKey,
+) -> Result<Option<Text>, ReadError<FieldFault>>
+    ensures said { Gives (λ note. note) result
+        (or_none (label_said [] (at_key key)) (field_said key (table_view table.now))) }
+    ensures allowed { IfOk result (λ note. IfSome note IsNoteText) }
+{
+    match field(table, key) {
+        Some(value) => read_label(alloc, value, "", FieldPlace::at_key(key)),
+        None => Ok(None),
+    }
+}
+
+/// The text at a key, if there is one that is not empty.
+pub fn text_at(
+    alloc: Global,
+    table: &Table,
+    key: FieldKey,
+) -> Result<Option<Text>, ReadError<FieldFault>>
+    ensures said { Gives (λ note. note) result
+        (or_none (text_note_said [] (at_key key)) (field_said key (table_view table.now))) }
+    ensures allowed { IfOk result (λ note. IfSome note IsNoteText) }
+{
+    match field(table, key) {
+        Some(value) => read_text_note(alloc, value, "", FieldPlace::at_key(key)),
+        None => Ok(None),
+    }
+}

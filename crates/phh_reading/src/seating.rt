@@ -1,0 +1,161 @@
+//! Reads who sits where from the fields of a hand.
+ghost use Rattle.std.specs.Prelude.{◌≡◌, ℕ, ◌+◌, ◌≤◌, ◌<◌, None, length, map, replicate, take, slice_index, slice_index_or, IfOk, IfSome, option_map};
+ghost use Rattle.toml.specs.View.{table_view, view};
+ghost use Rattle.hand_records.specs.AllowedNotes.{AreSeatNumbers, IsName, IsSeatCount, IsWithin};
+ghost use Rattle.first_fault.specs.Reading.{Gives, or_none};
+ghost use Rattle.phh_reading.specs.declared.field_fault.FieldKey.TheVariants as keys;
+ghost use Rattle.phh_reading.specs.Fields.{at_item, field as field_said};
+ghost use Rattle.phh_reading.specs.NoteFields.{AreNames, names_from, names_said, numbers_from, plain_seating, seat_count_said, seating_said, seats_said, text_note_said};
+ghost use Rattle.chip_ledger.specs.SeatsSaid.{default_name};
+
+use crate::field_fault::{FieldFault, FieldKey, FieldPlace};
+use crate::texts::read_text_note;
+use crate::values::{field, read_items, read_number};
+use first_fault::{ReadError, Text};
+use hand_records::non_default_seats;
+use std::alloc::Global;
+use toml::{Table, Value};
+
+/// Who sits where: names, numbers of seats, and the size of the table.
+#[derive(Debug, Drop)]
+pub struct Seating {
+    pub names: [Option<Text>; 10],
+    pub seats: Option<[u8; 10]>,
+    pub seat_count: Option<u8>,
+}
+
+/// Who sits where in a hand with `seats` seats.
+#[tactic(auto, unfolding(crate::specs::NoteFields::seating_said))]
+pub fn read_seating(
+    alloc: Global,
+    table: &Table,
+    seats: u8,
+) -> Result<Seating, ReadError<FieldFault>>
+    requires { seats ≤ 10 }
+    ensures said { Gives (plain_seating seats) result (seating_said seats (table_view table.now)) }
+    ensures names { IfOk result (λ seating. AreNames seats seating.names) }
+    ensures seats { IfOk result (λ seating. IfSome seating.seats (AreSeatNumbers seats)) }
+    ensures seat_count { IfOk result (λ seating. IfSome seating.seat_count (IsSeatCount seats)) }
+{
+    let names = read_names(alloc, table, seats)?;
+    let numbers = read_seats(table, seats)?;
+    let seat_count = read_seat_count(table, seats)?;
+    Ok(Seating {
+        names,
+        seats: numbers,
+        seat_count,
+    })
+}
+
+// The names of the players of `seats` seats.
+#[tactic(auto, unfolding(crate::specs::NoteFields::names_said))]
+fn read_names(
+    alloc: Global,
+    table: &Table,
+    seats: u8,
+) -> Result<[Option<Text>; 10], ReadError<FieldFault>>
+    requires { seats ≤ 10 }
+    ensures said { Gives (take seats) result
+        (names_said seats (field_said keys.Players (table_view table.now))) }
+    ensures allowed { IfOk result (AreNames seats) }
+{
+    match field(table, FieldKey::Players) {
+        None => Ok(no_names()),
+        Some(value) => {
+            let values = read_items(value, seats, FieldKey::Players)?;
+            fill_names(alloc, values)
+        }
+    }
+}
+
+// The names of as many players as there are values.
+fn fill_names(alloc: Global, values: &[Value]) -> Result<[Option<Text>; 10], ReadError<FieldFault>>
+    requires { length values.now ≤ 10 }
+    ensures said { Gives (take (length values.now)) result
+        (names_from (map view values.now)) }
+    ensures allowed { IfOk result (AreNames (length values.now)) }
+{
+    let mut names = no_names();
+    for (index, value) in values.iter().enumerate() {
+        names[index] = read_name(alloc, value, index as u8 + 1)?;
+    }
+    Ok(names)
+}
+
+// Ten seats without names.
+fn no_names() -> [Option<Text>; 10]
+    ensures none { (index : ℕ) → slice_index_or result index None ≡ None }
+    ensures first { (seats : ℕ) → seats ≤ 10 → take seats result ≡ replicate seats None }
+    ensures ten { length result ≡ 10 }
+{
+    [None, None, None, None, None, None, None, None, None, None]
+}
+
+// The name of a seat's player.
+fn read_name(alloc: Global, value: &Value, seat: u8) -> Result<Option<Text>, ReadError<FieldFault>>
+    ensures said { Gives (λ name. name) result
+        (text_note_said (default_name seat) (at_item keys.Players seat) (view value.now)) }
+    ensures allowed { IfOk result (λ name. IfSome name (IsName seat)) }
+{
+    let place = FieldPlace {
+        key: FieldKey::Players,
+        item: u64::from(seat),
+    };
+    let usual = format!(in alloc; "p{seat}")?;
+    read_text_note(alloc, value, usual.as_str(), place)
+}
+
+// The numbers of the seats, if they are given and are not the usual ones.
+#[tactic(auto, unfolding(crate::specs::NoteFields::seats_said))]
+fn read_seats(table: &Table, seats: u8) -> Result<Option<[u8; 10]>, ReadError<FieldFault>>
+    requires { seats ≤ 10 }
+    ensures said { Gives (option_map (take seats)) result
+        (or_none (seats_said seats) (field_said keys.Seats (table_view table.now))) }
+    ensures allowed { IfOk result (λ numbers. IfSome numbers (AreSeatNumbers seats)) }
+{
+    let Some(value) = field(table, FieldKey::Seats) else {
+        return Ok(None);
+    };
+    let values = read_items(value, seats, FieldKey::Seats)?;
+    let numbers = fill_numbers(values)?;
+    Ok(non_default_seats(numbers, seats as usize))
+}
+
+// The numbers of as many seats as there are values.
+fn fill_numbers(values: &[Value]) -> Result<[u8; 10], ReadError<FieldFault>>
+    requires { length values.now ≤ 10 }
+    ensures said { Gives (take (length values.now)) result
+        (numbers_from (map view values.now)) }
+    ensures each { IfOk result (λ numbers. (k : ℕ) → k < length values.now
+        → IsWithin 1 255 (slice_index numbers k)) }
+    ensures no_more { IfOk result (λ numbers. (k : ℕ) → length values.now ≤ k
+        → slice_index numbers k ≡ 0) }
+{
+    let mut numbers = [0; 10];
+    for (index, value) in values.iter().enumerate() {
+        let place = FieldPlace {
+            key: FieldKey::Seats,
+            item: index as u64 + 1,
+        };
+        numbers[index] = read_number(value, 1, 255, place)? as u8;
+    }
+    Ok(numbers)
+}
+
+// The number of seats of the table, if it is given and differs from that of the hand.
+#[tactic(auto, unfolding(crate::specs::NoteFields::seat_count_said))]
+fn read_seat_count(table: &Table, seats: u8) -> Result<Option<u8>, ReadError<FieldFault>>
+    ensures said { Gives (λ count. count) result
+        (or_none (seat_count_said seats) (field_said keys.SeatCount (table_view table.now))) }
+    ensures allowed { IfOk result (λ count. IfSome count (IsSeatCount seats)) }
+{
+    let Some(value) = field(table, FieldKey::SeatCount) else {
+        return Ok(None);
+    };
+    let count = read_number(value, 1, 255, FieldPlace::at_key(FieldKey::SeatCount))? as u8;
+    if count == seats {
+        Ok(None)
+    } else {
+        Ok(Some(count))
+    }
+}

@@ -1,0 +1,12 @@
+-- The line of a legal hand.
+use Rattle.std.proofs.Common.{refl, string_bytes, ◌+◌, arith}
+use Rattle.poker_cli.proofs.JudgedLines.{legal_few, now_legal}
+use Rattle.poker_cli.proofs.judging.VerdictLinesVerdictVisitor.take.Goals as goal
+
+pub overflow_add-self : goal.overflow_add-self
+overflow_add-self c = omega (arith, c.requires.few, c.requires.taken.1.counted, c.requires.taken.1.took.counted, legal_few c.requires.taken.1.verdicts)
+
+pub returns : goal.returns
+returns c = λ start before counted legal printed.
+    now_legal (string_bytes c.args.self.now.text) (string_bytes c.push_legal.new.text) c.args.self.now.legal (c.args.self.now.legal + 1) c.args.place before c.args.arg4.now
+    printed counted c.in_ok-push_legal.ensures refl

@@ -1,0 +1,90 @@
+//! Takes the plays of hands one after the other, up to the first refused hand.
+ghost use Rattle.std.specs.Prelude.{◌≡◌, ◌<◌, ◌≤◌, ◌++◌, [], ◌∷◌, false, All, List, length, IfErr, IfOk, OnOk};
+ghost use Rattle.convert_core.specs.Judged.{IsPlaysFaultOf};
+ghost use Rattle.convert_core.specs.Verdicts.{legal_plays};
+ghost use Rattle.first_fault.specs.declared.limits.TheConstants.{MOST_HANDS};
+ghost use Rattle.hand_canon.specs.Sound.{IsSound};
+ghost use Rattle.hand_records.specs.SoundRecord.{IsSoundRecord};
+ghost use Rattle.hand_records.specs.declared.trace.Play.{Play as AnyPlay};
+ghost use Rattle.poker_cli.specs.Played.{HasTakenPlays, HaveTaken};
+
+use card_set::Memory;
+use convert_core::{PlaysFault, Refusal, VerdictVisitor, judge_all};
+use hand_records::{Play, Records};
+use std::alloc::Global;
+
+/// Takes the plays of a file, one after the other. Each is dropped before the next is made.
+pub trait HandVisitor {
+    /// What holds of a taker before and after it took these plays.
+    ghost TookPlays: { Self → Self → List AnyPlay → Type 0 };
+
+    /// Takes the play of the hand at its place in the file, from 0.
+    ///
+    /// # Errors
+    ///
+    /// Out of memory.
+    fn take_play(&mut self, alloc: Global, place: usize, play: &Play) -> Result<(), Memory>
+        requires taken { (start : Self) × HasTakenPlays (TookPlays start self.old) place }
+        requires few { place < MOST_HANDS }
+        requires sound { IsSound play.now }
+        ensures { (start : Self) (before : List AnyPlay) → length before ≡ place
+            → TookPlays start self.old before
+            → OnOk result (TookPlays start self.new (before ++ play.now ∷ [])) };
+}
+
+// Takes verdicts and stops at the first refused hand.
+#[derive(Drop)]
+struct LegalPlays<T: HandVisitor + Drop> {
+    visitor: T,
+}
+
+impl<T: HandVisitor + Drop> VerdictVisitor for LegalPlays<T> {
+    ghost CONTINUES = { false };
+
+    ghost KEEPS = { false };
+
+    ghost Took = { λ start it verdicts.
+        T.TookPlays start.visitor it.visitor (legal_plays verdicts) };
+
+    fn continues(&self) -> bool {
+        false
+    }
+
+    fn keeps(&self) -> bool {
+        false
+    }
+
+    fn take(&mut self, alloc: Global, place: usize, play: &Play) -> Result<(), Memory> {
+        match self.visitor.take_play(alloc, place, play) {
+            Ok(()) => Ok(()),
+            Err(memory) => Err(memory),
+        }
+    }
+
+    fn pass(&mut self, _: Global, _: usize, _: &Refusal) -> Result<(), Memory> {
+        Ok(())
+    }
+}
+
+/// The taker after it took the plays of these hands.
+///
+/// # Errors
+///
+/// The first refused hand, with what is wrong with it first; or out of memory.
+pub fn take_plays<T: HandVisitor + Drop>(
+    alloc: Global,
+    visitor: T,
+    records: Records,
+) -> Result<T, PlaysFault>
+    requires sound { All IsSoundRecord records }
+    requires few { length records ≤ MOST_HANDS }
+    requires begun { T.TookPlays visitor visitor [] }
+    ensures taken { IfOk result (λ it. HaveTaken (T.TookPlays visitor it) records) }
+    ensures refused { IfErr result (IsPlaysFaultOf records) }
+{
+    let mut legal = LegalPlays { visitor };
+    match judge_all(alloc, &mut legal, records) {
+        Ok(_) => Ok(legal.visitor),
+        Err(fault) => Err(fault),
+    }
+}

@@ -1,8 +1,0 @@
--- What lies on the table where a contested hand ends.
-pub mod AllDone
-pub mod StreetSplits
-pub mod WholeHands
-pub mod WholeBoards
-pub mod ApartCards
-pub mod Different
-pub mod DealtOnce

@@ -1,2 +1,0 @@
--- What lies on the table where a contested hand ends.
-pub mod ContestedEnd

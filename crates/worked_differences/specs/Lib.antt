@@ -1,2 +1,0 @@
--- Setups and traces that differ from those of the worked plays.
-pub mod OtherTraces
