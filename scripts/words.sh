@@ -54,7 +54,7 @@ handref: a converter and referee of recorded poker hands
 Tools in Python around the proved program (try --help after each):
   handref page FILE OUT                                  an HTML page that shows the hands of a file
   handref many COMMAND [OPTION..] PATH..                 folders and files of any length, on all processors
-  handref explain FILE                                   where a fault is, what it means, what would be legal
+  handref explain FILE [LINE]                            where a fault is, what it means, what would be legal
   handref cents FILE..                                   turns decimal amounts into whole cents
 
 FORMAT  phh     Poker Hand History (.phh and .phhs files)

@@ -172,8 +172,8 @@ pub fn run_on_an_output_writes_it()
         → ConvertsInto from to keep bytes output
         → (out diag : Sinks) (status : Status)
         → (ends : ConversionEnds to to again output out diag status)
-        → AreSameAnswers (AreSameIn to) (Ok output)
-        (told_by to to again output out diag status ends) }
+        → IfSome (told_by to to again output out diag status ends)
+        (AreSameAnswers (AreSameIn to) (Ok output)) }
 {
     law_of_runs_again();
 }
@@ -185,8 +185,9 @@ pub fn way_of_runs_is_free()
         → (out diag by_out by_diag : Sinks) (status by_status : Status)
         → (straight : ConversionEnds from to keep bytes out diag status)
         → (by_way : ConversionEnds by to keep output by_out by_diag by_status)
-        → AreSameAnswers (AreSameIn to) (told_by from to keep bytes out diag status straight)
-        (told_by by to keep output by_out by_diag by_status by_way) }
+        → IfSome (told_by from to keep bytes out diag status straight) (λ answer.
+        IfSome (told_by by to keep output by_out by_diag by_status by_way)
+        (AreSameAnswers (AreSameIn to) answer)) }
 {
     law_of_runs_by_way();
 }

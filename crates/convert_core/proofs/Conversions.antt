@@ -203,7 +203,7 @@ module _ (n : WrittenNotation) (keep once : Keep) (plays : List Play) (output : 
   answer_again (Err (faults.Unspelled number fact)) has =
       let none : first_refusal (n.unspelled keep) has.plays ≡ None = none_again has.plays has.read in
       absurd (cc (none, has.first))
-  answer_again (Err (faults.Memory memory)) memory = tt
+  answer_again (Err (faults.Memory none_left)) memory = tt
 
 pub output_again : (a : ReadNotation) (n : WrittenNotation) (once keep : Keep) (bytes output : List ℕ) (answer : Result (List ℕ) ConvertFault)
     → Converts a n once bytes (Ok output) → Converts n.source n keep output answer → AreSameAnswers n.AreSame (Ok output) answer

@@ -162,7 +162,7 @@ pub refused_on : (continues keeps : Bool) (Took : List Verdict → Type 0) (reco
     → AreOnTheWay continues keeps Took records (hand ∷ left) place kept → (continues ≡ true → IsPlaysOutOfMemory fault)
     → IsFaultAt hand (place + 1) fault → IsPlaysFaultOf records fault
 refused_on true keeps Took records left hand place kept (plays_faults.Refused number why) way memory refused = absurd (memory refl)
-refused_on continues keeps Took records left hand place kept (plays_faults.Memory memory) way memory refused = tt
+refused_on continues keeps Took records left hand place kept (plays_faults.Memory none_left) way memory refused = tt
 refused_on false keeps Took records left hand place kept (plays_faults.Refused number why) way memory refused =
     let taken = way.taken in
     let verdicts = taken.verdicts in

@@ -1,6 +1,6 @@
 -- What bytes say as a log of the Annual Computer Poker Competition under a game, and which bytes
 -- are written for plays.
-use Rattle.std.specs.Prelude.{◌≡◌, ℕ, ◌≤◌, List, length, map, Ok, Err, sum_by}
+use Rattle.std.specs.Prelude.{◌≡◌, ℕ, ◌≤◌, false, List, length, map, Ok, Err, sum_by}
 use Rattle.std.specs.List.{AllByRecursion}
 use Rattle.acpc_game.specs.declared.game.Game.{Game}
 use Rattle.acpc_writing.specs.Line.{log_text}

@@ -52,7 +52,10 @@ pub fn judge_all<T: VerdictVisitor>(
 }
 
 // The number of plays to reserve room for.
-fn room<T: VerdictVisitor>(visitor: &T, hands: usize) -> usize {
+fn room<T: VerdictVisitor>(visitor: &T, hands: usize) -> usize
+    requires { hands ≤ MOST_HANDS }
+    ensures { result ≤ MOST_ROOM }
+{
     if visitor.keeps() { hands } else { 1 }
 }
 

@@ -5,7 +5,7 @@ ghost use Rattle.hand_canon.specs.LegalHand.{IsLegalHand};
 ghost use Rattle.play_event.specs.declared.setup.Setup.{Setup as SetupNow};
 ghost use Rattle.play_event.specs.HistoryRules as histories;
 ghost use Rattle.play_event.specs.Said.{said_of};
-ghost use Rattle.hand_gen.specs.GeneratedHand.{IsMadeScript, backward, source_behind};
+ghost use Rattle.hand_gen.specs.Made.{IsMadeScript, backward, source_behind};
 ghost use Rattle.hand_gen.specs.MadeTo.{IsMadeTo, IsStep, IsUnderway};
 ghost use Rattle.hand_gen.specs.Progress.{IsSmall};
 ghost use Rattle.hand_gen.specs.HandSource as stocks;

@@ -3,7 +3,7 @@ ghost use Rattle.std.specs.Prelude.{ℕ, List, reverse};
 ghost use Rattle.play_event.specs.declared.setup.Setup.{Setup};
 ghost use Rattle.play_event.specs.HistoryRules.{history_rules};
 ghost use Rattle.play_event.specs.Said.{Said};
-ghost use Rattle.hand_gen.specs.GeneratedHand.{HaveCome, source_of};
+ghost use Rattle.hand_gen.specs.Made.{HaveCome, source_of};
 ghost use Rattle.hand_gen.specs.Progress.{HasEnd, MakesProgress};
 ghost use Rattle.hand_gen.specs.Setups.{IsMadeSetup};
 

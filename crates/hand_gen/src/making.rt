@@ -5,7 +5,7 @@ ghost use Rattle.first_fault.specs.declared.limits.TheConstants.{MOST_HANDS};
 ghost use Rattle.play_event.specs.HistoryRules.{history_rules as rules_of_histories};
 ghost use Rattle.play_event.specs.Said.{said_of};
 ghost use Rattle.hand_canon.specs.LegalHand.{IsLegalHand};
-ghost use Rattle.hand_gen.specs.GeneratedHand.{AreMade, IsMade, IsMadeScript, backward, number_behind, source_behind};
+ghost use Rattle.hand_gen.specs.Made.{AreMade, IsMade, IsMadeScript, backward, number_behind, source_behind};
 ghost use Rattle.hand_gen.specs.Progress.{IsSmall};
 ghost use Rattle.hand_gen.specs.Setups as setups;
 ghost use Rattle.hand_gen.specs.HandSource.{full_deck};

@@ -12,13 +12,11 @@ use Rattle.play_event.specs.declared.reason.Due.TheVariants as dues
 use Rattle.play_event.specs.declared.reason.Illegal.{Illegal}
 use Rattle.play_event.specs.declared.reason.Illegal.TheVariants as reasons
 use Rattle.play_event.specs.Amounts.{bring_in_target}
-use Rattle.play_event.specs.Chips.{all_in}
 use Rattle.play_event.specs.Due.{turn}
 use Rattle.play_event.specs.Laws.{IsInTurn}
 use Rattle.play_event.specs.MoveReasons.{chips_to_call}
 use Rattle.play_event.specs.Openers.{TheSeat, Undecided}
 use Rattle.play_event.specs.Past.{Past, moves_of}
-use Rattle.play_event.specs.CurrentBet.{current_bet}
 use Rattle.play_event.specs.Said.{BringIn, Call, Fold}
 use Rattle.play_event.specs.Streets.{limit_of}
 use Rattle.play_event.specs.Targets.{is_legal_target}
@@ -27,12 +25,12 @@ use Rattle.play_laws.specs.Dues.{is_move}
 use Rattle.betting_numbers.specs.declared.betting_state.BettingState.{BettingState}
 use Rattle.betting_numbers.specs.declared.targeting.Targets.{Targets}
 use Rattle.betting_numbers.specs.LegalMoves.{IsTurn}
-use Rattle.betting_numbers.specs.Seen.{all_in_seen}
 use Rattle.betting_numbers.specs.Standing.{StandsFor}
 use Rattle.betting_numbers.specs.Targeted.{AreEndsFor}
 use Rattle.betting_numbers.specs.Why.{bring_in_seen, call_seen, fold_reason, now_reason}
-use Rattle.betting_numbers.proofs.Bridge.{all_in_is, current_bet_is}
-use Rattle.betting_numbers.proofs.InTurn.{bring_in_moves, bring_in_refused, call_moves, call_now, fold_moves, fold_now}
+use Rattle.betting_numbers.proofs.Bridge.{all_in_is}
+use Rattle.betting_core.proofs.ToCall.{call_after, fold_after}
+use Rattle.betting_numbers.proofs.InTurn.{bring_in_moves, bring_in_refused, call_moves, call_now, fold_now}
 use Rattle.hand_options.specs.declared.choices.RaiseSet.{RaiseSet}
 use Rattle.betting_numbers.specs.TurnSaid.{in_turn_on}
 use Rattle.hand_options.specs.Legal.{AreOptions, IsSetOf, bring_in_of, call_of, is_in_set, is_legal, is_legal_raise, seat_at, seat_in_turn, seat_known}
@@ -76,7 +74,7 @@ module _ (b : BettingState) (past : Past) (stands : StandsFor b past) (seat : Se
 
   -- a fold and a call when a move is due
   fold_is : b.due ≡ dues.Move → is_none (fold_reason b (Some seat.number) seat.number) ≡ is_legal b.setup b.rules past (Fold (Some seat.number))
-  fold_is due = sym (ap is_none (fold_moves b past stands (Some seat.number) seat.number (ap (now_reason true false) due) in_hand turned))
+  fold_is due = fold_after b seat.number past stands in_hand due turned
 
   call_legal : b.due ≡ dues.Move → is_legal b.setup b.rules past (Call (Some seat.number) None) ≡ true
   call_legal due =
@@ -84,10 +82,7 @@ module _ (b : BettingState) (past : Past) (stands : StandsFor b past) (seat : Se
       ∙ own seat.number reasons.WrongSeat
 
   chips_are : call_seen b seat.number - amount_of b.bets seat.number ≡ chips_to_call b.setup (moves_of past) b.street seat.number
-  chips_are =
-      ap (λ p. min p (all_in_seen b seat.number) - amount_of b.bets seat.number) (current_bet_is b (moves_of past) stands.standing)
-      ∙ ap (λ a. min (current_bet b.setup (moves_of past) b.street) a - amount_of b.bets seat.number) (all_in_is b (moves_of past) stands.standing seat.number in_hand)
-      ∙ ap (λ c. min (current_bet b.setup (moves_of past) b.street) (all_in b.setup (moves_of past) b.street seat.number) - c) (stands.standing.bets seat.number in_hand)
+  chips_are = call_after b seat.number past stands in_hand
 
   call_is : b.due ≡ dues.Move → call_of b.setup b.rules past seat.number ≡ Some (call_seen b seat.number - amount_of b.bets seat.number)
   call_is due =

@@ -168,9 +168,7 @@ same_listed count other to too (Pair y z numbered are) (Single x counted is) sam
     absurd (cc (one))
 same_listed count other to too (Pair x y counted is) (Pair u v numbered are) same =
     let two : x ∷ y ∷ [] ≡ u ∷ v ∷ [] = sym (shown count to 2 (x ∷ y ∷ []) counted is) ∙ same ∙ shown other too 2 (u ∷ v ∷ []) numbered are in
-    let first : x ≡ u = cc (two) in
-    let second : y ≡ v = cc (two) in
-    cc (counted, is, numbered, are, first, second)
+    cc (counted, is, numbered, are, two)
 
 -- sets of the same targets, in the form of one limit, are one set
 same_raises : (limit : Limit) (a b : RaiseSet) → ((target : ℕ) → is_in_set a target ≡ is_in_set b target)

@@ -15,7 +15,7 @@ use serde_json::Value;
 /// The value of a required member.
 #[tactic(auto, unfolding(crate::specs::Values::required))]
 pub fn required<'a>(value: &'a Value, path: Path) -> Result<&'a Value, ReadError<MemberFault>>
-    ensures { Gives (λ found. view found.now) result (needed_said path (view value.now)) }
+    ensures { Gives (λ found. view found.now) result (required_said path (view value.now)) }
 {
     match field(value, path) {
         Some(found) => Ok(found),

@@ -100,7 +100,7 @@ fn in_hand(hand: u32, what: HandFaultKind) -> ReadError<OhhHandFault>
 }
 
 // The JSON tree of a block, or nothing if it is not JSON.
-#[tactic(auto, using(crate::proofs::Trees::no_tree, card_set::specs::Refusal::an_allocator_said_so))]
+#[tactic(auto, using(crate::proofs::Trees::no_tree))]
 fn parse(alloc: Global, block: &[u8]) -> Result<Option<Value>, Memory>
     ensures { IfOk result (λ tree. option_map view tree ≡ tree_of block.now) }
 {
@@ -114,6 +114,14 @@ fn parse(alloc: Global, block: &[u8]) -> Result<Option<Value>, Memory>
             }
         }
     }
+}
+
+// The parser reports out of memory only if a request was refused; that is assumed here.
+#[tactic(auto, using(card_set::specs::Refusal::an_allocator_said_so))]
+fn refused_in_parser(_error: &Error) -> Memory
+    requires { IsMemory _error.now }
+{
+    Memory {}
 }
 
 // The hand of a tree at this place of its file, from 0, after `file_moves` moves of the file.

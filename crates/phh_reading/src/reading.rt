@@ -35,9 +35,8 @@ pub fn read(alloc: Global, bytes: &[u8]) -> Result<Records, PhhFault>
     }
 }
 
-// The document that bytes are, or nothing if they are not TOML. The parser reports out of memory
-// only if a request was refused; that is assumed here.
-#[tactic(auto, using(crate::proofs::Documents::no_document, card_set::specs::Refusal::an_allocator_said_so))]
+// The document that bytes are, or nothing if they are not TOML.
+#[tactic(auto, using(crate::proofs::Documents::no_document))]
 fn parse(alloc: Global, bytes: &[u8]) -> Result<Option<Table>, Memory>
     ensures { IfOk result (λ table. option_map (λ t. table_view t) table ≡ document_of bytes.now) }
 {
@@ -51,6 +50,14 @@ fn parse(alloc: Global, bytes: &[u8]) -> Result<Option<Table>, Memory>
             }
         }
     }
+}
+
+// The parser reports out of memory only if a request was refused; that is assumed here.
+#[tactic(auto, using(card_set::specs::Refusal::an_allocator_said_so))]
+fn refused_in_parser(_error: &Error) -> Memory
+    requires { IsMemory _error.now }
+{
+    Memory {}
 }
 
 // The records in a document.

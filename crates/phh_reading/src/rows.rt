@@ -125,7 +125,7 @@ fn read_ante(value: &Value, stack: u64, place: FieldPlace) -> Result<u64, ReadEr
 
 /// The blinds in the order of seats: with two seats, the first seat has the greater one.
 pub fn heads_up_swapped(mut blinds: SeatRow) -> SeatRow
-    ensures amounts { amounts_in result ≡ posted_said (amounts_in blinds) }
+    ensures amounts { amounts_in result ≡ heads_up_swapped_said (amounts_in blinds) }
     ensures seats { result.seats ≡ blinds.seats }
     ensures most { (most : ℕ) → ((k : ℕ) → slice_index blinds.amounts k ≤ most)
         → (k : ℕ) → slice_index result.amounts k ≤ most }

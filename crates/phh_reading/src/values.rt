@@ -11,7 +11,7 @@ use toml::{Table, Value};
 /// The value at a required key.
 #[tactic(auto, unfolding(crate::specs::Fields::required))]
 pub fn required<'a>(table: &'a Table, key: FieldKey) -> Result<&'a Value, ReadError<FieldFault>>
-    ensures { Gives (λ value. view value.now) result (needed_said key (table_view table.now)) }
+    ensures { Gives (λ value. view value.now) result (required_said key (table_view table.now)) }
 {
     match field(table, key) {
         Some(value) => Ok(value),

@@ -58,7 +58,7 @@ answer_beyond task reader left answer many is =
 
 -- running out of memory is not reported as a fault
 history_memory : (fault : PhhFault) (answer : Answer) → to_fault (formats.Phh fault) ≡ Some answer → is_out_of_memory_in_phh fault ≡ true → ⊥
-history_memory (in_phh.Memory memory) answer told memory = cc (told)
+history_memory (in_phh.Memory none_left) answer told memory = cc (told)
 history_memory in_phh.Text answer told memory = cc (memory)
 history_memory (in_phh.MissingField hand key) answer told memory = cc (memory)
 history_memory (in_phh.WrongType hand key) answer told memory = cc (memory)
@@ -71,7 +71,7 @@ history_memory (in_phh.BadAction hand key) answer told memory = cc (memory)
 history_memory (in_phh.TooMany quantity hand key) answer told memory = cc (memory)
 
 tree_memory : (fault : OhhFault) (answer : Answer) → to_fault (formats.Ohh fault) ≡ Some answer → is_out_of_memory_in_ohh fault ≡ true → ⊥
-tree_memory (in_ohh.Memory memory) answer told memory = cc (told)
+tree_memory (in_ohh.Memory none_left) answer told memory = cc (told)
 tree_memory (in_ohh.Text hand) answer told memory = cc (memory)
 tree_memory (in_ohh.MissingMember hand path) answer told memory = cc (memory)
 tree_memory (in_ohh.WrongType hand path) answer told memory = cc (memory)
@@ -86,7 +86,7 @@ tree_memory (in_ohh.RakePlace hand path) answer told memory = cc (memory)
 tree_memory (in_ohh.TooMany quantity hand path) answer told memory = cc (memory)
 
 log_memory : (fault : AcpcFault) (answer : Answer) → to_fault (formats.Acpc fault) ≡ Some answer → is_out_of_memory_in_acpc fault ≡ true → ⊥
-log_memory (in_acpc.Memory memory) answer told memory = cc (told)
+log_memory (in_acpc.Memory none_left) answer told memory = cc (told)
 log_memory (in_acpc.LineShape line byte) answer told memory = cc (memory)
 log_memory (in_acpc.BadBetting line byte) answer told memory = cc (memory)
 log_memory (in_acpc.BadCards line byte) answer told memory = cc (memory)
@@ -346,7 +346,7 @@ of_files left (Some files) P is = of_all left (λ bytes. P files) (λ bytes. is)
 of_files left None P is = tt
 
 -- running out of memory says nothing about files and bytes, and leaves the input as it was
-pub ends_unread : (said : Option Request) (left : Option (List ℕ)) (told : Option Files) (out diag : Sinks) (Same : Type 0)
+pub ends_unread : (said : Option Request) (left : Option (List ℕ)) (told : Option Files) (out diag : Sinks) (Same : Type 0) → WasRefused
     → IfSome said (λ request. WhereTold request left told (λ files bytes. EndsLeaving request files bytes out diag statuses.Memory Same))
 ends_unread None left told out diag Same refused = tt
 ends_unread (Some request) left told out diag Same refused = ends_memory request left told out diag Same refused

@@ -109,11 +109,7 @@ fn answer_to_words<S: Source, H: Shelf, K: Sink, D: Sink>(
     }
 }
 
-// The library reports out of memory for the words only if a request was refused; that is assumed
-// here.
-//
 // The words after the first one. Words that are not text are no command, just as no words are.
-#[tactic(auto, using(card_set::specs::Refusal::an_allocator_said_so))]
 fn words_behind_first(alloc: Global, all: io::Result<Args>) -> Result<Vec<String>, Memory>
     ensures no_text { IfErr all (λ error. error_kind error ≢ OutOfMemory → IfErr result (λ _. ⊥)) }
     ensures no_words { IfErr all (λ error. IfOk result (λ words. words.items ≡ [])) }
@@ -132,7 +128,8 @@ fn words_behind_first(alloc: Global, all: io::Result<Args>) -> Result<Vec<String
     }
 }
 
-// A request for memory for the words was refused, as the error of the system says.
+// The library reports out of memory for the words only if a request was refused; that is assumed
+// here.
 #[tactic(auto, using(card_set::specs::Refusal::an_allocator_said_so))]
 fn refused_for_words(_error: &io::Error) -> Memory
     requires { error_kind _error.now ≡ OutOfMemory }

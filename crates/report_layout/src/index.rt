@@ -41,7 +41,8 @@ impl NameIndex {
             → length names ≡ others
             → IfOk result (λ place. position_from (bytes_eq name.now) 0 (with_name names name.now)
             ≡ Some place) }
-        ensures unchanged { OnErr result (self.new ≡ self.old) }
+        ensures refused { (names : List (List ℕ)) → AreIndexed self.old names
+            → OnErr result (AreIndexed self.new names) }
     {
         if let Some(place) = self.places.get(name) {
             return Ok(*place);

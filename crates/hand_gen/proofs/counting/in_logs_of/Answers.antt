@@ -4,7 +4,6 @@ use Rattle.acpc_writing.specs.Line.{log_text}
 use Rattle.acpc_writing.specs.Spelled.{unspelled}
 use Rattle.hand_records.specs.declared.trace.Play.{Play}
 use Rattle.hand_records.specs.declared.writing.Keep.TheVariants as keeps
-use Rattle.hand_records.specs.declared.writing.WriteRefusal.TheVariants as refusals
 use Rattle.hand_gen.specs.Load.{fits}
 use Rattle.hand_gen.proofs.CountLaws.{refused_is, written_is}
 use Rattle.hand_gen.proofs.counting.in_logs_of.Goals as goal

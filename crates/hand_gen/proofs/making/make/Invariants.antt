@@ -1,6 +1,6 @@
 -- The hands so far are made, and the generator is after them.
 use Rattle.std.proofs.Common.{◌≡◌, All, length}
-use Rattle.hand_gen.specs.GeneratedHand.{AreMadeFrom, number_behind_all}
+use Rattle.hand_gen.specs.Made.{AreMadeFrom, number_behind_all}
 use Rattle.hand_gen.specs.Sound.{IsSoundHand}
 use Rattle.hand_gen.proofs.making.make.Given as goal
 

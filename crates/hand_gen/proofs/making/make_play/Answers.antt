@@ -1,15 +1,27 @@
 -- The hand is made, and it is sound and legal.
-use Rattle.std.proofs.Common.{◌≡◌, map, sym, subst, ◌∙◌}
+use Rattle.std.proofs.Common.{◌≡◌, map, refl, sym, subst, ◌∙◌}
 use Rattle.hand_canon.specs.LegalHand.{IsLegalHand}
 use Rattle.play_event.specs.declared.setup.Rules.{Rules}
 use Rattle.play_event.specs.Said.{said_of}
+use Rattle.card_set.specs.declared.memory.Memory.{Memory}
 use Rattle.replay_core.proofs.OneFault.{no_fault}
-use Rattle.hand_gen.specs.GeneratedHand.{IsMadeScript, source_of}
+use Rattle.replay_core.specs.declared.fault.ReplayFault.{ReplayFault}
+use Rattle.replay_core.specs.declared.fault.ReplayFault.TheVariants as faults
+use Rattle.replay_core.specs.Faults.{IsOutOfMemory}
+use Rattle.hand_gen.specs.Made.{IsMadeScript, source_of}
 use Rattle.hand_gen.specs.HandSource.{HandSource, full_deck}
 use Rattle.hand_gen.specs.Setups.{number_behind_setup}
 use Rattle.hand_gen.proofs.RecordLaws.{none_allowed, same_source}
 use Rattle.hand_gen.proofs.SetupLaws.{made_small, made_valid}
 use Rattle.hand_gen.proofs.making.make_play.Goals as goal
+
+-- a fault that is not out of memory
+not_memory : (fault : ReplayFault) → ((memory : Memory) → fault ≡ faults.Memory memory → ⊥) → ¬ IsOutOfMemory fault
+not_memory (faults.Illegal event at reason) other is = is
+not_memory (faults.EndsEarly events) other is = is
+not_memory (faults.RakeTooBig pot) other is = is
+not_memory (faults.NoShownHand pot) other is = is
+not_memory (faults.Memory memory) other is = other memory refl
 
 pub script_by_code-requires : goal.script_by_code-requires
 script_by_code-requires c = record {
@@ -22,7 +34,7 @@ unreachable-requires c =
     let setup = c.setup_at-setup.result in
     let script = c.in-Ok-script_by_code.script in
     let legal = subst (λ (r : Rules). IsLegalHand setup r (map said_of script)) (sym c.history_rules-rules.ensures) c.in-Ok-script_by_code.ensures.legal in
-    no_fault setup c.history_rules-rules.result script c.in-Err-replay.fault c.in_default.not-Memory legal c.in-Err-replay.ensures.fault
+    no_fault setup c.history_rules-rules.result script c.in-Err-replay.fault (not_memory c.in-Err-replay.fault c.in_default.not-Memory) legal c.in-Err-replay.ensures.fault
 
 pub replay-requires-clause-valid : goal.replay-requires-clause-valid
 replay-requires-clause-valid c = made_valid c.args.place c.args.number c.setup_at-setup.result c.setup_at-setup.ensures

@@ -15,6 +15,6 @@ returns-clause-event g c =
     λ past stands holds turned.
     c.chosen.ensures
     ∙ ap (λ n. move_of (nat_lt 0 n) (ends_said c.targets-ends.result) seat.number c.draw-number.result)
-    (c.to_call-owes.ensures ∙ owed_is b (moves_of past) stands.standing seat.number (record { first = seat.first; last = c.requires.in_hand }))
+    (c.to_call-owes.ensures.value ∙ owed_is b (moves_of past) stands.standing seat.number (record { first = seat.first; last = c.requires.in_hand }))
     ∙ ap (λ e. move_of (nat_lt 0 (to_call b.setup (moves_of past) b.street seat.number)) e seat.number c.draw-number.result) (ends_are b past seat.number c.targets-ends.result stands c.requires.bets turned (c.targets-ends.ensures.some past stands holds) (c.targets-ends.ensures.ends past stands holds))
     ∙ ap (λ n. move_by b.setup b.rules (moves_of past) b.street seat.number n) c.draw-number.ensures.drawn

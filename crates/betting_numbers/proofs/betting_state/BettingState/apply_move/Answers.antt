@@ -66,11 +66,11 @@ invariant_of-self-clause-able_is c =
     let was_live = c.get-was_live.result in
     let is_live = c.live_after-live.result in
     let was = c.can_act-was_able.result in
-    let is = c.able_after-can_act.result in
+    let is = c.able_after-able.result in
     let before : ℕ → Bool = λ n. flag_of b.live n && nat_lt 0 (amount_of b.setup.stacks n - amount_of b.puts n) in
     let after : ℕ → Bool = λ n. flag_of live n && nat_lt 0 (amount_of b.setup.stacks n - amount_of puts n) in
     let is_is : is ≡ after seat =
-    c.able_after-can_act.ensures
+    c.able_after-able.ensures
     ∙ ap (λ (l : Bool). l && nat_lt 0 (c.get.result - (put + added))) (sym c.set-3.ensures.flag)
     ∙ ap (λ (s : ℕ). flag_of live seat && nat_lt 0 (s - (put + added))) c.get.ensures
     ∙ ap (λ (n : ℕ). flag_of live seat && nat_lt 0 (amount_of b.setup.stacks seat - n)) (sym c.set-2.ensures.amount) in
@@ -81,7 +81,7 @@ invariant_of-self-clause-able_is c =
     ∙ ap (λ (n : ℕ). was_live && nat_lt 0 (c.get.result - n)) (sym c.get-put.ensures) in
     let stays : is_live ≡ true → was_live ≡ true = λ yes. (and_parts was_live (not (is_fold (act_said c.args.act))) (sym c.live_after-live.ensures ∙ yes)).0 in
     let fell = count_fell before after 1 b.setup.stacks.seats seat was is c.args.seat.first (omega (arith, c.requires.in_hand)) c.can_act-was_able.ensures is_is
-    (λ yes. was_is ∙ able_before was_live is_live c.get.result put added stays (sym c.able_after-can_act.ensures ∙ yes))
+    (λ yes. was_is ∙ able_before was_live is_live c.get.result put added stays (sym c.able_after-able.ensures ∙ yes))
     (λ j from to other. ap (λ (l : Bool). l && nat_lt 0 (amount_of b.setup.stacks j - amount_of puts j)) (c.set-3.ensures.others j from other)
     ∙ ap (λ (n : ℕ). flag_of b.live j && nat_lt 0 (amount_of b.setup.stacks j - n)) (c.set-2.ensures.others j from other)) in
     c.count_after-able_count.ensures ∙ ap (λ (count : ℕ). if was && not is then count - 1 else count) b.able_is ∙ sym fell

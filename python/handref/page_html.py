@@ -1,0 +1,238 @@
+"""The HTML of a page: its head, the list to read, and the data for its script."""
+import base64
+import hashlib
+import html
+import json
+import re
+import zlib
+from dataclasses import replace
+from importlib import resources
+from typing import Any, Iterator, Optional, Sequence
+
+from handref import NotDone, messages
+from handref.cut import GAMES, MOST_UNREAD, short, shown
+from handref.page_chart import session_part
+from handref.page_played import Hand, Page
+
+MOST_LISTED = 100  # hands that are there without JavaScript, event by event
+_BLOCK = 256  # hands that are packed together
+
+def _told_of(error: NotDone) -> str:
+    """What was said of a hand, without its number, which the page has beside it."""
+    return re.sub(r"^(refused|bad input): (hand \d+(, |: ))?", r"\1: ", str(replace(
+        error, file=None)))
+
+
+def _reason(error: NotDone) -> str:
+    """What is wrong in a word, or with the numbers that differ."""
+    if error.reason and error.place is None:
+        return error.reason
+    return re.sub(r"^(refused|bad input): (hand \d+(, |: ))?", "", error.line)
+
+
+def document(made: Page, title: str) -> str:
+    css, js = (resources.files("handref").joinpath(name).read_text("utf-8")
+               for name in ("page.css", "page.js"))
+    parts = [
+        "<!DOCTYPE html>", '<html lang="en">', "<head>", '<meta charset="utf-8">',
+        '<meta http-equiv="Content-Security-Policy" content="default-src \'none\'; base-uri '
+        f"'none'; form-action 'none'; style-src {_hash(css)}; script-src {_hash(js)}\">",
+        '<meta name="viewport" content="width=device-width, initial-scale=1">',
+        f"<title>{_text(title)}</title>", f"<style>{css}</style>", "</head>", "<body>",
+        f"<header><h1>{_text(title)}</h1>", _summary(made), "</header>", "<main>",
+        _VIEWER, _listed(made), session_part(made), "</main>",
+        *_data(made), f"<script>{js}</script>", "</body>", "</html>", ""]
+    return "\n".join(part for part in parts if part)
+
+
+def _text(text: str) -> str:
+    return html.escape(shown(text))
+
+
+def _hash(text: str) -> str:
+    return f"'sha256-{base64.b64encode(hashlib.sha256(text.encode()).digest()).decode()}'"
+
+
+def _summary(made: Page) -> str:
+    count = made.legal + made.refused
+    told = f"<p>{count} hand{'s' * (count != 1)} of <bdi>{_text(made.file)}</bdi>, read as "
+    told += f"{made.notation}: {made.legal} legal"
+    told += f', <span class="refused">{made.refused} refused</span>' if made.refused else ""
+    told += f"; of them {len(made.hands)} here" if len(made.hands) < count else ""
+    told += ".</p>"
+    if len([hand for hand in made.hands if "o" in hand.told]) < len(made.hands) - made.refused:
+        told += ('<p class="soft">This page has too many hands for the legal moves and the equity '
+                 "of each: choose hands by --hand.</p>")
+    if made.left:
+        told += (f'<p class="refused">The file has {made.left} more hands, which are not shown: '
+                 f"{MOST_UNREAD} hands before them do not read.</p>")
+    return told
+
+
+_VIEWER = """<section id="viewer" aria-label="a hand">
+<section id="choice"><h2>Hands</h2>
+<div class="bar"><label>Show <select id="which"><option value="all">all hands</option>
+<option value="refused">refused hands</option><option value="legal">legal hands</option></select>
+</label><label>Find <input id="find" type="search" placeholder="a name, number or reason"></label>
+<button type="button" id="rows-before">earlier</button>
+<span id="count" role="status"></span><button type="button" id="rows-after">later</button></div>
+<div id="chosen" role="region" tabindex="0" aria-label="the list of hands"><table><thead><tr>
+<th class="number" scope="col">Hand</th><th scope="col">Game</th><th scope="col">Names</th>
+<th class="number" scope="col">Pots</th><th scope="col">Verdict</th></tr></thead>
+<tbody id="rows"></tbody></table></div></section>
+<h2 id="hand-head"></h2><div id="facts" class="soft"></div><div id="verdict"></div>
+<div class="bar" id="others"><button type="button" id="before">previous hand</button>
+<button type="button" id="after">next hand</button></div>
+<div id="played"><div><div id="table" class="wide"></div>
+<div class="bar"><button type="button" id="first">first</button>
+<button type="button" id="back">back</button>
+<input id="range" type="range" min="0" value="0" aria-label="event">
+<button type="button" id="on">next</button><button type="button" id="last">last</button></div>
+<p id="said" aria-live="polite"></p><p id="now"></p>
+<p id="made-up" class="soft">What follows it in the file is not played.</p>
+<p class="soft keys">Keys: ← and → go through the events, Home and End go to the first and the
+last; Shift with ← or → goes to another hand.</p></div>
+<div><h3>Events</h3>
+<div id="events" class="wide" role="region" tabindex="0" aria-label="the list of events"><table>
+<thead><tr><th class="number" scope="col">Event</th>
+<th scope="col">In the words of replay</th><th class="chips" scope="col">Stacks</th>
+<th class="chips" scope="col">In</th></tr></thead><tbody id="steps"></tbody></table></div></div>
+<section id="equity"><h3>Equity by street</h3>
+<p class="soft">With the cards that are known at the end of the hand.</p>
+<div class="wide"><table><thead><tr>
+<th scope="col">Street</th><th scope="col">Seat</th><th class="number" scope="col">Wins</th>
+<th class="number" scope="col">Boards</th><th class="number" scope="col">Of</th></tr></thead>
+<tbody id="equity-rows"></tbody></table></div></section></div></section>"""
+
+
+def _listed(made: Page) -> str:
+    """The hands as a list to read, where there is no JavaScript."""
+    parts = ['<section id="listed"><h2>Hands</h2>']
+    if len(made.hands) > MOST_LISTED:
+        parts.append(f"<p>The first {MOST_LISTED} are here event by event, the others with their "
+                     "verdicts. With JavaScript the page shows each of them.</p>")
+    for hand in made.hands[:MOST_LISTED]:
+        parts.append(_hand_listed(hand, made.notation))
+    parts += [f"<p>{line}</p>" for line in _runs(made.hands[MOST_LISTED:])]
+    return "\n".join([*parts, "</section>"])
+
+
+def _hand_listed(hand: Hand, notation: str) -> str:
+    told, refused = hand.told, hand.refused
+    game = GAMES.get(told.get("g", ""), "")
+    parts = [f"<h3>Hand {hand.number}{': ' + html.escape(game) if game else ''}</h3>"]
+    names = " ".join(f'<span class="names">p{seat} <bdi>{_text(name)}</bdi></span>'
+                     for seat, name in enumerate(hand.names, 1) if name != f"p{seat}")
+    if names:
+        parts.append(f"<p>{names}</p>")
+    if told.get("m"):
+        parts.append(f'<p class="soft"><bdi>{html.escape(told["m"])}</bdi></p>')
+    if refused:
+        parts.append(f'<p class="bad">{_text(_told_of(refused))}</p>')
+        parts.append(f'<p class="plain">{_text(messages.meaning(refused, notation))}</p>')
+    if refused and hand.text and not refused.event:
+        parts.append(f"<pre>{_lines_of(hand.text)}</pre>")
+    if told:
+        parts.append('<div class="wide"><table><thead><tr><th scope="col">Event</th><th '
+                     'scope="col">In the words of replay</th><th scope="col">Stacks</th><th '
+                     'scope="col">In</th></tr></thead><tbody>')
+        parts += [_row(*row) for row in expanded(told)]
+        if refused and refused.event and refused.action is not None:
+            parts.append(f'<tr class="refused"><td class="number">{refused.event}</td><td '
+                         f'class="words">{_text(hand.text)}</td><td></td><td '
+                         f'class="words">{_text(_reason(refused))}</td></tr>')
+        parts += [f'<tr><td></td><td class="words">{line}</td><td></td><td></td></tr>'
+                  for line in ends(told)]
+        parts.append("</tbody></table></div>")
+        if refused and told.get("o") and "f" not in told:
+            due, _, moves = max(told["o"].items())[1].partition(";")
+            parts.append(f"<p>Legal there: {due}{': ' * bool(moves)}{moves.replace(';', ', ')}</p>")
+    return "\n".join(parts)
+
+
+def _lines_of(text: str) -> str:
+    return "\n".join(map(_text, text.split("\n")))
+
+
+def _row(event: int, words: str, stacks: str, put: str) -> str:
+    return (f'<tr><td class="number">{event}</td><td class="words">{words}</td><td class="words">'
+            f'{stacks}</td><td class="words">{put}</td></tr>')
+
+
+def expanded(told: dict[str, Any]) -> Iterator[tuple[int, str, str, str]]:
+    """The events of a hand as `replay` says them."""
+    put = list(told["i"])
+    left = [start - paid for start, paid in zip(told["s"], put)]
+    yield 0, "posts", " ".join(map(str, left)), " ".join(map(str, put))
+    for event, packed in enumerate(told["e"].split(";") if told["e"] else [], 1):
+        words, _, added = packed.partition("+")
+        if added:
+            seat = int(words[1:words.index(" ")]) - 1
+            put[seat] += int(added)
+            left[seat] -= int(added)
+        yield event, words, " ".join(map(str, left)), " ".join(map(str, put))
+
+
+def ends(told: dict[str, Any]) -> Iterator[str]:
+    """The last lines of a hand as `replay` says them."""
+    if "f" not in told:
+        return
+    yield from (f"return p{seat} {chips}" for seat, chips in told["r"].items())
+    for number, (chips, shares, rake) in enumerate(told["t"], 1):
+        entries = [f"p{seat} {share}" for seat, share in shares.items()] + [f"rake {rake}"] * bool(
+            rake)
+        yield f"pot {number} {chips}: {', '.join(entries)}"
+    yield "finish " + " ".join(map(str, told["f"]))
+
+
+def _runs(hands: Sequence[Hand]) -> Iterator[str]:
+    """How hands went: a line for each that is refused, and one for those between."""
+    first: Optional[int] = None
+    for place, hand in enumerate(hands):
+        if hand.refused:
+            yield f'Hand {hand.number}: <span class="bad">{_text(_told_of(hand.refused))}</span>'
+            first = None
+            continue
+        first = hand.number if first is None else first
+        if place + 1 == len(hands) or hands[place + 1].refused:
+            yield f"Hand {first}: legal" if first == hand.number else \
+                f"Hands {first} to {hand.number}: legal"
+
+
+def _data(made: Page) -> Iterator[str]:
+    """What the script shows: a list of all hands, and the hands in blocks, packed if many."""
+    names: dict[str, int] = {}
+    index: list[list[Any]] = []
+    told: list[dict[str, Any]] = []
+    for hand in made.hands:
+        seats = [names.setdefault(name, len(names)) for name in hand.names]
+        refused = hand.refused
+        pot = sum(chips for chips, _, _ in hand.told["t"]) if "t" in hand.told else None
+        index.append([hand.number, hand.told.get("g", ""),
+                      _reason(refused) if refused else "", seats, pot])
+        row: dict[str, Any] = {"n": hand.number, **hand.told, "p": seats}
+        if refused:
+            event = refused.event if refused.action is not None else None
+            row["v"] = {"line": shown(_told_of(refused)), "reason": shown(_reason(refused)),
+                        "plain": messages.meaning(refused, made.notation), "event": event,
+                        "text": "\n".join(map(shown, hand.text.split("\n"))),
+                        "seat": hand.seat}
+        told.append(row)
+    listed: list[Any] = []
+    for name in names:
+        whole = shown(name)
+        listed.append(whole if short(whole) == whole else [whole, short(whole)])
+    is_packed = len(told) > _BLOCK
+    yield _part('id="index"', {"names": listed, "games": GAMES, "hands": index}, is_packed)
+    for start in range(0, len(told), _BLOCK):
+        yield _part('class="hands"', told[start:start + _BLOCK], is_packed)
+
+
+def _part(attribute: str, value: Any, is_packed: bool) -> str:
+    text = json.dumps(value, ensure_ascii=False, separators=(",", ":"))
+    if is_packed:
+        packed = base64.b64encode(zlib.compress(text.encode(), 9)).decode()
+        return f'<script type="text/plain" {attribute}>{packed}</script>'
+    for sign in "<>&\u2028\u2029":
+        text = text.replace(sign, f"\\u{ord(sign):04x}")
+    return f'<script type="application/json" {attribute}>{text}</script>'

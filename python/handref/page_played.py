@@ -1,0 +1,245 @@
+"""What the program says of the hands of a page: their replays, notes, moves, equities, sums."""
+import json
+import os
+import re
+from concurrent.futures import ThreadPoolExecutor
+from dataclasses import dataclass, field
+from typing import Any, Callable, Iterable, Optional, TypeVar, Union
+
+import handref
+from handref import Game, NotDone, UnclearOutput, toml
+from handref.before import StandIn
+from handref.cut import shown
+
+MOST_ASKED = 50  # hands that are shown with their legal moves and equity, where none are chosen
+MOST_CHOSEN = 500  # and of chosen ones
+
+
+@dataclass
+class Hand:
+    """A hand of the page: its verdict, a file of its own, and what the program says of it."""
+    number: int
+    refused: Optional[NotDone]
+    data: bytes  # a file of it, or of more hands where the file was not cut
+    place: int = 1  # its number in that file
+    stand_in: Optional[StandIn] = None
+    told: dict[str, Any] = field(default_factory=dict)  # for the script: see page.js
+    text: str = ""  # the source's words of what is refused
+    seat: Optional[int] = None  # that they name
+    net: list[tuple[str, int]] = field(default_factory=list)
+    names: list[str] = field(default_factory=list)
+
+
+@dataclass
+class Page:
+    """The hands of a file that are shown, and how many it has."""
+    file: str
+    notation: str
+    game: Game
+    hands: list[Hand] = field(default_factory=list)
+    legal: int = 0
+    refused: int = 0
+    left: int = 0  # hands after the last that was read
+    session: Optional[handref.Session] = None
+
+
+Item = TypeVar("Item")
+Answer = TypeVar("Answer")
+
+
+def at_once(call: Callable[[Item], Answer], items: Iterable[Item]) -> list[Answer]:
+    """What a call gives for each item, several at a time. After a fault or an interrupt no other
+    one is begun."""
+    several = ThreadPoolExecutor(os.cpu_count())
+    try:
+        return list(several.map(call, items))
+    finally:
+        several.shutdown(cancel_futures=True)
+
+
+def replay(made: Page, rows: list[Hand], data: bytes) -> None:
+    """What `replay` says of these hands, and the notes that PHH has of them."""
+    if not rows:
+        return
+    words = ["--from", made.notation, *(["--game", os.fspath(made.game)] if made.game else [])]
+    text = handref.run(["replay", *words], data).decode()
+    hands = re.split(r"^hand ", text, flags=re.M)[1:]
+    notes = _notes_of_log(data) if made.notation == "acpc" else _notes(
+        handref.run(["convert", *words, "--to", "phh"], data).decode(), len(rows))
+    if len(hands) != len(rows) or len(notes) != len(rows) or not text.endswith("\n"):
+        raise UnclearOutput(0, "the output of replay or convert is cut", file=made.file)
+    for row, replayed, note in zip(rows, hands, notes):
+        row.told = _told(replayed, row.stand_in)
+        seats = len(row.told["s"])
+        row.names = [name or f"p{seat}" for seat, name in
+                     enumerate(note.get("players") or [""] * seats, 1)]
+        if any(note.get("antes", ())):
+            row.told["a"] = note["antes"]
+        row.told["b"] = int(row.told["g"] not in ("F7S", "F7S/8", "FR"))
+        row.told["m"] = _moment(note)
+        if not row.refused:
+            row.net = [(name, end - start) for name, end, start in
+                       zip(row.names, row.told["f"], row.told["s"])]
+
+
+def _numbers(text: str) -> list[int]:
+    return [int(word) for word in text.split()]
+
+
+def _told(text: str, stand_in: Optional[StandIn]) -> dict[str, Any]:
+    """A hand of `replay` in short: what each event adds is read back from its chips. UnclearOutput:
+    the chips of an event are not those of one seat that moves."""
+    lines = text.split("\n")
+    head, first = lines[0].split(" "), lines[1].split(" | ")
+    stacks, put = first[1].partition(" ")[2], first[2].partition(" ")[2]
+    start = [left + paid for left, paid in zip(_numbers(stacks), _numbers(put))]
+    told: dict[str, Any] = {"g": head[1], "s": start, "i": _numbers(put)}
+    events: list[str] = []
+    returned: dict[int, int] = {}
+    pots: list[list[Any]] = []
+    for line in lines[2:]:
+        if line[:1].isdigit():
+            said, left, paid = line.split(" | ")
+            event, _, words = said.partition(" ")
+            left, paid = left[7:], paid[3:]
+            if left != stacks or paid != put:
+                words += f"+{_added(words, _numbers(put), _numbers(paid), _numbers(left), start)}"
+                stacks, put = left, paid
+            events.append(words)
+            if event != str(len(events)):
+                raise UnclearOutput(0, "the output of replay has other numbers of events")
+        elif line.startswith("return "):
+            _, seat, chips = line.split(" ")
+            returned[int(seat[1:])] = int(chips)
+        elif line.startswith("pot "):
+            shares = {int(seat): int(chips) for seat, chips in re.findall(r"p(\d+) (\d+)", line)}
+            rake = re.search(r"rake (\d+)$", line)
+            pots.append([int(line.split(" ")[2][:-1]), shares, int(rake[1]) if rake else 0])
+        elif line.startswith("finish "):
+            told.update(r=returned, t=pots, f=_numbers(line[7:]))
+    if stand_in:
+        events = events[:stand_in.events]
+        for card in stand_in.hidden:
+            events = [words.replace(card, "??") for words in events]
+        if not stand_in.is_whole:
+            for key in "rtf":
+                told.pop(key, None)
+    told["e"] = ";".join(events)
+    return told
+
+
+def _added(words: str, before_it: list[int], put: list[int], left: list[int],
+           start: list[int]) -> int:
+    changed = [(seat, now - was) for seat, (was, now) in enumerate(zip(before_it, put), 1)
+               if was != now]
+    if len(changed) != 1 or not words.startswith(f"p{changed[0][0]} ") or [
+            chips + paid for chips, paid in zip(left, put)] != start:
+        raise UnclearOutput(0, f"the chips of an event are unclear: {words}")
+    return changed[0][1]
+
+
+def _notes_of_log(data: bytes) -> list[dict[str, Any]]:
+    found = []
+    for line in data.decode().split("\n"):
+        if line.startswith("STATE:"):
+            fields = line.rstrip("\r").split(":")
+            found.append({"hand": fields[1], "players": fields[5].split("|")})
+    return found
+
+
+def _notes(text: str, count: int) -> list[dict[str, Any]]:
+    """The notes and the antes of the hands of a document that `convert` has written."""
+    parts = ["", "1", text]
+    if text.startswith("["):
+        parts = re.split(r"^\[([0-9]+)\]\n", text, flags=re.M)
+    blocks = {int(number): block for number, block in zip(parts[1::2], parts[2::2])}
+    if len(parts) != 2 * count + 1 or set(blocks) != set(range(1, count + 1)):
+        whole = toml.read(text)  # a note with a line end has such a line
+        return [whole[key] for key in sorted(whole, key=int)] if "1" in whole else [whole]
+    return [_note(blocks[number]) for number in range(1, count + 1)]
+
+
+_NOTE = re.compile(r"^(players|antes|hand|table|venue|currency|year|month|day|time|time_zone) = "
+                   r"(.*)$", re.M)
+
+
+def _note(block: str) -> dict[str, Any]:
+    found: dict[str, Any] = {}
+    if "'''" not in block and '"""' not in block:
+        try:
+            for key, value in _NOTE.findall(block):
+                found[key] = value if key == "time" else json.loads(value)
+            return found
+        except ValueError:
+            pass  # a text is written in another way than JSON does
+    return toml.read(block)
+
+
+def _moment(note: dict[str, Any]) -> str:
+    """What is known of a hand besides its names: its own number, its table, its day."""
+    day = "-".join(f"{note[key]:02}" for key in ("year", "month", "day") if key in note)
+    told = [f"{key} {note[key]}" for key in ("hand", "table") if key in note]
+    told += [str(note[key]) for key in ("venue", "currency") if key in note]
+    told.append(" ".join([day] * bool(day) + [str(note[key]) for key in ("time", "time_zone")
+                                             if key in note]))
+    return " · ".join(shown(text) for text in told if text)
+
+
+def session(made: Page, legal: bytes) -> Optional[handref.Session]:
+    """What `session` says of the legal hands, and None where names make it unclear."""
+    if not any(hand.net for hand in made.hands):
+        return None
+    try:
+        told = handref.session(legal, made.notation, made.game)
+    except UnclearOutput:
+        return None
+    nets: dict[str, int] = {}
+    for hand in made.hands:
+        for name, net in hand.net:
+            nets[name] = nets.get(name, 0) + net
+    if {row.name: row.net for row in told.rows} != nets:
+        raise UnclearOutput(0, "the net chips of session and replay differ", file=made.file)
+    return told
+
+
+def ask_moves(made: Page, is_chosen: bool) -> None:
+    """Asks for the legal moves and the equity of each street, where hands are few or chosen."""
+    some = [hand for hand in made.hands if hand.told and hand.told["e"].count(";") < 400]
+    if len(some) > MOST_ASKED and not is_chosen:
+        some = [hand for hand in some if hand.refused]
+    some = some[:MOST_CHOSEN if is_chosen else MOST_ASKED]
+    asked: list[tuple[Hand, str, int]] = []
+    for hand in some:
+        if hand.stand_in and hand.stand_in.hidden:
+            continue
+        events = hand.told["e"].split(";") if hand.told["e"] else []
+        moves = [place for place, words in enumerate(events)
+                 if re.match(r"p\d+ (f|cc|cbr|pb)", words)] + [len(events)]
+        asked += [(hand, "options", place) for place in moves]
+        board, street = 0, {3: 2, 4: 3, 5: 4}
+        for words in events if not hand.stand_in or hand.stand_in.is_whole else []:
+            if words.startswith("d db "):
+                board += len(words[5:]) // 2
+                asked += [(hand, "equity", street[board])] if board in street else []
+    answers = at_once(lambda row: _answer(made, row[0], row[1], row[2]), asked)
+    for (hand, command, place), answer in zip(asked, answers):
+        hand.told.setdefault("o" if command == "options" else "q", {})[place] = answer
+
+
+def _answer(made: Page, hand: Hand, command: str, place: int) -> Union[str, dict[str, Any]]:
+    data = hand.stand_in.data if hand.stand_in else hand.data
+    if command == "options":
+        words = [command, "--from", made.notation, f"--hand={hand.place}", f"--after={place}"]
+        words += ["--game", os.fspath(made.game)] if made.game else []
+        text = handref.run(words, data).decode()
+        return text.partition(": ")[2].replace("\n", ";")[:-1]
+    try:
+        told = handref.equity(data, made.notation, hand.place, place, made.game)
+    except NotDone as error:
+        if error.status != 13:
+            raise
+        return f"the cards of {error.place} are not all known" if error.place else error.line
+    answer: dict[str, Any] = {"t": told.total, "w": told.high}
+    if told.low:
+        answer.update(n=told.low_none, l=told.low)
+    return answer

@@ -1,0 +1,180 @@
+"""Tries the script of a page in headless Chromium, where it is installed (Debian: chromium)."""
+import html
+import json
+import re
+import shutil
+import subprocess
+import unittest
+
+from pages import EXAMPLES, HERE, LOG, MATCH, NAMES, Case, named
+
+import handref
+from handref import cut, page, toml
+
+BROWSERS = ("chromium-headless-shell", "chromium", "chromium-browser", "google-chrome")
+CASES = HERE.parent.parent / "cases"
+
+# Goes by keys through each event of each hand, and writes down what the page then says.
+WALK = """<script>addEventListener("load", async () => {
+  const wait = () => new Promise((done) => setTimeout(done, 20));
+  const press = (key, shiftKey) => document.body.dispatchEvent(
+    new KeyboardEvent("keydown", { key, shiftKey, bubbles: true, cancelable: true }));
+  const text = (id) => document.getElementById(id).textContent;
+  const found = [], faults = [];
+  addEventListener("error", (event) => faults.push(String(event.message)));
+  await wait();
+  const count = document.querySelectorAll("#rows tr").length;
+  press("Home");
+  while (!document.getElementById("before").disabled) {
+    press("ArrowLeft", true);
+    await wait();
+  }
+  for (let hand = 0; hand < count; hand += 1) {
+    press("Home");
+    const said = [text("said")];
+    while (!document.getElementById("last").disabled) {
+      press("ArrowRight");
+      said.push(text("said"));
+    }
+    const wide = [...document.querySelectorAll("#table text.small, #table text.won")]
+      .filter((each) => each.getComputedTextLength() > 160).length;
+    found.push([text("hand-head"), said, wide]);
+    press("ArrowRight", true);
+    await wait();
+  }
+  const pre = document.createElement("pre");
+  pre.id = "walk";
+  pre.textContent = JSON.stringify([found, faults]);
+  document.body.append(pre);
+});</script>"""
+
+
+class Browser(Case):
+    """What the script of a page puts there is read back as a document."""
+
+    def setUp(self):
+        super().setUp()
+        self.browser = next(filter(None, map(shutil.which, BROWSERS)), None)
+        if not self.browser:
+            self.skipTest("chromium is not installed")
+
+    def made(self, hands, notation, game=None, **more):
+        out = self.folder / "page.html"
+        page.page_file(hands, notation, out, game, **more)
+        return out
+
+    def opened(self, out, place="", *flags):
+        """The document of a page, after its script."""
+        done = subprocess.run(
+            [self.browser, "--headless", "--no-sandbox", "--disable-gpu",
+             "--virtual-time-budget=20000", f"--user-data-dir={self.folder / 'home'}", *flags,
+             "--dump-dom", out.as_uri() + place], capture_output=True, text=True, timeout=240)
+        self.assertIn("</html>", done.stdout, done.stderr[-2000:])
+        return done.stdout
+
+    def dump(self, hands, notation, game=None, place=""):
+        return self.opened(self.made(hands, notation, game), place)
+
+    def said(self, text, part):
+        found = re.search(f'id="{part}"[^>]*>(.*?)</', text, re.S)
+        return html.unescape(re.sub("<[^>]*>", "", found[1])) if found else None
+
+    def walked(self, out):
+        """What a page says of each event of each hand, as somebody goes there by keys."""
+        text = re.sub('<meta http-equiv="Content-Security-Policy"[^>]*>', "", out.read_text())
+        out.write_text(text.replace("</body>", WALK + "</body>"))
+        found = re.search('<pre id="walk">(.*?)</pre>', self.opened(out), re.S)
+        self.assertIsNotNone(found)
+        hands, faults = json.loads(html.unescape(found[1]))
+        self.assertEqual(faults, [])
+        return hands
+
+    def games(self):
+        """A long legal hand of each of the eleven games."""
+        found = {}
+        for file in sorted(CASES.glob("*.jsonl")):
+            for line in file.read_text().splitlines():
+                case = json.loads(line)
+                text = case.get("input")
+                if case["status"] or "phh" not in " ".join(case["words"]) or "variant" not in (
+                        text or ""):
+                    continue
+                table = toml.read(text)
+                old = found.get(table.get("variant"), {"actions": []})
+                if "actions" in table and len(table["actions"]) > len(old["actions"]):
+                    found[table["variant"]] = table
+        return found
+
+    def test_eleven_games(self):
+        """By keys, each event of a hand of each game is said as `replay` says it."""
+        if not CASES.exists():
+            self.skipTest("the folder cases is not here")
+        games = self.games()
+        self.assertEqual(set(games), set(cut.GAMES))
+        hands = cut.together([cut.document(games[code]) for code in cut.GAMES], "phh")
+        replayed = "\n".join(self.lines(hands, "phh")).split("hand ")[1:]
+        walked = self.walked(self.made(hands, "phh"))
+        self.assertEqual(len(walked), 11)
+        for (head, said, wide), name, wanted in zip(walked, cut.GAMES.values(), replayed):
+            lines = wanted.strip("\n").split("\n")[1:]
+            events = [line for line in lines if line[0].isdigit()]
+            self.assertEqual(head.partition(": ")[2], name)
+            self.assertEqual(said, [*events, "\n".join(lines[len(events):])])
+            self.assertEqual(wide, 0, name)
+
+    def test_events(self):
+        replayed = self.lines((EXAMPLES / "all_in.phh").read_bytes(), "phh")
+        for event in (0, 18):
+            text = self.dump(EXAMPLES / "all_in.phh", "phh", place=f"#hand-1-event-{event}")
+            self.assertEqual(self.said(text, "said"), replayed[event + 1])
+        self.assertIn("Now due: over", text)
+
+    def test_refused(self):
+        for name, notation, game, wanted, legal in (
+                ("match.raise.acpc", "acpc", MATCH, "event 3 is refused: RaiseTooSmall",
+                 "Legal here: move p2: fold, call 50, raise to 200..20000"),
+                ("small_raise.phh", "phh", None, "event 4 is refused: RaiseTooSmall",
+                 "Legal here: move p3: fold, call 2, raise to 4..100"),
+                ("check_for_fold.ohh", "ohh", None, "event 4 is refused: AmountDiffers",
+                 "Legal here: move p1: fold, call 200, raise to 500..20000")):
+            with self.subTest(name=name):
+                text = self.dump(EXAMPLES / name, notation, game)
+                self.assertIn(wanted, text)
+                self.assertIn(legal, text)
+
+    def test_packed(self):
+        data = b"".join(LOG % number for number in range(700))
+        text = self.dump(data, "acpc", MATCH, "#hand-600-event-3")
+        self.assertEqual(self.said(text, "said"), "3 p2 cbr 300 | stacks 19900 19700 | in 100 300")
+        self.assertIn('<h2 id="hand-head">Hand 600: ', text)
+
+    def test_names(self):
+        """Hostile names stay text: they add no element, and run nothing."""
+        pairs = list(zip(NAMES[::2], NAMES[1::2]))
+        hands = "\n\n".join(named(*pair) for pair in pairs).encode()
+        plain = "\n\n".join(named(f"A{place}", f"B{place}") for place, _ in enumerate(
+            pairs)).encode()
+        for place in ("#hand-1", "#hand-3-event-2"):
+            text = self.dump(hands, "ohh", place=place)
+            other = self.dump(plain, "ohh", place=place)
+            for tag in ("script", "img", "style", "svg", "iframe", "a"):
+                self.assertEqual(len(re.findall(f"<{tag}[ >]", text)),
+                                 len(re.findall(f"<{tag}[ >]", other)), tag)
+            self.assertIn('class="live"', text)
+
+    def test_without_script(self):
+        """Without JavaScript the hands are a list to read."""
+        out = self.made(EXAMPLES / "all_in.phh", "phh")
+        text, count = re.subn("script-src '[^']*'", "script-src 'none'", out.read_text())
+        self.assertEqual(count, 1)
+        out.write_text(text)
+        text = self.opened(out)
+        self.assertNotIn('class="live"', text)
+        said = re.sub("<[^>]*>", " ", text[text.index('id="listed"'):])
+        for line in self.lines((EXAMPLES / "all_in.phh").read_bytes(), "phh")[2:-3]:
+            for words in line.split(" | "):
+                self.assertIn(re.sub(r"^(\d+|stacks|in) ", "", words), html.unescape(said))
+
+
+if __name__ == "__main__":
+    unittest.main()

@@ -1,0 +1,119 @@
+"""Tries the commands page and explain: a clear line for each fault, and no half output."""
+import os
+import signal
+import subprocess
+import sys
+import time
+import unittest
+
+from pages import EXAMPLES, HERE, LOG, MATCH, Case
+
+
+class Commands(Case):
+    def call(self, *words, **more):
+        environment = {**os.environ, "PYTHONPATH": str(HERE.parent), **more.pop("environment", {})}
+        return subprocess.run([sys.executable, "-m", "handref", *map(str, words)],
+                              capture_output=True, text=True, env=environment, **more)
+
+    def refused(self, status, line, *words, **more):
+        """A call ends with a status and one line, and writes nothing."""
+        done = self.call(*words, **more)
+        self.assertEqual((done.returncode, done.stdout), (status, ""), done.stderr)
+        self.assertEqual(done.stderr.count("\n"), 1, done.stderr)
+        self.assertIn(line, done.stderr)
+
+    def test_page(self):
+        out = self.folder / "a page's name.html"
+        done = self.call("page", EXAMPLES / "folds.phh", out)
+        self.assertEqual((done.returncode, done.stdout, done.stderr), (0, "", ""))
+        self.assertTrue(out.read_text().startswith("<!DOCTYPE html>"))
+        self.assertEqual(os.listdir(self.folder), [out.name])
+
+    def test_page_is_not_made(self):
+        out, hand = self.folder / "out.html", self.folder / "hand.phh"
+        hand.write_bytes((EXAMPLES / "folds.phh").read_bytes())
+        missing = self.folder / "no\x1b[2Jsuch.phh"
+        out.write_text("before")
+        for status, line, words in (
+                (5, "no\\u{1b}[2Jsuch.phh: No such file or directory", (missing, out)),
+                (5, "Is a directory", ("--from", "phh", self.folder, out)),
+                (5, "No such file or directory", (hand, self.folder / "none" / "out.html")),
+                (5, "Is a directory", (hand, self.folder)),
+                (2, "no notation has this name", (self.folder / "hand.txt", out)),
+                (2, "would take the place of the hands", (hand, hand)),
+                (2, "--hand is a list of hands", ("--hand", "3,x", hand, out)),
+                (2, "there is no hand 2", ("--hand", "2", hand, out)),
+                (2, "usage: ", ("--from", "acpc", hand, out)),
+                (9, "game missing", ("--from", "acpc", "--game", "no.game", hand, out))):
+            with self.subTest(line=line):
+                self.refused(status, line, "page", *words)
+        self.assertEqual(hand.read_bytes(), (EXAMPLES / "folds.phh").read_bytes())
+        self.assertEqual(out.read_text(), "before")
+        self.assertEqual(sorted(os.listdir(self.folder)), ["hand.phh", "out.html"])
+
+    def test_program(self):
+        """A program that is not there, is killed, or says what nobody understands."""
+        out, program = self.folder / "out.html", self.folder / "program"
+        words = ("page", EXAMPLES / "folds.phh", out)
+        for text, status, line in ((None, 70, "No such file or directory"),
+                                   ("kill -9 $$", 70, "killed by signal 9"),
+                                   ("exit 0", 70, "the output of judge is cut"),
+                                   ("exit 99", 99, "ended with the status 99")):
+            if text is not None:
+                program.write_text(f"#!/bin/sh\n{text}\n")
+                program.chmod(0o755)
+            self.refused(status, line, *words, environment={"HANDREF_PROGRAM": str(program)})
+            self.assertFalse(out.exists())
+
+    @unittest.skipUnless(os.path.exists("/dev/full"), "there is no /dev/full")
+    def test_full(self):
+        self.refused(6, "write fault", "page", EXAMPLES / "folds.phh", "/dev/full")
+        with open("/dev/full", "w") as full:
+            done = subprocess.run([sys.executable, "-m", "handref", "explain",
+                                   str(EXAMPLES / "small_raise.phh")], stdout=full,
+                                  stderr=subprocess.PIPE, text=True,
+                                  env={**os.environ, "PYTHONPATH": str(HERE.parent)})
+        self.assertEqual((done.returncode, done.stderr), (6, "write fault\n"))
+
+    def test_interrupt(self):
+        """A page that is interrupted leaves nothing, and no process."""
+        log = self.folder / "match.acpc"
+        log.write_bytes(b"".join(LOG % number for number in range(300)))
+        program = self.folder / "program"
+        program.write_text("#!/bin/sh\nexec sleep 60\n")
+        program.chmod(0o755)
+        for sign in (signal.SIGTERM, signal.SIGINT):
+            running = subprocess.Popen(
+                [sys.executable, "-m", "handref", "page", "--game", str(MATCH), str(log),
+                 str(self.folder / "out.html")], stderr=subprocess.PIPE, text=True, env={
+                     **os.environ, "PYTHONPATH": str(HERE.parent), "HANDREF_PROGRAM": str(program)})
+            time.sleep(3)
+            running.send_signal(sign)
+            told = running.communicate(timeout=60)[1]
+            self.assertEqual((running.returncode, told), (130, "interrupted\n"))
+            self.assertEqual(sorted(os.listdir(self.folder)), ["match.acpc", "program"])
+
+    def test_explain(self):
+        done = self.call("explain", EXAMPLES / "small_raise.phh")
+        self.assertEqual(done.returncode, 0)
+        self.assertIn("small_raise.phh:10:3: refused: hand 1: event 4, action 4: RaiseTooSmall",
+                      done.stdout)
+        self.assertIn("The least legal raise of p3 is cbr 4, the greatest cbr 100", done.stdout)
+        done = self.call("explain", "game missing")
+        self.assertEqual((done.returncode, done.stdout.split("\n")[0]), (0, "game missing"))
+        done = self.call("explain", EXAMPLES / "folds.phh", "limit: hands 65536")
+        self.assertIn("handref many takes files with any number of hands.", done.stdout)
+
+    def test_explain_is_not_done(self):
+        for status, line, words in (
+                (5, "No such file or directory", ("none.phh",)),
+                (5, "Is a directory", ("--from", "phh", self.folder)),
+                (2, "no notation has this name", ("none.txt",)),
+                (2, "this is no line of the program: what\\u{1b}?",
+                 (EXAMPLES / "folds.phh", "what\x1b?"))):
+            with self.subTest(line=line):
+                self.refused(status, line, "explain", *words)
+
+
+if __name__ == "__main__":
+    unittest.main()
