@@ -1,5 +1,5 @@
 -- Each format of the program with the laws of its notation as one value, and what follows for runs.
-use Rattle.std.proofs.Common.{◌≡◌, ◌↔◌, ◌<◌, ℕ, List, length, None, Ok, inl, inr}
+use Rattle.std.proofs.Common.{◌≡◌, ◌↔◌, ◌<◌, ℕ, List, length, Option, None, Some, IfSome, Ok, inl, inr}
 use Rattle.std.specs.List.{AllByRecursion}
 use Rattle.acpc_reading.specs.RecordView.{rules_of}
 use Rattle.convert_core.proofs.LawfulNotations.{ReadNotation, WrittenNotation}

@@ -20,7 +20,7 @@ returns-then-not-seen c = λ plays seen.
     let there : c.args.seen.seat.number ≤ c.args.seen.game.stacks.seats = omega (arith, c.if-seats-seen.false) in
     let not : c.args.seen.kept ≡ false = search rules in
     subst (AreViews c.args.seen.game c.args.seen.seat plays)
-    (sym (c.refusal.ensures ∙ ap (refusal statuses.Limit) c.in_ok-line.ensures.ok))
+    (sym (c.refusal.ensures ∙ ap (refusal statuses.Limit) c.in_ok-line.ensures))
     (replies.TooMany there (are_many c.args.seen.game c.args.seen.seat c.args.seen.kept c.args.seen.lines.items plays seen there not))
 
 pub returns : goal.returns
