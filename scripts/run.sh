@@ -1,12 +1,14 @@
-# Runs the program. ./handref and the installed bin/handref read this file and words.sh. The program replaces the shell if
-# possible. If the reader of its output has ended, it ends as other filters do.
+# Runs the program. ./handref and the installed bin/handref read this file and words.sh. The
+# program replaces the shell if possible. If the reader of its output has ended, it ends as other
+# filters do.
 
 # shellcheck shell=sh
 slip=
 
-# Runs a program with words. It asks the C library for large pages, so that the kernel hands out the memory of many hands in
-# fewer pieces; a library that does not know them ignores this. The shell stays only if the output is a pipe, if a person at a
-# terminal should see which word is wrong, or if the caller asks for it (`stays`).
+# Runs a program with words. It asks the C library for large pages, so that the kernel hands out
+# the memory of many hands in fewer pieces; a library that does not know them ignores this. The
+# shell stays only if the output is a pipe, if a person at a terminal should see which word is
+# wrong, or if the caller asks for it (`stays`).
 run_program() {
     GLIBC_TUNABLES=glibc.malloc.hugetlb=1${GLIBC_TUNABLES:+:$GLIBC_TUNABLES}
     export GLIBC_TUNABLES
@@ -31,10 +33,11 @@ wanted() {
     is_command "$@"
 }
 
-# Runs a program whose output is a pipe. It ignores SIGPIPE, so that it ends with `write fault` and 6 where nobody reads the
-# pipe any more; other filters are ended by the signal and say nothing, and so is this shell then. Where its caller ignores
-# the signal, no shell can take it back, and the line and the status of the program remain. A shell that is killed takes the
-# program with it, where setpriv can see to that.
+# Runs a program whose output is a pipe. It ignores SIGPIPE, so that it ends with `write fault` and
+# 6 where nobody reads the pipe any more; other filters are ended by the signal and say nothing, and
+# so is this shell then. Where its caller ignores the signal, no shell can take it back, and the
+# line and the status of the program remain. A shell that is killed takes the program with it, where
+# setpriv can see to that.
 run_in_pipe() {
     exec 3>&1
     if command -v setpriv >/dev/null; then
@@ -50,8 +53,9 @@ run_in_pipe() {
     [ -z "$told" ] || printf '%s\n' "$told" >&2
 }
 
-# Whether nobody reads the pipe of standard output, after a write to it failed. A pipe that does not wait may only be full, so
-# nothing is known about it. The fourth octal digit of its flags shows that kind.
+# Whether nobody reads the pipe of standard output, after a write to it failed. A pipe that does
+# not wait may only be full, so nothing is known about it. The fourth octal digit of its flags
+# shows that kind.
 has_no_reader() {
     while read -r name value; do
         case $name:$value in
@@ -62,8 +66,8 @@ has_no_reader() {
     return 1
 }
 
-# Ends by the signal of a status above 128, and takes the temporary folder of ./handref away before. Where that signal is
-# ignored, it goes on.
+# Ends by the signal of a status above 128, and takes the temporary folder of ./handref away before.
+# Where that signal is ignored, it goes on.
 die_of() {
     [ -z "${work-}" ] || leave
     trap - HUP INT TERM PIPE
@@ -79,8 +83,8 @@ print_by() {
     exit 6
 }
 
-# Runs the Python package in a folder with a program. The folder of the call is not searched for modules, since a stranger's
-# files may lie there.
+# Runs the Python package in a folder with a program. The folder of the call is not searched for
+# modules, since a stranger's files may lie there.
 run_python() {
     command -v python3 >/dev/null || {
         echo "handref: $3 runs on Python, and python3 is not on the path" >&2

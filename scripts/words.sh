@@ -1,16 +1,18 @@
-# Checks a command line before the program is called, and prints the help. ./handref, the installed bin/handref and their
-# tests read this file. `is_command` repeats the program's definition of a command line in shell; scripts/documents
-# compares the two. If it fails, `slip` says what is wrong, for a person at a terminal.
+# Checks a command line before the program is called, and prints the help. ./handref, the
+# installed bin/handref and their tests read this file. `is_command` repeats the program's
+# definition of a command line in shell; scripts/documents compares the two. If it fails, `slip`
+# says what is wrong, for a person at a terminal.
 #
-# To add a command, put its name into `commands`, and a line into `options_of` and `help_text`. To add an option, put a
-# line into `take`.
+# To add a command, put its name into `commands`, and a line into `options_of` and `help_text`. To
+# add an option, put a line into `take`.
 
 # shellcheck shell=sh disable=SC2034 # the scripts that read this file print slip
 slip=
 
 commands='check replay report convert game load views options session equity judge compare'
 
-# The options of a command: those that it needs, those that are optional, and flags, which have no value.
+# The options of a command: those that it needs, those that are optional, and flags, which have no
+# value.
 options_of() {
     needs='' may='' flags=''
     case $1 in
@@ -90,9 +92,11 @@ usage_line() (
     printf 'usage: handref %s [options]\n' "$*"
 )
 
-# Whether the words ask for help: --help, help, or a command and --help. The program itself does not have these.
+# Whether the words ask for help: --help, help, or a command and --help. The program itself does
+# not have these, and the tools in Python have help of their own.
 asks_for_help() {
     case $#:${1-}:${2-} in
+    2:page:* | 2:many:* | 2:explain:* | 2:cents:*) return 1 ;;
     1:--help: | 1:-h: | 1:help: | 2:[!-]*:--help | 2:[!-]*:-h) return 0 ;;
     esac
     return 1
@@ -188,7 +192,8 @@ is_number() {
     if [ "$2" -lt "$4" ] || [ "$2" -gt "$5" ]; then slip="--$1 must be from $4 to $5" && return 1; fi
 }
 
-# Whether the command takes these notations, and a game file is given if and only if one of them is acpc.
+# Whether the command takes these notations, and a game file is given if and only if one of them
+# is acpc.
 fits_notations() {
     case $command:$from in
     views:acpc) ;;
