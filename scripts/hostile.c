@@ -1,4 +1,4 @@
-/* Runs the program on damaged inputs, or with each of its requests refused, and looks at how it ends.
+/* Runs the program on damaged inputs, or with each of its requests refused, and checks how it ends.
  *
  *   hostile each KIND ERRNO WORDS.. < INPUT
  *       refuses each request of a kind in turn; scripts/refusing.c has the kinds
@@ -164,13 +164,13 @@ static int begins(struct bytes text, const char *front) {
     return text.size >= strlen(front) && memcmp(text.at, front, strlen(front)) == 0;
 }
 
-/* Whether a line tells of the other file of a comparison, which it may under the statuses of what is read. */
+/* Whether a line is about the other file of `compare`; it can be with the statuses of a file that is read. */
 static int is_of_other(const char *command, const struct ending *ending) {
     return strcmp(command, "compare") == 0 && begins(ending->line, "file: ") &&
            (ending->status == 1 || ending->status == 3 || ending->status == 7);
 }
 
-/* What is wrong with how a run of a command ended, whatever it was run on. */
+/* What is wrong with the end of a run, whatever its input was. */
 static const char *wrong(const char *command, const struct ending *ending) {
     if (ending->signal != 0) return "a signal";
     if (ending->status < 0 || ending->status >= STATUSES || fronts[ending->status] == NULL)
@@ -227,9 +227,9 @@ static int refuse_each(const char *kind, const char *error, char **words) {
                        ? "a refused line"
                        : NULL;
         } else if (strcmp(kind, "memory") == 0 && ending.status == whole.status && is_same(ending.out, whole.out)) {
-            spared++; /* room that is made ahead, and without which the answer is the same */
+            spared++; /* room that is reserved ahead; without it the answer is the same */
         } else if (wanted == 9 && ending.status == 15 && strcmp(command, "compare") == 0) {
-            what = NULL; /* the other file, which is opened behind that of the game */
+            what = NULL; /* the other file, which is opened after the game file */
         } else if (ending.status != wanted) {
             what = "another status";
         } else if (ending.out.size > whole.out.size || memcmp(ending.out.at, whole.out.at, ending.out.size) != 0) {
@@ -247,13 +247,13 @@ static int refuse_each(const char *kind, const char *error, char **words) {
             for (int i = 1; words[i] != NULL; i++)
                 printf(" %s", words[i]);
             printf("\n");
-            /* A reader makes room ahead once, and a comparison reads twice. */
+            /* A reader reserves room once, and `compare` reads twice. */
             return bad || spared > (strcmp(command, "compare") == 0 ? 2 : 1);
         }
     }
 }
 
-/* Numbers that a seed gives, one behind the other. */
+/* The random numbers of a seed, one after the other. */
 static uint64_t state;
 
 static uint64_t draw(uint64_t below) {
@@ -552,7 +552,7 @@ static void keep(const char *name, uint64_t number, struct bytes bytes) {
     fprintf(stderr, "  kept: %s\n", path);
 }
 
-/* Runs every WORKERS-th damaged input. The counts are those of statuses, and of what is wrong. */
+/* Runs every WORKERS-th damaged input, and counts statuses and failures. */
 static void work(uint64_t seed, uint64_t count, int worker, int workers, long *counts) {
     static unsigned char input_room[MOST], game_room[MOST];
     char game_name[4200], *words[20];

@@ -1,7 +1,7 @@
-# Which program is the proved one of the sources that are here, told by content: by the sum of the
-# sources and of the program, as a proof (out/built) or the release (release/SOURCES) names them.
-# Read by ./handref where what it found last no longer holds, and by scripts/release. What cannot be
-# looked at in full counts as changed.
+# Which program is the proved one of the sources that are here, decided by content: by the sum of
+# the sources and of the program, as a proof (out/built) or the release (release/SOURCES) names
+# them. ./handref reads this file if its last result no longer holds, and so does scripts/release.
+# What cannot be checked in full counts as changed.
 
 # top and kept are those of the script that reads this, and it reads what is set here.
 # shellcheck shell=sh disable=SC2034,SC2154

@@ -1,9 +1,9 @@
-/* Stands in front of the C library, and refuses one request of a process: for memory, or to open, read or write.
+/* Comes before the C library, and refuses one request of a process: for memory, or to open, read or write.
  *
  * REFUSED is 'KIND NUMBER ERRNO': the request of this kind with this number, from 0, is refused with this number of an
  * error. Kinds are memory, open, in (a read of standard input), game (a read of another file), out (a write to standard
  * output) and line (one to standard error). Under 'pieces SIZE 0' nothing is refused, but each read and write stops
- * after so many bytes. Where a request is refused, a byte goes to the descriptor 250. */
+ * after that many bytes. When a request is refused, a byte is written to the descriptor 250. */
 #define _GNU_SOURCE
 #include <errno.h>
 #include <fcntl.h>

@@ -1,14 +1,14 @@
-# How the program is run by ./handref and by bin/handref of an installed program, which read this
-# file and words.sh: in place of the shell where that can be, and so that it ends as other filters
-# do where the reader of its output has gone.
+# Runs the program. ./handref and the installed bin/handref read this file and words.sh. The
+# program replaces the shell if possible. If the reader of its output has ended, it ends as other
+# filters do.
 
 # shellcheck shell=sh
 slip=
 
-# Runs a program with words. The C library is asked for large pages, so that the kernel hands out
-# the memory of many hands in fewer pieces; where it knows nothing of them, it passes this over. The
-# shell stays only where the output is a pipe, where a person at a terminal is to be told which word
-# is wrong, or where it is told to (`stays`).
+# Runs a program with words. It asks the C library for large pages, so that the kernel hands out
+# the memory of many hands in fewer pieces; a library that does not know them ignores this. The
+# shell stays only if the output is a pipe, if a person at a terminal should see which word is
+# wrong, or if the caller asks for it (`stays`).
 run_program() {
     GLIBC_TUNABLES=glibc.malloc.hugetlb=1${GLIBC_TUNABLES:+:$GLIBC_TUNABLES}
     export GLIBC_TUNABLES
@@ -53,9 +53,9 @@ run_in_pipe() {
     [ -z "$told" ] || printf '%s\n' "$told" >&2
 }
 
-# Whether nobody reads the pipe of standard output, since it could not be written. A pipe that does
-# not wait may also be full only, so of such a one nothing is said. The fourth octal digit of its
-# flags tells which it is.
+# Whether nobody reads the pipe of standard output, after a write to it failed. A pipe that does
+# not wait may only be full, so nothing is known about it. The fourth octal digit of its flags
+# shows that kind.
 has_no_reader() {
     while read -r name value; do
         case $name:$value in

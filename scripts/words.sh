@@ -1,16 +1,18 @@
-# What a person asks for before the program is asked: is it a command, and the help. Read by ./handref, by bin/handref
-# of an installed program and by those who try them. `is_command` is the definition of the words of a command once more,
-# in shell; scripts/documents compares the two. Where it says no, `slip` says what is wrong, for a person at a terminal.
+# Checks a command line before the program is called, and prints the help. ./handref, the
+# installed bin/handref and their tests read this file. `is_command` repeats the program's
+# definition of a command line in shell; scripts/documents compares the two. If it fails, `slip`
+# says what is wrong, for a person at a terminal.
 #
-# A command more has its name in `commands`, a line in `options_of` and a line in `help_text`; an option more has a line
-# in `take`.
+# To add a command, put its name into `commands`, and a line into `options_of` and `help_text`. To
+# add an option, put a line into `take`.
 
-# shellcheck shell=sh disable=SC2034 # slip is told by those who read this file
+# shellcheck shell=sh disable=SC2034 # the scripts that read this file print slip
 slip=
 
 commands='check replay report convert game load views options session equity judge compare'
 
-# What a command takes: the options that it needs, those that may lack, and flags, which have no value.
+# The options of a command: those that it needs, those that are optional, and flags, which have no
+# value.
 options_of() {
     needs='' may='' flags=''
     case $1 in
@@ -33,48 +35,52 @@ help_text() {
     cat <<'END' &&
 handref: a converter and referee of recorded poker hands
 
-  handref check   --from FORMAT [--game FILE] < HANDS    what each seat ends with, or what is wrong first
+  handref check   --from FORMAT [--game FILE] < HANDS    final stacks of each hand, or the first fault
+  handref judge   --from FORMAT [--game FILE] < HANDS    one line per hand: legal, or its first fault
   handref replay  --from FORMAT [--game FILE] < HANDS    each hand step by step
-  handref report  --from FORMAT [--game FILE] < HANDS    hands and pots of each game, net chips of each name
+  handref report  --from FORMAT [--game FILE] < HANDS    hands and pots of each game, net chips of each player
+  handref session --from FORMAT [--game FILE] < HANDS    each player's stack and counts over all hands
   handref convert --from FORMAT --to FORMAT [--game FILE] [--drop-notes] < HANDS
                                                          the same hands in another notation
-  handref game    --from phh|ohh|ohh-to < HANDS          the game file that the first hand fits
-  handref load    --seed N --hands N                     makes hands from a number and sums them up
-  handref judge   --from FORMAT [--game FILE] < HANDS    a line a hand: legal, or what is wrong with it
-  handref options --from FORMAT --hand H --after E [--game FILE] < HANDS
-                                                         the legal moves behind so many events of a hand
-  handref views   --from acpc --game FILE --seat N < HANDS
-                                                         what one seat of a match saw, message by message
-  handref session --from FORMAT [--game FILE] < HANDS    stacks, gaps and counts of each name over all hands
-  handref equity  --from FORMAT --hand H --street S [--game FILE] < HANDS
-                                                         how often each live hand wins, over all boards
   handref compare --from FORMAT --with FILE --as FORMAT [--game FILE] [--no-notes] < HANDS
-                                                         whether two files are the same hands, or what differs first
+                                                         whether two files have the same hands
+  handref options --from FORMAT --hand H --after E [--game FILE] < HANDS
+                                                         the legal moves after event E of hand H (0: at the start)
+  handref equity  --from FORMAT --hand H --street S [--game FILE] < HANDS
+                                                         how often each live hand wins, over all boards to come
+  handref views   --from acpc --game FILE --seat N < HANDS
+                                                         what one player of a match saw, message by message
+  handref game    --from phh|ohh|ohh-to < HANDS          the game file that fits the first hand
+  handref load    --seed N --hands N                     generates hands from a seed and prints six totals
 
-Around the proved program, on Python (each with --help says more):
-  handref page FILE OUT                                  a page to look at the hands of a file
-  handref many check|convert [OPTION..] PATH..           folders, and files of any length, on all processors
-  handref explain FILE [LINE]                            what is wrong with a file, where, and what to do
+Tools in Python around the proved program (try --help after each):
+  handref page FILE OUT                                  an HTML page that shows the hands of a file
+  handref many COMMAND [OPTION..] PATH..                 folders and files of any length, on all processors
+  handref explain FILE [LINE]                            where a fault is, what it means, what would be legal
+  handref cents FILE..                                   turns decimal amounts into whole cents
 
-FORMAT  phh     Poker Hand History (.phh, .phhs)
-        ohh     Open Hand History, the amount of a raise is the chips that it adds
-        ohh-to  Open Hand History, the amount of a raise is the chips to which it goes
-        acpc    a log of the Annual Computer Poker Competition; it needs --game FILE
---game FILE     the game file, exactly where one of the notations is acpc
---drop-notes    leaves out names, dates and the like that the other notation does not spell
---with FILE     the other file of compare, and --as FORMAT how it is read; --no-notes looks at no names, dates and the like
-Options may also be written --name=VALUE. Hands are read from standard input, the answer goes to standard output,
-and one line on standard error says what is wrong.
+FORMAT  phh     Poker Hand History (.phh and .phhs files)
+        ohh     Open Hand History; the amount of a raise is the chips that are added
+        ohh-to  Open Hand History; the amount of a raise is the player's total on the street
+        acpc    a log of the Annual Computer Poker Competition
 
-Status  0 done             1 a hand is refused    2 no command         3 the input does not read
-        4 not spelled      5 reading failed       6 writing failed     7 a limit is passed
-        8 out of memory    9 no game file        10 a bad game file   11 the game file is not readable
-       13 no such hand, event, seat, street or cards       14 the hands differ   15 no other file
+--game FILE     the game file; needed for acpc, and only for acpc
+--drop-notes    leaves out names, dates and other notes that cannot be written in the other notation
+--with FILE     the other file for compare; --as FORMAT is its notation
+--no-notes      ignores names, dates and other notes
+An option can also be written --name=VALUE. Give each option once.
+
+Hands are read from standard input. The answer goes to standard output, and one line on standard error reports a fault.
+
+Status  0 done               1 a hand is refused      2 wrong command line   3 the input cannot be read as hands
+        4 cannot be written  5 reading failed         6 writing failed       7 a limit is exceeded
+        8 out of memory      9 no game file          10 bad game file       11 reading another file failed
+       13 no such hand, event, seat, street or cards 14 the hands differ    15 no other file
 
 END
     cat <<END
 An example: handref check --from phh < ${examples_are_in-examples}/folds.phh
-Each message and what to do about it: ${documents_are_in-docs}/MESSAGES.md
+Each message, and what to do about it: ${documents_are_in-docs}/MESSAGES.md
 The manual: man handref, or ${manual_is-docs/handref.1}
 END
 }
@@ -86,8 +92,8 @@ usage_line() (
     printf 'usage: handref %s [options]\n' "$*"
 )
 
-# Whether the words ask for help: --help, help, or a command and --help. To the program these are no command. What runs on
-# Python has help of its own.
+# Whether the words ask for help: --help, help, or a command and --help. The program itself does
+# not have these, and the tools in Python have help of their own.
 asks_for_help() {
     case $#:${1-}:${2-} in
     2:page:* | 2:many:* | 2:explain:* | 2:cents:*) return 1 ;;
@@ -103,8 +109,8 @@ is_command() {
     options_of "$command" || {
         case $command in
         '') slip="no command is given: $commands" ;;
-        -*) slip="'$command' is no command, and a command comes first: $commands" ;;
-        *) slip="'$command' is no command: $commands" ;;
+        -*) slip="'$command' is not a command; the command comes first: $commands" ;;
+        *) slip="'$command' is not a command: $commands" ;;
         esac
         return 1
     }
@@ -122,15 +128,15 @@ is_command() {
             case " $flags " in
             *" ${1#--} "*) given="$given${1#--} " ;;
             *)
-                [ "$#" -gt 1 ] || { slip="no value stands behind $1" && return 1; }
+                [ "$#" -gt 1 ] || { slip="$1 needs a value" && return 1; }
                 take "${1#--}" "$2" || return 1
                 shift
                 ;;
             esac
             ;;
-        -) slip="'-' is no option; standard input is read without it" && return 1 ;;
+        -) slip="'-' is not an option; standard input is read without it" && return 1 ;;
         *)
-            slip="'$1' is no option"
+            slip="'$1' is not an option"
             [ ! -e "$1" ] || slip="$slip; hands are read from standard input: < $1"
             return 1
             ;;
@@ -143,14 +149,14 @@ is_command() {
     fits_notations
 }
 
-# Whether the command has this option, and it stands for the first time.
+# Whether the command has this option, and it is not given twice.
 is_free() {
     case " $needs $may $flags " in
     *" $1 "*) ;;
     *) slip="$command has no option --$1" && return 1 ;;
     esac
     case $given in
-    *" $1 "*) slip="--$1 stands twice" && return 1 ;;
+    *" $1 "*) slip="--$1 is given twice" && return 1 ;;
     esac
 }
 
@@ -158,14 +164,14 @@ is_free() {
 take() {
     given="$given$1 "
     case $2 in
-    -*) slip="--$1 needs a value, and '$2' is none" && return 1 ;;
+    -*) slip="--$1 needs a value, and '$2' begins with a hyphen" && return 1 ;;
     esac
     case $1:$2 in
     from:phh | from:ohh | from:ohh-to | from:acpc) from=$2 ;;
     to:phh | to:ohh | to:ohh-to | to:acpc) to=$2 ;;
     as:phh | as:ohh | as:ohh-to | as:acpc) other=$2 ;;
-    from:phhs | to:phhs | as:phhs) slip="'phhs' is no notation; .phhs files are phh, too" && return 1 ;;
-    from:* | to:* | as:*) slip="'$2' is no notation: phh, ohh, ohh-to or acpc" && return 1 ;;
+    from:phhs | to:phhs | as:phhs) slip="'phhs' is not a notation; use phh for .phhs files" && return 1 ;;
+    from:* | to:* | as:*) slip="'$2' is not a notation: phh, ohh, ohh-to or acpc" && return 1 ;;
     game: | with:) slip="--$1 needs the name of a file" && return 1 ;;
     game:*) game=$2 ;;
     seed:*) is_number "$1" "$2" 9 0 999999999 ;;
@@ -177,24 +183,25 @@ take() {
     esac
 }
 
-# Whether a value is decimal digits, so many at most, and of this range.
+# Whether a value is a decimal number of at most $3 digits, from $4 to $5.
 is_number() {
     case $2 in
-    '' | *[!0123456789]*) slip="--$1 needs decimal digits, and '$2' is none" && return 1 ;;
+    '' | *[!0123456789]*) slip="--$1 needs a number, and '$2' is not one" && return 1 ;;
     esac
     if [ "${#2}" -gt "$3" ]; then slip="--$1 has at most $3 digits" && return 1; fi
-    if [ "$2" -lt "$4" ] || [ "$2" -gt "$5" ]; then slip="--$1 is $4 to $5" && return 1; fi
+    if [ "$2" -lt "$4" ] || [ "$2" -gt "$5" ]; then slip="--$1 must be from $4 to $5" && return 1; fi
 }
 
-# Whether the notations are those of the command, and a game file stands exactly where one of them is acpc.
+# Whether the command takes these notations, and a game file is given if and only if one of them
+# is acpc.
 fits_notations() {
     case $command:$from in
     views:acpc) ;;
     views:*) slip='views takes a log: --from acpc' && return 1 ;;
-    game:acpc) slip='game takes no log: its game file is there already' && return 1 ;;
+    game:acpc) slip='game takes no log, because a log has a game file already' && return 1 ;;
     esac
     case $from:$to:$other in
     *acpc*) [ -n "$game" ] || { slip='a log (acpc) needs --game FILE' && return 1; } ;;
-    *) [ -z "$game" ] || { slip='--game stands only where a notation is acpc' && return 1; } ;;
+    *) [ -z "$game" ] || { slip='--game is only for logs (acpc)' && return 1; } ;;
     esac
 }
