@@ -1,5 +1,6 @@
-# Installs the proved program under a folder, for ./handref, which reads this file where it is asked to: the program with its
-# manual, completions, documents, examples and the Python package. An install that fails leaves the folder as it was.
+# Installs the proved program under a folder, for ./handref, which reads this file where it is asked
+# to: the program with its manual, completions, documents, examples and the Python package. An
+# install that fails leaves the folder as it was.
 
 # shellcheck shell=sh disable=SC2034,SC2154 # variables of ./handref are meant
 # shellcheck disable=SC2015 # A && B || fail: fail is meant where either of the two did not go well
@@ -22,18 +23,24 @@ share/doc/handref/CHANGELOG.md
 share/doc/handref/CITATION.cff
 END
     cd "$top" || return 1
-    find python/handref python/examples examples docs -type f ! -path '*[!A-Za-z0-9._/-]*' ! -path '*/.*' | LC_ALL=C sort | while read -r file; do
+    find python/handref python/examples examples docs -type f ! -path '*[!A-Za-z0-9._/-]*' \
+        ! -path '*/.*' | LC_ALL=C sort | while read -r file; do
         case $file in
-        python/handref/*.py | python/handref/*.css | python/handref/*.js | python/handref/py.typed) echo "libexec/handref/$file" ;;
-        python/examples/*.py | examples/*) echo "share/doc/handref/$file" ;;
-        docs/*.md | docs/*.svg | docs/*.png) echo "share/doc/handref/${file#docs/}" ;;
+        *.py | *.css | *.js | *.typed | examples/* | docs/*.md | docs/*.svg | docs/*.png) ;;
+        *) continue ;;
+        esac
+        case $file in
+        python/handref/*) echo "libexec/handref/$file" ;;
+        docs/*) echo "share/doc/handref/${file#docs/}" ;;
+        *) echo "share/doc/handref/$file" ;;
         esac
     done
 }
 
 # The folders of these files, those below before those above.
 installed_folders() {
-    installed_files | sed 's|/[^/]*$||' | awk '{ while (1) { print; if (!sub("/[^/]*$", "")) break } }' | sort -u | sort -r
+    installed_files | sed 's|/[^/]*$||' |
+        awk '{ while (1) { print; if (!sub("/[^/]*$", "")) break } }' | sort -u | sort -r
 }
 
 # Puts the source of an installed file into a file.
@@ -49,8 +56,9 @@ put() {
     share/zsh/*) cp -- "$top/completions/_handref" "$2" ;;
     share/fish/*) cp -- "$top/completions/handref.fish" "$2" ;;
     share/doc/handref/copyright) cp -- "$top/LICENSE" "$2" ;;
-    share/doc/handref/examples/* | share/doc/handref/python/*) cp -- "$top/${1#share/doc/handref/}" "$2" ;;
-    share/doc/handref/README.md | share/doc/handref/CHANGELOG.md) put_document "$top/${1##*/}" "$2" ;;
+    share/doc/handref/examples/*) cp -- "$top/${1#share/doc/handref/}" "$2" ;;
+    share/doc/handref/python/*) cp -- "$top/${1#share/doc/handref/}" "$2" ;;
+    */README.md | */CHANGELOG.md) put_document "$top/${1##*/}" "$2" ;;
     share/doc/handref/CITATION.cff) cp -- "$top/CITATION.cff" "$2" ;;
     share/doc/handref/*.md) put_document "$top/docs/${1##*/}" "$2" ;;
     share/doc/handref/*) cp -- "$top/docs/${1##*/}" "$2" ;;
@@ -58,25 +66,28 @@ put() {
     esac
 }
 
-# Puts a document: all documents lie in one folder with examples/ and python/, and what leads elsewhere in the sources is no
-# link.
+# Puts a document: all documents lie in one folder with examples/ and python/, and what leads
+# elsewhere in the sources is no link.
 put_document() {
-    sed -e 's|](docs/|](|g' -e 's|](\.\./|](|g' -e 's|](LICENSE)|](copyright)|g' -e 's|](docs)|](.)|g' \
-        -e 's#\[\([^][]*\)\](\(crates\|scripts\|bench\|edits\|cases\|completions\|release\|handref\|HANDLES\|python/tests\|\.ci\)[^)]*)#\1#g' \
-        "$1" >"$2"
+    elsewhere='crates|scripts|bench|edits|cases|completions|release|handref|HANDLES|python/tests'
+    sed -E -e 's|\]\(docs/|](|g' -e 's|\]\(\.\./|](|g' -e 's|\]\(LICENSE\)|](copyright)|g' \
+        -e 's|\]\(docs\)|](.)|g' -e "s#\[([^][]*)\]\(($elsewhere)[^)]*\)#\1#g" "$1" >"$2"
 }
 
-# Writes all files beside their places, the list first, and then moves them there, so that a program that runs is not
-# disturbed. Whatever fails, or interrupts it, is undone.
+# Writes all files beside their places, the list first, and then moves them there, so that a program
+# that runs is not disturbed. Whatever fails, or interrupts it, is undone.
 install_at() {
     find_program || fail "nothing is installed: $why (./handref --prove makes the proved program)"
     read_more proved
     made='' placed='' list='' files='' undo=undo_install
+    trap '' XFSZ # a file that may not grow is a fault of writing
     case $1 in */*) ;; *) set -- "./$1" ;; esac
     make_folders "${1%"${1##*[!/]}"}"
-    prefix=$(CDPATH='' cd -- "$1" && pwd -P) && [ -w "$prefix" ] || give_up "$1 cannot be written"
+    prefix=$(CDPATH='' cd -- "$1" && pwd -P) && [ -r "$prefix" ] && [ -w "$prefix" ] ||
+        give_up "$1 cannot be written"
     prefix=${prefix%/}
-    exec 8<"$prefix/." && flock -n 8 || give_up "another call writes to $1"
+    exec 8<"$prefix/." && flock -n 8
+    [ "$?" -ne 1 ] || give_up "another call writes to $1"
     files=$(installed_files) && [ -n "$files" ] || give_up 'the files of this clone cannot be read'
     list=libexec/handref/files
     for folder in $(installed_folders); do
@@ -103,7 +114,8 @@ write_beside() {
     set -- "$prefix/$list.handref-new"
     for file in $files; do
         [ ! -d "$prefix/$file" ] || [ -L "$prefix/$file" ] || give_up "$prefix/$file is a folder"
-        put "$file" "$prefix/$file.handref-new" 2>/dev/null || give_up "$prefix/$file cannot be written"
+        put "$file" "$prefix/$file.handref-new" 2>/dev/null ||
+            give_up "$prefix/$file cannot be written"
         set -- "$@" "$prefix/$file.handref-new"
     done
     chmod 644 -- "$@" || give_up "$prefix cannot be written"
@@ -128,13 +140,15 @@ forget_old() {
 # Moves a file that was written to its place, and keeps the one that was there until all are placed.
 place() {
     if [ -e "$prefix/$1" ] || [ -L "$prefix/$1" ]; then
-        ln "$prefix/$1" "$prefix/$1.handref-old" 2>/dev/null || mv -fT "$prefix/$1" "$prefix/$1.handref-old" || return 1
+        ln "$prefix/$1" "$prefix/$1.handref-old" 2>/dev/null ||
+            mv -fT "$prefix/$1" "$prefix/$1.handref-old" || return 1
     fi
     placed="$placed $1"
     mv -fT "$prefix/$1.handref-new" "$prefix/$1" 2>/dev/null
 }
 
-# Makes a folder and those above it that are not there, all for everyone to read, and keeps in mind which.
+# Makes a folder and those above it that are not there, all for everyone to read, and keeps in mind
+# which.
 make_folders() {
     [ ! -d "$1" ] || return 0
     case $1 in */*) [ -z "${1%/*}" ] || make_folders "${1%/*}" ;; esac
@@ -180,21 +194,25 @@ undo_install() {
     printf '%s' "$made" | while IFS= read -r folder; do rmdir -- "$folder" 2>/dev/null; done
 }
 
-# Takes away the files of an installed program, and those of their folders that an install has made and that are empty then.
-# The list that lies in the folder says only which of the folders were made.
+# Takes away the files of an installed program, and those of their folders that an install has made
+# and that are empty then. The list that lies in the folder says only which of the folders were
+# made.
 uninstall_at() {
     prefix=$(CDPATH='' cd -- "$1" 2>/dev/null && pwd -P) || fail "$1 is no folder"
     prefix=${prefix%/}
     list=libexec/handref/files
-    [ -f "$prefix/$list" ] && leads_here libexec/handref || fail "$1 has no handref that was installed from here"
+    [ -f "$prefix/$list" ] && leads_here libexec/handref ||
+        fail "$1 has no handref that was installed from here"
     made=$(sed -n 's/^folder //p' "$prefix/$list")
     for file in $(installed_files) $list; do
         leads_here "${file%/*}" || continue
-        rm -f "$prefix/$file" "$prefix/$file.handref-new" "$prefix/$file.handref-old" 2>/dev/null || fail "$prefix/$file cannot be taken away"
+        rm -f "$prefix/$file" "$prefix/$file.handref-new" "$prefix/$file.handref-old" 2>/dev/null ||
+            fail "$prefix/$file cannot be taken away"
         case $file in
         *.py)
             cached=$prefix/${file%/*}/__pycache__
-            [ -L "$cached" ] || [ ! -d "$cached" ] || { file=${file##*/} && rm -f "$cached/${file%.py}".*.pyc && rmdir "$cached" 2>/dev/null; }
+            [ -L "$cached" ] || [ ! -d "$cached" ] || { file=${file##*/} &&
+                rm -f "$cached/${file%.py}".*.pyc && rmdir "$cached" 2>/dev/null; }
             ;;
         esac
     done

@@ -1,6 +1,7 @@
-# Proves the crates of the program and builds it, for ./handref, which reads this file where it is asked to. One call proves at
-# a time: it holds out/lock, and so does everything that it starts. out/prover names the process of the script and the group
-# of the processes that prove, each with the time at which it began, so that no other process is ever taken for them.
+# Proves the crates of the program and builds it, for ./handref, which reads this file where it is
+# asked to. One call proves at a time: it holds out/lock, and so does everything that it starts.
+# out/prover names the process of the script and the group of the processes that prove, each with
+# the time at which it began, so that no other process is ever taken for them.
 
 # shellcheck shell=sh disable=SC2034,SC2154 # variables of ./handref are meant
 # shellcheck disable=SC2015 # A && B || fail: fail is meant where either of the two did not go well
@@ -31,18 +32,22 @@ note_prover() {
     {
         echo "script $$ $(start_of "$$")"
         [ -z "$child" ] || echo "group $child $(start_of "$child")"
-    } >"$kept/prover.new" && mv -f "$kept/prover.new" "$kept/prover" || fail 'out/ cannot be written'
+    } >"$kept/prover.new" && mv -f "$kept/prover.new" "$kept/prover" ||
+        fail 'out/ cannot be written'
 }
 
-# Waits for the lock, with a line each ten seconds where another holds it, and proves what is not proved by then.
+# Waits for the lock, with a line each ten seconds where another holds it, and proves what is not
+# proved by then.
 prove_here() {
-    command -v rt >/dev/null 2>&1 || fail "the toolchain's command rt is not on the path (docs/RELEASE.md)"
+    command -v rt >/dev/null 2>&1 ||
+        fail "the toolchain's command rt is not on the path (docs/RELEASE.md)"
     can_keep && : >>"$kept/lock" || fail 'out/ cannot be written, so the program is not built'
     exec 9<"$kept/lock"
     flock -n 9 || wait_for_other
     sum_sources || fail "$why"
     is_marked "$kept/handref" "$kept/built" || prove
     exec 9<&-
+    rm -f "$kept/checked"
     kind=built program=$kept/handref
     say "the program of these sources is proved: $program, sha256 $program_sum"
 }
@@ -59,8 +64,8 @@ wait_for_other() {
     sum_sources && fail_as_before
 }
 
-# Proves the crates of the program, several at a time, and builds it. The mark names the sources as they were when it began,
-# and is only set where none was written meanwhile.
+# Proves the crates of the program, several at a time, and builds it. The mark names the sources as
+# they were when it began, and is only set where none was written meanwhile.
 prove() {
     proves=yes
     rm -f "$kept/failed"
@@ -69,10 +74,12 @@ prove() {
     wanted=$sources
     note_prover
     total=$(own_crates | wc -l)
-    tell "proving $total crates; from nothing this takes half an hour to an hour and a half on four processors and 7.4 GB of memory, and a gate that runs here is waited for"
+    tell "proving $total crates; from nothing this takes half an hour to an hour and a half on \
+four processors and 7.4 GB of memory, and a gate that runs here is waited for"
     prove_crates || not_proved "$?"
     build || not_built "$?"
-    cmp -s "$kept/ran" "$top/crates/handref/stdout" || fail "all $total crates are proved, but the program that was built does not answer its example"
+    cmp -s "$kept/ran" "$top/crates/handref/stdout" ||
+        fail "all $total crates are proved, but the program does not answer its example"
     rm -f "$kept/ran"
     tell "the last line of the proof: $(grep '^logic=' "$log" | tail -n 1)"
     keep_program
@@ -84,13 +91,14 @@ prove() {
 # Keeps the program, and then its mark.
 keep_program() {
     sum_sources && [ "$sources" = "$wanted" ] && is_unwritten ||
-        fail 'a source was written while the sources were proved; ./handref --prove proves what has changed'
+        fail 'a source was written while all were proved; ./handref --prove proves what has changed'
     cp "$top/crates/handref/out/handref" "$kept/handref.new" && chmod 755 "$kept/handref.new" &&
         program_sum=$(sum_of "$kept/handref.new") && {
         echo "sources $sources"
         echo "program $program_sum"
         echo "kit $(rt version 2>/dev/null | sed 1q)"
-    } >"$kept/built.new" && mv -f "$kept/handref.new" "$kept/handref" && mv -f "$kept/built.new" "$kept/built" ||
+    } >"$kept/built.new" && mv -f "$kept/handref.new" "$kept/handref" &&
+        mv -f "$kept/built.new" "$kept/built" ||
         fail 'out/ cannot be written'
 }
 
@@ -104,16 +112,18 @@ is_unwritten() {
     done) && [ -z "$newer" ]
 }
 
-# Says of each crate when it is proved. The proof runs in a group of its own and in the background, so that an interrupt need
-# not wait for it. One command proves all crates, several at a time; it looks over all sources first, and takes 7.5 GB of
-# memory for that.
+# Says of each crate when it is proved. The proof runs in a group of its own and in the background,
+# so that an interrupt need not wait for it. One command proves all crates, several at a time; it
+# looks over all sources first, and takes 7.5 GB of memory for that.
 prove_crates() {
     memory=$(awk '$1 == "MemAvailable:" { print int($2 / 500000) }' /proc/meminfo)
     if [ "$memory" -ge 18 ]; then
-        (cd "$top/crates/handref" && exec setsid rt all check --jobs "$(at_once "$memory")") >>"$log" 2>&1 </dev/null &
+        (cd "$top/crates/handref" &&
+            exec setsid rt all check --jobs "$(at_once "$memory")") >>"$log" 2>&1 </dev/null &
     else
         # shellcheck disable=SC2046 # a name is a word
-        setsid sh -c "$in_turn" sh "$top/crates" $(own_crates | grep -v '^handref$') >>"$log" 2>&1 </dev/null &
+        setsid sh -c "$in_turn" sh "$top/crates" $(own_crates |
+            grep -v '^handref$') >>"$log" 2>&1 </dev/null &
     fi
     child=$!
     note_prover
@@ -132,7 +142,8 @@ prove_crates() {
     return "$ended"
 }
 
-# Proves the crates below the program one after the other, the lowest first, and says so in the words of that command.
+# Proves the crates below the program one after the other, the lowest first, and says so in the
+# words of that command.
 # shellcheck disable=SC2016 # the shell that runs it replaces them
 in_turn='
     cd "$1" && shift || exit 70
@@ -150,7 +161,8 @@ in_turn='
 # Builds the program of the proved crates, and runs it once.
 build() {
     tell 'all crates are proved; the program is built, in some minutes'
-    (cd "$top/crates/handref" && exec setsid rt run -- check --from phh <stdin) >"$kept/ran" 2>>"$log" &
+    (cd "$top/crates/handref" &&
+        exec setsid rt run -- check --from phh <stdin) >"$kept/ran" 2>>"$log" &
     child=$!
     note_prover
     start_ticking 'the build goes on'
@@ -160,13 +172,16 @@ build() {
     return "$ended"
 }
 
-# Says that a proof goes on where no crate was proved for ten seconds. Those who wait for it say so themselves.
+# Says that a proof goes on where no crate was proved for ten seconds. Those who wait for it say so
+# themselves.
 tell_quiet() {
-    [ "$count" -ne "$quiet_since" ] || say "$count of $total crates are proved, after $seconds seconds"
+    [ "$count" -ne "$quiet_since" ] ||
+        say "$count of $total crates are proved, after $seconds seconds"
     quiet_since=$count
 }
 
-# How many crates are proved at a time: as many as there are processors, where each has 4.5 GB of memory.
+# How many crates are proved at a time: as many as there are processors, where each has 4.5 GB of
+# memory.
 at_once() {
     fit=$(($1 / 9))
     [ "$fit" -lt "$(nproc)" ] || fit=$(nproc)
@@ -180,8 +195,8 @@ tell_proved() {
     done
 }
 
-# The crates that are proved by now, as the log says it: below a crate's heading, or of one that was proved before, in the
-# summary at the end.
+# The crates that are proved by now, as the log says it: below a crate's heading, or of one that was
+# proved before, in the summary at the end.
 proved_crates() {
     awk '
         /^== / { name = $2 == "summary" ? "" : $2 }
@@ -190,8 +205,9 @@ proved_crates() {
     ' "$log"
 }
 
-# Ends where not all crates were proved: with the first that the log names as failed, or else by saying that the proof was cut
-# off. A crate that fails with status 1 is a failed proof, which only ./handref --prove tries again.
+# Ends where not all crates were proved: with the first that the log names as failed, or else by
+# saying that the proof was cut off. A crate that fails with status 1 is a failed proof, which only
+# ./handref --prove tries again.
 not_proved() {
     failed=$(sed -n 's/^\([a-z0-9_]*\): failed (\(-\{0,1\}[0-9]*\))$/\1 \2/p' "$log" | sed 1q)
     [ "${failed#* }" != 1 ] && [ "$1" -ne 1 ] || echo "sources $wanted" >"$kept/failed"
@@ -201,7 +217,8 @@ not_proved() {
     elif [ "$1" -eq 1 ]; then
         tell "the proof failed: $log tells why"
     else
-        tell "the proof was cut off (status $1) with $count of $total crates proved, which are kept: ./handref --prove goes on, and $log tells more"
+        tell "the proof was cut off (status $1) with $count of $total crates proved, which \
+are kept: ./handref --prove goes on, and $log tells more"
     fi
     exit 70
 }
@@ -209,12 +226,14 @@ not_proved() {
 # Ends where all crates were proved and the program was not built.
 not_built() {
     rm -f "$kept/prover"
-    tell "all $total crates are proved, but the program was not built (status $1): ./handref --prove goes on, and $log tells more"
+    tell "all $total crates are proved, but the program was not built (status $1): \
+./handref --prove goes on, and $log tells more"
     exit 70
 }
 
 
-# Ends a proof that another call has begun: its script, which ends what it has started, or else the group alone.
+# Ends a proof that another call has begun: its script, which ends what it has started, or else the
+# group alone.
 stop() {
     [ -f "$kept/lock" ] && exec 9<"$kept/lock" && ! flock -n 9 || {
         say 'no proof runs here'
@@ -239,8 +258,8 @@ end_by_force() {
     flock -w 5 9 || fail 'the proof was told to end, and did not in 25 seconds'
 }
 
-# The script and the group of a proof, where they are the ones that were noted. A group whose first process has ended is the
-# one that was noted where a process of it holds the lock.
+# The script and the group of a proof, where they are the ones that were noted. A group whose first
+# process has ended is the one that was noted where a process of it holds the lock.
 read_prover() {
     script='' group=''
     while read -r what id began; do

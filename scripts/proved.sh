@@ -1,11 +1,15 @@
-# Which program is the proved one of the sources that are here, told by content: by the sum of the sources and of the program,
-# as a proof (out/built) or the release (release/SOURCES) names them. Read by ./handref where what it found last no longer
-# holds, and by scripts/release. What cannot be looked at in full counts as changed.
+# Which program is the proved one of the sources that are here, told by content: by the sum of the
+# sources and of the program, as a proof (out/built) or the release (release/SOURCES) names them.
+# Read by ./handref where what it found last no longer holds, and by scripts/release. What cannot be
+# looked at in full counts as changed.
 
-# shellcheck shell=sh disable=SC2034,SC2154 # top and kept are those of the script that reads this; it reads what is set here
+# top and kept are those of the script that reads this, and it reads what is set here.
+# shellcheck shell=sh disable=SC2034,SC2154
 # shellcheck disable=SC2015 # A && B || C: C is meant where either of the two did not go well
 release=$top/release/SOURCES
 archive=$top/release/handref.gz
+line_end='
+'
 
 # The value of a name in a file of lines `name value`.
 value_of() {
@@ -21,10 +25,11 @@ sum_of() {
 sum_sources() {
     sources=
     list=$("$top/scripts/sources" 2>&1) || {
-        why="the sources cannot be checked ($(printf '%s\n' "$list" | sed 1q))"
+        why="the sources cannot be checked (${list%%"$line_end"*})"
         return 1
     }
-    sources=$(printf '%s\n' "$list" | sha256sum) && sources=${sources%% *} && [ "${#sources}" -eq 64 ] || {
+    sources=$(printf '%s\n' "$list" | sha256sum) && sources=${sources%% *} &&
+        [ "${#sources}" -eq 64 ] || {
         why='the sources cannot be checked (sha256sum fails)'
         return 1
     }
@@ -37,11 +42,19 @@ is_marked() {
     [ -n "$program_sum" ] && [ "$(value_of "$2" program)" = "$program_sum" ]
 }
 
-# Unpacks the program of the release into a folder, where it is not there already, and runs it once without words.
+# Whether a file is the program of the release, whatever the sources are.
+is_released() {
+    [ -x "$1" ] && program_sum=$(sum_of "$1") && [ -n "$program_sum" ] &&
+        [ "$(value_of "$release" program)" = "$program_sum" ]
+}
+
+# Unpacks the program of the release into a folder, where it is not there already, and runs it once
+# without words.
 unpack_under() {
-    is_marked "$1/released" "$release" && return
+    is_released "$1/released" && return
     new=$1/released.$$
-    gzip -dc <"$archive" >"$new" 2>/dev/null && chmod 755 "$new" && is_marked "$new" "$release" && runs "$new" &&
+    gzip -dc <"$archive" >"$new" 2>/dev/null && chmod 755 "$new" && is_released "$new" &&
+        runs "$new" &&
         mv -f "$new" "$1/released" && return
     rm -f "$new"
     return 1
@@ -53,8 +66,9 @@ runs() {
     [ "$?" -eq 2 ]
 }
 
-# Finds the proved program of these sources: one that was proved and built here, or else that of the release. Where out/
-# cannot be written, the released one is unpacked into a folder that goes away with this call.
+# Finds the proved program of these sources: one that was proved and built here, or else that of the
+# release. Where out/ cannot be written, the released one is unpacked into a folder that goes away
+# with this call.
 look() {
     kind='' program=$kept/handref
     if [ -f "$release" ] && [ ! -f "$kept/built" ] && can_keep; then unpack_under "$kept"; fi
@@ -68,20 +82,23 @@ look() {
         elif use_work && unpack_under "$work"; then
             program=$work/released stays=yes
         else
-            why='the program of the release does not run here: it takes gzip to unpack it, Linux on x86-64 and the GNU C library'
+            why='the program of the release does not run here: it takes gzip, Linux on x86-64'
+            why="$why and the GNU C library"
             return 1
         fi
         kind=released
     else
         why='these sources have no proof here'
-        [ ! -f "$release" ] || why='these sources are not those of the release and have no proof here'
+        [ ! -f "$release" ] ||
+            why='these sources are not those of the release and have no proof here'
         return 1
     fi
     [ -n "${stays-}" ] || note
 }
 
-# A note of what was found has the time at which the look began: what is written later is seen. Two clock ticks go by before
-# anything is read, and where the times of files are in whole seconds, a second is taken off.
+# A note of what was found has the time at which the look began: what is written later is seen. Two
+# clock ticks go by before anything is read, and where the times of files are in whole seconds, a
+# second is taken off.
 begin_note() {
     can_keep && : >"$kept/began.$$" && sleep 0.02 || return
     case $(stat -c %y "$kept/began.$$") in
@@ -91,7 +108,8 @@ begin_note() {
 } 2>/dev/null
 
 note() {
-    printf '%s\n%s\n' "$kind" "$program_sum" >"$kept/checked.$$" && touch -r "$kept/began.$$" "$kept/checked.$$" &&
+    printf '%s\n%s\n' "$kind" "$program_sum" >"$kept/checked.$$" &&
+        touch -r "$kept/began.$$" "$kept/checked.$$" &&
         mv -f "$kept/checked.$$" "$kept/checked" || rm -f "$kept/checked.$$" "$kept/checked"
     rm -f "$kept/began.$$"
 } 2>/dev/null
@@ -104,13 +122,16 @@ version_here() {
 # One line that says what ./handref runs.
 version_line() {
     case $kind in
-    released) echo "handref $(value_of "$release" version), proved; released program, sha256 $program_sum" ;;
+    released)
+        echo "handref $(value_of "$release" version), proved; released program, sha256 $program_sum"
+        ;;
     built) echo "handref $(version_here), proved; own build, sha256 $program_sum" ;;
     *) echo "handref $(version_here); $why" ;;
     esac
 }
 
-# Says whether the program that was proved here has the bytes of the release, where the release is of these sources.
+# Says whether the program that was proved here has the bytes of the release, where the release is
+# of these sources.
 compare_with_release() {
     if [ ! -f "$release" ]; then
         say 'there is no release here to compare it with'
@@ -126,5 +147,6 @@ compare_with_release() {
 # Ends where the proof of these very sources has failed.
 fail_as_before() {
     [ -n "$sources" ] && [ "$(value_of "$kept/failed" sources)" = "$sources" ] || return 0
-    fail "the proof of these sources failed: $kept/prove.log tells why (./handref --prove tries again)"
+    fail "the proof of these sources failed: $kept/prove.log tells why \
+(./handref --prove tries again)"
 }

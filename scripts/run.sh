@@ -1,12 +1,14 @@
-# How the program is run by ./handref and by bin/handref of an installed program, which read this file and words.sh: in place
-# of the shell where that can be, and so that it ends as other filters do where the reader of its output has gone.
+# How the program is run by ./handref and by bin/handref of an installed program, which read this
+# file and words.sh: in place of the shell where that can be, and so that it ends as other filters
+# do where the reader of its output has gone.
 
 # shellcheck shell=sh
 slip=
 
-# Runs a program with words. The C library is asked for large pages, so that the kernel hands out the memory of many hands in
-# fewer pieces; where it knows nothing of them, it passes this over. The shell stays only where the output is a pipe, where a
-# person at a terminal is to be told which word is wrong, or where it is told to (`stays`).
+# Runs a program with words. The C library is asked for large pages, so that the kernel hands out
+# the memory of many hands in fewer pieces; where it knows nothing of them, it passes this over. The
+# shell stays only where the output is a pipe, where a person at a terminal is to be told which word
+# is wrong, or where it is told to (`stays`).
 run_program() {
     GLIBC_TUNABLES=glibc.malloc.hugetlb=1${GLIBC_TUNABLES:+:$GLIBC_TUNABLES}
     export GLIBC_TUNABLES
@@ -31,10 +33,11 @@ wanted() {
     is_command "$@"
 }
 
-# Runs a program whose output is a pipe. It ignores SIGPIPE, so that it ends with `write fault` and 6 where nobody reads the
-# pipe any more; other filters are ended by the signal and say nothing, and so is this shell then. Where its caller ignores
-# the signal, no shell can take it back, and the line and the status of the program remain. A shell that is killed takes the
-# program with it, where setpriv can see to that.
+# Runs a program whose output is a pipe. It ignores SIGPIPE, so that it ends with `write fault` and
+# 6 where nobody reads the pipe any more; other filters are ended by the signal and say nothing, and
+# so is this shell then. Where its caller ignores the signal, no shell can take it back, and the
+# line and the status of the program remain. A shell that is killed takes the program with it, where
+# setpriv can see to that.
 run_in_pipe() {
     exec 3>&1
     if command -v setpriv >/dev/null; then
@@ -50,8 +53,9 @@ run_in_pipe() {
     [ -z "$told" ] || printf '%s\n' "$told" >&2
 }
 
-# Whether nobody reads the pipe of standard output, since it could not be written. A pipe that does not wait may also be full
-# only, so of such a one nothing is said. The fourth octal digit of its flags tells which it is.
+# Whether nobody reads the pipe of standard output, since it could not be written. A pipe that does
+# not wait may also be full only, so of such a one nothing is said. The fourth octal digit of its
+# flags tells which it is.
 has_no_reader() {
     while read -r name value; do
         case $name:$value in
@@ -62,8 +66,8 @@ has_no_reader() {
     return 1
 }
 
-# Ends by the signal of a status above 128, and takes the temporary folder of ./handref away before. Where that signal is
-# ignored, it goes on.
+# Ends by the signal of a status above 128, and takes the temporary folder of ./handref away before.
+# Where that signal is ignored, it goes on.
 die_of() {
     [ -z "${work-}" ] || leave
     trap - HUP INT TERM PIPE
@@ -79,8 +83,8 @@ print_by() {
     exit 6
 }
 
-# Runs the Python package in a folder with a program. The folder of the call is not searched for modules, since a stranger's
-# files may lie there.
+# Runs the Python package in a folder with a program. The folder of the call is not searched for
+# modules, since a stranger's files may lie there.
 run_python() {
     command -v python3 >/dev/null || {
         echo "handref: $3 runs on Python, and python3 is not on the path" >&2

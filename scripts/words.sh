@@ -86,9 +86,11 @@ usage_line() (
     printf 'usage: handref %s [options]\n' "$*"
 )
 
-# Whether the words ask for help: --help, help, or a command and --help. To the program these are no command.
+# Whether the words ask for help: --help, help, or a command and --help. To the program these are no command. What runs on
+# Python has help of its own.
 asks_for_help() {
     case $#:${1-}:${2-} in
+    2:page:* | 2:many:* | 2:explain:* | 2:cents:*) return 1 ;;
     1:--help: | 1:-h: | 1:help: | 2:[!-]*:--help | 2:[!-]*:-h) return 0 ;;
     esac
     return 1

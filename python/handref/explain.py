@@ -89,17 +89,37 @@ def is_printed(text: str) -> bool:
     return bool(_START.search(text.strip()))
 
 
-def explain(hands: Hands, notation: str, game: Game = None,
+def explain(hands: Hands, notation: handref.Notation, game: Game = None,
             line: Optional[str] = None) -> Explanation:
     """Explains a line about a file, or the first fault of the file."""
     path = handref.path_of(hands) or ""
     if line is not None:
         said = printed(line)
-        error = handref.not_done(status_of(said) or 0, said)
-        return _of(error, path, _data(hands), notation, game)
-    if not os.path.exists(path) and path:
-        raise FileNotFoundError(2, os.strerror(2), path)
+        return _said(handref.not_done(status_of(said) or 0, said), hands, path, notation, game)
     return _asked(hands, path, notation, game)
+
+
+def _said(error: NotDone, hands: Hands, path: str, notation: handref.Notation,
+          game: Game) -> Explanation:
+    """A line about a file: of a long one, about the piece that has the hand."""
+    hand, line = error.hand, error.line_number if error.status == 3 else None
+    for piece in _pieces(hands, notation) if hand or line else ():
+        lines = piece.data.count(b"\n") + (not piece.data.endswith(b"\n"))
+        is_here = hand <= piece.hands_before + piece.hands if hand else \
+            (line or 0) <= piece.lines_before + lines
+        if not piece.hands or is_here:
+            own = replace(error, hand=hand and hand - piece.hands_before,
+                          line_number=line and line - piece.lines_before)
+            found = _of(own, path, piece.data, notation, game)
+            if found.spot:
+                found.spot = places.moved(found.spot, piece.lines_before)
+            return found
+    if hand or line:
+        return Explanation(error.status, error.line, path, None,
+                           ["The hand was not found in the file."],
+                           messages.explained(error, notation))
+    data = b"" if error.status in (5, 8, 9, 10, 11) else handref.read(hands)
+    return _of(error, path, data, notation, game)
 
 
 def _data(hands: Hands) -> bytes:
@@ -114,7 +134,7 @@ def _data(hands: Hands) -> bytes:
         raise OSError(f"{path}: {fault}") from fault
 
 
-def _asked(hands: Hands, path: str, notation: str, game: Game) -> Explanation:
+def _asked(hands: Hands, path: str, notation: handref.Notation, game: Game) -> Explanation:
     """What the program says of a file, piece by piece."""
     legal = 0
     for piece in _pieces(hands, notation):
@@ -127,7 +147,8 @@ def _asked(hands: Hands, path: str, notation: str, game: Game) -> Explanation:
             found = _of_piece(refused[0], path, piece, notation, game)
             others = len(refused) - 1
             if others:
-                found.facts.append(f"{others} more hand{'s' * (others > 1)} of this file "
+                few = "At least " if piece.hands else ""  # more pieces may follow
+                found.facts.append(f"{few}{counted(others, 'more hand')} of this file "
                                    f"{'are' if others > 1 else 'is'} refused.")
             return found
         legal += len(verdicts)
@@ -137,15 +158,18 @@ def _asked(hands: Hands, path: str, notation: str, game: Game) -> Explanation:
         f"{shown(path)}: nothing is wrong: {legal} hand{'s are' if legal > 1 else ' is'} legal"])
 
 
-def _pieces(hands: Hands, notation: str) -> Iterator[Piece]:
-    data = _data(hands)
-    if len(data) <= handref.MOST_BYTES or notation == "phh":
-        yield Piece(data, notation, 0, 0, 0)
+def _pieces(hands: Hands, notation: handref.Notation) -> Iterator[Piece]:
+    """A file as one piece, whose hands are not counted (0); a long log or OHH cut in several."""
+    path = handref.path_of(hands) or ""
+    size = os.path.getsize(path) if path else len(handref.read(hands))
+    if notation == "phh" or size <= handref.MOST_BYTES and not path.endswith(".gz"):
+        yield Piece(_data(hands), notation, 0, 0, 0)
     else:
-        yield from handref.pieces(data, notation)
+        yield from handref.pieces(hands, notation)
 
 
-def _of_piece(error: NotDone, path: str, piece: Piece, notation: str, game: Game) -> Explanation:
+def _of_piece(error: NotDone, path: str, piece: Piece, notation: handref.Notation,
+              game: Game) -> Explanation:
     """A fault of a piece of a file, said of the whole file."""
     found = _of(error, path, piece.data, notation, game)
     whole = handref.whole(replace(error, line_number=error.line_number), piece)
@@ -154,10 +178,14 @@ def _of_piece(error: NotDone, path: str, piece: Piece, notation: str, game: Game
     return replace(found, line=whole.line)
 
 
-def _of(error: NotDone, path: str, data: bytes, notation: str, game: Game) -> Explanation:
+def _of(error: NotDone, path: str, data: bytes, notation: handref.Notation,
+        game: Game) -> Explanation:
     """What is known of a line and its file."""
-    found = Explanation(error.status, error.line, path,
-                        meaning=messages.explained(error, notation))
+    found = Explanation(error.status, error.line, path)
+    try:
+        found.meaning = messages.explained(error, notation)
+    except FileNotFoundError:
+        pass  # the rest is known without the document
     if error.line.startswith("file: "):
         error = replace(error, line=error.line[6:])
     if error.status == 10 or error.place == "game bytes":
@@ -168,7 +196,7 @@ def _of(error: NotDone, path: str, data: bytes, notation: str, game: Game) -> Ex
         found.spot = places.of(data, notation, error)
         found.facts = _facts(error, data, notation, game, found.spot)
     elif error.status == 7:
-        found.facts = _of_limit(error, data)
+        found.facts = _of_limit(error)
     elif error.status in (9, 15) and game:
         found.facts = [f"There is no file {shown(os.fspath(game))} in {shown(os.getcwd())}."
                        if not os.path.exists(game) else f"{shown(os.fspath(game))} is there now."]
@@ -186,14 +214,14 @@ def _of_game(found: Explanation, error: NotDone, game: Game) -> None:
         found.spot, found.facts = explain_game.why(data, error.line_number, error.reason or "")
 
 
-def _of_limit(error: NotDone, data: bytes) -> list[str]:
+def _of_limit(error: NotDone) -> list[str]:
     if error.place == "input bytes":
-        return [f"The file has {len(data)} bytes. handref many takes files of any length."]
+        return ["handref many takes files of any length."]
     return ["handref many takes files with any number of hands."] if error.place in (
         "hands", "moves of the file") else []
 
 
-def _facts(error: NotDone, data: bytes, notation: str, game: Game,
+def _facts(error: NotDone, data: bytes, notation: handref.Notation, game: Game,
            found: Optional[Spot]) -> list[str]:
     value = found.value if found else None
     if error.status == 1:
@@ -203,13 +231,21 @@ def _facts(error: NotDone, data: bytes, notation: str, game: Game,
         except (LookupError, ValueError, UnicodeError):
             return ["The hand was not found in the file."]
     if error.status == 3 and found:
-        return _of_value(error, notation, found)
+        return _of_value(error, notation, found) + _seats(error, notation, data)
     return []
+
+
+def _seats(error: NotDone, notation: str, data: bytes) -> list[str]:
+    """How many items a list of PHH needs."""
+    if error.reason != "ListLength" or notation != "phh" or error.place == "_rakes":
+        return []
+    stacks = places.table_of(places.decoded(data), error.hand or 1)[1].get("starting_stacks")
+    return [f"It needs one for each of the {len(stacks)} seats."] if stacks else []
 
 
 # What a key, a member or a field has in place of what is read.
 
-def _of_value(error: NotDone, notation: str, found: Spot) -> list[str]:
+def _of_value(error: NotDone, notation: handref.Notation, found: Spot) -> list[str]:
     """What is at the place of a fault of the input."""
     reason, value = error.reason or "", found.value
     if notation == "acpc":
@@ -279,9 +315,14 @@ def of_line(line: str) -> Explanation:
     return Explanation(error.status, said, meaning=messages.explained(error))
 
 
-def notation_of(path: str, notation: Optional[str]) -> str:
-    """The notation that is said, or that of the end of a name. ValueError: there is none."""
+def notation_of(path: str, notation: Optional[handref.Notation],
+                game: Game) -> handref.Notation:
+    """The notation that is said, or that of the end of a name. ValueError: there is none, or the
+    game file of a log is not said."""
     found = notation or cut.notation_of(path)
     if not found:
         raise ValueError(f"{path}: no notation has this name; --from says which it is")
+    if (found == "acpc") != (game is not None):
+        raise ValueError(f"{path}: a log needs its game file: --game GAME" if game is None else
+                         f"{path}: --game goes with logs, and this is read as {found}")
     return found

@@ -5,7 +5,7 @@ from dataclasses import dataclass
 from typing import Any, Optional, Sequence
 
 import handref
-from handref import Game, NotDone, Step
+from handref import Game, NotDone, Pot, Step
 from handref.before import StandIn, before, seats_of
 
 _WANTED = {"phh": "cbr", "acpc": "r"}  # what a raise is called, before its amount
@@ -15,36 +15,44 @@ _WANTED = {"phh": "cbr", "acpc": "r"}  # what a raise is called, before its amou
 class _Hand:
     """A refused hand, and the legal one with the same events before what is refused."""
     data: bytes
-    notation: str
+    notation: handref.Notation
     game: Game
     refused: NotDone
     stand_in: StandIn
     steps: Sequence[Step]
+    pots: Sequence[Pot]
 
     @property
     def now(self) -> Step:
         return self.steps[self.stand_in.events]
 
 
-def facts(data: bytes, notation: str, game: Game, refused: NotDone, said: Any = None) -> list[str]:
+def facts(data: bytes, notation: handref.Notation, game: Game, refused: NotDone,
+          said: Any = None) -> list[str]:
     """Sentences about a refused hand, which is the only one of its file: what was said, what would
     have been legal, the chips before it. `said` is what the source says there."""
     stand_in = before(data, notation, refused, game)
     if stand_in is None:
         return ["What was legal there was not found."]
-    steps = handref.replay(stand_in.data, notation, game)[0].steps
-    hand = _Hand(data, notation, game, refused, stand_in, steps)
-    if refused.reason == "stated":
-        return _of_stated(hand)
-    if refused.reason == "rake too big":
-        pots = handref.replay(stand_in.data, notation, game)[0].pots
-        number = int((refused.place or "pot 1").split(" ")[1])
-        chips = pots[number - 1].chips if number <= len(pots) else 0
-        return [f"Pot {number} has {chips} chips before its rake."]
+    hand = _of(data, notation, game, refused, stand_in)
     found = _of_reason(hand, said)
+    if refused.reason in ("stated", "rake too big"):
+        return found
     if not stand_in.hidden:
         found += _due(hand)
     return [*found, _chips(hand)]
+
+
+def reasons(data: bytes, notation: handref.Notation, game: Game, refused: NotDone,
+            stand_in: StandIn, said: Any = None) -> list[str]:
+    """The sentences about what is wrong alone, where the legal hand is found already."""
+    return _of_reason(_of(data, notation, game, refused, stand_in), said)
+
+
+def _of(data: bytes, notation: handref.Notation, game: Game, refused: NotDone,
+        stand_in: StandIn) -> _Hand:
+    replayed = handref.replay(stand_in.data, notation, game)[0]
+    return _Hand(data, notation, game, refused, stand_in, replayed.steps, replayed.pots)
 
 
 def _of_stated(hand: _Hand) -> list[str]:
@@ -53,6 +61,12 @@ def _of_stated(hand: _Hand) -> list[str]:
     return [f"The source states {stated}; the replay comes to {replayed}, which is "
             f"{abs(stated - replayed)} {'less' if replayed < stated else 'more'}. Correct it, or "
             "leave it out where the notation allows that."]
+
+
+def _of_rake(hand: _Hand) -> list[str]:
+    number = int((hand.refused.place or "pot 1").split(" ")[1])
+    chips = hand.pots[number - 1].chips if number <= len(hand.pots) else 0
+    return [f"Pot {number} has {chips} chips before its rake."]
 
 
 def _due(hand: _Hand) -> list[str]:
@@ -77,6 +91,10 @@ def _chips(hand: _Hand) -> str:
 def _of_reason(hand: _Hand, said: Any) -> list[str]:
     """What a reason is about, with the numbers and cards of the hand."""
     reason = hand.refused.reason or ""
+    if reason == "stated":
+        return _of_stated(hand)
+    if reason == "rake too big":
+        return _of_rake(hand)
     if reason in ("RaiseTooSmall", "RaiseTooBig", "RaiseClosed"):
         return _of_raise(hand) + _other_dialect(hand)
     if reason == "AmountDiffers":
@@ -113,7 +131,7 @@ def _is_limit(game: Game) -> bool:
     return game is not None and bool(re.search(rb"(?im)^limit\r?$", handref.read(game)))
 
 
-def _meaning(notation: str) -> str:
+def _meaning(notation: handref.Notation) -> str:
     return {"acpc": "the chips of the hand to which it goes", "ohh": "the chips that it adds"}.get(
         notation, "the chips of the street to which it goes")
 
@@ -146,7 +164,8 @@ def _antes(hand: _Hand) -> list[int]:
 
 def _other_dialect(hand: _Hand) -> list[str]:
     """Whether the hand is legal where its raises are read in the other way."""
-    other = {"ohh": "ohh-to", "ohh-to": "ohh"}.get(hand.notation)
+    others: dict[str, handref.Notation] = {"ohh": "ohh-to", "ohh-to": "ohh"}
+    other = others.get(hand.notation)
     if other is None:
         return []
     try:

@@ -4,15 +4,16 @@ import json
 import re
 from typing import Optional
 
+import handref
 from handref import toml
 from handref.cut import shown
 from handref.places import Spot, blocks, spot
 
 Found = tuple[Optional[Spot], list[str]]
 
-_PACKED = ((b"\x1f\x8b", "gzip", "gunzip"), (b"PK\x03\x04", "zip", "unzip"),
-           (b"BZh", "bzip2", "bunzip2"), (b"\xfd7zXZ\0", "xz", "unxz"),
-           (b"(\xb5/\xfd", "zstd", "unzstd"), (b"7z\xbc\xaf", "7-Zip", "7z x"))
+_PACKED = ((b"\x1f\x8b", "gzip", "gzip -dc"), (b"PK\x03\x04", "zip", "unzip -p"),
+           (b"BZh", "bzip2", "bzip2 -dc"), (b"\xfd7zXZ\0", "xz", "xz -dc"),
+           (b"(\xb5/\xfd", "zstd", "zstd -dc"), (b"7z\xbc\xaf", "7-Zip", "7z x -so"))
 _MARKS = ((b"\xff\xfe\0\0", "UTF-32"), (b"\0\0\xfe\xff", "UTF-32"), (b"\xff\xfe", "UTF-16"),
           (b"\xfe\xff", "UTF-16"))
 _OTHERS = (("phh", re.compile(r"\s*(#[^\n]*\s*)*(\[\d+\]\s*)?[a-z_]+ *= *['\"\[\d]"), "a PHH file"),
@@ -32,15 +33,15 @@ _WORDS = {
     "Invalid control character at": "a control character is inside a text: a line end is \\n there",
     "Extra data": "something follows the object: an empty line has to divide two hands"}
 
-# One half of a sign that JSON writes as two.
-_LONE = re.compile(r"(?<!\\)(?:\\\\)*(\\u[dD](?:[89abAB]..(?!\\u[dD][c-fC-F])|[c-fC-F]..))")
+# One half of a sign that JSON writes as two; what is passed over are whole signs.
+_LONE = re.compile(r"\\\\|\\u[dD][89abAB]..\\u[dD][c-fC-F]..|(\\u[dD][89a-fA-F]..)")
 
 
-def why(data: bytes, notation: str, hand: Optional[int] = None) -> Found:
+def why(data: bytes, notation: handref.Notation, hand: Optional[int] = None) -> Found:
     """Where such bytes are wrong, and what is wrong and can be done, sentence by sentence."""
     packed = next((row for row in _PACKED if data.startswith(row[0])), None)
     if packed:
-        return None, [f"The file is packed by {packed[1]}. Unpack it first: {packed[2]} FILE"]
+        return None, [f"The file is packed by {packed[1]}. Unpack it first: {packed[2]} FILE > NEW"]
     wide = _wide(data)
     if wide:
         return None, [f"The file is {wide}, and not UTF-8. Write it as UTF-8: "
@@ -86,7 +87,7 @@ def _not_utf8(data: bytes, fault: UnicodeDecodeError) -> Found:
     return Spot(data.count(b"\n", 0, start) + 1, start - begin + 1, text, 1), said
 
 
-def _other(text: str, notation: str) -> list[str]:
+def _other(text: str, notation: handref.Notation) -> list[str]:
     """Whether a text looks like one of another notation."""
     own = "ohh" if notation == "ohh-to" else notation
     kind = next((row for row in _OTHERS if row[1].match(text)), None)
@@ -137,21 +138,25 @@ def fault_of_json(block: str) -> Optional[tuple[int, list[str]]]:
         return 0, ["The file begins with a byte order mark, which JSON may not have. Take it out: "
                    "tail -c +4 FILE > NEW"]
     try:
-        json.loads(block, parse_constant=_refuse)
+        json.loads(block, parse_constant=_refuse, parse_float=_finite, parse_int=_finite)
     except json.JSONDecodeError as fault:
         return _said_of(block, fault)
     except RecursionError:
         return 0, ["Lists or objects are more than 127 deep in one another."]
     except ValueError as fault:
-        return block.find(str(fault)), [f"{fault} is no value of JSON."]
-    lone = _LONE.search(block)
-    if lone:
-        return lone.start(1), ["This is one half of a sign that needs two."]
-    return None
+        return block.find(str(fault)), [f"{str(fault)[:40]} is no number that can be read."]
+    lone = next((found for found in _LONE.finditer(block) if found[1]), None)
+    return (lone.start(), ["This is one half of a sign that needs two."]) if lone else None
 
 
 def _refuse(word: str) -> None:
     raise ValueError(word)
+
+
+def _finite(word: str) -> float:
+    if abs(float(word)) == float("inf"):
+        _refuse(word)
+    return 0
 
 
 def _said_of(block: str, fault: json.JSONDecodeError) -> tuple[int, list[str]]:

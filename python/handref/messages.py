@@ -97,6 +97,8 @@ def explained(error: handref.NotDone, notation: Optional[str] = None) -> str:
     if error.status == 7:
         general = _first([part for part in parts() if part.status == 7])
         return f"{general.text if general else ''} Here: {said.text}."
+    if error.reason == "Text":
+        return "Text: " + said.text.partition(" The line names no place")[0]
     if said.names and error.reason and error.status in (1, 3, 4, 10, 14):
         return f"{error.reason}: {said.text}"
     return said.text

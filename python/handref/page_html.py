@@ -9,6 +9,7 @@ from dataclasses import replace
 from importlib import resources
 from typing import Any, Iterator, Optional, Sequence
 
+import handref
 from handref import NotDone, messages
 from handref.cut import GAMES, MOST_UNREAD, short, shown
 from handref.page_chart import session_part
@@ -117,7 +118,7 @@ def _listed(made: Page) -> str:
     return "\n".join([*parts, "</section>"])
 
 
-def _hand_listed(hand: Hand, notation: str) -> str:
+def _hand_listed(hand: Hand, notation: handref.Notation) -> str:
     told, refused = hand.told, hand.refused
     game = GAMES.get(told.get("g", ""), "")
     parts = [f"<h3>Hand {hand.number}{': ' + html.escape(game) if game else ''}</h3>"]
@@ -130,6 +131,7 @@ def _hand_listed(hand: Hand, notation: str) -> str:
     if refused:
         parts.append(f'<p class="bad">{_text(_told_of(refused))}</p>')
         parts.append(f'<p class="plain">{_text(messages.meaning(refused, notation))}</p>')
+    parts += [f"<p>{_text(fact)}</p>" for fact in hand.facts]
     if refused and hand.text and not refused.event:
         parts.append(f"<pre>{_lines_of(hand.text)}</pre>")
     if told:
@@ -216,7 +218,7 @@ def _data(made: Page) -> Iterator[str]:
             row["v"] = {"line": shown(_told_of(refused)), "reason": shown(_reason(refused)),
                         "plain": messages.meaning(refused, made.notation), "event": event,
                         "text": "\n".join(map(shown, hand.text.split("\n"))),
-                        "seat": hand.seat}
+                        "seat": hand.seat, "facts": [shown(fact) for fact in hand.facts]}
         told.append(row)
     listed: list[Any] = []
     for name in names:

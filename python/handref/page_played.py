@@ -26,6 +26,7 @@ class Hand:
     told: dict[str, Any] = field(default_factory=dict)  # for the script: see page.js
     text: str = ""  # the source's words of what is refused
     seat: Optional[int] = None  # that they name
+    facts: list[str] = field(default_factory=list)  # what is wrong, in numbers and cards
     net: list[tuple[str, int]] = field(default_factory=list)
     names: list[str] = field(default_factory=list)
 
@@ -34,7 +35,7 @@ class Hand:
 class Page:
     """The hands of a file that are shown, and how many it has."""
     file: str
-    notation: str
+    notation: handref.Notation
     game: Game
     hands: list[Hand] = field(default_factory=list)
     legal: int = 0

@@ -43,7 +43,8 @@ class Commands(Case):
                 (2, "would take the place of the hands", (hand, hand)),
                 (2, "--hand is a list of hands", ("--hand", "3,x", hand, out)),
                 (2, "there is no hand 2", ("--hand", "2", hand, out)),
-                (2, "usage: ", ("--from", "acpc", hand, out)),
+                (2, "a log needs its game file", ("--from", "acpc", hand, out)),
+                (2, "--game goes with logs", ("--game", MATCH, hand, out)),
                 (9, "game missing", ("--from", "acpc", "--game", "no.game", hand, out))):
             with self.subTest(line=line):
                 self.refused(status, line, "page", *words)

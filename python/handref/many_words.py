@@ -1,0 +1,176 @@
+"""The words of `handref many` and `handref cents`, and what they do."""
+import argparse
+import errno
+import hashlib
+import json
+import os
+import shutil
+import sys
+from typing import Any, Optional
+
+import handref
+from handref import cut, in_cents, many
+from handref.journal import Call
+
+NOTATIONS = ("phh", "ohh", "ohh-to", "acpc")
+TASKS = {
+    "check": "judges all hands: says what is wrong with which file",
+    "judge": "writes the verdict on each hand",
+    "convert": "writes the hands in another notation",
+    "report": "adds up hands and pots of each game, and the net chips of each name",
+    "session": "says how the stack of each name went over all hands",
+    "replay": "writes each hand step by step",
+}
+
+
+def add(commands: "Any") -> None:
+    """Adds both to the commands of a parser."""
+    said = "works on folders, and on files of any length, on all processors"
+    parser = commands.add_parser("many", help=said, description=said)
+    several = parser.add_subparsers(dest="task", required=True, metavar="TASK")
+    for name, does in TASKS.items():
+        _task(several.add_parser(name, help=does, description=does), name)
+    said = "writes hands of PHH or OHH that are in dollars in cents"
+    command = commands.add_parser("cents", help=said, description=said)
+    command.add_argument("--from", dest="notation", choices=NOTATIONS[:3], metavar="NOTATION",
+                         help="phh, ohh or ohh-to; else the end of a name says it")
+    command.add_argument("--out", help="a file, or a folder for many; else the standard output")
+    command.add_argument("path", nargs="+", metavar="FILE")
+
+
+def _task(command: argparse.ArgumentParser, name: str) -> None:
+    option = command.add_argument
+    option("--from", dest="notation", choices=NOTATIONS, metavar="NOTATION",
+           help="phh, ohh, ohh-to or acpc; else the end of a name says it, or the first bytes")
+    option("--game", help="the game file of logs")
+    if name == "convert":
+        option("--to", choices=NOTATIONS, required=True, metavar="NOTATION")
+        option("--out", required=True, help="a file, or a folder for many")
+        option("--drop-notes", action="store_true",
+               help="leaves out the notes that the notation does not write")
+        layout = command.add_mutually_exclusive_group()
+        layout.add_argument("--join", action="store_true", help="all hands in the one file OUT")
+        layout.add_argument("--split", action="store_true",
+                            help="each hand in a file of its own, in the folder OUT")
+    elif name != "check":
+        form = command.add_mutually_exclusive_group()
+        form.add_argument("--json", action="store_true", help="a line of JSON for each row")
+        form.add_argument("--tsv", action="store_true",
+                          help="columns with tabs between, and a first line with their names")
+    option("-j", "--jobs", type=int, metavar="N", help="pieces at a time; else the processors")
+    option("-k", "--keep-going", action="store_true",
+           help="goes on after a file that is refused")
+    option("--resume", action="store_true",
+           help="goes on after an interrupt: notes what is done, until all is done")
+    option("--journal", metavar="FOLDER", help="notes what is done there, and keeps the notes")
+    option("--shard", metavar="I/N", help="does every Nth piece, for the call that has all")
+    option("path", nargs="+", metavar="PATH", help="files and folders; - is the standard input")
+
+
+def run_many(given: argparse.Namespace) -> int:
+    """Runs a task over all files."""
+    shard = _shard(given.shard)
+    if shard[1] > 1 and not given.journal:
+        raise ValueError("--shard needs --journal")
+    if given.jobs is not None and given.jobs < 1:
+        raise ValueError("-j is 1 or more")
+    layout = "each"
+    if given.task == "convert":
+        layout = "join" if given.join else "split" if given.split else layout
+    form = "json" if getattr(given, "json", False) else \
+        "tsv" if getattr(given, "tsv", False) else "text"
+    call = Call(given.task, given.game, getattr(given, "to", None),
+                getattr(given, "drop_notes", False), given.keep_going, layout)
+    # What is refused is a part of the answer of check where all of it is wanted.
+    is_said = given.keep_going and given.task in ("check", "convert")
+    told = sys.stdout if is_said else sys.stderr
+
+    def tell(text: str) -> None:
+        if shard[1] == 1:  # the call that takes all shards together says what they did
+            print(text, file=told, flush=True)
+
+    journal = given.journal or (_own_journal(given) if given.resume else None)
+    asked = many.Asked(given.jobs, journal, shard, tell, sys.stderr, form)
+    result = many.run(given.path, call, asked, given.notation, getattr(given, "out", ""))
+    if given.resume and not given.journal and journal:
+        shutil.rmtree(journal, ignore_errors=True)
+    if shard[1] > 1:
+        return 0
+    if given.task in ("check", "convert") and (given.keep_going or not result.status) or \
+            given.task == "judge" and form == "text" and (given.keep_going or result.status < 2):
+        print(many.summary(result), flush=True)
+    return result.status
+
+
+def _shard(text: Optional[str]) -> tuple[int, int]:
+    own, _, all_of_them = (text or "1/1").partition("/")
+    if not (own.isdecimal() and all_of_them.isdecimal() and 0 <= int(own) <= int(all_of_them)
+            and int(all_of_them) > 0):
+        raise ValueError("--shard is I/N, as 3/16")
+    return int(own), int(all_of_them)
+
+
+def _own_journal(given: argparse.Namespace) -> str:
+    """The folder of a call's notes, which goes away when the call is done: here, named after its
+    words."""
+    words = json.dumps([str(item) for item in sorted(vars(given).items())
+                        if item[0] not in ("jobs", "resume")])
+    name = hashlib.sha256(words.encode("utf-8", "backslashreplace")).hexdigest()[:12]
+    return f"handref-resume-{name}"
+
+
+def run_cents(given: argparse.Namespace) -> int:
+    """Writes files in cents: nothing of a file that is refused."""
+    is_folder = len(given.path) > 1 or bool(given.out) and os.path.isdir(given.out)
+    if len(given.path) > 1 and not given.out:
+        raise ValueError("cents of many files need --out FOLDER")
+    written = []
+    for path in given.path:
+        notation = given.notation or cut.notation_of(path)
+        if notation not in ("phh", "ohh", "ohh-to"):
+            raise ValueError(f"{cut.shown(path)}: cents are of PHH and OHH: --from says which")
+        out = os.path.join(given.out, os.path.basename(path)) if is_folder else given.out
+        if out and os.path.exists(out) and os.path.samefile(out, path):
+            raise ValueError(f"{cut.shown(path)}: what is written would take its place")
+        if out in written:
+            raise ValueError(f"{cut.shown(str(out))}: two files have this name")
+        written.append(out)
+    status = 0
+    for path, out in zip(given.path, written):
+        try:
+            data = in_cents.cents(path, 100, given.notation or cut.notation_of(path))
+        except (ValueError, OSError) as why:
+            print(cut.shown(str(why)), file=sys.stderr, flush=True)
+            status = status or (3 if isinstance(why, ValueError) else 5)
+            continue
+        _put(data, out, is_folder)
+    return status
+
+
+def _put(data: bytes, out: Optional[str], is_folder: bool) -> None:
+    if out is None:
+        sys.stdout.buffer.write(data)
+        sys.stdout.buffer.flush()
+        return
+    if is_folder:
+        os.makedirs(os.path.dirname(out) or ".", exist_ok=True)
+    with cut.written(out) as file:
+        file.write(data)
+
+
+
+def run(given: argparse.Namespace) -> int:
+    """Runs `many` or `cents`. Status 6: nothing can be written."""
+    try:
+        return run_many(given) if given.command == "many" else run_cents(given)
+    except handref.NotDone:
+        raise
+    except BrokenPipeError:
+        raise
+    except OSError as fault:
+        if fault.errno in (errno.ENOSPC, errno.EDQUOT, errno.EROFS, errno.EFBIG):
+            place = f"{cut.shown(str(fault.filename))}: " if fault.filename else ""
+            print(f"{place}write fault: {(fault.strerror or str(fault)).lower()}", file=sys.stderr,
+                  flush=True)
+            return 6
+        raise

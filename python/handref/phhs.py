@@ -1,0 +1,250 @@
+"""Finds the hands of a long file of PHH, so that it can be cut between them.
+
+    with phhs.open_hands(path) as hands:
+        for start, end in hands.spans: ...
+
+A file of several hands is a document of TOML with a table for each, `[1]`, `[2]` and so on. A line
+that looks like such a header may also be inside a text of many lines or a list, so the document is
+walked from its first byte, text by text and bracket by bracket. Where the walk cannot say for sure
+that a table begins, `NotSure` says at which line and why.
+"""
+import gzip
+import mmap
+import os
+import re
+import tempfile
+from array import array
+from contextlib import contextmanager
+from typing import IO, Iterator, Optional, Sequence, Union
+
+Bytes = Union[bytes, "mmap.mmap"]
+
+# A line with a key and a value that ends on it: a number, a short text, or a list of these. Spaces
+# are bounded, so that no line makes the search slow; what has another form is walked sign by sign.
+_S = rb"[ \t]{0,9}"
+_TEXT = rb"(?:\"[^\"\\\n]*\"|'[^'\n]*')"
+_VALUE = (rb"(?:" + _TEXT + rb"|[^\"'\[\]{}#\n]+|\[[^\"'\[\]{}#\n]*\]"
+          rb"|\[" + _S + _TEXT + _S + rb"(?:," + _S + _TEXT + _S + rb")*,?" + _S + rb"\])")
+_LINE = (_S + rb"(?:[A-Za-z0-9_-]+" + _S + rb"=" + _S + _VALUE + _S + rb")?(?:#[^\n]*)?\r?\n")
+_PLAIN = re.compile(rb"(?:" + _LINE + rb"){0,500}")
+_ONE_PLAIN = re.compile(_LINE)
+_GAP = re.compile(rb"[ \t]*(?:#[^\n]*)?\r?(?:\n|\Z)")
+_HEADER = re.compile(rb"[ \t]*\[[ \t]*(?:([0-9]+)|\"([0-9]+)\"|'([0-9]+)')[ \t]*([].])")
+_BRACKET = re.compile(rb"[ \t]*\[")
+_SIGN = re.compile(rb"[#\"'\[\]{}\n]")
+_LINE_END = re.compile(rb"\n|\Z")
+_SHORT = {b'"': re.compile(rb"[\"\\\n]"), b"'": re.compile(rb"['\n]")}
+_LONG = {b'"': re.compile(rb"\\|\"\"\""), b"'": re.compile(rb"'''")}
+_RUN = {b'"': re.compile(rb'"{3,5}'), b"'": re.compile(rb"'{3,5}")}
+_HAND = re.compile(rb"^[ \t]*hand[ \t]*=", re.M)
+
+
+class NotSure(ValueError):
+    """A file of PHH that cannot be cut for sure: at which line, and why."""
+
+    def __init__(self, line: int, why: str) -> None:
+        super().__init__(f"line {line}: {why}")
+        self.line, self.why = line, why
+
+
+class Hands:
+    """The hands of a file in the order of their numbers, each with its place in the file. A file
+    of one hand, which has no table for it, is not cut: `spans` has one place then."""
+
+    def __init__(self, data: Bytes) -> None:
+        self.data = data
+        self.numbers = array("q")
+        self.starts = array("q")
+        self.end = 0
+        self.order: Sequence[int] = range(0)
+        self.is_cut = self._walk()
+
+    def __len__(self) -> int:
+        return len(self.numbers)
+
+    def span(self, place: int) -> tuple[int, int]:
+        """Where the hand is that is at this place in the order of the numbers, from 0."""
+        found = self.order[place]
+        return self.starts[found], (self.starts[found + 1] if found + 1 < len(self.starts)
+                                    else self.end)
+
+    def text(self, first: int, last: int, are_numbered: bool = False) -> bytes:
+        """A document of some of the hands. Where they are numbered, a hand without the key `hand`
+        gets the number that it has by default: its place in the whole file."""
+        found = []
+        for place in range(first, last):
+            start, end = self.span(place)
+            block = self.data[start:end]
+            found.append(numbered(block, place) if are_numbered and place else block)
+            if not found[-1].endswith(b"\n"):
+                found.append(b"\n")
+        return b"".join(found)
+
+    # The walk.
+
+    def _walk(self) -> bool:
+        data = self.data
+        at = 3 if data[:3] == b"\xef\xbb\xbf" else 0
+        while found := _GAP.match(data, at):
+            if found.end() == at:
+                break
+            at = found.end()
+        size = self.end = len(data)
+        if at >= size or not _BRACKET.match(data, at):
+            return False
+        while at < size:
+            at = self._statements(self._header(at))
+        self._sort()
+        return True
+
+    def _header(self, at: int) -> int:
+        """Notes the table that begins here; gives the end of its line."""
+        found = _HEADER.match(self.data, at)
+        text = next(filter(None, found.groups()[:3]), b"") if found else b""
+        if not found:
+            raise self._not_sure(at, "this table is not a hand, whose header is a number, as [7]")
+        if len(text) > 18 or text != b"0" and text.startswith(b"0"):
+            raise self._not_sure(at, "the number of this hand has more than 18 digits, or a zero "
+                                     "in front")
+        if found[4] == b".":  # a table in that of a hand
+            if not self.numbers or self.numbers[-1] != int(text):
+                raise self._not_sure(at, "this table is not below that of its hand")
+            closed = self._statement(at)
+            return closed
+        self.numbers.append(int(text))
+        self.starts.append(at)
+        gap = _GAP.match(self.data, found.end())
+        if not gap:
+            raise self._not_sure(at, "something follows the header of this table")
+        return gap.end()
+
+    def _statements(self, at: int) -> int:
+        """The begin of the next header, or the end of the file."""
+        data, size = self.data, self.end
+        while at < size:
+            found = _PLAIN.match(data, at)
+            if found and found.end() > at:
+                at = found.end()
+            elif _BRACKET.match(data, at):
+                return at
+            else:
+                at = self._statement(at)
+        return at
+
+    def _statement(self, at: int) -> int:
+        """The end of a key and its value, which may go over many lines."""
+        data, begin, depth = self.data, at, 0
+        while found := _SIGN.search(data, at):
+            sign, at = found[0], found.end()
+            if sign == b"#":
+                end = _LINE_END.search(data, at)
+                at = end.start() if end else self.end
+            elif sign in b"[{":
+                depth += 1
+            elif sign in b"]}":
+                depth -= 1
+            elif sign == b"\n":
+                if depth <= 0:
+                    return at
+            else:
+                at = self._text(at - 1, sign)
+        if depth > 0:
+            raise self._not_sure(begin, "a bracket that opens here is not closed")
+        return self.end
+
+    def _text(self, at: int, quote: bytes) -> int:
+        """The end of a text that begins here."""
+        data, begin = self.data, at
+        is_long = data[at:at + 3] == quote * 3
+        pattern, at = (_LONG if is_long else _SHORT)[quote], at + (3 if is_long else 1)
+        while found := pattern.search(data, at):
+            if found[0] == b"\\":
+                at = found.end() + 1
+            elif found[0] == b"\n":
+                raise self._not_sure(begin, "a text that opens here is not closed on its line")
+            elif is_long:
+                run = _RUN[quote].match(data, found.start())
+                return run.end() if run else found.end()
+            else:
+                return found.end()
+        raise self._not_sure(begin, "a text that opens here is not closed")
+
+    def _sort(self) -> None:
+        numbers = self.numbers
+        self.order = range(len(numbers))
+        if any(numbers[place] >= numbers[place + 1] for place in range(len(numbers) - 1)):
+            self.order = array("q", sorted(self.order, key=numbers.__getitem__))
+            for one, two in zip(self.order, self.order[1:]):
+                if numbers[one] == numbers[two]:
+                    raise self._not_sure(self.starts[max(one, two)],
+                                         f"the table [{numbers[two]}] is here a second time")
+
+    def _not_sure(self, at: int, why: str) -> NotSure:
+        return NotSure(1 + lines(self.data, at), why)
+
+
+def lines(data: Bytes, end: int) -> int:
+    """How many line ends there are before a place."""
+    return sum(data[at:min(at + (1 << 20), end)].count(b"\n") for at in range(0, end, 1 << 20))
+
+
+def numbered(block: bytes, number: int) -> bytes:
+    """The table of a hand with the key `hand`: its own, or else this number."""
+    end = block.find(b"\n") + 1
+    if not end:
+        return block + b"\nhand = %d\n" % number
+    if has_number(block, end):
+        return block
+    return block[:end] + b"hand = %d\n" % number + block[end:]
+
+
+def has_number(block: bytes, body: int = 0) -> bool:
+    """Whether a table has the key `hand`: by a search where all its lines are plain, and else by
+    reading it."""
+    at = body
+    while (found := _PLAIN.match(block, at)) and found.end() > at:
+        at = found.end()
+    if at == len(block):
+        return bool(_HAND.search(block, body))
+    from handref import toml
+    try:
+        return "hand" in toml.read(block[body:].decode())
+    except (toml.TomlError, UnicodeDecodeError):
+        return True  # the program says what is wrong with it
+
+
+@contextmanager
+def open_hands(path: "Union[str, os.PathLike[str]]") -> Iterator[Hands]:
+    """The hands of a file, packed or not. NotSure: it cannot be cut."""
+    with _plain_file(path) as file:
+        if os.fstat(file.fileno()).st_size == 0:
+            yield Hands(b"")
+            return
+        with mmap.mmap(file.fileno(), 0, access=mmap.ACCESS_READ) as data:
+            yield Hands(data)
+
+
+@contextmanager
+def _plain_file(path: "Union[str, os.PathLike[str]]") -> Iterator[IO[bytes]]:
+    if not os.fspath(path).endswith(".gz"):
+        with open(path, "rb") as file:
+            yield file
+        return
+    with tempfile.TemporaryFile() as unpacked, gzip.open(path) as packed:
+        while block := packed.read(1 << 20):
+            unpacked.write(block)
+        unpacked.flush()
+        yield unpacked
+
+
+def blocks(text: bytes) -> Iterator[tuple[Optional[int], bytes]]:
+    """The hands of a document with the numbers of their tables: a hand without a table has none."""
+    hands = Hands(text)
+    if not hands.is_cut:
+        if text.strip():
+            yield None, text
+        return
+    for place in range(len(hands)):
+        start, end = hands.span(place)
+        body = text.find(b"\n", start, end) + 1
+        yield hands.numbers[hands.order[place]], text[body:end] if body else b""

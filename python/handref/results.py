@@ -1,0 +1,301 @@
+"""What is made of the answers to all pieces, in the order of the files: lines, sums and files."""
+import os
+import re
+import shutil
+import tempfile
+from dataclasses import dataclass, field
+from typing import IO, Any, BinaryIO, Iterator, Mapping, Optional, Sequence
+
+import handref
+from handref import cut, phhs, tables, toml
+from handref.journal import Call
+from handref.sources import Source
+
+
+@dataclass
+class Part:
+    """What was written of a piece: where it is, and how many hands of its file are before it."""
+    path: str
+    hands: int
+    hands_before: int
+
+
+@dataclass
+class Done:
+    """A file of which all pieces are done, and what they wrote or summed up."""
+    source: Source
+    parts: list[Part] = field(default_factory=list)
+    rows: list[list[Any]] = field(default_factory=list)  # of each piece
+    told: list[tuple[Optional[int], Optional[int], int, str]] = field(default_factory=list)
+    hands: int = 0
+
+
+class Output:
+    """Rows and lines for the standard output. They are kept in a file until all is done, so that
+    nothing is written where a file is refused; with --keep-going they go out as they come."""
+
+    def __init__(self, out: BinaryIO, is_kept: bool) -> None:
+        self.out = out
+        self.kept: IO[bytes] = tempfile.SpooledTemporaryFile(1 << 23) if is_kept else out
+
+    def write(self, text: str) -> None:
+        """Writes a line or more."""
+        self.kept.write(text.encode("utf-8", "backslashreplace"))
+
+    def finish(self) -> None:
+        """Writes what was kept."""
+        if self.kept is not self.out:
+            self.kept.seek(0)
+            shutil.copyfileobj(self.kept, self.out, 1 << 20)
+        self.out.flush()
+
+    def close(self) -> None:
+        """Drops what was kept."""
+        if self.kept is not self.out:
+            self.kept.close()
+
+
+class Rows:
+    """Rows in one of three forms: lines to read, TSV and JSON."""
+
+    def __init__(self, form: str, columns: Sequence[str], output: Output) -> None:
+        self.form, self.columns, self.output = form, columns, output
+        if form == "tsv":
+            output.write(tables.tsv_line(columns))
+
+    def put(self, row: Mapping[str, tables.Value], text: str = "") -> None:
+        """Writes a row, or its text where it is to be read."""
+        if self.form == "json":
+            self.output.write(tables.json_line({name: row[name] for name in self.columns}))
+        elif self.form == "tsv":
+            self.output.write(tables.tsv_line(row[name] for name in self.columns))
+        else:
+            self.output.write(text)
+
+
+# Verdicts and replays: rows of each file.
+
+def put_verdicts(rows: Rows, source: Source, told: Any, hands: int, legal: int, before: int,
+                 lines: Optional[Sequence[int]]) -> None:
+    """The verdict on each hand of a piece, with the numbers of the whole file."""
+    wrong = {hand: error for hand, error in told if hand}
+    for error in (error for hand, error in told if not hand):
+        _put_verdict(rows, source, None, error.line_number, error)
+    if not wrong and legal < hands:
+        return  # the piece does not read as a whole
+    for hand in range(before + 1, before + hands + 1):
+        line = lines[hand - before - 1] if lines else None
+        error = wrong.get(hand)
+        _put_verdict(rows, source, hand, error.line_number if error else line, error)
+
+
+def _put_verdict(rows: Rows, source: Source, hand: Optional[int], line: Optional[int],
+                 error: Optional[handref.NotDone]) -> None:
+    row: dict[str, tables.Value] = {"file": source.name or source.path}
+    row.update(tables.verdict(hand, line, error))
+    said = re.sub(r"^refused: hand \d+: ", "", error.line) if error else "legal"
+    rows.put(row, f"{source.shown}: " + (f"hand {hand}: " if hand and (
+        not error or error.status == 1) else "") + f"{said}\n")
+
+
+def put_replays(rows: Rows, done: Done) -> None:
+    """The rows of the replays of a file."""
+    for part in done.parts:
+        with open(part.path, encoding="utf-8", newline="\n") as file:
+            for text in _each_hand(file):
+                hand = handref._replayed(text.partition(" ")[2])
+                number = hand.hand + part.hands_before
+                for row in tables.replay_rows(hand):
+                    rows.put({"file": done.source.name or done.source.path, **row, "hand": number})
+                if rows.form == "text":
+                    head = re.sub(r"\Ahand \d+", f"hand {number}", text)
+                    rows.output.write(f"{done.source.shown}: {head}")
+        os.remove(part.path)
+
+
+def _each_hand(file: Any) -> Iterator[str]:
+    kept: list[str] = []
+    for line in file:
+        if line.startswith("hand ") and kept:
+            yield "".join(kept)
+            kept = []
+        kept.append(line)
+    if kept:
+        yield "".join(kept)
+
+
+# Sums over all files.
+
+class ReportSum:
+    """The reports of many files added up: games, a total, names in the order in which they come."""
+    columns = tables.COLUMNS["report"]
+
+    def __init__(self) -> None:
+        self.found: dict[str, dict[str, list[int]]] = {"game": {}, "name": {}}
+
+    def add(self, rows: Sequence[Sequence[Any]]) -> None:
+        """Adds the rows of a piece."""
+        for kind, name, hands, chips in rows:
+            sums = self.found[kind].setdefault(name, [0, 0])
+            sums[0] += hands
+            sums[1] += chips
+
+    def put(self, rows: Rows) -> None:
+        """Writes the sums."""
+        games, names = self.found["game"], self.found["name"]
+        total = [sum(each[0] for each in games.values()), sum(each[1] for each in games.values())]
+        listed: list[Any] = [("game", name, *sums) for name, sums in _in_order(games)]
+        listed += [("total", None, *total)]
+        listed += [("name", name, *sums) for name, sums in names.items()]
+        for kind, name, hands, chips in listed:
+            text = f"{chips:>20}{hands:>8}  {tables.escaped(str(name))}\n" if kind == "name" else \
+                f"{name or 'total':<6}{hands:>8}{chips:>20}\n"
+            rows.put({"kind": kind, "name": name, "hands": hands, "chips": chips}, text)
+
+
+_GAMES = ("FT", "NT", "NS", "PO", "FO/8", "F7S", "F7S/8", "FR", "N2L1D", "F2L3D", "FB")
+
+
+def _in_order(games: Mapping[str, list[int]]) -> list[tuple[str, list[int]]]:
+    """The games in the order in which `report` lists them."""
+    return sorted(games.items(), key=lambda each: _GAMES.index(each[0]) if each[0] in _GAMES
+                  else len(_GAMES))
+
+
+class SessionSum:
+    """The sessions of many pieces as one: what a name has more or less at the begin of a piece than
+    at the end of the one before it is a gap, as between two hands."""
+    columns = tables.COLUMNS["session"]
+
+    def __init__(self) -> None:
+        self.found: dict[str, list[int]] = {}
+        self.rake = 0
+
+    def add(self, rows: Sequence[Sequence[Any]]) -> None:
+        """Adds the rows of a piece, which comes after those that were added before."""
+        for name, *numbers in rows[:-1]:
+            own = self.found.get(name)
+            if own is None:
+                self.found[name] = list(numbers)
+                continue
+            own[1] += numbers[1] + numbers[0] - own[3]
+            own[2] += numbers[2]
+            own[3] = numbers[3]
+            own[4:] = [one + two for one, two in zip(own[4:], numbers[4:])]
+        self.rake += rows[-1][1] if rows else 0
+
+    def put(self, rows: Rows) -> None:
+        """Writes the rows of all names, and the rakes."""
+        for name, numbers in self.found.items():
+            row: dict[str, tables.Value] = dict(zip(self.columns, ("name", name, *numbers)))
+            text = "".join(f"{number:>20}" for number in numbers[:4]) + "".join(
+                f"{number:>8}" for number in numbers[4:])
+            rows.put(row, f"{text}  {tables.escaped(name)}\n")
+        empty: dict[str, tables.Value] = dict.fromkeys(self.columns)
+        rows.put({**empty, "kind": "rake", "net": self.rake}, f"rake {self.rake}\n")
+
+
+# Files that are written.
+
+class Files:
+    """The files that `convert` makes: of each file one, one of all (join), or one of each hand
+    (split). A file is written beside its place, and gets its name when it is whole."""
+
+    def __init__(self, call: Call, out: str) -> None:
+        self.call, self.out = call, out
+        self.joined: list[Done] = []
+
+    def take(self, done: Done) -> None:
+        """Writes what is made of a file; where files are joined, at the end."""
+        if self.call.layout == "join":
+            self.joined.append(done)
+        elif self.call.layout == "split":
+            self._split(done)
+        else:
+            out = os.path.join(self.out, done.source.out) if done.source.out else self.out
+            if not os.path.exists(out) or all(os.path.exists(part.path) for part in done.parts):
+                self._write(out, [done])
+
+    def finish(self) -> None:
+        """Writes the one file of all."""
+        if self.call.layout == "join":
+            self._write(self.out, self.joined)
+
+    def _write(self, out: str, files: Sequence[Done]) -> None:
+        count = sum(part.hands for done in files for part in done.parts)
+        with cut.written(out) as file:
+            number = 0
+            for done in files:
+                for part in done.parts:
+                    for text in self._hands(part, len(files) > 1, number, count):
+                        file.write(text)
+                    number += part.hands
+        for done in files:
+            for part in done.parts:
+                os.remove(part.path)
+
+    def _hands(self, part: Part, is_joined: bool, number: int, count: int) -> Iterator[bytes]:
+        """What a part is in a file of so many hands, after so many."""
+        if self.call.to != "phh":
+            if number and self.call.to != "acpc" and part.hands:
+                yield b"\n"
+            with open(part.path, "rb") as file:
+                while block := file.read(1 << 20):
+                    yield block
+            return
+        with open(part.path, "rb") as file:
+            text = file.read()
+        if not is_joined and not number and part.hands == count:
+            yield text
+            return
+        for place, (_, block) in enumerate(phhs.blocks(text)):
+            before = number + place
+            own = part.hands_before + place if is_joined else before
+            head = b"[%d]\n" % (before + 1) if count > 1 else b""
+            yield (b"\n" if before else b"") + head + _with_number(block, place, own).strip(b"\n") \
+                + b"\n"
+
+    def _split(self, done: Done) -> None:
+        stem = os.path.splitext(done.source.out)[0]
+        for part in done.parts:
+            with open(part.path, "rb") as file:
+                text = file.read()
+            for place, block in enumerate(_hands_of(text, str(self.call.to))):
+                number = part.hands_before + place
+                out = os.path.join(self.out, f"{stem}-{number + 1}.{self.call.to}")
+                if self.call.to == "phh":
+                    block = _with_number(block, place, number)
+                with cut.written(out) as new:
+                    new.write(block.strip(b"\n") + b"\n")
+            os.remove(part.path)
+
+
+def _hands_of(text: bytes, notation: str) -> list[bytes]:
+    """The hands of what `convert` wrote."""
+    if notation == "phh":
+        return [block for _, block in phhs.blocks(text)]
+    return [line for line in text.split(b"\n") if line]
+
+
+def _with_number(block: bytes, place: int, by_default: int) -> bytes:
+    """A hand as it was written at a place of a piece, for another place: with its number, but for
+    the one that it would have there by default."""
+    found = _number_in(block)
+    if found is None:
+        return block if place == by_default else b"hand = %d\n" % place + block
+    start, end = found
+    is_default = block[start:end].strip() == b"hand = %d" % by_default
+    return block[:start] + block[end:] if is_default else block
+
+
+def _number_in(block: bytes) -> Optional[tuple[int, int]]:
+    """The line with the key `hand` in a hand that `convert` wrote."""
+    if b'"""' not in block and b"'''" not in block:  # else a line of a text may look like it
+        found = re.search(rb"^hand = .*\n", block, re.M)
+        return found.span() if found else None
+    text = block.decode()
+    place = toml.places(text).get(("hand",))
+    if place is None or place.key is None:
+        return None
+    start, end = len(text[:place.key].encode()), len(text[:place.end].encode())
+    return start, block.index(b"\n", end) + 1

@@ -1,0 +1,280 @@
+"""Finds files of hands, and cuts long ones into pieces that are within the limits of an input."""
+import gzip
+import os
+import re
+import stat
+import sys
+import tempfile
+import zlib
+from dataclasses import dataclass, field, replace
+from typing import IO, BinaryIO, Iterator, Optional, Sequence, Union
+
+import handref
+from handref import Notation, Piece, cut, phhs
+
+# So many bytes of a log have less hands and moves than an input may have, whatever they are: a hand
+# takes 17 bytes or more, a move one. A hand of OHH or PHH that has a move takes far more.
+PIECE = 1 << 20
+_BLANK = re.compile(rb"\n[ \t\r]*\n")
+_PHH = re.compile(rb"(\A|\n)[ \t]*variant[ \t]*=[ \t]*[\"']")
+_OHH = re.compile(rb"\s*[\[{]\s*(\{\s*)?\"ohh\"\s*:")
+_LOG = re.compile(rb"(?:(?:#|SCORE:)[^\n]*\n|\r?\n)*STATE:\d*:")
+
+
+@dataclass(frozen=True)
+class Source:
+    """A file of hands, and the file that is made of it. A file that cannot be read has a fault."""
+    path: str
+    notation: Notation
+    size: int
+    changed: int  # when it was, in nanoseconds
+    out: str = ""
+    fault: str = ""
+    name: str = ""  # what it is called, where that is not its path
+
+    @property
+    def shown(self) -> str:
+        """The name on a line: signs that are not seen, or end it, are written as numbers."""
+        return cut.shown(self.name or self.path)
+
+
+@dataclass(frozen=True)
+class Region:
+    """The bytes of a piece of a file: its place, or the bytes themselves where they are not there
+    as they are (`piece`, of a packed file; `blocks`, the tables of hands of PHH)."""
+    source: Source
+    number: int
+    start: int
+    size: int
+    piece: Optional[Piece] = None
+    blocks: Optional[list[bytes]] = field(default=None, repr=False)
+    hands_before: int = 0
+
+    def data(self, are_numbered: bool = False) -> bytes:
+        """No more than a byte beyond what an input may have. Hands of PHH get the key `hand` where
+        it is the place in the file, and the piece does not say it."""
+        if self.piece:
+            return self.piece.data
+        if self.blocks is not None:
+            before = self.hands_before
+            return b"".join(phhs.numbered(block, before + place) if are_numbered and before
+                            else block for place, block in enumerate(self.blocks))
+        with open(self.source.path, "rb") as file:
+            file.seek(self.start)
+            return file.read(min(self.size, handref.MOST_BYTES + 1))
+
+
+def natural(text: str) -> list[tuple[int, int, str]]:
+    """Puts hand-2 before hand-10."""
+    return [(0, int(part), "") if part.isdecimal() and len(part) < 19 else (1, 0, part)
+            for part in re.split(r"([0-9]+)", text) if part]
+
+
+def sources(paths: Sequence[str], notation: Optional[Notation] = None) -> tuple[list[Source], int]:
+    """The files among paths and in folders, in the order of their names; and how many files of
+    folders are none of hands. A path `-` is the standard input. ValueError: a path is no file of
+    hands."""
+    found: list[Source] = []
+    others = 0
+    for path in paths:
+        if path == "-":
+            found.append(_standard_input(notation))
+        elif not os.path.isdir(path):
+            found.append(_named(path, notation))
+        else:
+            inside, left = _inside(path, notation)
+            found += inside
+            others += left
+    return found, others
+
+
+def _standard_input(notation: Optional[Notation]) -> Source:
+    """What is read once, into a file that goes away with the process."""
+    if notation is None:
+        raise ValueError("standard input: --from says which notation it is")
+    file = tempfile.NamedTemporaryFile(prefix="handref-")
+    _HELD.append(file)
+    while block := sys.stdin.buffer.read(1 << 20):
+        file.write(block)
+    file.flush()
+    return Source(file.name, notation, os.path.getsize(file.name), 0, f"stdin.{notation}",
+                  name="standard input")
+
+
+_HELD: list[IO[bytes]] = []
+
+
+def _named(path: str, notation: Optional[Notation]) -> Source:
+    """A file that the call names."""
+    own = notation or cut.notation_of(path)
+    try:
+        info = os.stat(path)
+        if not stat.S_ISREG(info.st_mode):
+            return _faulty(path, own or "phh", os.path.basename(path), "it is not a file")
+        own = own or notation_in(path)
+    except (OSError, ValueError) as why:
+        return _faulty(path, own or "phh", os.path.basename(path), _why(why))
+    if own is None:
+        raise ValueError(f"{cut.shown(path)}: neither its name nor its first bytes say a notation; "
+                         "--from says which it is")
+    return Source(path, own, info.st_size, info.st_mtime_ns, os.path.basename(path))
+
+
+def _inside(top: str, notation: Optional[Notation]) -> tuple[list[Source], int]:
+    """The files of hands in a folder, and how many others there are."""
+    found: list[Source] = []
+    others = 0
+
+    def fault(why: OSError) -> None:
+        name = str(why.filename or top)
+        found.append(_faulty(name, "phh", os.path.relpath(name, top), _why(why)))
+
+    for folder, _, names in os.walk(top, onerror=fault):
+        for name in names:
+            path = os.path.join(folder, name)
+            own = cut.notation_of(name)
+            try:
+                info = os.stat(path)
+                if not stat.S_ISREG(info.st_mode):
+                    raise OSError(0, "it is not a file")
+                own = own or notation_in(path)
+            except OSError as why:
+                if own:
+                    found.append(_faulty(path, own, os.path.relpath(path, top), _why(why)))
+                    continue
+            if own is None:
+                others += 1
+                continue
+            if notation and own[:3] == notation[:3]:
+                own = notation  # --from says which dialect the files of OHH are in
+            found.append(Source(path, own, info.st_size, info.st_mtime_ns,
+                                os.path.relpath(path, top)))
+    return sorted(found, key=lambda source: natural(source.out)), others
+
+
+def _faulty(path: str, notation: Notation, out: str, fault: str) -> Source:
+    return Source(path, notation, 0, 0, out, fault)
+
+
+def _why(why: Exception) -> str:
+    return (why.strerror if isinstance(why, OSError) and why.strerror else str(why)).lower()
+
+
+def notation_in(path: str) -> Optional[Notation]:
+    """The notation that the first bytes of a file show. The two dialects of OHH look the same."""
+    with open(path, "rb") as read:
+        file: Union[BinaryIO, gzip.GzipFile] = gzip.open(read) if path.endswith(".gz") else read
+        try:
+            data = file.read(1 << 16).removeprefix(b"\xef\xbb\xbf")
+        except (EOFError, gzip.BadGzipFile, zlib.error):
+            return None
+    for pattern, own in ((_OHH, "ohh"), (_LOG, "acpc")):
+        if pattern.match(data):
+            return own  # type: ignore[return-value]
+    return "phh" if _PHH.search(data) else None
+
+
+# Pieces.
+
+def regions(source: Source, is_written: bool = False) -> Iterator[Region]:
+    """The pieces of a file, in order. Where hands are written anew, those of OHH without a number
+    get it here. NotSure: a file of PHH is too long for an input, and cannot be cut."""
+    is_packed = source.path.endswith(".gz")
+    if is_written and source.notation in ("ohh", "ohh-to") and (is_packed or source.size > PIECE):
+        start = 0
+        for number, piece in enumerate(handref.pieces(source.path, source.notation, 10_000)):
+            size = len(piece.data)
+            yield Region(source, number, start, 0 if is_packed else size, piece,
+                         hands_before=piece.hands_before)
+            start += size
+    elif source.notation == "phh" and (is_packed or source.size > PIECE):
+        yield from _of_tables(source)
+    elif is_packed:
+        yield from _packed(source)
+    elif source.size <= PIECE:
+        yield Region(source, 0, 0, source.size)
+    else:
+        with open(source.path, "rb") as file:
+            start = number = 0
+            while start < source.size:
+                end = _end_of_hand(file, start + PIECE - 1, source)
+                yield Region(source, number, start, end - start)
+                start, number = end, number + 1
+
+
+def _of_tables(source: Source) -> Iterator[Region]:
+    """The pieces of a file of PHH, in the order of the numbers of its hands."""
+    is_packed = source.path.endswith(".gz")
+    try:
+        with phhs.open_hands(source.path) as hands:
+            if not hands.is_cut or hands.end <= PIECE:
+                data = hands.data[:handref.MOST_BYTES + 1]
+                yield Region(source, 0, 0, source.size, Piece(data, "phh", 0, 0, 0))
+                return
+            kept: list[bytes] = []
+            first = size = number = 0
+            for place in range(len(hands)):
+                start, end = hands.span(place)
+                if kept and size + end - start > PIECE:
+                    yield Region(source, number, first, 0 if is_packed else size, None, kept, first)
+                    kept, first, size, number = [], place, 0, number + 1
+                block = hands.data[start:end]
+                kept.append(block if block.endswith(b"\n") else block + b"\n")
+                size += end - start
+            yield Region(source, number, first, 0 if is_packed else size, None, kept, first)
+    except phhs.NotSure:
+        if source.size > handref.MOST_BYTES or is_packed:
+            raise
+        yield Region(source, 0, 0, source.size)
+    except (EOFError, gzip.BadGzipFile, zlib.error) as fault:
+        raise OSError(0, str(fault)) from fault
+
+
+def _packed(source: Source) -> Iterator[Region]:
+    with open(source.path, "rb") as read, gzip.open(read) as file:
+        start = taken = 0
+        try:
+            for number, data in enumerate(_blocks(file, source.notation)):
+                piece = Piece(data, source.notation, 0, 0, 0)
+                yield Region(source, number, start, read.tell() - taken, piece)
+                start, taken = start + len(data), read.tell()
+        except (EOFError, gzip.BadGzipFile, zlib.error) as fault:
+            raise OSError(0, str(fault)) from fault
+
+
+def _end_of_hand(file: BinaryIO, place: int, source: Source) -> int:
+    """The first place after this one where a line of a log begins, or a hand of OHH may."""
+    while place < source.size:
+        file.seek(place)
+        block = file.read(1 << 16)
+        found = block.find(b"\n") + 1
+        if source.notation != "acpc":
+            match = _BLANK.search(block)
+            found = match.end() if match else 0
+        if found:
+            return place + found
+        place += max(1, len(block) - 1000)  # an empty line with more signs is none to cut at
+    return source.size
+
+
+def _blocks(file: gzip.GzipFile, notation: Notation) -> Iterator[bytes]:
+    """What a packed file holds, cut in the same way."""
+    kept = b""
+    while block := file.read(PIECE):
+        kept += block
+        place = kept.rfind(b"\n") + 1
+        if len(kept) > handref.MOST_BYTES:
+            break  # what follows the limit is not looked at
+        if notation != "acpc":
+            place = max((match.end() for match in _BLANK.finditer(kept)), default=0)
+        if place:
+            yield kept[:place]
+            kept = kept[place:]
+    if kept:
+        yield kept
+
+
+def with_outs(found: Sequence[Source], end: str) -> list[Source]:
+    """The files with the names of what is made of them."""
+    return [replace(source, out=re.sub(r"(\.[^./]+(\.gz)?)?\Z", f".{end}", source.out, count=1))
+            for source in found]
