@@ -23,10 +23,10 @@ share/doc/handref/CHANGELOG.md
 share/doc/handref/CITATION.cff
 END
     cd "$top" || return 1
-    find python/handref python/examples examples docs -type f ! -path '*[!A-Za-z0-9._/-]*' \
-        ! -path '*/.*' | LC_ALL=C sort | while read -r file; do
+    find python/README.md python/handref python/examples examples docs -type f \
+        ! -path '*[!A-Za-z0-9._/-]*' ! -path '*/.*' | LC_ALL=C sort | while read -r file; do
         case $file in
-        *.py | *.css | *.js | *.typed | examples/* | docs/*.md | docs/*.svg | docs/*.png) ;;
+        *.py | *.css | *.js | *.typed | *.md | examples/* | docs/*.svg | docs/*.png) ;;
         *) continue ;;
         esac
         case $file in
@@ -57,11 +57,12 @@ put() {
     share/fish/*) cp -- "$top/completions/handref.fish" "$2" ;;
     share/doc/handref/copyright) cp -- "$top/LICENSE" "$2" ;;
     share/doc/handref/examples/*) cp -- "$top/${1#share/doc/handref/}" "$2" ;;
+    share/doc/handref/python/*.md) sed 's|](\.\./docs/|](../|g' "$top/python/README.md" >"$2" ;;
     share/doc/handref/python/*) cp -- "$top/${1#share/doc/handref/}" "$2" ;;
-    */README.md | */CHANGELOG.md) put_document "$top/${1##*/}" "$2" ;;
+    share/doc/handref/README.md | */CHANGELOG.md) put_document "$top/${1##*/}" "$2" ;;
     share/doc/handref/CITATION.cff) cp -- "$top/CITATION.cff" "$2" ;;
-    share/doc/handref/*.md) put_document "$top/docs/${1##*/}" "$2" ;;
-    share/doc/handref/*) cp -- "$top/docs/${1##*/}" "$2" ;;
+    share/doc/handref/*.md) put_document "$top/docs/${1#share/doc/handref/}" "$2" ;;
+    share/doc/handref/*) cp -- "$top/docs/${1#share/doc/handref/}" "$2" ;;
     *) return 1 ;;
     esac
 }
