@@ -95,11 +95,31 @@ def explain(hands: Hands, notation: handref.Notation, game: Game = None,
     path = handref.path_of(hands) or ""
     if line is not None:
         said = printed(line)
-        error = handref.not_done(status_of(said) or 0, said)
-        return _of(error, path, _data(hands), notation, game)
-    if not os.path.exists(path) and path:
-        raise FileNotFoundError(2, os.strerror(2), path)
+        return _said(handref.not_done(status_of(said) or 0, said), hands, path, notation, game)
     return _asked(hands, path, notation, game)
+
+
+def _said(error: NotDone, hands: Hands, path: str, notation: handref.Notation,
+          game: Game) -> Explanation:
+    """A line about a file: of a long one, about the piece that has the hand."""
+    hand, line = error.hand, error.line_number if error.status == 3 else None
+    for piece in _pieces(hands, notation) if hand or line else ():
+        lines = piece.data.count(b"\n") + (not piece.data.endswith(b"\n"))
+        is_here = hand <= piece.hands_before + piece.hands if hand else \
+            (line or 0) <= piece.lines_before + lines
+        if not piece.hands or is_here:
+            own = replace(error, hand=hand and hand - piece.hands_before,
+                          line_number=line and line - piece.lines_before)
+            found = _of(own, path, piece.data, notation, game)
+            if found.spot:
+                found.spot = places.moved(found.spot, piece.lines_before)
+            return found
+    if hand or line:
+        return Explanation(error.status, error.line, path, None,
+                           ["The hand was not found in the file."],
+                           messages.explained(error, notation))
+    data = b"" if error.status in (5, 8, 9, 10, 11) else handref.read(hands)
+    return _of(error, path, data, notation, game)
 
 
 def _data(hands: Hands) -> bytes:
@@ -127,7 +147,8 @@ def _asked(hands: Hands, path: str, notation: handref.Notation, game: Game) -> E
             found = _of_piece(refused[0], path, piece, notation, game)
             others = len(refused) - 1
             if others:
-                found.facts.append(f"{others} more hand{'s' * (others > 1)} of this file "
+                few = "At least " if piece.hands else ""  # more pieces may follow
+                found.facts.append(f"{few}{counted(others, 'more hand')} of this file "
                                    f"{'are' if others > 1 else 'is'} refused.")
             return found
         legal += len(verdicts)
@@ -138,11 +159,13 @@ def _asked(hands: Hands, path: str, notation: handref.Notation, game: Game) -> E
 
 
 def _pieces(hands: Hands, notation: handref.Notation) -> Iterator[Piece]:
-    data = _data(hands)
-    if len(data) <= handref.MOST_BYTES or notation == "phh":
-        yield Piece(data, notation, 0, 0, 0)
+    """A file as one piece, whose hands are not counted (0); a long log or OHH cut in several."""
+    path = handref.path_of(hands) or ""
+    size = os.path.getsize(path) if path else len(handref.read(hands))
+    if notation == "phh" or size <= handref.MOST_BYTES and not path.endswith(".gz"):
+        yield Piece(_data(hands), notation, 0, 0, 0)
     else:
-        yield from handref.pieces(data, notation)
+        yield from handref.pieces(hands, notation)
 
 
 def _of_piece(error: NotDone, path: str, piece: Piece, notation: handref.Notation,
@@ -158,8 +181,11 @@ def _of_piece(error: NotDone, path: str, piece: Piece, notation: handref.Notatio
 def _of(error: NotDone, path: str, data: bytes, notation: handref.Notation,
         game: Game) -> Explanation:
     """What is known of a line and its file."""
-    found = Explanation(error.status, error.line, path,
-                        meaning=messages.explained(error, notation))
+    found = Explanation(error.status, error.line, path)
+    try:
+        found.meaning = messages.explained(error, notation)
+    except FileNotFoundError:
+        pass  # the rest is known without the document
     if error.line.startswith("file: "):
         error = replace(error, line=error.line[6:])
     if error.status == 10 or error.place == "game bytes":
@@ -170,7 +196,7 @@ def _of(error: NotDone, path: str, data: bytes, notation: handref.Notation,
         found.spot = places.of(data, notation, error)
         found.facts = _facts(error, data, notation, game, found.spot)
     elif error.status == 7:
-        found.facts = _of_limit(error, data)
+        found.facts = _of_limit(error)
     elif error.status in (9, 15) and game:
         found.facts = [f"There is no file {shown(os.fspath(game))} in {shown(os.getcwd())}."
                        if not os.path.exists(game) else f"{shown(os.fspath(game))} is there now."]
@@ -188,9 +214,9 @@ def _of_game(found: Explanation, error: NotDone, game: Game) -> None:
         found.spot, found.facts = explain_game.why(data, error.line_number, error.reason or "")
 
 
-def _of_limit(error: NotDone, data: bytes) -> list[str]:
+def _of_limit(error: NotDone) -> list[str]:
     if error.place == "input bytes":
-        return [f"The file has {len(data)} bytes. handref many takes files of any length."]
+        return ["handref many takes files of any length."]
     return ["handref many takes files with any number of hands."] if error.place in (
         "hands", "moves of the file") else []
 

@@ -33,8 +33,8 @@ _WORDS = {
     "Invalid control character at": "a control character is inside a text: a line end is \\n there",
     "Extra data": "something follows the object: an empty line has to divide two hands"}
 
-# One half of a sign that JSON writes as two.
-_LONE = re.compile(r"(?<!\\)(?:\\\\)*(\\u[dD](?:[89abAB]..(?!\\u[dD][c-fC-F])|[c-fC-F]..))")
+# One half of a sign that JSON writes as two; what is passed over are whole signs.
+_LONE = re.compile(r"\\\\|\\u[dD][89abAB]..\\u[dD][c-fC-F]..|(\\u[dD][89a-fA-F]..)")
 
 
 def why(data: bytes, notation: handref.Notation, hand: Optional[int] = None) -> Found:
@@ -138,21 +138,25 @@ def fault_of_json(block: str) -> Optional[tuple[int, list[str]]]:
         return 0, ["The file begins with a byte order mark, which JSON may not have. Take it out: "
                    "tail -c +4 FILE > NEW"]
     try:
-        json.loads(block, parse_constant=_refuse)
+        json.loads(block, parse_constant=_refuse, parse_float=_finite, parse_int=_finite)
     except json.JSONDecodeError as fault:
         return _said_of(block, fault)
     except RecursionError:
         return 0, ["Lists or objects are more than 127 deep in one another."]
     except ValueError as fault:
-        return block.find(str(fault)), [f"{fault} is no value of JSON."]
-    lone = _LONE.search(block)
-    if lone:
-        return lone.start(1), ["This is one half of a sign that needs two."]
-    return None
+        return block.find(str(fault)), [f"{str(fault)[:40]} is no number that can be read."]
+    lone = next((found for found in _LONE.finditer(block) if found[1]), None)
+    return (lone.start(), ["This is one half of a sign that needs two."]) if lone else None
 
 
 def _refuse(word: str) -> None:
     raise ValueError(word)
+
+
+def _finite(word: str) -> float:
+    if abs(float(word)) == float("inf"):
+        _refuse(word)
+    return 0
 
 
 def _said_of(block: str, fault: json.JSONDecodeError) -> tuple[int, list[str]]:

@@ -81,14 +81,18 @@ class Commands(Case):
         log = self.folder / "match.acpc"
         log.write_bytes(b"".join(LOG % number for number in range(300)))
         program = self.folder / "program"
-        program.write_text("#!/bin/sh\nexec sleep 60\n")
+        program.write_text('#!/bin/sh\n: > "$0.begun"\nexec sleep 60\n')
         program.chmod(0o755)
         for sign in (signal.SIGTERM, signal.SIGINT):
             running = subprocess.Popen(
                 [sys.executable, "-m", "handref", "page", "--game", str(MATCH), str(log),
                  str(self.folder / "out.html")], stderr=subprocess.PIPE, text=True, env={
                      **os.environ, "PYTHONPATH": str(HERE.parent), "HANDREF_PROGRAM": str(program)})
-            time.sleep(3)
+            begun = self.folder / "program.begun"
+            for _ in range(600):
+                if not begun.exists():
+                    time.sleep(0.1)
+            begun.unlink()
             running.send_signal(sign)
             told = running.communicate(timeout=60)[1]
             self.assertEqual((running.returncode, told), (130, "interrupted\n"))

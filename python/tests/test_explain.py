@@ -5,6 +5,7 @@ import re
 import shutil
 import subprocess
 import unittest
+from unittest import mock
 
 from pages import EXAMPLES, HERE, MATCH, Case
 
@@ -178,7 +179,7 @@ class Texts(Case):
                              (hand.replace('"', "'"), "double quotes"),
                              (hand.replace("}}", "},}"), "expected"),
                              (hand.replace('"A"', '"\\h"'), "no escape of JSON"),
-                             (hand.replace('"A"', "NaN"), "NaN is no value"),
+                             (hand.replace('"A"', "NaN"), "NaN is no number"),
                              (hand.replace('"A"', '"\\ud800"'), "one half of a sign"),
                              (hand.replace('"A"', '"A\nB"'), "control character"),
                              ("variant = 'NT'", "--from phh")):
@@ -269,6 +270,26 @@ class Plays(Case):
         self.assertIn("1 more hand of this file is refused.", said)
         printed = f"{path}: refused: hand 10: event 3, action 1: RaiseTooSmall (line 11)"
         self.assertEqual(explain.explain(path, "acpc", MATCH, printed).spot, found.spot)
+
+    def test_long(self):
+        """A log that is longer than an input, also packed, is looked at where the hand is."""
+        lines = [b"STATE:%d:r300f:9s8h|KdTc:-100|100:A|B\n" % hand for hand in range(50)]
+        lines[40] = lines[40].replace(b"r300", b"r150")
+        lines[44] = lines[44].replace(b"r300", b"rx")
+        data = b"# a match\n" + b"".join(lines)
+        plain, packed = self.folder / "match.acpc", self.folder / "match.acpc.gz"
+        plain.write_bytes(data)
+        packed.write_bytes(gzip.compress(data))
+        with mock.patch.object(handref, "MOST_BYTES", 500):
+            for path in (plain, packed):
+                for line, place in (
+                        ("refused: hand 41: event 3, action 1: RaiseTooSmall", (42, 10)),
+                        ("bad input: line 46, byte 11: BadBetting", (46, 11))):
+                    found = explain.explain(path, "acpc", MATCH, line)
+                    self.assertEqual((found.line, found.spot.line, found.spot.column),
+                                     (line, *place))
+                self.assertEqual(explain.explain(path, "acpc", MATCH).line,
+                                 "refused: hand 41: event 3, action 1: RaiseTooSmall")
 
     def test_other_lines(self):
         with self.assertRaisesRegex(ValueError, "no line of the program"):
