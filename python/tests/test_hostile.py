@@ -148,7 +148,7 @@ class Packed(Case):
                 done = subprocess.run([sys.executable, "-c", script, path, kind], capture_output=True,
                                       text=True, env={**os.environ, "PYTHONPATH": str(HERE.parent)})
                 said, most = map(int, done.stdout.split())
-                self.assertEqual(said, 2 if name == "blank.ohh" else 7)
+                self.assertEqual(said, 1 if name == "blank.ohh" else 7)
                 self.assertLess(most, 150_000)
         stub = self.stub("head -c 20000000 | wc -c >> sizes; echo 'limit: input bytes 16777216' >&2; "
                          "exit 7")

@@ -167,7 +167,7 @@ class Documents(Case):
             self.assertEqual(hands.strip(), data.strip())
 
     def test_numbers_of_refused_hands(self):
-        """A hand is told by its place among the numbers, as one call tells it."""
+        """A hand is reported by its place among the numbers, as by one call."""
         path = self.evening(6, order=[(0, 5)])
         path.write_text(path.read_text().replace("cbr 6", "cbr 3", 1))  # it is hand 6
         for form in (path, Path(f"{path}.gz")):
