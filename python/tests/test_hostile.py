@@ -136,8 +136,9 @@ class Packed(Case):
         for name, text in (("line.acpc", b"x" * 1_000_000), ("blank.ohh", b"\n" * 1_000_000),
                            ("key.phh", b"a" * 1_000_000), ("list.ohh", b"[" * 1_000_000)):
             path = self.folder / f"{name}.gz"
+            count = 2 if name == "blank.ohh" else 40
             with gzip.open(path, "wb", 1) as file:
-                for _ in range(150):
+                for _ in range(count):
                     file.write(text)
             script = ("import handref, resource, sys\ntry:\n    print(sum(1 for _ in handref.pieces("
                       "sys.argv[1], sys.argv[2])))\nexcept handref.NotDone as error:\n    "
@@ -147,7 +148,7 @@ class Packed(Case):
                 done = subprocess.run([sys.executable, "-c", script, path, kind], capture_output=True,
                                       text=True, env={**os.environ, "PYTHONPATH": str(HERE.parent)})
                 said, most = map(int, done.stdout.split())
-                self.assertEqual(said, 150 if name == "blank.ohh" else 7)
+                self.assertEqual(said, 1 if name == "blank.ohh" else 7)
                 self.assertLess(most, 150_000)
         stub = self.stub("head -c 20000000 | wc -c >> sizes; echo 'limit: input bytes 16777216' >&2; "
                          "exit 7")
