@@ -42,8 +42,8 @@ class Build(Case):
                                str(EXAMPLES / "folds.phh")], capture_output=True, text=True)
         self.assertEqual((done.returncode, done.stdout.split("\n")[0]), (0, "legal hands: 1 of 1"))
         done = subprocess.run([str(place / "bin" / "python"), "-c", "import handref; from handref "
-                               "import messages; print(handref.__version__, len(messages.document()) "
-                               "> 1000)"], capture_output=True, text=True, cwd=self.folder)
+                               "import messages; print(handref.__version__, "
+                               "len(messages.document()) > 1000)"], capture_output=True, text=True, cwd=self.folder)
         self.assertEqual(done.stdout, f"{handref.__version__} True\n")
         self.assertEqual([path for path in PACKAGE.iterdir() if path.name in ("build", "dist")
                           or path.suffix == ".egg-info"], [])
@@ -64,7 +64,8 @@ class Build(Case):
         self.assertTrue(handref_build.build_sdist(str(self.folder)).endswith(".tar.gz"))
 
     def test_version(self):
-        self.assertIn(f'version = "{handref.__version__}"\n', (PACKAGE / "pyproject.toml").read_text())
+        self.assertIn(f'version = "{handref.__version__}"\n',
+                      (PACKAGE / "pyproject.toml").read_text())
 
 
 class Types(Case):
@@ -74,7 +75,8 @@ class Types(Case):
             self.skipTest("mypy is not here")
         use = self.folder / "use.py"
         use.write_text('import handref\nhandref.check(b"", "pph")\nhandref.check(b"", "phh")\n'
-                       'handref.rows("judge", b"", "acpc", "g")\nhandref.rows("jugde", b"", "phh")\n')
+                       'handref.rows("judge", b"", "acpc", "g")\n'
+                       'handref.rows("jugde", b"", "phh")\n')
         done = subprocess.run(["mypy", "--strict", "--cache-dir", str(self.folder / "cache"),
                                str(use)], capture_output=True, text=True, cwd=self.folder,
                               env={**os.environ, "MYPYPATH": str(PACKAGE)})
