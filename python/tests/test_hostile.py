@@ -22,7 +22,7 @@ MATCH = str(EXAMPLES / "match.game")
 PROGRAM = os.environ.get("HANDREF_PROGRAM") or "handref"
 ROW = "x\n" + "9000".rjust(20) + "1".rjust(8) + "  Mallory"
 NAMES = [ROW, "\n", "a\nhand 1 join b 7", "\x1b]0;title\x07\x1b[2J", "cr\rlf\r\n", "tab\tand \\n",
-         "\\", '"""\n\\', "\u202etxt", "line\u2028line", "\x85\x9b31m", "'''", "a\x00b"[:1] + "\x7f",
+         "\\", '"""\n\\', "\u202etxt", "line\u2028line", "\x85\x9b31m", "'''", "del\x7f",
          "rake 5\nrake 6", "  p1", "{\"kind\":\"name\"}\n{\"kind\":\"name\"}"]
 SHORT = {"n": "\n", "t": "\t", "r": "\r", "\\": "\\"}
 
@@ -150,7 +150,8 @@ class Packed(Case):
             kind = {".acpc": "acpc", ".ohh": "ohh"}.get(Path(name).suffix)
             if kind:
                 done = subprocess.run([sys.executable, "-c", script, path, kind],
-                                      capture_output=True, text=True, env={**os.environ, "PYTHONPATH": str(HERE.parent)})
+                                      capture_output=True, text=True,
+                                      env={**os.environ, "PYTHONPATH": str(HERE.parent)})
                 said, most = map(int, done.stdout.split())
                 self.assertEqual(said, 1 if name == "blank.ohh" else 7)
                 self.assertLess(most, 150_000)

@@ -43,7 +43,8 @@ class Build(Case):
         self.assertEqual((done.returncode, done.stdout.split("\n")[0]), (0, "legal hands: 1 of 1"))
         done = subprocess.run([str(place / "bin" / "python"), "-c", "import handref; from handref "
                                "import messages; print(handref.__version__, "
-                               "len(messages.document()) > 1000)"], capture_output=True, text=True, cwd=self.folder)
+                               "len(messages.document()) > 1000)"], capture_output=True, text=True,
+                              cwd=self.folder)
         self.assertEqual(done.stdout, f"{handref.__version__} True\n")
         self.assertEqual([path for path in PACKAGE.iterdir() if path.name in ("build", "dist")
                           or path.suffix == ".egg-info"], [])

@@ -142,8 +142,8 @@ class Documents(Case):
 
     def test_not_sure(self):
         for text, line in (('[1]\na = "x\n[2]\n', 2), ("[1]\na = [\n[2]\n", 2),
-                           ("[meta]\na = 1\n", 1), ("[1]\n[2]\n[1]\n", 3), ("[1]\na = '''\n[2]", 2), ("[01]\n", 1),
-                           ("[[1]]\n", 1), ("[1]\n[2]\n[1.a]\n", 3), ("[1] 2\n", 1),
+                           ("[meta]\na = 1\n", 1), ("[1]\n[2]\n[1]\n", 3), ("[1]\na = '''\n[2]", 2),
+                           ("[01]\n", 1), ("[[1]]\n", 1), ("[1]\n[2]\n[1.a]\n", 3), ("[1] 2\n", 1),
                            ("[1]\n" + "[" * 9 + "\n[2]\n", 2), ("[1]\na = \"\"\"\n", 2)):
             with self.assertRaises(phhs.NotSure, msg=text) as caught:
                 phhs.Hands(text.encode())
