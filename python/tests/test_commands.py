@@ -62,7 +62,7 @@ class Commands(Case):
         for text, status, line in ((None, 70, "No such file or directory"),
                                    ("kill -9 $$", 70, "killed by signal 9"),
                                    ("exit 0", 70, "the output of judge is cut"),
-                                   ("exit 99", 99, "ended with the status 99")):
+                                   ("exit 99", 70, "ended with the status 99")):
             if text is not None:
                 program.write_text(f"#!/bin/sh\n{text}\n")
                 program.chmod(0o755)
