@@ -71,7 +71,7 @@ class Build(Case):
 
 class Types(Case):
     def test_notations(self):
-        """mypy finds a notation that is none, and takes those that are."""
+        """mypy finds a wrong notation, and accepts the right ones."""
         if not shutil.which("mypy"):
             self.skipTest("mypy is not here")
         use = self.folder / "use.py"
