@@ -33,7 +33,7 @@ _WORDS = {
     "Invalid control character at": "a control character is inside a text: a line end is \\n there",
     "Extra data": "something follows the object: an empty line has to divide two hands"}
 
-# One half of a sign that JSON writes as two; what is passed over are whole signs.
+# One half of a character that JSON writes as two; whole characters are skipped.
 _LONE = re.compile(r"\\\\|\\u[dD][89abAB]..\\u[dD][c-fC-F]..|(\\u[dD][89a-fA-F]..)")
 
 

@@ -13,11 +13,11 @@ class Progress:
         self.start = self.shown = time.monotonic()
 
     def known(self, size: int) -> None:
-        """So many bytes were done by an earlier call."""
+        """An earlier call has done these bytes."""
         self.before += size
 
     def done(self, size: int, hands: int) -> None:
-        """So many bytes and hands more are done."""
+        """These bytes and hands are done now."""
         self.bytes, self.hands = self.bytes + size, self.hands + hands
         self.show()
 

@@ -235,7 +235,7 @@ class Files:
                 os.remove(part.path)
 
     def _hands(self, part: Part, is_joined: bool, number: int, count: int) -> Iterator[bytes]:
-        """What a part is in a file of so many hands, after so many."""
+        """What a part becomes in a file of `count` hands, after `number` of them."""
         if self.call.to != "phh":
             if number and self.call.to != "acpc" and part.hands:
                 yield b"\n"

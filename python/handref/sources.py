@@ -12,7 +12,7 @@ from typing import IO, BinaryIO, Iterator, Optional, Sequence, Union
 import handref
 from handref import Notation, Piece, cut, phhs
 
-# So many bytes of a log have less hands and moves than an input may have, whatever they are: a hand
+# PIECE bytes of a log have fewer hands and moves than an input may have, whatever they are: a hand
 # takes 17 bytes or more, a move one. A hand of OHH or PHH that has a move takes far more.
 PIECE = 1 << 20
 _BLANK = re.compile(rb"\n[ \t\r]*\n")
@@ -253,7 +253,7 @@ def _end_of_hand(file: BinaryIO, place: int, source: Source) -> int:
             found = match.end() if match else 0
         if found:
             return place + found
-        place += max(1, len(block) - 1000)  # an empty line with more signs is none to cut at
+        place += max(1, len(block) - 1000)  # a longer empty line is no place to cut
     return source.size
 
 

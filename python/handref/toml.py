@@ -62,12 +62,12 @@ class Place:
 
 
 def read(text: str) -> dict[str, Any]:
-    """What a document says. TomlError: it is none."""
+    """What a document says. TomlError: it is not a document."""
     return _read(_Reader(text, None))
 
 
 def places(text: str, top: Optional[str] = None) -> dict[Key, Place]:
-    """The places of the values of a document, or of its table `top`. TomlError: it is none."""
+    """The places of the values of a document, or of its table `top`. TomlError: not one."""
     found: dict[Key, Place] = {}
     _read(_Reader(text, lambda key: top is None or key[0] == top, found))
     return found
@@ -366,7 +366,7 @@ def named(path: Key) -> str:
 
 
 def _of_word(word: str) -> Any:
-    """A number, a truth or a time; None where it is none."""
+    """A number, a truth or a time, or None."""
     if word in ("true", "false"):
         return word == "true"
     if _INTEGER.match(word):

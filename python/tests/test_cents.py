@@ -63,8 +63,9 @@ class Phh(Case):
         text = f"[2] # second\n{CASH}[1]\n{CASH.replace('0.06', '0.07')}"
         text += "[3]\nvariant = 'NT'\n"
         table = toml.read(handref.cents(text.encode(), 100, "phh").decode())
-        self.assertEqual({key: table[key]["currency"] for key in table}, dict.fromkeys("123", "cents"))
-        self.refused(text.replace("0.07", "0.075"), "bytes: hand 1: actions 4: 0.075 times 100 is no")
+        self.assertEqual({key: table[key]["currency"] for key in table},
+                         dict.fromkeys("123", "cents"))
+        self.refused(text.replace("0.07", "0.075"), "bytes: hand 1: actions 4: 0.075 times")
         self.refused(text.replace("0.06", "0.065"), "bytes: hand 2: actions 4: 0.065")
         inner = "1 = {variant = 'NT', min_bet = 0.5}\n"
         self.assertEqual(toml.read(handref.cents(inner.encode(), 100, "phh").decode()),

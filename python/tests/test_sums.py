@@ -121,7 +121,8 @@ class Sums(Case):
         path = self.evening(4)
         _, text = self.run_("replay", path, form="json")
         rows = [json.loads(line) for line in text.split("\n")[:-1]]
-        self.assertEqual([{**row, "file": str(path)} for row in handref.rows("replay", path, "phh")],
+        self.assertEqual([{**row, "file": str(path)}
+                          for row in handref.rows("replay", path, "phh")],
                          [{key: row[key] for key in (*tables.COLUMNS["replay"], "file")}
                           for row in rows])
 
@@ -140,8 +141,8 @@ class Documents(Case):
             self.assertEqual(hands.text(1, 2), f"[2]\n{HAND}".encode())
 
     def test_not_sure(self):
-        for text, line in (('[1]\na = "x\n[2]\n', 2), ("[1]\na = [\n[2]\n", 2), ("[meta]\na = 1\n", 1),
-                           ("[1]\n[2]\n[1]\n", 3), ("[1]\na = '''\n[2]", 2), ("[01]\n", 1),
+        for text, line in (('[1]\na = "x\n[2]\n', 2), ("[1]\na = [\n[2]\n", 2),
+                           ("[meta]\na = 1\n", 1), ("[1]\n[2]\n[1]\n", 3), ("[1]\na = '''\n[2]", 2), ("[01]\n", 1),
                            ("[[1]]\n", 1), ("[1]\n[2]\n[1.a]\n", 3), ("[1] 2\n", 1),
                            ("[1]\n" + "[" * 9 + "\n[2]\n", 2), ("[1]\na = \"\"\"\n", 2)):
             with self.assertRaises(phhs.NotSure, msg=text) as caught:
@@ -167,7 +168,7 @@ class Documents(Case):
             self.assertEqual(hands.strip(), data.strip())
 
     def test_numbers_of_refused_hands(self):
-        """A hand is told by its place among the numbers, as one call tells it."""
+        """A hand is reported by its place among the numbers, as by one call."""
         path = self.evening(6, order=[(0, 5)])
         path.write_text(path.read_text().replace("cbr 6", "cbr 3", 1))  # it is hand 6
         for form in (path, Path(f"{path}.gz")):
@@ -199,8 +200,8 @@ class Documents(Case):
         """Hands that are joined and split are the same; what looks like a header is text."""
         hands = self.folder / "hands"
         hands.mkdir()
-        for number, more in ((2, 'venue = """\n[7]\nhand = 9\nvariant = \'NT\'\n"""'), (10, "hand = 5"),
-                             (1, "")):
+        hidden = 'venue = """\n[7]\nhand = 9\nvariant = \'NT\'\n"""'
+        for number, more in ((2, hidden), (10, "hand = 5"), (1, "")):
             (hands / f"hand-{number}.phh").write_text(
                 hand_of([f"N{number}", "B", "C"], [100, 100, 100], more))
         (hands / "hidden.phh").write_text(HAND + f"[77]\n{HAND}")

@@ -83,7 +83,7 @@ class Toml(Case):
             try:
                 wanted = plain(tomllib.loads(text.removeprefix("\ufeff")))
             except ValueError:
-                continue  # it is none, or TOML 1.1
+                continue  # not TOML, or TOML 1.1
             self.assertEqual(self.read(text), wanted)
             count += 1
         self.assertGreater(count, 15)
