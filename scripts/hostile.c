@@ -88,6 +88,16 @@ static void put_bytes(int file, const unsigned char *at, size_t size) {
     }
 }
 
+/* Copies standard input in pieces: a child's memory counts from the start of its parent, so this program has to be small. */
+static void copy_input(void) {
+    static unsigned char part[65536];
+    ssize_t got;
+    put_bytes(input_file, NULL, 0);
+    while ((got = read(0, part, sizeof part)) > 0)
+        if (write(input_file, part, got) != got) stop("write");
+    if (got < 0) stop("input");
+}
+
 /* Runs the program on words and the bytes in the file of the input. */
 static struct ending run(char *const *words, const char *refused) {
     posix_spawn_file_actions_t files;
@@ -711,8 +721,7 @@ int main(int count, char **words) {
     }
     if (count >= 3 && strcmp(words[1], "once") == 0) {
         words[1] = "handref";
-        struct bytes input = file_bytes(0, "input");
-        put_bytes(input_file, input.at, input.size);
+        copy_input();
         struct ending ending = run(words + 1, NULL);
         printf("%d %zu %.2f %ld\n", ending.signal ? -ending.signal : ending.status, ending.out.size, ending.seconds,
                ending.kilobytes);
