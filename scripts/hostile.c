@@ -1,7 +1,7 @@
 /* Runs the program on damaged inputs, or with each of its requests refused, and checks how it ends.
  *
- *   hostile each KIND ERRNO WORDS.. < INPUT
- *       refuses each request of a kind in turn; scripts/refusing.c has the kinds
+ *   hostile each KIND ERRNO COUNT WORDS.. < INPUT
+ *       refuses COUNT requests of a kind in a row, from each in turn; scripts/refusing.c has the kinds
  *   hostile damaged SEED COUNT HANDS < COMMANDS
  *       damages inputs; HANDS has a line NOTATION, a file and its game for each
  *   hostile once WORDS.. < INPUT
@@ -88,6 +88,16 @@ static void put_bytes(int file, const unsigned char *at, size_t size) {
     }
 }
 
+/* Copies standard input in pieces: a child's memory counts from the start of its parent, so this program has to be small. */
+static void copy_input(void) {
+    static unsigned char part[65536];
+    ssize_t got;
+    put_bytes(input_file, NULL, 0);
+    while ((got = read(0, part, sizeof part)) > 0)
+        if (write(input_file, part, got) != got) stop("write");
+    if (got < 0) stop("input");
+}
+
 /* Runs the program on words and the bytes in the file of the input. */
 static struct ending run(char *const *words, const char *refused) {
     posix_spawn_file_actions_t files;
@@ -170,6 +180,13 @@ static int is_of_other(const char *command, const struct ending *ending) {
            (ending->status == 1 || ending->status == 3 || ending->status == 7);
 }
 
+/* Whether a line has only printed signs of ASCII, so that nothing of an input can reach the terminal by it. */
+static int is_plain(struct bytes line) {
+    for (size_t i = 0; i + 1 < line.size; i++)
+        if (line.at[i] < ' ' || line.at[i] > '~') return 0;
+    return 1;
+}
+
 /* What is wrong with the end of a run, whatever its input was. */
 static const char *wrong(const char *command, const struct ending *ending) {
     if (ending->signal != 0) return "a signal";
@@ -185,7 +202,7 @@ static const char *wrong(const char *command, const struct ending *ending) {
     const unsigned char *end = ending->line.size == 0 ? NULL : memchr(ending->line.at, '\n', ending->line.size);
     if (ending->status == 0 ? ending->line.size != 0 : end != ending->line.at + ending->line.size - 1)
         return "not one line";
-    return NULL;
+    return is_plain(ending->line) ? NULL : "a line with other than printed signs";
 }
 
 static void complain(char *const *words, const char *what, const struct ending *ending) {
@@ -197,7 +214,7 @@ static void complain(char *const *words, const char *what, const struct ending *
 }
 
 /* Refuses each request of a kind in turn. */
-static int refuse_each(const char *kind, const char *error, char **words) {
+static int refuse_each(const char *kind, const char *error, const char *times, char **words) {
     struct bytes input = file_bytes(0, "input");
     put_bytes(input_file, input.at, input.size);
     struct ending whole = run(words, NULL);
@@ -213,8 +230,8 @@ static int refuse_each(const char *kind, const char *error, char **words) {
     if (bad) complain(words, wrong(command, &whole), &whole);
     int spared = 0;
     for (long number = 0;; number++) {
-        char refused[60];
-        snprintf(refused, sizeof refused, "%s %ld %s", kind, number, error);
+        char refused[80];
+        snprintf(refused, sizeof refused, "%s %ld %s %s", kind, number, error, times);
         struct ending ending = run(words, refused);
         const char *what = wrong(command, &ending);
         int is_last = !ending.is_refused;
@@ -265,6 +282,10 @@ static uint64_t draw(uint64_t below) {
 }
 
 enum { MOST = 16384 };
+
+/* The beginning of names of 240 letters. */
+#define SHARED_40 "xxxxxxxxxxxxxxxxxxxxxxxxxxxxxxxxxxxxxxxx"
+#define SHARED SHARED_40 SHARED_40 SHARED_40 SHARED_40 SHARED_40 SHARED_40
 
 /* What is put into inputs. */
 static const char *const scraps[] = {"\xff",
@@ -369,7 +390,14 @@ static const char *const scraps[] = {"\xff",
                                      "\"Raise\"",
                                      "\"player_id\":2",
                                      "\"cards\":[\"2c\"]",
-                                     "{\"action\":\"Sits Down\",\"player_id\":1},"};
+                                     "{\"action\":\"Sits Down\",\"player_id\":1},",
+                                     SHARED,
+                                     SHARED "a",
+                                     "_" SHARED "=1\n",
+                                     "[_" SHARED "]\n",
+                                     "[_" SHARED "." SHARED "]\n",
+                                     "\"" SHARED "\":1,",
+                                     "\"name\":\"" SHARED "\","};
 
 static void replace(struct bytes *text, size_t from, size_t to, const unsigned char *with, size_t size) {
     if (text->size - (to - from) + size > MOST) return;
@@ -470,7 +498,7 @@ static void read_hands(const char *name) {
 }
 
 /* Reads the commands: the notations that each is for, and its words; GAME stands for the file of a game, OTHER for that of the
- * hands. */
+ * hands, NUMBER for a number from 1 to 9. */
 static void read_commands(void) {
     static char line[4000];
     while (fgets(line, sizeof line, stdin) != NULL && commands_count < 200) {
@@ -495,11 +523,16 @@ static int is_for(const struct command *command, const struct hands *item) {
     return strstr(command->notations, wanted) != NULL;
 }
 
+static char *const digits[] = {"1", "2", "3", "4", "5", "6", "7", "8", "9"};
+
 static void words_with(const struct command *command, const struct hands *item, char *game, char **words) {
     int i = 0;
     for (; command->words[i] != NULL; i++) {
         char *word = command->words[i];
-        words[i] = strcmp(word, "GAME") == 0 ? game : strcmp(word, "OTHER") == 0 ? item->name : word;
+        words[i] = strcmp(word, "GAME") == 0     ? game
+                   : strcmp(word, "OTHER") == 0  ? item->name
+                   : strcmp(word, "NUMBER") == 0 ? digits[draw(9)]
+                                                 : word;
     }
     words[i] = NULL;
 }
@@ -542,6 +575,46 @@ static const char *waste(const struct command *command, int class, struct ending
     return ending->kilobytes > 5 * command->kilobytes[class] ? "more than five times the memory" : NULL;
 }
 
+/* The word after a word, or NULL. */
+static char **after(char **words, const char *word) {
+    for (int i = 1; words[i] != NULL && words[i + 1] != NULL; i++)
+        if (strcmp(words[i], word) == 0) return &words[i + 1];
+    return NULL;
+}
+
+/* Whether the input is compared with itself. */
+static int is_with_itself(char **words) {
+    char **other = after(words, "--with");
+    return other != NULL && strcmp(*other, "/dev/stdin") == 0;
+}
+
+/* What is wrong with an output: what `convert` wrote has to be the same bytes when it is converted to its notation again. */
+static const char *wrong_output(char **words, const struct ending *ending) {
+    char **to = after(words, "--to"), **game = after(words, "--game");
+    if (ending->status != 0 || to == NULL) return NULL;
+    char *again[] = {"handref", "convert", "--from", *to, "--to", *to, NULL, NULL, NULL};
+    if (strcmp(*to, "acpc") == 0 && game != NULL) {
+        again[6] = "--game";
+        again[7] = *game;
+    }
+    put_bytes(input_file, ending->out.at, ending->out.size);
+    struct ending second = run(again, NULL);
+    int is_same_again = second.status == 0 && is_same(second.out, ending->out);
+    drop(&second);
+    return is_same_again ? NULL : "an output that is converted again to other bytes";
+}
+
+/* What is wrong with a run on a damaged input; an input of about SIZE bytes was read. */
+static const char *wrong_run(const struct command *command, size_t size, struct ending *ending, char **words) {
+    static const char without_cause[] = {2, 5, 6, 8, 9, 11, 15};
+    const char *what = wrong(words[1], ending);
+    if (what != NULL) return what;
+    if (memchr(without_cause, ending->status, sizeof without_cause) != NULL) return "a status without its cause";
+    if (ending->status == 14 && is_with_itself(words)) return "a file that differs from itself";
+    what = waste(command, class_of(size), ending, words);
+    return what != NULL ? what : wrong_output(words, ending);
+}
+
 static void keep(const char *name, uint64_t number, struct bytes bytes) {
     char path[4200];
     snprintf(path, sizeof path, "%s/%s-%llu", folder, name, (unsigned long long)number);
@@ -580,13 +653,9 @@ static void work(uint64_t seed, uint64_t count, int worker, int workers, long *c
         words_with(command, item, damages_game ? game_name : item->game_name, words);
         put_bytes(input_file, input.at, input.size);
         struct ending ending = run(words, NULL);
-        const char *what = wrong(words[1], &ending);
-        if (what == NULL && (ending.status == 2 || ending.status == 5 || ending.status == 6 || ending.status == 8 ||
-                             ending.status == 9 || ending.status == 11 || ending.status == 15))
-            what = "a status without its cause";
         size_t size = input.size; /* a comparison reads the file of the hands, too */
         if (strcmp(words[1], "compare") == 0 && size < item->input.size) size = item->input.size;
-        if (what == NULL) what = waste(command, class_of(size), &ending, words);
+        const char *what = wrong_run(command, size, &ending, words);
         if (what != NULL) {
             counts[WRONG]++;
             fprintf(stderr, "seed %llu, input %llu: ", (unsigned long long)seed, (unsigned long long)number);
@@ -638,10 +707,10 @@ int main(int count, char **words) {
     folder = getenv("HOSTILE_FOLDER");
     if (program == NULL || library == NULL || folder == NULL) return 70;
     open_files();
-    if (count >= 4 && strcmp(words[1], "each") == 0) {
-        char *kind = words[2], *error = words[3];
-        words[3] = "handref";
-        return refuse_each(kind, error, words + 3);
+    if (count >= 5 && strcmp(words[1], "each") == 0) {
+        char *kind = words[2], *error = words[3], *times = words[4];
+        words[4] = "handref";
+        return refuse_each(kind, error, times, words + 4);
     }
     if (count == 5 && strcmp(words[1], "damaged") == 0) {
         read_hands(words[4]);
@@ -652,8 +721,7 @@ int main(int count, char **words) {
     }
     if (count >= 3 && strcmp(words[1], "once") == 0) {
         words[1] = "handref";
-        struct bytes input = file_bytes(0, "input");
-        put_bytes(input_file, input.at, input.size);
+        copy_input();
         struct ending ending = run(words + 1, NULL);
         printf("%d %zu %.2f %ld\n", ending.signal ? -ending.signal : ending.status, ending.out.size, ending.seconds,
                ending.kilobytes);

@@ -1,7 +1,7 @@
 /* Comes before the C library, and refuses one request of a process: for memory, or to open, read or write.
  *
- * REFUSED is 'KIND NUMBER ERRNO': the request of this kind with this number, from 0, is refused with this number of an
- * error. Kinds are memory, open, in (a read of standard input), game (a read of another file), out (a write to standard
+ * REFUSED is 'KIND NUMBER ERRNO [COUNT]': COUNT requests of this kind, or 1, are refused from this number on, counted
+ * from 0, with this number of an error. Kinds are memory, open, in (a read of standard input), game (a read of another file), out (a write to standard
  * output) and line (one to standard error). Under 'pieces SIZE 0' nothing is refused, but each read and write stops
  * after that many bytes. When a request is refused, a byte is written to the descriptor 250. */
 #define _GNU_SOURCE
@@ -24,6 +24,7 @@ static const char *const names[] = {"none", "memory", "open", "in", "game", "out
 static enum kind refused_kind;
 static long refused_number;
 static int refused_errno;
+static long refused_count;
 static long count;
 
 __attribute__((constructor)) static void begin(void) {
@@ -35,14 +36,16 @@ __attribute__((constructor)) static void begin(void) {
         if (strlen(names[kind]) == (size_t)(blank - wanted) && strncmp(wanted, names[kind], blank - wanted) == 0) {
             char *end;
             refused_number = strtol(blank, &end, 10);
-            refused_errno = (int)strtol(end, NULL, 10);
+            refused_errno = (int)strtol(end, &end, 10);
+            refused_count = strtol(end, NULL, 10);
+            if (refused_count < 1) refused_count = 1;
             refused_kind = kind;
         }
 }
 
-/* Whether this request of a kind is the one to be refused. */
+/* Whether this request of a kind is one to be refused. */
 static int is_refused(enum kind kind) {
-    if (kind != refused_kind || count++ != refused_number) return 0;
+    if (kind != refused_kind || count++ < refused_number || count > refused_number + refused_count) return 0;
     (void)!syscall(SYS_write, 250, "x", 1);
     errno = refused_errno;
     return 1;
