@@ -6,7 +6,6 @@ ghost use Rattle.hand_records.specs.declared.writing.WriteRefusal.TheVariants as
 
 use crate::notes::NoteName;
 use card_set::Memory;
-use std::alloc::{AllocError, AllocFailed};
 
 /// A fact of a play that a notation cannot express, in the order in which facts are checked.
 #[derive(Clone, Copy, Debug, PartialEq, Eq)]
@@ -47,21 +46,5 @@ impl From<Memory> for WriteRefusal {
 
     fn from(memory: Memory) -> Self {
         WriteRefusal::Memory(memory)
-    }
-}
-
-impl From<AllocError> for WriteRefusal {
-    ghost from_gives = { λ _ refusal. (memory : Refused) × (refusal ≡ refusals.Memory memory) };
-
-    fn from(refused: AllocError) -> Self {
-        WriteRefusal::Memory(Memory::from(refused))
-    }
-}
-
-impl<T: Drop> From<AllocFailed<T>> for WriteRefusal {
-    ghost from_gives = { λ _ refusal. (memory : Refused) × (refusal ≡ refusals.Memory memory) };
-
-    fn from(refused: AllocFailed<T>) -> Self {
-        WriteRefusal::Memory(Memory::from(refused))
     }
 }

@@ -4,7 +4,7 @@ ghost use Rattle.std.specs.List.{position_or_len};
 ghost use Rattle.std.specs.Option.{option_map_or};
 ghost use Rattle.ohh_reading.specs.Blocks.{blocks_from, blocks_of, is_blank as is_blank_said, lines_of};
 
-use card_set::Memory;
+use card_set::{Memory, TryExtend, TryPush, vec_from};
 use std::alloc::Global;
 
 /// The blocks of a text, in order.
@@ -70,12 +70,12 @@ fn take_line(
     }
     match begun {
         None => {
-            let block = Vec::from_slice(alloc, line)?;
+            let block = vec_from(alloc, line)?;
             Ok((None, Some(block)))
         }
         Some(mut block) => {
-            block.push(b'\n')?;
-            block.extend_from_slice(line)?;
+            block.try_push(b'\n')?;
+            block.try_extend_from_slice(line)?;
             Ok((None, Some(block)))
         }
     }
@@ -100,7 +100,7 @@ fn push_block(found: &mut Vec<Vec<u8>>, block: Option<Vec<u8>>) -> Result<(), Me
         ++ option_map_or (λ block. block.items ∷ []) block []) }
 {
     match block {
-        Some(block) => Ok(found.push(block)?),
+        Some(block) => Ok(found.try_push(block)?),
         None => Ok(()),
     }
 }

@@ -9,8 +9,9 @@ ghost use Rattle.ohh_writing.specs.Spelled.{unspelled};
 ghost use Rattle.hand_records.specs.WriteRefusals.{IsOutOfMemory, first_refusal};
 
 use crate::hand::hand_value;
+use crate::members::refused_to_tree;
 use crate::spelled::find_refusal;
-use card_set::Memory;
+use card_set::{Memory, TryExtend, TryPush, reserve_for};
 use hand_records::{Keep, Play, WriteRefusal};
 use ohh_members::Dialect;
 use std::alloc::Global;
@@ -69,11 +70,10 @@ pub fn push_line(
     // The text comes first, and then the room for all that is appended, so that no step fails after
     // something was appended.
     let text = make_text(alloc, dialect, place, play)?;
-    out.reserve(text.len() + 2)?;
+    reserve_for(out, text.as_slice(), 2)?;
     push_empty_line(out, place)?;
-    out.extend_from_slice(text.as_slice())?;
-    out.push(b'\n')?;
-    Ok(())
+    out.try_extend_from_slice(text.as_slice())?;
+    out.try_push(b'\n')
 }
 
 // Appends an empty line after the hands before this place, if there are any.
@@ -86,8 +86,7 @@ fn push_empty_line(out: &mut Vec<u8>, place: usize) -> Result<(), Memory>
     if place == 0 {
         return Ok(());
     }
-    out.push(b'\n')?;
-    Ok(())
+    out.try_push(b'\n')
 }
 
 // The text of the hand at a place of its file, from 0.
@@ -97,5 +96,8 @@ fn make_text(alloc: Global, dialect: Dialect, place: usize, play: &Play) -> Resu
     ensures read { IfOk result (λ text. IsTextOf dialect place play.now) }
 {
     let value = hand_value(alloc, dialect, place, play)?;
-    Ok(value.to_vec(alloc)?)
+    match value.to_vec(alloc) {
+        Ok(text) => Ok(text),
+        Err(_) => Err(refused_to_tree()),
+    }
 }

@@ -13,7 +13,7 @@ use crate::notes::put_notes;
 use crate::played::put_trace;
 use crate::setup::put_setup;
 use crate::spelled::find_refusal;
-use card_set::Memory;
+use card_set::{Memory, displayed};
 use hand_records::{Keep, Play, WriteRefusal};
 use std::alloc::Global;
 use toml::ser::Error;
@@ -68,7 +68,7 @@ fn make_document(alloc: Global, plays: &[Play]) -> Result<Table, Memory>
     while left > 0 {
         left -= 1;
         let hand = make_hand(alloc, left, &plays[left])?;
-        let key = (left + 1).to_string(alloc)?;
+        let key = displayed(alloc, left + 1)?;
         put(alloc, &mut table, key.as_str(), Value::Table(hand))?;
     }
     Ok(table)

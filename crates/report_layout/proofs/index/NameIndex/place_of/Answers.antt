@@ -36,16 +36,16 @@ module _ (c : In_ok-insert) (names : List (List ℕ)) (are : AreIndexed c.args.s
   missing : list_any (bytes_eq asked) names ≡ false
   missing = unplaced asked names 0 (sym (are asked) ∙ sym c.get.ensures.value ∙ ap option_copied c.in_default.is)
 
-  updates : (other : List ℕ) → get_by_text c.insert.new.self other ≡ cond (bytes_eq asked other) (Some c.args.others) (get_by_text c.args.self.now.places other)
+  updates : (other : List ℕ) → get_by_text c.try_insert.new.self other ≡ cond (bytes_eq asked other) (Some c.args.others) (get_by_text c.args.self.now.places other)
   updates other =
-      btree_map_updates_text (string_bytes c.in_ok-name.name) c.args.self.now.places c.insert.new.self _ c.in_ok-insert.ensures.updates other
+      btree_map_updates_text (string_bytes c.in_ok-name.name) c.args.self.now.places c.try_insert.new.self _ c.in_ok-try_insert.ensures.updates other
       ∙ ap (λ (text : List ℕ). cond (bytes_eq text other) (Some c.args.others) (get_by_text c.args.self.now.places other)) c.in_ok-name.ensures.ok
 
 pub returns-clause-names : goal.returns-clause-names
 returns-clause-names c = λ names are counted.
-    subst (λ (all : List (List ℕ)). (other : List ℕ) → get_by_text c.insert.new.self other ≡ position_from (bytes_eq other) 0 all)
+    subst (λ (all : List (List ℕ)). (other : List ℕ) → get_by_text c.try_insert.new.self other ≡ position_from (bytes_eq other) 0 all)
     (sym (with_new (asked c names are counted) names (missing c names are counted)))
-    (indexed_more (get_by_text c.args.self.now.places) (get_by_text c.insert.new.self) names (asked c names are counted) c.args.others
+    (indexed_more (get_by_text c.args.self.now.places) (get_by_text c.try_insert.new.self) names (asked c names are counted) c.args.others
     are (missing c names are counted) counted (updates c names are counted))
 
 pub returns-clause-place : goal.returns-clause-place
