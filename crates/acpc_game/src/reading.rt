@@ -18,7 +18,7 @@ use crate::game::Game;
 use crate::key::GameKey;
 use crate::lines::{fault_at, read_entries};
 use crate::supported::{end_line, first_unsupported, has_no_limit, is_whole};
-use card_set::{repeated, vec_from};
+use card_set::{repeated_for, vec_from};
 use chip_ledger::SeatRow;
 use first_fault::ReadError;
 use std::alloc::Global;
@@ -73,8 +73,8 @@ fn stacks_of(alloc: Global, entries: &[Entry]) -> Result<Vec<u64>, ReadError<Acp
     if has_key(entries, GameKey::Stack) {
         Ok(vec_from(alloc, numbers_at(entries, GameKey::Stack))?)
     } else {
-        let count = numbers_at(entries, GameKey::Blind).len();
-        Ok(repeated(alloc, DEFAULT_STACK, count)?)
+        let blinds = numbers_at(entries, GameKey::Blind);
+        Ok(repeated_for(alloc, DEFAULT_STACK, blinds)?)
     }
 }
 

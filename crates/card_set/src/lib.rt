@@ -19,7 +19,7 @@ pub use growing::{TryExtend, TryInsert, TryPush, TryWrite, displayed, string_fro
 pub use known::known_row;
 pub use memory::Memory;
 pub use pick::Pick;
-pub use room::{MOST_ROOM, boxed, list_with_room, repeated, reserve, reserve_for};
+pub use room::{MOST_ROOM, boxed, list_with_room, repeated_for, reserve, reserve_for};
 pub use row::{CardRow, ROW_ENTRIES, SlotRow};
 pub use set::CardSet;
 pub use spelling::{CardFault, read_slots, slot_text};

@@ -19,13 +19,12 @@ pub fn list_with_room<T: Drop>(alloc: Global, count: usize) -> Result<Vec<T>, Me
     }
 }
 
-/// A list of one item, this many times.
-pub fn repeated<T: Copy>(alloc: Global, item: T, count: usize) -> Result<Vec<T>, Memory>
-    requires { count ≤ MOST_ROOM }
-    ensures { IfOk result (λ list.
-        ((copy : T) → T.is_clone item copy → copy ≡ item) → list.items ≡ replicate count item) }
+/// A list of one item, as many times as there are items in `each`.
+pub fn repeated_for<T: Copy, U>(alloc: Global, item: T, each: &[U]) -> Result<Vec<T>, Memory>
+    ensures { IfOk result (λ list. ((copy : T) → T.is_clone item copy → copy ≡ item)
+        → list.items ≡ replicate (length each.now) item) }
 {
-    match Vec::from_elem(alloc, item, count) {
+    match Vec::from_elem(alloc, item, each.len()) {
         Ok(list) => Ok(list),
         Err(_) => Err(refused()),
     }
