@@ -1,10 +1,10 @@
 //! Lists and texts grow here. Each call asks the system for room for what it has to hold, and for
 //! no more than a list takes that doubles; if the system refuses it, the call answers `Memory`.
 ghost use Rattle.std.specs.Prelude.{◌≡◌, ◌+◌, ◌<◌, ◌≤◌, ◌++◌, [], ◌∷◌, if◌then◌else◌, is_ok, length};
-ghost use Rattle.std.specs.Prelude.{IfOk, IfSome, IsOk, IsSome, OnErr, OnOk};
+ghost use Rattle.std.specs.Prelude.{IfOk, IfSome, IsOk, IsSome, OnErr, OnOk, Some};
 ghost use Rattle.std.specs.Prelude.{string_bytes, encode_utf8, vec_capacity, vec_len};
 ghost use Rattle.std.specs.Fmt.{AppendsText};
-ghost use Rattle.std.specs.BTreeMap.{IsOrdered, IsUnchanged, insert_entry};
+ghost use Rattle.std.specs.BTreeMap.{IsOrdered, IsUnchanged, Updates, insert_entry};
 
 use crate::memory::{Memory, refused};
 use std::alloc::Global;
@@ -112,6 +112,7 @@ impl<K: Ord + Drop, V: Drop> TryInsert<K, V> for BTreeMap<K, V> {
     /// Puts a value under a key, in place of an older one. If memory is refused, the map stays as
     /// it was.
     fn try_insert(&mut self, key: K, value: V) -> Result<(), Memory>
+        ensures updates { OnOk result (Updates K.cmp self.old self.new key (Some value)) }
         ensures entries { OnOk result
             (self.new.entries ≡ insert_entry K.cmp self.old.entries key value) }
         ensures err { OnErr result (IsUnchanged self.old self.new) }
