@@ -16,7 +16,7 @@ mod series;
 mod timing;
 mod way;
 
-use card_set::{Memory, TryPush};
+use card_set::Memory;
 use pieces::{Pieces, parted};
 use std::alloc::Global;
 use std::{env, io};

@@ -1,6 +1,5 @@
 //! Why a reader stops: at the first fault, or because memory was refused.
 ghost use Rattle.std.specs.Prelude.{◌≡◌};
-ghost use Rattle.card_set.specs.declared.memory.Memory.{Memory as Refused};
 ghost use Rattle.first_fault.specs.declared.stop.ReadError.TheVariants.{Memory as OutOfMemory};
 
 use card_set::Memory;

@@ -1,7 +1,6 @@
 //! A play is written completely or not at all: the facts of it that a notation may be unable to
 //! express.
 ghost use Rattle.std.specs.Prelude.{◌≡◌};
-ghost use Rattle.card_set.specs.declared.memory.Memory.{Memory as Refused};
 ghost use Rattle.hand_records.specs.declared.writing.WriteRefusal.TheVariants as refusals;
 
 use crate::notes::NoteName;
