@@ -1,6 +1,5 @@
 //! Why a hand is refused, and which one is.
 ghost use Rattle.std.specs.Prelude.{◌≡◌};
-ghost use Rattle.card_set.specs.declared.memory.Memory.{Memory as Refused};
 ghost use Rattle.convert_core.specs.declared.refusal.PlaysFault.TheVariants.{Memory as OfMemory};
 
 use card_set::Memory;

@@ -44,14 +44,14 @@ pub fn write(alloc: Global, plays: &[Play], keep: Keep) -> Result<Vec<u8>, Write
     match toml::table_to_string(alloc, &table) {
         Ok(text) => Ok(text.into_bytes()),
         Err(Error::DateInvalid) => unreachable!(),
-        Err(Error::OutOfMemory) => Err(WriteRefusal::Memory(told_by_printer())),
+        Err(Error::OutOfMemory) => Err(WriteRefusal::Memory(refused_by_printer())),
     }
 }
 
 // Out of memory, as reported by the printer of documents; that a request was refused is assumed
 // here.
 #[tactic(auto, using(card_set::specs::Refusal::an_allocator_said_so))]
-fn told_by_printer() -> Memory {
+fn refused_by_printer() -> Memory {
     Memory {}
 }
 
