@@ -7,7 +7,7 @@ use Rattle.std.proofs.lemmas.Map.Text.{btree_map_updates_text}
 use Rattle.report_layout.specs.Indexed.{AreIndexed}
 use Rattle.report_layout.proofs.Placed.{indexed_more, new_place, placed, unplaced, with_known, with_new}
 use Rattle.report_layout.proofs.index.NameIndex.place_of.Goals as goal
-use Rattle.report_layout.proofs.index.NameIndex.place_of.Goals.{In_ok-insert}
+use Rattle.report_layout.proofs.index.NameIndex.place_of.Goals.{In_ok-try_insert}
 
 -- a name that is found
 module _ (c : goal.After-row_known-1) (names : List (List ℕ)) (are : AreIndexed c.args.self.now names) where
@@ -29,7 +29,7 @@ returns-in-Some-clause-place c = λ names are counted.
     ap (position_from (bytes_eq (name c names are)) 0) (with_known (name c names are) names (known c names are)) ∙ found c names are
 
 -- a new name
-module _ (c : In_ok-insert) (names : List (List ℕ)) (are : AreIndexed c.args.self.now names) (counted : length names ≡ c.args.others) where
+module _ (c : In_ok-try_insert) (names : List (List ℕ)) (are : AreIndexed c.args.self.now names) (counted : length names ≡ c.args.others) where
   abbrev asked : List ℕ
   asked = c.args.name.now
 
