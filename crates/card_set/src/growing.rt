@@ -150,7 +150,8 @@ pub fn string_from(alloc: Global, text: &str) -> Result<String, Memory>
 /// reason of its own.
 pub fn displayed<D: Display + Drop>(alloc: Global, value: D) -> Result<String, Memory>
     requires { IsSome (D.output value) }
-    ensures ok { IfOk result (λ text. IfSome (D.output value) (λ bytes. string_bytes text ≡ bytes)) }
+    ensures ok { IfOk result (λ text.
+        IfSome (D.output value) (λ bytes. string_bytes text ≡ bytes)) }
 {
     match String::format(alloc, value) {
         Ok(text) => Ok(text),

@@ -1,5 +1,5 @@
-//! Out of memory: one fault, the same in every crate. Here it is made for the calls of `growing` and
-//! `room`, after the library answered that memory was refused.
+//! Out of memory: one fault, the same in every crate. Here it is made for the calls of `growing`
+//! and `room`, after the library answered that memory was refused.
 ghost use Rattle.card_set.specs.Refusal.{WasRefused, WasRefused-prop};
 
 /// A request for memory was refused, for whatever reason.
