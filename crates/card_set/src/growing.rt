@@ -128,7 +128,7 @@ impl<K: Ord + Drop, V: Drop> TryInsert<K, V> for BTreeMap<K, V> {
 
 /// A list of copies of these items.
 pub fn vec_from<T: Copy>(alloc: Global, items: &[T]) -> Result<Vec<T>, Memory>
-    ensures { IfOk result (λ list. list.items ≡ items.now) }
+    ensures items { IfOk result (λ list. list.items ≡ items.now) }
 {
     match Vec::from_slice(alloc, items) {
         Ok(list) => Ok(list),
@@ -138,7 +138,7 @@ pub fn vec_from<T: Copy>(alloc: Global, items: &[T]) -> Result<Vec<T>, Memory>
 
 /// A copy of a text.
 pub fn string_from(alloc: Global, text: &str) -> Result<String, Memory>
-    ensures { IfOk result (λ copy. string_bytes copy ≡ text.now) }
+    ensures ok { IfOk result (λ copy. string_bytes copy ≡ text.now) }
 {
     match String::from_str(alloc, text) {
         Ok(copy) => Ok(copy),

@@ -76,5 +76,6 @@ pub fn put(alloc: Global, table: &mut Table, key: &str, value: Value) -> Result<
         ≡ put_said key.now (view value) (table_view table.old)) }
 {
     let name = string_from(alloc, key)?;
-    table.try_insert(name, value)
+    table.try_insert(name, value)?;
+    Ok(())
 }
