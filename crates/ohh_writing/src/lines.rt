@@ -73,7 +73,8 @@ pub fn push_line(
     reserve_for(out, text.as_slice(), 2)?;
     push_empty_line(out, place)?;
     out.try_extend_from_slice(text.as_slice())?;
-    out.try_push(b'\n')
+    out.try_push(b'\n')?;
+    Ok(())
 }
 
 // Appends an empty line after the hands before this place, if there are any.
