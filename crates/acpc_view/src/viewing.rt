@@ -32,10 +32,7 @@ pub fn views(
     ensures { IfOk result (λ bytes. bytes.items
         ≡ views_text game.now.no_limit viewer.number place play.now) }
 {
-    match lines(alloc, game.no_limit, play, place as usize, viewer) {
-        Ok(bytes) => Ok(bytes),
-        Err(memory) => Err(memory),
-    }
+    lines(alloc, game.no_limit, play, place as usize, viewer)
 }
 
 // The lines in order.
