@@ -1,4 +1,4 @@
-use Rattle.std.proofs.Common.{ℕ, ◌≡◌, arith, get_or}
+use Rattle.std.proofs.Common.{◌≡◌, arith, get_or}
 use Rattle.card_set.specs.Filler.{filler_card}
 use Rattle.hand_order.specs.Height.{height_with}
 use Rattle.up_card_order.proofs.Counts.{height_below, one_more, times_of_none}

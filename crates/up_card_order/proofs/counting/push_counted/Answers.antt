@@ -1,5 +1,4 @@
-use Rattle.std.proofs.Common.{ℕ, List, ◌++◌, ◌<◌, ◌≡◌, get_or, length, arith, subst, sym, ap, ◌∙◌}
-use Rattle.up_card_order.specs.HeightRow.{counted, heights_in}
+use Rattle.std.proofs.Common.{ℕ, List, ◌<◌, get_or, length, arith, subst, sym, ap}
 use Rattle.up_card_order.proofs.Counts.{counted_all, falling_below}
 use Rattle.up_card_order.proofs.counting.push_counted.Goals as goal
 
