@@ -1,6 +1,11 @@
 //! Writes plays as their lines.
-ghost use Rattle.std.specs.Prelude.{◌≡◌, ◌⊎◌, ◌≤◌, ◌<◌, ◌+◌, List, [], ◌∷◌, ◌++◌, None, Some, length, vec_capacity, vec_len, IfOk, IfErr, IsOk, OnErr, OnOk};
+ghost use Rattle.std.specs.Prelude.{false, ◌≡◌, ◌⊎◌, ◌≤◌, ◌<◌, ◌+◌, List, [], ◌∷◌, ◌++◌, None, Some, length, vec_capacity, vec_len, IfOk, IfErr, IsOk, OnErr, OnOk};
 ghost use Rattle.std.specs.List.{AllByRecursion};
+ghost use Rattle.std.specs.Str.{IsUtf8};
+ghost use Rattle.serde_json.specs.Data.{depth};
+ghost use Rattle.serde_json.specs.Read.{max_depth, read};
+ghost use Rattle.serde_json.specs.View.{view};
+ghost use Rattle.serde_json.specs.Written.{compact_text, has_float};
 ghost use Rattle.hand_canon.specs.Sound.{IsSound};
 ghost use Rattle.first_fault.specs.declared.limits.TheConstants.{MOST_HANDS};
 ghost use Rattle.hand_records.specs.declared.trace.Play.{Play as AnyPlay};
@@ -14,6 +19,7 @@ use crate::spelled::find_refusal;
 use card_set::{Memory, TryExtend, TryPush, reserve_for};
 use hand_records::{Keep, Play, WriteRefusal};
 use ohh_members::Dialect;
+use serde_json::Value;
 use std::alloc::Global;
 
 /// The lines of some plays, each the compact text of the tree of its hand, with an empty line
@@ -97,6 +103,17 @@ fn make_text(alloc: Global, dialect: Dialect, place: usize, play: &Play) -> Resu
     ensures read { IfOk result (λ text. IsTextOf dialect place play.now) }
 {
     let value = hand_value(alloc, dialect, place, play)?;
+    Ok(to_vec(alloc, &value)?)
+}
+
+// The compact text of a tree.
+fn to_vec(alloc: Global, value: &Value) -> Result<Vec<u8>, Memory>
+    ensures text { IfOk result (λ text. has_float (view value.now) ≡ false
+        → text.items ≡ compact_text (view value.now)) }
+    ensures utf8 { IfOk result (λ text. IsUtf8 text.items) }
+    ensures reads_back { IfOk result (λ text. depth (view value.now) ≤ max_depth
+        → read text.items ≡ Some (view value.now)) }
+{
     match value.to_vec(alloc) {
         Ok(text) => Ok(text),
         Err(_) => Err(refused_to_tree()),
