@@ -26,8 +26,8 @@ pub fn cut_blocks(alloc: Global, text: &[u8]) -> Result<Vec<Vec<u8>>, Memory>
     Ok(found)
 }
 
-// The first line, and what comes after its end, if it has one.
-fn cut_line(text: &[u8]) -> (&[u8], Option<&[u8]>)
+/// The first line, and what comes after its end, if it has one.
+pub fn cut_line(text: &[u8]) -> (&[u8], Option<&[u8]>)
     ensures lines { lines_of text.now ≡ result.0.now
         ∷ option_map_or (λ rest. lines_of rest.now) result.1 [] }
     ensures shorter { length text.now
@@ -81,8 +81,8 @@ fn take_line(
     }
 }
 
-// Whether the line separates blocks.
-fn is_blank(line: &[u8]) -> bool
+/// Whether the line separates blocks.
+pub fn is_blank(line: &[u8]) -> bool
     ensures { result ≡ is_blank_said line.now }
 {
     for sign in line {
