@@ -43,31 +43,31 @@ blocks_have_lines (Some block) number (line ∷ lines) =
 
 -- ---- hands
 
-one_hand : (dialect : Dialect) (file_moves number : ℕ) (block : List ℕ) → IfOk (numbered_hand dialect file_moves number block) (λ found. length found.0 ≡ 1)
+one_hand : (dialect : Dialect) (file_moves number : ℕ) (block : List ℕ) → IfOk {T = List PlainHand × ℕ} (numbered_hand dialect file_moves number block) (λ found. length found.0 ≡ 1)
 unfolding numbered_hand
 one_hand dialect file_moves number block = go (nat_lt MOST_HANDS number) (found_said dialect file_moves number (tree_of block))
   where
     go : (past : Bool) (found : Result (PlainHand × ℕ) OhhHandFault)
-        → IfOk (if past then of_hand number (wrongness.Member past_hands) else (found >>= λ hand. Ok (hand.0 ∷ [], hand.1))) (λ found. length found.0 ≡ 1)
+        → IfOk {T = List PlainHand × ℕ} (if past then of_hand number (wrongness.Member past_hands) else (found >>= λ hand. Ok (hand.0 ∷ [], hand.1))) (λ found. length found.0 ≡ 1)
     go true found = tt
     go false (Ok hand) = refl
     go false (Err fault) = tt
 
 hand_by_hand : (dialect : Dialect) (file_moves number : ℕ) (blocks : List (List ℕ))
-    → IfOk (thread_from (numbered_hand dialect) file_moves number blocks) (λ all. length all.0 ≡ length blocks)
+    → IfOk {T = List PlainHand × ℕ} (thread_from (numbered_hand dialect) file_moves number blocks) (λ all. length all.0 ≡ length blocks)
 unfolding thread_from
 hand_by_hand dialect file_moves number [] = refl
 hand_by_hand dialect file_moves number (block ∷ blocks) =
     go (numbered_hand dialect file_moves number block) (one_hand dialect file_moves number block) (λ moves. hand_by_hand dialect moves (number + 1) blocks)
   where
     last : (here : List PlainHand) (others : Result (List PlainHand × ℕ) OhhHandFault) → length here ≡ 1 → IfOk others (λ all. length all.0 ≡ length blocks)
-        → IfOk (others >>= λ more. Ok (here ++ more.0, more.1)) (λ all. length all.0 ≡ length (block ∷ blocks))
+        → IfOk {T = List PlainHand × ℕ} (others >>= λ more. Ok (here ++ more.0, more.1)) (λ all. length all.0 ≡ length (block ∷ blocks))
     last here (Ok more) one is = omega (arith, one, is, length-append here more.0)
     last here (Err fault) one is = tt
 
     go : (here : Result (List PlainHand × ℕ) OhhHandFault) → IfOk here (λ found. length found.0 ≡ 1)
         → ((moves : ℕ) → IfOk (thread_from (numbered_hand dialect) moves (number + 1) blocks) (λ all. length all.0 ≡ length blocks))
-        → IfOk (here >>= λ found. thread_from (numbered_hand dialect) found.1 (number + 1) blocks >>= λ others. Ok (found.0 ++ others.0, others.1))
+        → IfOk {T = List PlainHand × ℕ} (here >>= λ found. thread_from (numbered_hand dialect) found.1 (number + 1) blocks >>= λ others. Ok (found.0 ++ others.0, others.1))
         (λ all. length all.0 ≡ length (block ∷ blocks))
     go (Ok found) one behind = last found.0 (thread_from (numbered_hand dialect) found.1 (number + 1) blocks) one (behind found.1)
     go (Err fault) one behind = tt

@@ -1,5 +1,6 @@
 //! Tallies the seats of all hands by their names, in the order in which names are first seen.
-ghost use Rattle.std.specs.Prelude.{◌≡◌, OnOk};
+ghost use Rattle.std.specs.Prelude.{◌≡◌, OnOk, nat_eq};
+ghost use Rattle.indexmap.specs.IndexMap.{insert_entry};
 ghost use Rattle.printed_report.specs.Report.{seated_in};
 ghost use Rattle.printed_report.specs.Tallies.{AreTallied, AreWithin, MOST_SEATS, rows_of, with_row};
 
@@ -34,7 +35,8 @@ pub fn tally_seat(
     if place == others {
         let tally = with_seat(no_tally(), number, play, seat);
         let name = Text::new(alloc, name)?;
-        return insert_tally(tallies, place, NamedTally { name, tally });
+        insert_tally(tallies, place, NamedTally { name, tally })?;
+        return Ok(());
     }
     let tally = with_seat(tallies[place].tally, number, play, seat);
     tallies[place].tally = tally;
@@ -48,8 +50,8 @@ fn insert_tally(
     place: usize,
     tally: NamedTally,
 ) -> Result<(), Memory>
-    ensures entries { OnOk result
-        (tallies.new.entries ≡ insert_entry usize.eq tallies.old.entries place tally) }
+    ensures { OnOk result
+        (tallies.new.entries ≡ insert_entry nat_eq tallies.old.entries place tally) }
 {
     match tallies.insert(place, tally) {
         Ok(_) => Ok(()),
