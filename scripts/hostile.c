@@ -212,7 +212,7 @@ static void complain(char *const *words, const char *what, const struct ending *
             ending->line.at, ending->line.size ? "" : "\n");
 }
 
-/* How a run ends that reads only so much of one of its files as what was told says, because that file ended early. */
+/* How a run ends whose file is cut where a read came to an early end, as the library has reported. */
 static struct ending run_cut(char **words, struct bytes input, struct bytes told) {
     char name[4200] = "", cut_name[4200], *changed[40];
     unsigned long size = 0;
