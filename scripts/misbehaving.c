@@ -5,6 +5,7 @@
 #include <signal.h>
 #include <stdlib.h>
 #include <string.h>
+#include <sys/stat.h>
 #include <sys/wait.h>
 #include <time.h>
 #include <unistd.h>
@@ -21,7 +22,7 @@ int main(int count, char **words) {
     int how;
     if (waitpid(child, &how, 0) < 0) return 70;
     int status = WIFEXITED(how) ? WEXITSTATUS(how) : 128 + WTERMSIG(how);
-    int is_check = count > 1 && strcmp(words[1], "check") == 0;
+    struct stat input;
     switch (WRONG) {
     case OUTPUT_AFTER_FAULT:
         if (status == 3) (void)!write(1, "legal hands: 0\n", 15);
@@ -39,7 +40,9 @@ int main(int count, char **words) {
         if (status >= 128) (void)!write(1, "hand", 4);
         break;
     case SLOW:
-        while (is_check && clock() < 20 * CLOCKS_PER_SEC) {}
+        /* Only `check` of a short input, which is compared with a long one. */
+        if (count < 2 || strcmp(words[1], "check") != 0) break;
+        while (fstat(0, &input) == 0 && input.st_size < 20000 && clock() < 9 * CLOCKS_PER_SEC) {}
         break;
     case ESCAPES: (void)!write(2, "\033[2J\n", 5); break;
     }
