@@ -183,6 +183,26 @@ class NamesOfFiles(Case):
                          {b"./" + name for name in names})
 
 
+class OddInputs(Case):
+    def test_exceptions(self):
+        """What is no file of hands is an exception, and the program's line where it has one."""
+        for hands, notation, wanted in (
+                ("/dev/zero", "phh", "limit: input bytes 16777216"),
+                (b'{"ohh":' + b"[" * 100_000, "ohh", "bad input: hand 1: Text"),
+                (b'{"ohh":{"dealer_seat":1e999999999}}', "ohh", "bad input: hand 1: Text"),
+                (b"min_bet = 1e999999999\n", "phh", "bad input: Text"),
+                (b"min_bet = " + b"9" * 100_000, "phh", "bad input: Text"),
+                (str(self.folder), "phh", IsADirectoryError), ("a\0b", "phh", ValueError),
+                (str(self.folder / "absent"), "phh", FileNotFoundError)):
+            for call in (handref.check, handref.judge, handref.report, handref.session):
+                with self.subTest(hands=hands[:40], call=call.__name__):
+                    error = handref.NotDone if isinstance(wanted, str) else wanted
+                    with self.assertRaises(error) as caught:
+                        call(hands, notation)
+                    if isinstance(wanted, str):
+                        self.assertIn(wanted, str(caught.exception))
+
+
 class Packed(Case):
     def test_bomb(self):
         """A packed file of any size takes no more than an input may, and some."""
