@@ -16,6 +16,7 @@ use crate::form::{is_passed_over, read_form};
 use crate::found::has_key;
 use crate::key::{GameKey, is_word};
 use crate::parts::next_line;
+use card_set::TryPush;
 use first_fault::{ReadError, next_word, read_digits};
 use std::alloc::Global;
 
@@ -86,7 +87,7 @@ fn take_line(
         return Err(fault_at(LineFaultKind::GameShape, line));
     }
     let numbers = read_numbers(alloc, line, form.key, form.numbers)?;
-    entries.push(Entry {
+    entries.try_push(Entry {
         key: form.key,
         line,
         numbers,
@@ -122,7 +123,7 @@ fn read_numbers(
     let mut rest = text;
     while let Some((word, behind)) = next_word(rest) {
         let number = read_number(line, key, word)?;
-        numbers.push(number)?;
+        numbers.try_push(number)?;
         rest = behind;
     }
     Ok(numbers)

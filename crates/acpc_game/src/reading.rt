@@ -18,6 +18,7 @@ use crate::game::Game;
 use crate::key::GameKey;
 use crate::lines::{fault_at, read_entries};
 use crate::supported::{end_line, first_unsupported, has_no_limit, is_whole};
+use card_set::{repeated_for, vec_from};
 use chip_ledger::SeatRow;
 use first_fault::ReadError;
 use std::alloc::Global;
@@ -70,10 +71,10 @@ fn stacks_of(alloc: Global, entries: &[Entry]) -> Result<Vec<u64>, ReadError<Acp
     ensures memory { IfErr result IsOutOfMemory }
 {
     if has_key(entries, GameKey::Stack) {
-        Ok(Vec::from_slice(alloc, numbers_at(entries, GameKey::Stack))?)
+        Ok(vec_from(alloc, numbers_at(entries, GameKey::Stack))?)
     } else {
-        let count = numbers_at(entries, GameKey::Blind).len();
-        Ok(vec![in alloc; DEFAULT_STACK; count]?)
+        let blinds = numbers_at(entries, GameKey::Blind);
+        Ok(repeated_for(alloc, DEFAULT_STACK, blinds)?)
     }
 }
 

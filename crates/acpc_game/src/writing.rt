@@ -7,7 +7,7 @@ ghost use Rattle.chip_ledger.specs.AmountTexts.{spaced};
 
 use crate::game::Game;
 use crate::supported::opener_of;
-use card_set::Memory;
+use card_set::{Memory, TryExtend, displayed};
 use chip_ledger::SeatRow;
 use std::alloc::Global;
 
@@ -17,14 +17,14 @@ pub fn write_game(alloc: Global, game: &Game) -> Result<Vec<u8>, Memory>
     ensures { IfOk result (λ text. text.items ≡ game_text (game_in game.now)) }
 {
     let mut out = Vec::new(alloc);
-    out.extend_from_slice(b"GAMEDEF\n")?;
+    out.try_extend_from_slice(b"GAMEDEF\n")?;
     push_chips(alloc, &mut out, game)?;
     push_sizes(alloc, &mut out, game)?;
     push_turns(alloc, &mut out, game)?;
-    out.extend_from_slice(
+    out.try_extend_from_slice(
         b"numSuits = 4\nnumRanks = 13\nnumHoleCards = 2\nnumBoardCards = 0 3 1 1\n",
     )?;
-    out.extend_from_slice(b"END GAMEDEF\n")?;
+    out.try_extend_from_slice(b"END GAMEDEF\n")?;
     Ok(out)
 }
 
@@ -45,10 +45,10 @@ fn push_kind(out: &mut Vec<u8>, no_limit: bool) -> Result<(), Memory>
     ensures { OnOk result (out.new.items ≡ out.old.items ++ kind_text no_limit) }
 {
     if no_limit {
-        out.extend_from_slice(b"nolimit\n")?;
+        out.try_extend_from_slice(b"nolimit\n")?;
         return Ok(());
     }
-    out.extend_from_slice(b"limit\n")?;
+    out.try_extend_from_slice(b"limit\n")?;
     Ok(())
 }
 
@@ -143,10 +143,10 @@ fn wide_caps(caps: [u32; 4]) -> [u64; 4]
 fn push_line(alloc: Global, out: &mut Vec<u8>, word: &str, numbers: &[u64]) -> Result<(), Memory>
     ensures { OnOk result (out.new.items ≡ out.old.items ++ key_line word.now numbers.now) }
 {
-    out.extend_from_slice(word.as_bytes())?;
-    out.extend_from_slice(b" =")?;
+    out.try_extend_from_slice(word.as_bytes())?;
+    out.try_extend_from_slice(b" =")?;
     push_numbers(alloc, out, numbers)?;
-    out.extend_from_slice(b"\n")?;
+    out.try_extend_from_slice(b"\n")?;
     Ok(())
 }
 
@@ -155,9 +155,9 @@ fn push_numbers(alloc: Global, out: &mut Vec<u8>, numbers: &[u64]) -> Result<(),
     ensures { OnOk result (out.new.items ≡ out.old.items ++ spaced numbers.now) }
 {
     for number in numbers {
-        let digits = number.to_string(alloc)?;
-        out.extend_from_slice(b" ")?;
-        out.extend_from_slice(digits.as_bytes())?;
+        let digits = displayed(alloc, number)?;
+        out.try_extend_from_slice(b" ")?;
+        out.try_extend_from_slice(digits.as_bytes())?;
     }
     Ok(())
 }

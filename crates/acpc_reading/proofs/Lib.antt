@@ -6,6 +6,7 @@ pub mod UsualNames
 pub mod Rows
 pub mod Dealing
 pub mod Lines
+pub mod HandLines
 pub mod SixFields
 pub mod Checked
 pub mod BettingCounts

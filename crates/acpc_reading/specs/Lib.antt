@@ -5,6 +5,7 @@ pub mod Scripts
 pub mod Values
 pub mod Names
 pub mod Logs
+pub mod Begins
 pub mod Views
 pub mod RecordView
 pub mod Left

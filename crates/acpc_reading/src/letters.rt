@@ -9,6 +9,7 @@ ghost use Rattle.acpc_reading.specs.Views.{bets_in};
 use crate::betting::ReadBetting;
 use crate::step::BettingStep;
 use acpc_game::{LineFault, LineFaultKind, cut_digits, cut_first};
+use card_set::TryPush;
 use chip_ledger::MOST_CHIPS;
 use first_fault::{MOST_FILE_MOVES, Quantity, ReadError, read_digits};
 use play_event::MOST_MOVES;
@@ -139,7 +140,7 @@ fn take_move(
     if betting.file_moves >= MOST_FILE_MOVES {
         return Err(fault_at(LineFaultKind::TooMany(Quantity::FileMoves), at));
     }
-    betting.steps.push(step)?;
+    betting.steps.try_push(step)?;
     betting.moves += 1;
     betting.file_moves += 1;
     Ok(())
@@ -159,7 +160,7 @@ fn take_stroke(betting: &mut ReadBetting, next: &Letter<'_>) -> Result<(), ReadE
     if !next.digits.is_empty() {
         return Err(fault_at(LineFaultKind::BadBetting, next.at + 1));
     }
-    betting.steps.push(BettingStep::NextRound)?;
+    betting.steps.try_push(BettingStep::NextRound)?;
     betting.round += 1;
     Ok(())
 }

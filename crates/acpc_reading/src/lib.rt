@@ -1,6 +1,7 @@
 //! Reads a log as the hands that it says under a game, or names its first fault.
 #![tactic(auto)]
 
+mod begins;
 mod betting;
 mod cards;
 mod cutting;
@@ -16,4 +17,5 @@ mod setup;
 mod step;
 mod values;
 
+pub use begins::hand_lines;
 pub use log::read;

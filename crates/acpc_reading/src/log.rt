@@ -94,8 +94,8 @@ fn take_line(
     }
 }
 
-// Whether a line is ignored.
-fn is_passed_over(line: &[u8]) -> bool
+/// Whether a line is ignored.
+pub fn is_passed_over(line: &[u8]) -> bool
     ensures { result ≡ is_passed_over_said line.now }
 {
     line.is_empty() || line[0] == b'#' || has_prefix(line, b"SCORE:")

@@ -8,7 +8,7 @@ ghost use Rattle.hand_records.specs.TraceRows.{core_said, place_said};
 ghost use Rattle.play_event.specs.Played.{move_said};
 ghost use Rattle.play_event.specs.Said.{seat_named};
 
-use card_set::Memory;
+use card_set::{Memory, TryPush};
 use chip_ledger::{LiveRow, Seat};
 use hand_records::Trace;
 use play_event::{Move, Place};
@@ -38,7 +38,7 @@ fn push_where(seen: &mut Vec<Place>, place: Place, sees: bool) -> Result<(), Mem
         ≡ seen.old.items ++ (if sees then place ∷ [] else [])) }
 {
     if sees {
-        seen.push(place)?;
+        seen.try_push(place)?;
     }
     Ok(())
 }

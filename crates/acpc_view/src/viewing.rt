@@ -7,7 +7,7 @@ ghost use Rattle.hand_canon.specs.Sound.{IsSound};
 use crate::seeing::seen_places;
 use acpc_game::Game;
 use acpc_writing::{push_betting, push_cards, push_hand};
-use card_set::Memory;
+use card_set::{Memory, TryExtend, displayed};
 use chip_ledger::Seat;
 use first_fault::Text;
 use hand_records::{Play, Trace};
@@ -32,10 +32,7 @@ pub fn views(
     ensures { IfOk result (λ bytes. bytes.items
         ≡ views_text game.now.no_limit viewer.number place play.now) }
 {
-    match lines(alloc, game.no_limit, play, place as usize, viewer) {
-        Ok(bytes) => Ok(bytes),
-        Err(refused) => Err(Memory::from(refused)),
-    }
+    lines(alloc, game.no_limit, play, place as usize, viewer)
 }
 
 // The lines in order.
@@ -77,9 +74,9 @@ fn push_view(
         ++ view_line no_limit viewer.number place play.now count) }
 {
     push_head(alloc, out, viewer, place, &play.hand.notes.hand)?;
-    out.extend_from_slice(b":")?;
+    out.try_extend_from_slice(b":")?;
     push_seen(alloc, out, no_limit, &play.trace, viewer, count)?;
-    Ok(out.extend_from_slice(b"\n")?)
+    Ok(out.try_extend_from_slice(b"\n")?)
 }
 
 // `MATCHSTATE`, the number of the seat from 0, and that of the hand.
@@ -94,10 +91,10 @@ fn push_head(
     ensures { OnOk result (out.new.items
         ≡ out.old.items ++ head_text viewer.number place hand.now) }
 {
-    let digits = (viewer.number - 1).to_string(alloc)?;
-    out.extend_from_slice(b"MATCHSTATE:")?;
-    out.extend_from_slice(digits.as_bytes())?;
-    out.extend_from_slice(b":")?;
+    let digits = displayed(alloc, viewer.number - 1)?;
+    out.try_extend_from_slice(b"MATCHSTATE:")?;
+    out.try_extend_from_slice(digits.as_bytes())?;
+    out.try_extend_from_slice(b":")?;
     push_hand(alloc, out, place, hand)
 }
 
@@ -119,6 +116,6 @@ fn push_seen(
     let seen = seen_places(alloc, trace, viewer, count)?;
     let made = &trace.moves.as_slice()[..count];
     push_betting(alloc, out, no_limit, &trace.setup, made, seen.as_slice())?;
-    out.extend_from_slice(b":")?;
+    out.try_extend_from_slice(b":")?;
     push_cards(out, seen.as_slice(), trace.setup.stacks.seats)
 }

@@ -9,7 +9,7 @@ ghost use Rattle.acpc_writing.specs.Puts.{HaveFewChips};
 
 use crate::cards::has_board;
 use crate::puts::{add, posted_chips};
-use card_set::Memory;
+use card_set::{Memory, TryExtend, displayed};
 use play_event::{Act, Move, Place, Setup};
 use std::alloc::Global;
 
@@ -65,7 +65,7 @@ impl SpelledMoves<'_> {
         if !has_board(places, street) {
             return Ok(());
         }
-        out.extend_from_slice(b"/")?;
+        out.try_extend_from_slice(b"/")?;
         self.push_letters(alloc, out, street)
     }
 
@@ -115,8 +115,8 @@ fn push_letter(
         ≡ out.old.items ++ letter no_limit (act_said act) total) }
 {
     match act {
-        Act::Fold => Ok(out.extend_from_slice(b"f")?),
-        Act::Call => Ok(out.extend_from_slice(b"c")?),
+        Act::Fold => Ok(out.try_extend_from_slice(b"f")?),
+        Act::Call => Ok(out.try_extend_from_slice(b"c")?),
         Act::Raise => push_raise(alloc, out, no_limit, total),
         Act::BringIn => Ok(()),
     }
@@ -127,10 +127,10 @@ fn push_raise(alloc: Global, out: &mut Vec<u8>, no_limit: bool, total: u64) -> R
     ensures { OnOk result (out.new.items
         ≡ out.old.items ++ letter no_limit Raised total) }
 {
-    out.extend_from_slice(b"r")?;
+    out.try_extend_from_slice(b"r")?;
     if !no_limit {
         return Ok(());
     }
-    let digits = total.to_string(alloc)?;
-    Ok(out.extend_from_slice(digits.as_bytes())?)
+    let digits = displayed(alloc, total)?;
+    Ok(out.try_extend_from_slice(digits.as_bytes())?)
 }

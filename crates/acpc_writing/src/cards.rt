@@ -11,7 +11,7 @@ ghost use Rattle.acpc_writing.specs.Cards.{board_text, boards_text, cards_text, 
 ghost use Rattle.acpc_writing.specs.Rounds.{has_board as has_board_said};
 ghost use Rattle.acpc_writing.specs.Seats.{bar_before};
 
-use card_set::{Memory, Slot, slot_text};
+use card_set::{Memory, Slot, TryExtend, slot_text};
 use chip_ledger::Seat;
 use play_event::Place;
 
@@ -48,7 +48,7 @@ pub fn push_bar(out: &mut Vec<u8>, seat: Seat) -> Result<(), Memory>
     ensures { OnOk result (out.new.items ≡ out.old.items ++ bar_before seat.number) }
 {
     if seat.number > 1 {
-        return Ok(out.extend_from_slice(b"|")?);
+        return Ok(out.try_extend_from_slice(b"|")?);
     }
     Ok(())
 }
@@ -107,7 +107,7 @@ fn push_board(out: &mut Vec<u8>, places: &[Place], street: u8) -> Result<(), Mem
     if !has_board(places, street) {
         return Ok(());
     }
-    out.extend_from_slice(b"/")?;
+    out.try_extend_from_slice(b"/")?;
     push_dealt(out, places, None, street)
 }
 
@@ -149,7 +149,7 @@ fn push_card(out: &mut Vec<u8>, place: Place, counts: bool) -> Result<(), Memory
     if !counts {
         return Ok(());
     }
-    Ok(out.extend_from_slice(&slot_text(place.slot))?)
+    Ok(out.try_extend_from_slice(&slot_text(place.slot))?)
 }
 
 /// Whether a card was dealt to an owner on a street.

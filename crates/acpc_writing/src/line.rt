@@ -9,7 +9,7 @@ use crate::betting::push_betting;
 use crate::cards::push_cards;
 use crate::names::{push_hand, push_names};
 use crate::values::push_values;
-use card_set::Memory;
+use card_set::{Memory, TryExtend};
 use first_fault::Text;
 use hand_records::{Notes, Play, Trace};
 use std::alloc::Global;
@@ -32,12 +32,12 @@ pub fn push_line(
 {
     let mut line = Vec::new(alloc);
     push_head(alloc, &mut line, place, &play.hand.notes.hand)?;
-    line.extend_from_slice(b":")?;
+    line.try_extend_from_slice(b":")?;
     push_play(alloc, &mut line, no_limit, &play.trace)?;
-    line.extend_from_slice(b":")?;
+    line.try_extend_from_slice(b":")?;
     push_end(alloc, &mut line, &play.trace, &play.hand.notes)?;
-    line.extend_from_slice(b"\n")?;
-    Ok(out.extend_from_slice(line.as_slice())?)
+    line.try_extend_from_slice(b"\n")?;
+    Ok(out.try_extend_from_slice(line.as_slice())?)
 }
 
 // `STATE` and the number of the hand at a place of its file, from 0.
@@ -50,7 +50,7 @@ fn push_head(
 ) -> Result<(), Memory>
     ensures { OnOk result (out.new.items ≡ out.old.items ++ head_text place hand.now) }
 {
-    out.extend_from_slice(b"STATE:")?;
+    out.try_extend_from_slice(b"STATE:")?;
     push_hand(alloc, out, place, hand)
 }
 
@@ -68,7 +68,7 @@ fn push_play(alloc: Global, out: &mut Vec<u8>, no_limit: bool, trace: &Trace) ->
         trace.moves.as_slice(),
         trace.places.as_slice(),
     )?;
-    out.extend_from_slice(b":")?;
+    out.try_extend_from_slice(b":")?;
     push_cards(out, trace.places.as_slice(), trace.setup.stacks.seats)
 }
 
@@ -80,6 +80,6 @@ fn push_end(alloc: Global, out: &mut Vec<u8>, trace: &Trace, notes: &Notes) -> R
     ensures texts { OnOk result (AreTexts trace.now.setup.stacks.seats notes.now) }
 {
     push_values(alloc, out, &trace.setup.stacks, &trace.finish)?;
-    out.extend_from_slice(b":")?;
+    out.try_extend_from_slice(b":")?;
     push_names(alloc, out, notes, trace.setup.stacks.seats)
 }

@@ -5,7 +5,7 @@ ghost use Rattle.acpc_writing.specs.Texts.{AreTexts};
 ghost use Rattle.chip_ledger.specs.SeatsSaid.{default_name};
 
 use crate::cards::push_bar;
-use card_set::Memory;
+use card_set::{Memory, TryExtend, displayed};
 use chip_ledger::Seat;
 use first_fault::{Text, are_digits};
 use hand_records::Notes;
@@ -42,7 +42,7 @@ fn push_name(
     };
     let name = name.as_str().as_bytes();
     if is_spelled_name(name) {
-        return Ok(out.extend_from_slice(name)?);
+        return Ok(out.try_extend_from_slice(name)?);
     }
     push_default(alloc, out, seat)
 }
@@ -51,9 +51,9 @@ fn push_name(
 fn push_default(alloc: Global, out: &mut Vec<u8>, seat: Seat) -> Result<(), Memory>
     ensures { OnOk result (out.new.items ≡ out.old.items ++ default_name seat.number) }
 {
-    let digits = seat.number.to_string(alloc)?;
-    out.extend_from_slice(b"p")?;
-    Ok(out.extend_from_slice(digits.as_bytes())?)
+    let digits = displayed(alloc, seat.number)?;
+    out.try_extend_from_slice(b"p")?;
+    Ok(out.try_extend_from_slice(digits.as_bytes())?)
 }
 
 /// Whether a line can write a name: it has no colon, no bar and no end of a line.
@@ -99,7 +99,7 @@ pub fn push_hand(
     };
     let name = name.as_str().as_bytes();
     if is_spelled_hand(name) {
-        return Ok(out.extend_from_slice(name)?);
+        return Ok(out.try_extend_from_slice(name)?);
     }
     push_place(alloc, out, place)
 }
@@ -109,8 +109,8 @@ pub fn push_hand(
 fn push_place(alloc: Global, out: &mut Vec<u8>, place: usize) -> Result<(), Memory>
     ensures { OnOk result (out.new.items ≡ out.old.items ++ hand_text place None) }
 {
-    let digits = place.to_string(alloc)?;
-    Ok(out.extend_from_slice(digits.as_bytes())?)
+    let digits = displayed(alloc, place)?;
+    Ok(out.try_extend_from_slice(digits.as_bytes())?)
 }
 
 /// Whether a line can write a hand number: a decimal number without leading zeros, of at most 18

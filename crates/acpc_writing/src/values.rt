@@ -3,7 +3,7 @@ ghost use Rattle.std.specs.Prelude.{◌≡◌, ◌≤◌, ◌++◌, OnOk};
 ghost use Rattle.acpc_writing.specs.Values.{value_text, values_text};
 
 use crate::cards::push_bar;
-use card_set::Memory;
+use card_set::{Memory, TryExtend, displayed};
 use chip_ledger::{Seat, SeatRow};
 use std::alloc::Global;
 
@@ -42,10 +42,10 @@ fn push_value(
     let before = stacks.get(seat);
     let after = finish.get(seat);
     if after < before {
-        let digits = (before - after).to_string(alloc)?;
-        out.extend_from_slice(b"-")?;
-        return Ok(out.extend_from_slice(digits.as_bytes())?);
+        let digits = displayed(alloc, before - after)?;
+        out.try_extend_from_slice(b"-")?;
+        return Ok(out.try_extend_from_slice(digits.as_bytes())?);
     }
-    let digits = (after - before).to_string(alloc)?;
-    Ok(out.extend_from_slice(digits.as_bytes())?)
+    let digits = displayed(alloc, after - before)?;
+    Ok(out.try_extend_from_slice(digits.as_bytes())?)
 }

@@ -2,7 +2,7 @@
 use crate::known_run::run_on;
 use crate::pieces::Pieces;
 use crate::row::{ROOM, Row, read_row};
-use card_set::Memory;
+use card_set::{Memory, TryPush, TryWrite, try_format, try_write};
 use host_io::{MemShelf, MemSink, MemSource};
 use poker_cli::Status;
 use std::alloc::Global;
@@ -58,7 +58,7 @@ impl RowAnswer {
     /// The answer in words, with these bytes for its output.
     pub fn text(&self, alloc: Global, output: &[u8]) -> Result<String, Memory> {
         let status = self.status.number();
-        let mut text = format!(in alloc; "status {status}")?;
+        let mut text = try_format!(in alloc; "status {status}")?;
         push_named(&mut text, "output", output)?;
         push_named(&mut text, "line", self.diag.held())?;
         Ok(text)
@@ -68,7 +68,7 @@ impl RowAnswer {
 /// Appends bytes after their name, if there are any.
 pub fn push_named(text: &mut String, name: &str, bytes: &[u8]) -> Result<(), Memory> {
     if !bytes.is_empty() {
-        write!(text, ", {name} ")?;
+        try_write!(text, ", {name} ")?;
         for byte in bytes {
             push_visible(text, *byte)?;
         }
@@ -79,9 +79,9 @@ pub fn push_named(text: &mut String, name: &str, bytes: &[u8]) -> Result<(), Mem
 // Appends a byte in visible form: its letter, or its escape.
 fn push_visible(text: &mut String, byte: u8) -> Result<(), Memory> {
     match byte {
-        b'\n' => text.push_str("\\n")?,
-        b' '..=b'~' => text.push(char::from(byte))?,
-        _ => write!(text, "\\x{byte:02x}")?,
+        b'\n' => text.try_push_str("\\n")?,
+        b' '..=b'~' => text.try_push(char::from(byte))?,
+        _ => try_write!(text, "\\x{byte:02x}")?,
     }
     Ok(())
 }

@@ -8,7 +8,7 @@ ghost use Rattle.hand_canon.specs.Sound.{IsSound};
 use crate::answer::push_named;
 use crate::parts::play_hands;
 use crate::pieces::{Pieces, parted};
-use card_set::Memory;
+use card_set::{Memory, TryWrite, string_from, try_format, try_write};
 use hand_equity::{NoEquity, equity_of, equity_text};
 use hand_records::Play;
 use hand_session::{Session, session, session_text};
@@ -27,7 +27,7 @@ pub fn answer_to(alloc: Global, pieces: &Pieces, row: &str) -> Result<String, Me
         None => (0, arguments),
     };
     let Some(plays) = play_hands(alloc, from, &bytes) else {
-        return Ok(String::from_str(alloc, "no hands")?);
+        return string_from(alloc, "no hands");
     };
     match call {
         "session" => told_session(alloc, &plays),
@@ -53,10 +53,10 @@ fn told_session(alloc: Global, plays: &[Play]) -> Result<String, Memory>
 // Appends the number of steps of a session, and the hand and the name of each.
 fn push_steps(told: &mut String, session: &Session) -> Result<(), Memory> {
     let steps = &session.steps;
-    write!(told, "{} steps", steps.len())?;
+    try_write!(told, "{} steps", steps.len())?;
     for index in 0..steps.len() {
         let step = steps.get(index);
-        write!(told, ", {} {}", step.hand, step.name.as_str())?;
+        try_write!(told, ", {} {}", step.hand, step.name.as_str())?;
     }
     Ok(())
 }
@@ -64,10 +64,10 @@ fn push_steps(told: &mut String, session: &Session) -> Result<(), Memory> {
 // Appends the number of rows of a session, and the name and the last stack of each.
 fn push_rows(told: &mut String, session: &Session) -> Result<(), Memory> {
     let rows = &session.rows;
-    write!(told, ", {} rows", rows.len())?;
+    try_write!(told, ", {} rows", rows.len())?;
     for index in 0..rows.len() {
         let row = rows.get(index);
-        write!(told, ", {} {}", row.name.as_str(), row.last)?;
+        try_write!(told, ", {} {}", row.name.as_str(), row.last)?;
     }
     Ok(())
 }
@@ -77,7 +77,7 @@ fn told_report(alloc: Global, plays: &[Play]) -> Result<String, Memory>
     requires few { length plays.now ≤ MOST_HANDS }
 {
     let text = report_text(alloc, plays)?;
-    let mut told = String::from_str(alloc, "report")?;
+    let mut told = string_from(alloc, "report")?;
     push_named(&mut told, "text", text.as_bytes())?;
     Ok(told)
 }
@@ -87,18 +87,18 @@ fn told_equity(alloc: Global, plays: &[Play], street: u8) -> Result<String, Memo
     requires sound { AllByRecursion IsSound plays.now }
 {
     let [play, ..] = plays else {
-        return Ok(String::from_str(alloc, "no hand")?);
+        return string_from(alloc, "no hand");
     };
     match equity_of(play, street) {
         Ok(row) => {
             let text = equity_text(alloc, 1, street, play, &row)?;
-            let mut told = String::from_str(alloc, "equity")?;
+            let mut told = string_from(alloc, "equity")?;
             push_named(&mut told, "text", &text)?;
             Ok(told)
         }
-        Err(NoEquity::NoStreet) => Ok(String::from_str(alloc, "no street")?),
+        Err(NoEquity::NoStreet) => string_from(alloc, "no street"),
         Err(NoEquity::UnknownCards(seat)) => {
-            Ok(format!(in alloc; "unknown cards of p{}", seat.number)?)
+            Ok(try_format!(in alloc; "unknown cards of p{}", seat.number)?)
         }
     }
 }

@@ -4,7 +4,7 @@ ghost use Rattle.first_fault.specs.declared.limits.TheConstants.{MOST_HANDS};
 ghost use Rattle.hand_canon.specs.Sound.{IsSound};
 
 use crate::pieces::parted;
-use card_set::Memory;
+use card_set::{Memory, TryPush, string_from, try_format};
 use convert_core::{PlaysFault, plays_of};
 use hand_gen::make;
 use hand_records::{Keep, Play, WriteRefusal};
@@ -33,8 +33,8 @@ impl NotMade {
     /// The hand at fault, in words.
     pub fn text(&self, alloc: Global) -> Result<String, Memory> {
         match self {
-            NotMade::Refused { hand } => Ok(format!(in alloc; "refused: hand {hand}")?),
-            NotMade::Unspelled { hand } => Ok(format!(in alloc; "unspelled: hand {hand}")?),
+            NotMade::Refused { hand } => try_format!(in alloc; "refused: hand {hand}"),
+            NotMade::Unspelled { hand } => try_format!(in alloc; "unspelled: hand {hand}"),
             NotMade::Memory(memory) => Err(*memory),
         }
     }
@@ -45,10 +45,10 @@ impl NotMade {
 pub fn answer_to(alloc: Global, numbers: &str) -> Result<String, Memory> {
     let (seed, hands) = parted(numbers, " ");
     let (Ok(seed), Ok(hands)) = (seed.parse::<u64>(), hands.parse::<u32>()) else {
-        return Ok(String::from_str(alloc, "no two numbers")?);
+        return string_from(alloc, "no two numbers");
     };
     if hands > 65_536 {
-        return Ok(String::from_str(alloc, "too many hands")?);
+        return string_from(alloc, "too many hands");
     }
     let MadeFile { bytes, moves } = match file_made(alloc, seed, hands) {
         Ok(file) => file,
@@ -56,7 +56,7 @@ pub fn answer_to(alloc: Global, numbers: &str) -> Result<String, Memory> {
     };
     let (status, last) = check(alloc, bytes)?;
     let status = status.number();
-    Ok(format!(in alloc; "status {status}, {last}, moves {moves}")?)
+    try_format!(in alloc; "status {status}, {last}, moves {moves}")
 }
 
 /// The file of `count` made hands in the Poker Hand History format, and their number of moves.
@@ -106,7 +106,7 @@ fn moves_of(plays: &[Play]) -> u64 {
 fn check(alloc: Global, file: Vec<u8>) -> Result<(Status, String), Memory> {
     let mut words = Vec::new(alloc);
     for word in ["check", "--from", "phh"] {
-        words.push(String::from_str(alloc, word)?)?;
+        words.try_push(string_from(alloc, word)?)?;
     }
     let mut input = MemSource::new(file, Vec::new(alloc));
     let mut shelf = MemShelf::new(Vec::new(alloc), Vec::new(alloc));
@@ -127,7 +127,7 @@ fn last_line(alloc: Global, lines: &[u8]) -> Result<String, Memory> {
         }
         ended = *byte == b'\n';
         if !ended {
-            line.push(char::from(*byte))?;
+            line.try_push(char::from(*byte))?;
         }
     }
     Ok(line)

@@ -1,7 +1,7 @@
 //! Named pieces of text, and text that is put together from them.
 ghost use Rattle.std.specs.Prelude.{◌<◌};
 
-use card_set::Memory;
+use card_set::{Memory, TryExtend, TryPush, string_from, try_format};
 use std::alloc::Global;
 
 /// Pieces of text by name.
@@ -15,7 +15,7 @@ impl Pieces {
     pub fn define(&mut self, alloc: Global, definition: &str) -> Result<(), Memory> {
         let (name, text) = parted(definition, " = ");
         let bytes = self.bytes_of(alloc, text)?;
-        self.named.push((String::from_str(alloc, name)?, bytes))?;
+        self.named.try_push((string_from(alloc, name)?, bytes))?;
         Ok(())
     }
 
@@ -52,9 +52,9 @@ impl Pieces {
     ) -> Result<(), Memory> {
         let (numbered, last) = parted(reference, "#");
         for number in 0..last.parse::<u32>().unwrap_or(0) {
-            let number = format!(in alloc; "{}", number + 1)?;
-            bytes.extend_from_slice(number.as_bytes())?;
-            bytes.extend_from_slice(self.piece(numbered))?;
+            let number = try_format!(in alloc; "{}", number + 1)?;
+            bytes.try_extend_from_slice(number.as_bytes())?;
+            bytes.try_extend_from_slice(self.piece(numbered))?;
         }
         if !last.is_empty() {
             return Ok(());
@@ -63,7 +63,7 @@ impl Pieces {
         let times = times.parse::<u32>().unwrap_or(1);
         let piece = self.piece(name);
         for _ in 0..times {
-            bytes.extend_from_slice(piece)?;
+            bytes.try_extend_from_slice(piece)?;
         }
         Ok(())
     }
@@ -89,19 +89,19 @@ pub fn parted<'a>(text: &'a str, separator: &str) -> (&'a str, &'a str) {
 fn push_plain(bytes: &mut Vec<u8>, text: &str) -> Result<(), Memory> {
     let mut parts = text.split('\\');
     if let Some(plain) = parts.next() {
-        bytes.extend_from_slice(plain.as_bytes())?;
+        bytes.try_extend_from_slice(plain.as_bytes())?;
     }
     for part in parts {
         match part.as_bytes() {
             [b'n', plain @ ..] => {
-                bytes.push(b'\n')?;
-                bytes.extend_from_slice(plain)?;
+                bytes.try_push(b'\n')?;
+                bytes.try_extend_from_slice(plain)?;
             }
             [b'x', high, low, plain @ ..] => {
-                bytes.push(digit(*high) * 16 + digit(*low))?;
-                bytes.extend_from_slice(plain)?;
+                bytes.try_push(digit(*high) * 16 + digit(*low))?;
+                bytes.try_extend_from_slice(plain)?;
             }
-            plain => bytes.extend_from_slice(plain)?,
+            plain => bytes.try_extend_from_slice(plain)?,
         }
     }
     Ok(())

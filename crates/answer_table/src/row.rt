@@ -1,6 +1,6 @@
 //! A row: the words that the program is run on, its devices, and how these fail.
 use crate::pieces::{Pieces, parted};
-use card_set::Memory;
+use card_set::{Memory, TryPush, string_from, vec_from};
 use std::alloc::Global;
 
 /// The words of a run, and its devices.
@@ -55,7 +55,7 @@ pub fn read_row(alloc: Global, pieces: &Pieces, row: &str) -> Result<Row, Memory
     for word in words.split_whitespace() {
         match word.strip_prefix('@') {
             Some(device) => read_device(alloc, pieces, &mut read, device)?,
-            None => read.words.push(String::from_str(alloc, word)?)?,
+            None => read.words.try_push(string_from(alloc, word)?)?,
         }
     }
     Ok(read)
@@ -67,10 +67,10 @@ fn read_device(alloc: Global, pieces: &Pieces, row: &mut Row, word: &str) -> Res
     let number = value.parse::<u32>().unwrap_or(0);
     let call = u64::from(number);
     match device.as_bytes() {
-        b"read" => row.fails.read.push(call)?,
-        b"fetch" => row.fails.fetch.push(call)?,
-        b"write" => row.fails.write.push(call)?,
-        b"line" => row.fails.line.push(call)?,
+        b"read" => row.fails.read.try_push(call)?,
+        b"fetch" => row.fails.fetch.try_push(call)?,
+        b"write" => row.fails.write.try_push(call)?,
+        b"line" => row.fails.line.try_push(call)?,
         b"give" => row.give = number as usize,
         b"take" => row.take = number as usize,
         b"pieces" => {
@@ -81,8 +81,8 @@ fn read_device(alloc: Global, pieces: &Pieces, row: &mut Row, word: &str) -> Res
         b"room" => row.room = number as usize,
         b"file" => {
             let (name, piece) = parted(value, ":");
-            let bytes = Vec::from_slice(alloc, pieces.piece(piece))?;
-            row.files.push((String::from_str(alloc, name)?, bytes))?;
+            let bytes = vec_from(alloc, pieces.piece(piece))?;
+            row.files.try_push((string_from(alloc, name)?, bytes))?;
         }
         _ => {}
     }

@@ -2,7 +2,7 @@
 -- which none opens is kept.
 use Rattle.std.proofs.Common.{◌≡◌, ℕ, ◌+◌, ◌-◌, ◌<◌, ◌≤◌, Bool, true, false, ◌&&◌, ◌||◌, ◌==◌, not, if◌then◌else◌, cond, List, Option, Some, None, find, suc, zero, inl, inr, refl, sym, ap, subst, ◌∙◌, arith}
 use Rattle.std.specs.List.{list_any, range_with_len}
-use Rattle.std.proofs.lemmas.Bool.{true≢false, and_parts, and_from, or_from, or_left, or_right, cases_lt, false_from_ne_true, true_from_ne_false, not-false}
+use Rattle.std.proofs.lemmas.Bool.{true≢false, and_parts, and_from, or_from, or_left, or_right, cases_lt, false_from_ne_true, true_from_ne_false, not-false, not_from_false}
 use Rattle.card_set.specs.declared.card.Card.{Card}
 use Rattle.card_set.specs.Known.{known_cards}
 use Rattle.card_set.proofs.Finding.{any_agree, find_agree}
@@ -66,6 +66,12 @@ module _ (opener : Opener) (b : BettingState) (up : UpRow) where
   never seat is =
       let parts = and_parts (can_act_seen b seat) (is_opener_before opener (b.street == 1) (known_cards (ups_of up seat)) (known_cards (ups_of up seat))) is in
       true≢false (sym parts.1 ∙ opens_not opener (b.street == 1) (known_cards (ups_of up seat)))
+
+  -- a seat that can act opens if it leads itself
+  pub opens_alone : (seat lead : ℕ) → can_act_seen b seat ≡ true → lead ≡ seat → true ≡ (can_act_seen b seat && not (is_before_seen opener b up seat lead))
+  opens_alone seat lead able same =
+      let not_before = false_from_ne_true (before seat lead) (λ is. never seat (ap (λ (k : ℕ). before seat k) (sym same) ∙ is)) in
+      sym (and_from (can_act_seen b seat) (not (before seat lead)) able (not_from_false (before seat lead) not_before))
 
   module _ (first count lead next : ℕ) (leads : Leads opener b up (first + 1) count lead)
       (kept : (seat : ℕ) → before seat lead ≡ true → before seat next ≡ true) (new : (seat : ℕ) → before seat first ≡ true → before seat next ≡ true)

@@ -101,6 +101,9 @@ impl Ups<'_> {
         ensures other { LeadsAsWell self.now.opener self.now.numbers.now self.now.up.now
             other.number result.number }
     {
+        if lead.number == other.number {
+            return lead;
+        }
         if !self.numbers.can_act(lead) {
             return other;
         }
@@ -124,13 +127,19 @@ impl Ups<'_> {
             lead.number)) }
     {
         let numbers = self.numbers;
-        numbers.can_act(seat)
-            && !(numbers.can_act(lead)
-                && is_opener_before(
-                    self.opener,
-                    numbers.street == 1,
-                    &known(&self.up.get(lead)),
-                    &known(&self.up.get(seat)),
-                ))
+        if !numbers.can_act(seat) {
+            return false;
+        }
+        // No seat opens before itself.
+        if lead.number == seat.number {
+            return true;
+        }
+        !(numbers.can_act(lead)
+            && is_opener_before(
+                self.opener,
+                numbers.street == 1,
+                &known(&self.up.get(lead)),
+                &known(&self.up.get(seat)),
+            ))
     }
 }

@@ -4,6 +4,7 @@
 
 mod card;
 mod deck;
+mod growing;
 mod known;
 mod memory;
 mod pick;
@@ -14,10 +15,11 @@ mod spelling;
 
 pub use card::{Card, Rank, Slot, Suit};
 pub use deck::{card_at, card_placed, place_in_deck, place_of_rank, place_of_suit};
+pub use growing::{TryExtend, TryInsert, TryPush, TryWrite, displayed, string_from, vec_from};
 pub use known::known_row;
 pub use memory::Memory;
 pub use pick::Pick;
-pub use room::{MOST_ROOM, list_with_room};
+pub use room::{MOST_ROOM, boxed, list_with_room, repeated_for, reserve, reserve_for};
 pub use row::{CardRow, ROW_ENTRIES, SlotRow};
 pub use set::CardSet;
 pub use spelling::{CardFault, read_slots, slot_text};

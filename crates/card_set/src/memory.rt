@@ -1,8 +1,6 @@
-//! Out of memory: one fault, the same in every crate. It is made here from the two errors by which
-//! a call of the library reports that memory was refused.
+//! Out of memory: one fault, the same in every crate. Here it is made for the calls of `growing`
+//! and `room`, after the library answered that memory was refused.
 ghost use Rattle.card_set.specs.Refusal.{WasRefused, WasRefused-prop};
-
-use std::alloc::{AllocError, AllocFailed};
 
 /// A request for memory was refused, for whatever reason.
 #[derive(Clone, Copy, Debug, PartialEq, Eq)]
@@ -10,16 +8,8 @@ pub struct Memory {
     pub ghost refused: { WasRefused } by { WasRefused-prop },
 }
 
-impl From<AllocError> for Memory {
-    #[tactic(auto, using(crate::specs::Refusal::an_allocator_said_so))]
-    fn from(_: AllocError) -> Self {
-        Memory {}
-    }
-}
-
-impl<T: Drop> From<AllocFailed<T>> for Memory {
-    #[tactic(auto, using(crate::specs::Refusal::an_allocator_said_so))]
-    fn from(_: AllocFailed<T>) -> Self {
-        Memory {}
-    }
+// Only the calls of this crate that ask for memory use this, after the library refused it.
+#[tactic(auto, using(crate::specs::Refusal::an_allocator_said_so))]
+pub(crate) fn refused() -> Memory {
+    Memory {}
 }

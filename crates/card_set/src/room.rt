@@ -1,8 +1,8 @@
 //! Room is asked for ahead only as far as an input can need it.
-ghost use Rattle.std.specs.Prelude.{◌≡◌, ◌≤◌, [], IfOk};
+ghost use Rattle.std.specs.Prelude.{◌≡◌, ◌+◌, ◌≤◌, [], length, IfOk, OnOk, replicate, vec_capacity, vec_len};
 ghost use Rattle.card_set.specs.declared.room.TheConstants.{MOST_ROOM};
 
-use crate::memory::Memory;
+use crate::memory::{Memory, refused};
 use std::alloc::Global;
 
 /// The most items for which room is asked for ahead.
@@ -13,5 +13,55 @@ pub fn list_with_room<T: Drop>(alloc: Global, count: usize) -> Result<Vec<T>, Me
     requires { count ≤ MOST_ROOM }
     ensures { IfOk result (λ list. list.items ≡ []) }
 {
-    Ok(Vec::with_capacity(alloc, count)?)
+    match Vec::with_capacity(alloc, count) {
+        Ok(list) => Ok(list),
+        Err(_) => Err(refused()),
+    }
+}
+
+/// A list of one item, as many times as there are items in `each`.
+pub fn repeated_for<T: Copy, U>(alloc: Global, item: T, each: &[U]) -> Result<Vec<T>, Memory>
+    ensures { IfOk result (λ list. ((copy : T) → T.is_clone item copy → copy ≡ item)
+        → list.items ≡ replicate (length each.now) item) }
+{
+    match Vec::from_elem(alloc, item, each.len()) {
+        Ok(list) => Ok(list),
+        Err(_) => Err(refused()),
+    }
+}
+
+/// Asks for room for this many more items in a list, and for no more. The list keeps its items.
+pub fn reserve<T: Drop>(list: &mut Vec<T>, count: usize) -> Result<(), Memory>
+    requires { count ≤ MOST_ROOM }
+    ensures { list.new.items ≡ list.old.items }
+{
+    match list.try_reserve(count) {
+        Ok(()) => Ok(()),
+        Err(_) => Err(refused()),
+    }
+}
+
+/// A value in a place of its own.
+pub fn boxed<T: Drop>(alloc: Global, value: T) -> Result<Box<T>, Memory>
+    ensures { IfOk result (λ place. place.value ≡ value) }
+{
+    match Box::new(alloc, value) {
+        Ok(place) => Ok(place),
+        Err(_) => Err(refused()),
+    }
+}
+
+/// Asks for room for as many more bytes as there are in `bytes`, and for this many beside them.
+/// The list keeps its bytes.
+pub fn reserve_for(list: &mut Vec<u8>, bytes: &[u8], more: usize) -> Result<(), Memory>
+    requires { more ≤ MOST_ROOM }
+    ensures items { list.new.items ≡ list.old.items }
+    ensures len { vec_len list.new ≡ vec_len list.old }
+    ensures ok { OnOk result
+        (vec_len list.new + (length bytes.now + more) ≤ vec_capacity list.new) }
+{
+    match list.try_reserve(bytes.len() + more) {
+        Ok(()) => Ok(()),
+        Err(_) => Err(refused()),
+    }
 }

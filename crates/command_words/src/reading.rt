@@ -29,7 +29,7 @@ pub fn read_words<'a>(alloc: Global, words: &'a [String]) -> Result<Option<Reque
     }
     let matches = match parsed(alloc, words) {
         Ok(matches) => matches,
-        Err(error) => return Err(want_of_memory(&error)),
+        Err(error) => return Err(refused_by_clap(&error)),
     };
     let Some(word) = matches.get_str("command") else {
         return Ok(None);
@@ -49,7 +49,7 @@ fn request_in_words(words: &[String]) -> Option<Request<'_>>
 
 // Turns an error of the parser that says out of memory into `Memory`.
 #[tactic(auto, using(card_set::specs::Refusal::an_allocator_said_so))]
-fn want_of_memory(_error: &clap::Error) -> Memory
+fn refused_by_clap(_error: &clap::Error) -> Memory
     requires { kind_of _error.now ≡ OutOfMemory }
 {
     Memory {}

@@ -6,6 +6,7 @@ ghost use Rattle.convert_core.specs.Judged.{IsFaultAt, IsOneMorePlay};
 ghost use Rattle.convert_core.specs.declared.refusal.PlaysFault.TheVariants as plays_faults;
 
 use crate::refusal::{PlaysFault, Refusal};
+use card_set::TryPush;
 use hand_canon::check_stated;
 use hand_records::{Play, Record};
 use replay_core::{ReplayFault, replay};
@@ -36,7 +37,7 @@ pub fn replay_and_check(
             if let Err(differs) = check_stated(&trace, &hand.stated) {
                 return Err(refused(number, Refusal::Fact(differs)));
             }
-            plays.push(Play { hand, trace })?;
+            plays.try_push(Play { hand, trace })?;
             Ok(())
         }
         Err(ReplayFault::Memory(memory)) => Err(PlaysFault::Memory(memory)),

@@ -1,12 +1,10 @@
 //! Why a hand is refused, and which one is.
 ghost use Rattle.std.specs.Prelude.{◌≡◌};
-ghost use Rattle.card_set.specs.declared.memory.Memory.{Memory as Refused};
 ghost use Rattle.convert_core.specs.declared.refusal.PlaysFault.TheVariants.{Memory as OfMemory};
 
 use card_set::Memory;
 use hand_canon::FactDiffers;
 use replay_core::ReplayFault;
-use std::alloc::{AllocError, AllocFailed};
 
 /// Why a hand is refused.
 #[derive(Clone, Copy, Debug, PartialEq, Eq)]
@@ -31,21 +29,5 @@ impl From<Memory> for PlaysFault {
 
     fn from(memory: Memory) -> PlaysFault {
         PlaysFault::Memory(memory)
-    }
-}
-
-impl From<AllocError> for PlaysFault {
-    ghost from_gives = { λ _ e. (memory : Refused) × (e ≡ OfMemory memory) };
-
-    fn from(refused: AllocError) -> PlaysFault {
-        PlaysFault::Memory(Memory::from(refused))
-    }
-}
-
-impl<T: Drop> From<AllocFailed<T>> for PlaysFault {
-    ghost from_gives = { λ _ e. (memory : Refused) × (e ≡ OfMemory memory) };
-
-    fn from(refused: AllocFailed<T>) -> PlaysFault {
-        PlaysFault::Memory(Memory::from(refused))
     }
 }

@@ -1,10 +1,8 @@
 //! Why a reader stops: at the first fault, or because memory was refused.
 ghost use Rattle.std.specs.Prelude.{◌≡◌};
-ghost use Rattle.card_set.specs.declared.memory.Memory.{Memory as Refused};
 ghost use Rattle.first_fault.specs.declared.stop.ReadError.TheVariants.{Memory as OutOfMemory};
 
 use card_set::Memory;
-use std::alloc::{AllocError, AllocFailed};
 
 /// Why a reader stopped.
 #[derive(Clone, Copy, Debug, PartialEq, Eq)]
@@ -20,21 +18,5 @@ impl<F> From<Memory> for ReadError<F> {
 
     fn from(memory: Memory) -> Self {
         ReadError::Memory(memory)
-    }
-}
-
-impl<F> From<AllocError> for ReadError<F> {
-    ghost from_gives = { λ _ stop. (memory : Refused) × (stop ≡ OutOfMemory memory) };
-
-    fn from(refused: AllocError) -> Self {
-        ReadError::Memory(Memory::from(refused))
-    }
-}
-
-impl<F, T: Drop> From<AllocFailed<T>> for ReadError<F> {
-    ghost from_gives = { λ _ stop. (memory : Refused) × (stop ≡ OutOfMemory memory) };
-
-    fn from(refused: AllocFailed<T>) -> Self {
-        ReadError::Memory(Memory::from(refused))
     }
 }

@@ -1,5 +1,5 @@
 //! A copy of a text.
-use card_set::Memory;
+use card_set::{Memory, boxed, string_from};
 use std::alloc::Global;
 use std::marker::Model;
 
@@ -27,7 +27,7 @@ impl Text {
     pub fn new(alloc: Global, text: &str) -> Result<Self, Memory>
         ensures { IfOk result (λ copy. copy ≡ text.now) }
     {
-        let text = Box::new(alloc, text.to_owned(alloc)?)?;
+        let text = boxed(alloc, string_from(alloc, text)?)?;
         Ok(Text { text })
     }
 

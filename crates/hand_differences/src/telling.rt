@@ -5,7 +5,7 @@ ghost use Rattle.hand_differences.specs.FirstDifference.{Card, difference_said};
 ghost use Rattle.play_event.specs.Said.{seat_named};
 
 use crate::difference::Difference;
-use card_set::Memory;
+use card_set::{Memory, string_from, try_format};
 use chip_ledger::Seat;
 use hand_records::NoteName;
 use std::alloc::Global;
@@ -30,7 +30,7 @@ pub fn difference_text(alloc: Global, difference: Difference) -> Result<String, 
             seat,
         } => {
             let seat = seat.number;
-            return Ok(format!(in alloc; "move {number}, street {street}, p{seat}")?);
+            return try_format!(in alloc; "move {number}, street {street}, p{seat}");
         }
         Difference::Card {
             number,
@@ -39,14 +39,14 @@ pub fn difference_text(alloc: Global, difference: Difference) -> Result<String, 
         } => return card_text(alloc, number, street, owner),
         Difference::Shown(seat) => {
             let seat = seat.number;
-            return Ok(format!(in alloc; "shown p{seat}")?);
+            return try_format!(in alloc; "shown p{seat}");
         }
         Difference::Note(name) => {
             let name = note_text(name);
-            return Ok(format!(in alloc; "Note {name}")?);
+            return try_format!(in alloc; "Note {name}");
         }
     };
-    Ok(String::from_str(alloc, word)?)
+    string_from(alloc, word)
 }
 
 // The text of a dealt card that differs.
@@ -61,7 +61,7 @@ fn card_text(
 {
     let owner = owner_text(alloc, owner)?;
     let owner = owner.as_str();
-    Ok(format!(in alloc; "card {number}, street {street}, {owner}")?)
+    try_format!(in alloc; "card {number}, street {street}, {owner}")
 }
 
 // The text of a card's owner.
@@ -71,9 +71,9 @@ fn owner_text(alloc: Global, owner: Option<Seat>) -> Result<String, Memory>
     match owner {
         Some(seat) => {
             let seat = seat.number;
-            Ok(format!(in alloc; "p{seat}")?)
+            try_format!(in alloc; "p{seat}")
         }
-        None => Ok(String::from_str(alloc, "board")?),
+        None => string_from(alloc, "board"),
     }
 }
 

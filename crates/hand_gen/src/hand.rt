@@ -85,6 +85,6 @@ fn play_next<V: Variant>(
     }
     match script.push(event) {
         Ok(()) => Ok(true),
-        Err(refused) => Err(Memory::from(refused)),
+        Err(memory) => Err(memory),
     }
 }

@@ -5,7 +5,7 @@ ghost use Rattle.hand_gen.specs.HandSource as stocks;
 
 use crate::draws::{drawn, next_number};
 use card_places::DealTable;
-use card_set::{Card, CardRow, Memory, card_placed};
+use card_set::{Card, CardRow, Memory, TryPush, card_placed};
 use play_event::Code;
 use std::alloc::Global;
 use std::marker::Model;
@@ -102,12 +102,5 @@ fn full_deck(alloc: Global, code: Code) -> Result<Vec<Card>, Memory>
 fn push_if(deck: &mut Vec<Card>, has: bool, card: Card) -> Result<(), Memory>
     ensures { OnOk result (deck.new.items ≡ deck.old.items ++ cond has (card ∷ []) []) }
 {
-    if has {
-        match deck.push(card) {
-            Ok(()) => Ok(()),
-            Err(refused) => Err(Memory::from(refused)),
-        }
-    } else {
-        Ok(())
-    }
+    if has { deck.try_push(card) } else { Ok(()) }
 }

@@ -10,7 +10,7 @@ ghost use Rattle.hand_gen.specs.Loaded.{IsFewIn, IsWithCounts};
 use crate::counting::counts_of;
 use crate::making::make_play;
 use crate::summary::{PlayCounts, Summary};
-use card_set::Memory;
+use card_set::{Memory, TryPush, TryWrite, try_format};
 use std::alloc::Global;
 
 /// The summary of `count` hands made from a seed, with one hand in memory at a time.
@@ -31,9 +31,9 @@ pub fn load(alloc: Global, seed: u64, count: u32) -> Result<Summary, Memory>
         };
         number = made.number;
         let mut file = Vec::new(alloc);
-        match file.push(made.play) {
+        match file.try_push(made.play) {
             Ok(()) => {}
-            Err(refused) => return Err(Memory::from(refused)),
+            Err(memory) => return Err(memory),
         }
         let counts = match counts_of(alloc, file.as_slice()) {
             Ok(counts) => counts,
@@ -113,7 +113,7 @@ fn push_spelled(alloc: Global, text: &mut String, summary: &Summary) -> Result<(
     push_number(alloc, text, " ", summary.ohh_bytes)?;
     push_number(alloc, text, "\nacpc ", summary.acpc)?;
     push_number(alloc, text, " ", summary.acpc_bytes)?;
-    text.push_str("\n")?;
+    text.try_push_str("\n")?;
     Ok(())
 }
 
@@ -122,8 +122,8 @@ fn push_number(alloc: Global, text: &mut String, label: &str, number: u128) -> R
     ensures { OnOk result (string_bytes text.new
         ≡ string_bytes text.old ++ (label.now ++ decimal number)) }
 {
-    let number = format!(in alloc; "{number}")?;
-    text.push_str(label)?;
-    text.push_str(number.as_str())?;
+    let number = try_format!(in alloc; "{number}")?;
+    text.try_push_str(label)?;
+    text.try_push_str(number.as_str())?;
     Ok(())
 }

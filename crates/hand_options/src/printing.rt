@@ -5,7 +5,7 @@ ghost use Rattle.hand_options.specs.Printed.{HasTargets, bring_in_line, call_lin
 ghost use Rattle.play_event.specs.TurnTargets.{is_bet_due};
 
 use crate::choices::{Options, RaiseSet};
-use card_set::Memory;
+use card_set::{Memory, TryWrite, try_format, try_write};
 use chip_ledger::Seat;
 use play_event::Due;
 use std::alloc::Global;
@@ -28,9 +28,9 @@ pub fn options_text(
     requires listed { HasTargets options.now.raise }
     ensures { IfOk result (λ bytes. bytes.items ≡ options_said hand events options.now) }
 {
-    let mut text = format!(in alloc; "hand {hand} after {events}: ")?;
+    let mut text = try_format!(in alloc; "hand {hand} after {events}: ")?;
     push_due(&mut text, options.due, options.seat)?;
-    text.push_str("\n")?;
+    text.try_push_str("\n")?;
     push_fold(&mut text, options.fold)?;
     push_call(&mut text, options.call)?;
     push_bring_in(&mut text, options.bring_in)?;
@@ -49,8 +49,8 @@ fn push_due(text: &mut String, due: Due, seat: Option<Seat>) -> Result<(), Memor
         Due::BringIn => push_turn(text, "bring-in ", seat.unwrap()),
         Due::Deal(street) => push_street(text, "deal", street),
         Due::Draw(street) => push_street(text, "draw", street),
-        Due::Show => Ok(text.push_str("show")?),
-        Due::Over => Ok(text.push_str("over")?),
+        Due::Show => Ok(text.try_push_str("show")?),
+        Due::Over => Ok(text.try_push_str("over")?),
     }
 }
 
@@ -60,7 +60,7 @@ fn push_turn(text: &mut String, what: &str, seat: Seat) -> Result<(), Memory>
         ≡ string_bytes text.old ++ (what.now ++ default_name seat.number)) }
 {
     let number = seat.number();
-    write!(text, "{what}p{number}")?;
+    try_write!(text, "{what}p{number}")?;
     Ok(())
 }
 
@@ -69,7 +69,7 @@ fn push_street(text: &mut String, what: &str, street: u8) -> Result<(), Memory>
     ensures { OnOk result (string_bytes text.new
         ≡ string_bytes text.old ++ (what.now ++ (codes " street " ++ decimal street))) }
 {
-    write!(text, "{what} street {street}")?;
+    try_write!(text, "{what} street {street}")?;
     Ok(())
 }
 
@@ -78,7 +78,7 @@ fn push_fold(text: &mut String, fold: bool) -> Result<(), Memory>
     ensures { OnOk result (string_bytes text.new ≡ string_bytes text.old ++ fold_line fold) }
 {
     if fold {
-        text.push_str("fold\n")?;
+        text.try_push_str("fold\n")?;
     }
     Ok(())
 }
@@ -88,7 +88,7 @@ fn push_call(text: &mut String, call: Option<u64>) -> Result<(), Memory>
     ensures { OnOk result (string_bytes text.new ≡ string_bytes text.old ++ call_line call) }
 {
     if let Some(chips) = call {
-        write!(text, "call {chips}\n")?;
+        try_write!(text, "call {chips}\n")?;
     }
     Ok(())
 }
@@ -99,7 +99,7 @@ fn push_bring_in(text: &mut String, target: Option<u64>) -> Result<(), Memory>
         ≡ string_bytes text.old ++ bring_in_line target) }
 {
     if let Some(chips) = target {
-        write!(text, "bring-in to {chips}\n")?;
+        try_write!(text, "bring-in to {chips}\n")?;
     }
     Ok(())
 }
@@ -125,7 +125,7 @@ fn push_range(text: &mut String, least: u64, greatest: u64) -> Result<(), Memory
     if least == greatest {
         push_target(text, least)
     } else {
-        write!(text, "raise to {least}..{greatest}\n")?;
+        try_write!(text, "raise to {least}..{greatest}\n")?;
         Ok(())
     }
 }
@@ -149,6 +149,6 @@ fn push_target(text: &mut String, target: u64) -> Result<(), Memory>
     ensures { OnOk result (string_bytes text.new
         ≡ string_bytes text.old ++ target_line target) }
 {
-    write!(text, "raise to {target}\n")?;
+    try_write!(text, "raise to {target}\n")?;
     Ok(())
 }

@@ -2,7 +2,7 @@
 ghost use Rattle.std.specs.Prelude.{◌≡◌, ◌<◌, [], ◌∷◌, ◌++◌, length, slice_get, Some, OnOk, OnErr};
 ghost use Rattle.std.specs.List.{list_any};
 
-use card_set::Memory;
+use card_set::{Memory, TryPush};
 use play_event::Move;
 use std::alloc::Global;
 use std::marker::Model;
@@ -37,10 +37,7 @@ impl Moves {
         ensures pushed { OnOk result (self.new ≡ self.old ++ item ∷ []) }
         ensures unchanged { OnErr result (self.new ≡ self.old) }
     {
-        match self.moves.push(item) {
-            Ok(()) => Ok(()),
-            Err(refused) => Err(Memory::from(refused)),
-        }
+        self.moves.try_push(item)
     }
 
     /// The move at this index, from 0. Ask first that the index is below `len`.

@@ -1,7 +1,7 @@
 //! The dealt cards of a hand's seats and of its board, in order.
 ghost use Rattle.std.specs.Prelude.{◌≡◌, ◌<◌, [], ◌∷◌, ◌++◌, length, slice_get, Some, OnOk, OnErr};
 
-use card_set::Memory;
+use card_set::{Memory, TryPush};
 use play_event::Place;
 use std::alloc::Global;
 use std::marker::Model;
@@ -37,10 +37,7 @@ impl Places {
         ensures pushed { OnOk result (self.new ≡ self.old ++ item ∷ []) }
         ensures unchanged { OnErr result (self.new ≡ self.old) }
     {
-        match self.places.push(item) {
-            Ok(()) => Ok(()),
-            Err(refused) => Err(Memory::from(refused)),
-        }
+        self.places.try_push(item)
     }
 
     /// The dealt card at this index, from 0. Ask first that the index is below `len`.

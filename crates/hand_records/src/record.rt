@@ -2,7 +2,7 @@
 ghost use Rattle.std.specs.Prelude.{◌≡◌, ◌≢◌, ◌≤◌, ℕ, pos, length, slice_index_or};
 
 use crate::notes::Notes;
-use card_set::Memory;
+use card_set::{Memory, TryPush};
 use chip_ledger::{Seat, SeatRow};
 use play_event::{Rules, Script, Setup};
 use std::alloc::Global;
@@ -132,10 +132,7 @@ impl Records {
         ensures pushed { OnOk result (self.new ≡ self.old ++ item ∷ []) }
         ensures unchanged { OnErr result (self.new ≡ self.old) }
     {
-        match self.records.push(item) {
-            Ok(()) => Ok(()),
-            Err(refused) => Err(Memory::from(refused)),
-        }
+        self.records.try_push(item)
     }
 
     /// The record at this index, from 0. Ask first that the index is below `len`.

@@ -1,12 +1,10 @@
 //! A play is written completely or not at all: the facts of it that a notation may be unable to
 //! express.
 ghost use Rattle.std.specs.Prelude.{◌≡◌};
-ghost use Rattle.card_set.specs.declared.memory.Memory.{Memory as Refused};
 ghost use Rattle.hand_records.specs.declared.writing.WriteRefusal.TheVariants as refusals;
 
 use crate::notes::NoteName;
 use card_set::Memory;
-use std::alloc::{AllocError, AllocFailed};
 
 /// A fact of a play that a notation cannot express, in the order in which facts are checked.
 #[derive(Clone, Copy, Debug, PartialEq, Eq)]
@@ -47,21 +45,5 @@ impl From<Memory> for WriteRefusal {
 
     fn from(memory: Memory) -> Self {
         WriteRefusal::Memory(memory)
-    }
-}
-
-impl From<AllocError> for WriteRefusal {
-    ghost from_gives = { λ _ refusal. (memory : Refused) × (refusal ≡ refusals.Memory memory) };
-
-    fn from(refused: AllocError) -> Self {
-        WriteRefusal::Memory(Memory::from(refused))
-    }
-}
-
-impl<T: Drop> From<AllocFailed<T>> for WriteRefusal {
-    ghost from_gives = { λ _ refusal. (memory : Refused) × (refusal ≡ refusals.Memory memory) };
-
-    fn from(refused: AllocFailed<T>) -> Self {
-        WriteRefusal::Memory(Memory::from(refused))
     }
 }

@@ -12,7 +12,7 @@ use crate::rows::{add_visit, new_row, push_steps};
 use crate::session_rows::SessionRow;
 use crate::steps::Step;
 use crate::visits::{Visit, visit_of};
-use card_set::Memory;
+use card_set::{Memory, TryPush};
 use chip_ledger::Seat;
 use hand_records::{Play, name_of};
 use report_layout::NameIndex;
@@ -134,7 +134,7 @@ fn row_place(alloc: Global, ledger: &mut Ledger, name: &str) -> Result<usize, Me
     let rows = ledger.rows.len();
     let place = ledger.names.place_of(alloc, name, rows)?;
     if place == rows {
-        ledger.rows.push(new_row(alloc, name)?)?;
+        ledger.rows.try_push(new_row(alloc, name)?)?;
     }
     Ok(place)
 }

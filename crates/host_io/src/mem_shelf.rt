@@ -8,6 +8,7 @@ ghost use Rattle.host_io.specs.MemShelf.{file_named};
 
 use crate::fault_plan::FaultPlan;
 use crate::shelf::{Fetched, Shelf, ShelfFault};
+use card_set::vec_from;
 use std::alloc::Global;
 
 /// Files in memory as a shelf.
@@ -58,7 +59,7 @@ impl Shelf for MemShelf {
         match find_file(&self.files, name) {
             None => Ok(Fetched::Absent),
             Some(bytes) if max < bytes.len() => Ok(Fetched::TooLong),
-            Some(bytes) => Ok(Fetched::Bytes(Vec::from_slice(alloc, bytes)?)),
+            Some(bytes) => Ok(Fetched::Bytes(vec_from(alloc, bytes)?)),
         }
     }
 }

@@ -1,6 +1,6 @@
 //! A sink in memory, which holds the bytes that it took in order, and fails at the listed calls and
 //! when it is full.
-ghost use Rattle.std.specs.Prelude.{◌≡◌, ◌⊎◌, ◌+◌, ◌-◌, ◌^◌, ◌<◌, ◌≤◌, ◌↔◌, ◌++◌, min, length, vec_len, vec_capacity, Some, IfOk, OnErr, IsErr, is_err};
+ghost use Rattle.std.specs.Prelude.{◌≡◌, ◌⊎◌, ◌+◌, ◌-◌, ◌^◌, ◌<◌, ◌≤◌, ◌↔◌, ◌++◌, [], min, length, vec_len, vec_capacity, Some, IfOk, OnErr, IsErr, is_err};
 ghost use Rattle.std.specs.Io.{WritesAtMost};
 ghost use Rattle.std.specs.Io.KnownBytes.{WriteAppends};
 ghost use Rattle.host_io.specs.Faults.{Rose};
@@ -9,7 +9,7 @@ ghost use Rattle.host_io.specs.FaultPlan.{FailsNext, CountsCall};
 use crate::fault::{Failed, count_fault};
 use crate::fault_plan::FaultPlan;
 use crate::sink::Sink;
-use card_set::Memory;
+use card_set::{Memory, TryExtend};
 use std::alloc::Global;
 
 /// A sink in memory, with room for a fixed number of bytes. Each call takes as many as there is
@@ -55,7 +55,7 @@ impl MemSink {
         ensures { IfOk result (λ sink. IsEmptySink sink room piece fail_at.items) }
     {
         Ok(MemSink {
-            bytes: Vec::with_capacity(alloc, room)?,
+            bytes: empty_with_room(alloc, room)?,
             room,
             piece,
             plan: FaultPlan::new(fail_at),
@@ -105,5 +105,18 @@ fn push_reserved(held: &mut Vec<u8>, bytes: &[u8])
     ensures items { held.new.items ≡ held.old.items ++ bytes.now }
     ensures capacity { vec_capacity held.old ≤ vec_capacity held.new }
 {
-    let _ = held.extend_from_slice(bytes);
+    let _ = held.try_extend_from_slice(bytes);
+}
+
+// An empty list with room for this many bytes. The device is for tests, and no program uses it.
+#[tactic(auto, using(card_set::specs::Refusal::an_allocator_said_so))]
+fn empty_with_room(alloc: Global, room: usize) -> Result<Vec<u8>, Memory>
+    ensures empty { IfOk result (λ bytes. bytes.items ≡ []) }
+    ensures len { IfOk result (λ bytes. vec_len bytes ≡ 0) }
+    ensures room { IfOk result (λ bytes. room ≤ vec_capacity bytes) }
+{
+    match Vec::with_capacity(alloc, room) {
+        Ok(bytes) => Ok(bytes),
+        Err(_) => Err(Memory {}),
+    }
 }

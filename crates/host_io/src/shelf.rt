@@ -3,11 +3,10 @@ ghost use Rattle.std.specs.Prelude.{◌≡◌, ◌≤◌, List, ℕ, Option, IfO
 ghost use Rattle.host_io.specs.Faults.{Rose};
 ghost use Rattle.host_io.specs.Shelf.{IsAnswer};
 ghost use Rattle.host_io.specs.declared.shelf.ShelfFault.TheVariants.{Failed as ShelfFailed, Memory as OutOfMemory};
-ghost use Rattle.card_set.specs.declared.memory.Memory.{Memory as Refused};
 
 use crate::fault::Failed;
 use card_set::Memory;
-use std::alloc::{AllocError, Global};
+use std::alloc::Global;
 use thiserror::Error;
 
 /// The answer of a shelf for a name.
@@ -40,11 +39,11 @@ impl From<Failed> for ShelfFault {
     }
 }
 
-impl From<AllocError> for ShelfFault {
-    ghost from_gives = { λ _ fault. (memory : Refused) × (fault ≡ OutOfMemory memory) };
+impl From<Memory> for ShelfFault {
+    ghost from_gives = { λ memory fault. fault ≡ OutOfMemory memory };
 
-    fn from(refused: AllocError) -> Self {
-        ShelfFault::Memory(Memory::from(refused))
+    fn from(memory: Memory) -> Self {
+        ShelfFault::Memory(memory)
     }
 }
 

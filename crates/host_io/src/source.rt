@@ -5,11 +5,10 @@ ghost use Rattle.std.specs.Io.KnownBytes.{ReadConsumes, IsAtEnd};
 ghost use Rattle.host_io.specs.Faults.{Rose};
 ghost use Rattle.host_io.specs.Bytes.{LosesAtMost, Loses};
 ghost use Rattle.host_io.specs.declared.source.InFault.TheVariants.{Memory as OutOfMemory};
-ghost use Rattle.card_set.specs.declared.memory.Memory.{Memory as Refused};
 
 use crate::fault::Failed;
-use card_set::Memory;
-use std::alloc::{AllocError, Global};
+use card_set::{Memory, TryExtend};
+use std::alloc::Global;
 use thiserror::Error;
 
 // How many bytes `read_all` asks for at once.
@@ -29,11 +28,11 @@ pub enum InFault {
     Memory(Memory),
 }
 
-impl From<AllocError> for InFault {
-    ghost from_gives = { λ _ fault. (memory : Refused) × (fault ≡ OutOfMemory memory) };
+impl From<Memory> for InFault {
+    ghost from_gives = { λ memory fault. fault ≡ OutOfMemory memory };
 
-    fn from(refused: AllocError) -> Self {
-        InFault::Memory(Memory::from(refused))
+    fn from(memory: Memory) -> Self {
+        InFault::Memory(memory)
     }
 }
 
@@ -80,7 +79,7 @@ pub fn read_all<S: Source>(alloc: Global, source: &mut S, max: usize) -> Result<
         let asked = room.min(PIECE - 1) + 1;
         match source.read(&mut piece[..asked]) {
             Ok(0) => return Ok(all),
-            Ok(count) if count <= room => all.extend_from_slice(&piece[..count])?,
+            Ok(count) if count <= room => all.try_extend_from_slice(&piece[..count])?,
             Ok(_) => return Err(InFault::TooLong),
             Err(Failed) => return Err(InFault::ReadFault),
         }

@@ -1,12 +1,12 @@
 //! Makes each device as a case says, and asks it what the case asks.
 use crate::device_case::Case;
 use crate::std_devices::{Calls, Reader, Writer};
-use card_set::Memory;
+use card_set::{Memory, TryPush, string_from, try_format, vec_from};
 use host_io::{
     Failed, Fetched, FileShelf, MemShelf, MemSink, MemSource, Shelf, ShelfFault, Source, StdSink,
     StdSource, read_all, write_all,
 };
-use std::alloc::{AllocError, Global};
+use std::alloc::Global;
 use std::rt::Files;
 
 /// What the device of the row answers, or `None` if the row cannot be read.
@@ -28,8 +28,8 @@ pub fn answer_to(rt: &(impl Files + AllocGlobal), row: &str) -> Result<Option<St
 }
 
 // The result of `read_all` on the text in a source.
-fn of_source(alloc: Global, case: &Case<'_>) -> Result<String, AllocError> {
-    let bytes = case.text.as_bytes().to_vec(alloc)?;
+fn of_source(alloc: Global, case: &Case<'_>) -> Result<String, Memory> {
+    let bytes = vec_from(alloc, case.text.as_bytes())?;
     let fail_at = case.fail_at(alloc)?;
     let mut source = match case.piece {
         Some(piece) if piece > 0 => MemSource::in_pieces(bytes, piece, fail_at),
@@ -39,7 +39,7 @@ fn of_source(alloc: Global, case: &Case<'_>) -> Result<String, AllocError> {
 }
 
 // The result of `read_all` on the text in a reader of std.
-fn of_reader(alloc: Global, case: &Case<'_>) -> Result<String, AllocError> {
+fn of_reader(alloc: Global, case: &Case<'_>) -> Result<String, Memory> {
     let mut source = StdSource::new(Reader {
         bytes: case.text.as_bytes(),
         piece: case.piece.unwrap_or(usize::MAX),
@@ -48,10 +48,10 @@ fn of_reader(alloc: Global, case: &Case<'_>) -> Result<String, AllocError> {
     what_is_read(alloc, &mut source, case.limit)
 }
 
-fn what_is_read(alloc: Global, source: &mut impl Source, max: usize) -> Result<String, AllocError> {
+fn what_is_read(alloc: Global, source: &mut impl Source, max: usize) -> Result<String, Memory> {
     match read_all(alloc, source, max) {
         Ok(bytes) => quoted(alloc, &bytes),
-        Err(fault) => format!(in alloc; "{fault}"),
+        Err(fault) => try_format!(in alloc; "{fault}"),
     }
 }
 
@@ -67,7 +67,7 @@ fn of_sink(alloc: Global, case: &Case<'_>) -> Result<String, Memory> {
 }
 
 // The result of `write_all` with the text on a writer of std, and what the writer then holds.
-fn of_writer(alloc: Global, case: &Case<'_>) -> Result<String, AllocError> {
+fn of_writer(alloc: Global, case: &Case<'_>) -> Result<String, Memory> {
     let mut writer = Writer {
         bytes: Vec::new(alloc),
         room: case.limit,
@@ -82,11 +82,11 @@ fn what_is_written(
     alloc: Global,
     written: Result<(), Failed>,
     held: &[u8],
-) -> Result<String, AllocError> {
+) -> Result<String, Memory> {
     let held = quoted(alloc, held)?;
     match written {
-        Ok(()) => format!(in alloc; "written, {held}"),
-        Err(Failed) => format!(in alloc; "failed, {held}"),
+        Ok(()) => try_format!(in alloc; "written, {held}"),
+        Err(Failed) => try_format!(in alloc; "failed, {held}"),
     }
 }
 
@@ -94,15 +94,15 @@ fn what_is_written(
 fn of_shelf(alloc: Global, case: &Case<'_>) -> Result<String, Memory> {
     let mut files = Vec::new(alloc);
     for (name, text) in [("two", "first"), ("two", "second"), ("none", "")] {
-        let name = String::from_str(alloc, name)?;
-        files.push((name, text.as_bytes().to_vec(alloc)?))?;
+        let name = string_from(alloc, name)?;
+        files.try_push((name, vec_from(alloc, text.as_bytes())?))?;
     }
     let mut shelf = MemShelf::new(files, case.fail_at(alloc)?);
     Ok(what_is_fetched(alloc, &mut shelf, case)?)
 }
 
 // What a shelf over files answers.
-fn of_files(alloc: Global, files: &impl Files, case: &Case<'_>) -> Result<String, AllocError> {
+fn of_files(alloc: Global, files: &impl Files, case: &Case<'_>) -> Result<String, Memory> {
     what_is_fetched(alloc, &mut FileShelf::new(files), case)
 }
 
@@ -111,31 +111,31 @@ fn what_is_fetched(
     alloc: Global,
     shelf: &mut impl Shelf,
     case: &Case<'_>,
-) -> Result<String, AllocError> {
+) -> Result<String, Memory> {
     let name = name_of(alloc, case.text)?;
     let once = told(alloc, shelf.fetch(alloc, &name, case.limit))?;
     let again = told(alloc, shelf.fetch(alloc, &name, case.limit))?;
-    format!(in alloc; "{once}, {again}")
+    try_format!(in alloc; "{once}, {again}")
 }
 
 // The name that a text means: `\0` in it is a byte 0.
-fn name_of(alloc: Global, text: &str) -> Result<String, AllocError> {
+fn name_of(alloc: Global, text: &str) -> Result<String, Memory> {
     match text.split_once("\\0") {
-        Some((front, behind)) => format!(in alloc; "{front}\0{behind}"),
-        None => String::from_str(alloc, text),
+        Some((front, behind)) => try_format!(in alloc; "{front}\0{behind}"),
+        None => string_from(alloc, text),
     }
 }
 
-fn told(alloc: Global, fetched: Result<Fetched, ShelfFault>) -> Result<String, AllocError> {
+fn told(alloc: Global, fetched: Result<Fetched, ShelfFault>) -> Result<String, Memory> {
     match fetched {
         Ok(Fetched::Bytes(bytes)) => quoted(alloc, &bytes),
-        Ok(Fetched::Absent) => String::from_str(alloc, "absent"),
-        Ok(Fetched::TooLong) => String::from_str(alloc, "too long"),
-        Err(fault) => format!(in alloc; "{fault}"),
+        Ok(Fetched::Absent) => string_from(alloc, "absent"),
+        Ok(Fetched::TooLong) => string_from(alloc, "too long"),
+        Err(fault) => try_format!(in alloc; "{fault}"),
     }
 }
 
-fn quoted(alloc: Global, bytes: &[u8]) -> Result<String, AllocError> {
+fn quoted(alloc: Global, bytes: &[u8]) -> Result<String, Memory> {
     let text = str::from_utf8(bytes).unwrap_or("no text");
-    format!(in alloc; "\"{text}\"")
+    try_format!(in alloc; "\"{text}\"")
 }

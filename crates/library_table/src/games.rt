@@ -1,15 +1,15 @@
 //! Prints the tables of the eleven games: `games table CODE`, `games streets CODE`, `games dealt
 //! CODE`.
 use crate::words;
-use card_set::{Card, Rank, Suit};
+use card_set::{Card, Memory, Rank, Suit, TryWrite, try_format, try_write};
 use play_event::Code;
-use std::alloc::{AllocError, Global};
+use std::alloc::Global;
 use variant_table::{
     F2L3D, F7S, F7S8, FB, FO8, FR, FT, N2L1D, NS, NT, PO, Street, Variant, table_of,
 };
 
 /// The answer to a row about a game.
-pub fn answer_to(alloc: Global, row: &str) -> Result<Option<String>, AllocError> {
+pub fn answer_to(alloc: Global, row: &str) -> Result<Option<String>, Memory> {
     let (question, name) = words::first_and_rest(row);
     let Some(code) = Code::read(name) else {
         return Ok(None);
@@ -23,22 +23,22 @@ pub fn answer_to(alloc: Global, row: &str) -> Result<Option<String>, AllocError>
 }
 
 // The values of the table that hold on each street.
-fn table_text(alloc: Global, code: Code) -> Result<String, AllocError> {
+fn table_text(alloc: Global, code: Code) -> Result<String, Memory> {
     let table = table_of(code);
     let (limit, opener, pick) = (table.limit, table.opener, table.pick);
     let (deck, seats) = (table.deck, table.seats);
     let halves = if table.split { "halved" } else { "whole" };
-    format!(in alloc; "{limit:?} {opener:?} {pick:?} {halves}, deck {deck}, seats {seats}")
+    try_format!(in alloc; "{limit:?} {opener:?} {pick:?} {halves}, deck {deck}, seats {seats}")
 }
 
 // What each street deals, and the size of its bets.
-fn streets_text(alloc: Global, code: Code) -> Result<String, AllocError> {
+fn streets_text(alloc: Global, code: Code) -> Result<String, Memory> {
     let table = table_of(code);
     let mut text = String::new(alloc);
     for (index, street) in table.rows.iter().enumerate() {
         if index < usize::from(table.streets) {
             if index > 0 {
-                text.push_str(", ")?;
+                text.try_push_str(", ")?;
             }
             push_street(&mut text, street)?;
         }
@@ -46,7 +46,7 @@ fn streets_text(alloc: Global, code: Code) -> Result<String, AllocError> {
     Ok(text)
 }
 
-fn push_street(text: &mut String, street: &Street) -> Result<(), AllocError> {
+fn push_street(text: &mut String, street: &Street) -> Result<(), Memory> {
     let size = street.size;
     let parts = [
         (street.down, "down "),
@@ -56,14 +56,14 @@ fn push_street(text: &mut String, street: &Street) -> Result<(), AllocError> {
     ];
     for (count, word) in parts {
         if count > 0 {
-            write!(text, "{count} {word}")?;
+            try_write!(text, "{count} {word}")?;
         }
     }
-    write!(text, "{size:?}")
+    try_write!(text, "{size:?}")
 }
 
 // What a seat and the board hold after the last street, and whether the deck has a five.
-fn dealt_text(alloc: Global, code: Code) -> Result<String, AllocError> {
+fn dealt_text(alloc: Global, code: Code) -> Result<String, Memory> {
     let dealt = match code {
         Code::FT => deal_all::<FT>(),
         Code::NT => deal_all::<NT>(),
@@ -83,7 +83,7 @@ fn dealt_text(alloc: Global, code: Code) -> Result<String, AllocError> {
     } else {
         "no fives"
     };
-    format!(in alloc; "hole {hole}, board {board}, {fives}")
+    try_format!(in alloc; "hole {hole}, board {board}, {fives}")
 }
 
 // What one generic function learns about a game from its type alone.

@@ -16,7 +16,7 @@ mod spelling;
 mod std_devices;
 mod words;
 
-use card_set::Memory;
+use card_set::{Memory, string_from, try_format};
 use std::io;
 use std::io::{Error, ErrorKind};
 use std::rt::Files;
@@ -35,11 +35,11 @@ fn main(rt: HostRuntime) -> io::Result<()> {
 fn answered(rt: &(impl Files + AllocGlobal), row: &str) -> Result<String, Memory> {
     let alloc = rt.alloc();
     if row.is_empty() || row.starts_with('#') {
-        return Ok(String::from_str(alloc, row)?);
+        return string_from(alloc, row);
     }
     match answer_to(rt, row)? {
-        Some(answer) => Ok(format!(in alloc; "{row} = {answer}")?),
-        None => Ok(format!(in alloc; "{row} ? no such row")?),
+        Some(answer) => try_format!(in alloc; "{row} = {answer}"),
+        None => try_format!(in alloc; "{row} ? no such row"),
     }
 }
 

@@ -2,12 +2,13 @@
 //! RAKES POT..` shares pots, each of them CHIPS:SEATS, and `pots seat NUMBER` and `pots chips
 //! NUMBER` ask for a seat and an amount.
 use crate::{rows, shares, words};
+use card_set::{Memory, TryWrite, string_from, try_write};
 use chip_ledger::{Chips, LiveRow, MOST_AMOUNT, PotRow, Seat, SeatRow, total};
 use side_pots::pots;
-use std::alloc::{AllocError, Global};
+use std::alloc::Global;
 
 /// The answer to a row about pots, seats or chips.
-pub fn answer_to(alloc: Global, row: &str) -> Result<Option<String>, AllocError> {
+pub fn answer_to(alloc: Global, row: &str) -> Result<Option<String>, Memory> {
     let (question, rest) = words::first_and_rest(row);
     match question.as_bytes() {
         b"seat" => is_there(alloc, rest.parse::<u8>().ok().and_then(Seat::new).is_some()),
@@ -21,13 +22,13 @@ pub fn answer_to(alloc: Global, row: &str) -> Result<Option<String>, AllocError>
     }
 }
 
-fn is_there(alloc: Global, found: bool) -> Result<Option<String>, AllocError> {
+fn is_there(alloc: Global, found: bool) -> Result<Option<String>, Memory> {
     let word = if found { "one" } else { "none" };
-    Ok(Some(String::from_str(alloc, word)?))
+    Ok(Some(string_from(alloc, word)?))
 }
 
 // The pots that come from what the seats put in, and what is returned to each.
-fn cut(alloc: Global, row: &str) -> Result<Option<String>, AllocError> {
+fn cut(alloc: Global, row: &str) -> Result<Option<String>, Memory> {
     let (numbers, rest) = words::first_and_rest(row);
     let (amounts, dead) = words::first_and_rest(rest);
     let Some(puts) = rows::amounts(amounts) else {
@@ -49,26 +50,26 @@ fn cut(alloc: Global, row: &str) -> Result<Option<String>, AllocError> {
 }
 
 // The pots, the lowest first, and then the returned chips.
-fn pots_text(alloc: Global, row: &PotRow) -> Result<String, AllocError> {
+fn pots_text(alloc: Global, row: &PotRow) -> Result<String, Memory> {
     let mut text = String::new(alloc);
     for pot in &row.pots[..row.count as usize] {
         let chips = pot.chips;
-        write!(text, "{chips} for ")?;
+        try_write!(text, "{chips} for ")?;
         push_seats(&mut text, &pot.eligible)?;
-        text.push_str("; ")?;
+        text.try_push_str("; ")?;
     }
-    text.push_str("back ")?;
+    text.try_push_str("back ")?;
     push_amounts(&mut text, &row.returned)?;
     Ok(text)
 }
 
-fn push_seats(text: &mut String, row: &LiveRow) -> Result<(), AllocError> {
+fn push_seats(text: &mut String, row: &LiveRow) -> Result<(), Memory> {
     let mut between = "";
     for index in 0..row.seats {
         let seat = Seat { number: index + 1 };
         if row.get(seat) {
             let number = seat.number;
-            write!(text, "{between}{number}")?;
+            try_write!(text, "{between}{number}")?;
             between = ",";
         }
     }
@@ -76,11 +77,11 @@ fn push_seats(text: &mut String, row: &LiveRow) -> Result<(), AllocError> {
 }
 
 /// Writes the amounts of a row with commas between them.
-pub fn push_amounts(text: &mut String, row: &SeatRow) -> Result<(), AllocError> {
+pub fn push_amounts(text: &mut String, row: &SeatRow) -> Result<(), Memory> {
     let mut between = "";
     for index in 0..row.seats {
         let amount = row.get(Seat { number: index + 1 });
-        write!(text, "{between}{amount}")?;
+        try_write!(text, "{between}{amount}")?;
         between = ",";
     }
     Ok(())

@@ -10,7 +10,7 @@ ghost use Rattle.chip_ledger.specs.SeatsSaid.{default_name};
 
 use crate::labels::{Labels, read_labels};
 use crate::seated::Seated;
-use card_set::Memory;
+use card_set::{Memory, try_format};
 use first_fault::{ReadError, Text};
 use hand_records::{Clock, Moment, Notes, keep_short, non_default_seats};
 use ohh_members::fault::MemberFault;
@@ -86,7 +86,7 @@ fn name_of(alloc: Global, player: &Player, seat: u8) -> Result<Option<Text>, Mem
 {
     match player.name {
         Some(name) => {
-            let usual = format!(in alloc; "p{seat}")?;
+            let usual = try_format!(in alloc; "p{seat}")?;
             keep_short(alloc, name, usual.as_str())
         }
         None => Ok(None),

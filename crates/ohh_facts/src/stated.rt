@@ -9,7 +9,7 @@ ghost use Rattle.ohh_facts.specs.Pots.{IsPaid, no_pots, none_paid, paid_of, plai
 use crate::listed_pot::ListedPot;
 use crate::listed_pots::{ListedPots, Paid};
 use crate::won::Won;
-use card_set::Memory;
+use card_set::{Memory, TryPush};
 use chip_ledger::RakeRow;
 use std::alloc::Global;
 
@@ -40,7 +40,7 @@ impl ListedPots {
             total,
             won,
         } = self;
-        pots.push(pot)?;
+        pots.try_push(pot)?;
         Ok(ListedPots {
             pots,
             total: total + pot.amount,

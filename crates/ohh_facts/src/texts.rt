@@ -6,6 +6,7 @@ ghost use Rattle.first_fault.specs.Reading.{Gives, or_none};
 ghost use Rattle.ohh_facts.specs.Notes.{label_said, text_note_said};
 ghost use Rattle.ohh_members.specs.Values.{field as field_said};
 
+use card_set::displayed;
 use first_fault::{Quantity, ReadError, Text};
 use hand_records::keep_text;
 use ohh_members::fault::{MemberFault, MemberFaultKind, Path};
@@ -53,7 +54,7 @@ pub fn label_at(
         Value::String(text) => keep_text(alloc, text.as_str(), default, too_long(path)),
         _ => {
             let number = read_integer(value, path)?;
-            let text = number.to_string(alloc)?;
+            let text = displayed(alloc, number)?;
             keep_text(alloc, text.as_str(), default, too_long(path))
         }
     }

@@ -4,7 +4,7 @@ ghost use Rattle.chip_ledger.specs.SeatRow.{amount_of};
 ghost use Rattle.chip_ledger.specs.declared.seat_row.TheConstants.{MOST_AMOUNT};
 ghost use Rattle.ohh_facts.specs.Won.{plain_win, won_by};
 
-use card_set::Memory;
+use card_set::{Memory, TryPush};
 use chip_ledger::{Seat, SeatRow};
 use std::alloc::Global;
 
@@ -47,7 +47,7 @@ impl Won {
         ensures seats { IfOk result (λ after. after.sums.seats ≡ self.sums.seats) }
     {
         let Won { mut list, mut sums } = self;
-        list.push(win)?;
+        list.try_push(win)?;
         sums.set(win.seat, sums.get(win.seat) + win.chips);
         Ok(Won { list, sums })
     }

@@ -4,7 +4,7 @@ ghost use Rattle.std.specs.Prelude.{◌≡◌, ◌++◌, IfOk, codes, string_byt
 ghost use Rattle.std.specs.Fmt.{decimal};
 ghost use Rattle.ohh_members.specs.Paths.{action_name, action_text, card_path, member_name, path_text, player_name, pot_name, pot_text, round_name, round_text, win_name, with_point};
 
-use card_set::Memory;
+use card_set::{Memory, string_from, try_format};
 use first_fault::{Quantity, Text};
 use std::alloc::Global;
 
@@ -144,7 +144,7 @@ impl ActionMember {
         ensures { IfOk result (λ text. string_bytes text ≡ action_text self) }
     {
         match self {
-            ActionMember::Card { index } => Ok(format!(in alloc; ".cards[{index}]")?),
+            ActionMember::Card { index } => try_format!(in alloc; ".cards[{index}]"),
             _ => behind_point(alloc, self.name()),
         }
     }
@@ -170,7 +170,7 @@ impl RoundMember {
         ensures { IfOk result (λ text. string_bytes text ≡ round_text self) }
     {
         match self {
-            RoundMember::Card { index } => Ok(format!(in alloc; ".cards[{index}]")?),
+            RoundMember::Card { index } => try_format!(in alloc; ".cards[{index}]"),
             RoundMember::Action { index, member } => {
                 item_text(alloc, ".actions[", index, member.text(alloc)?)
             }
@@ -297,8 +297,8 @@ impl Path {
         ensures { IfOk result (λ text. string_bytes text ≡ path_text self) }
     {
         match self {
-            Path::Ohh => Ok(String::from_str(alloc, "ohh")?),
-            Path::BetType => Ok(String::from_str(alloc, "ohh.bet_limit.bet_type")?),
+            Path::Ohh => string_from(alloc, "ohh"),
+            Path::BetType => string_from(alloc, "ohh.bet_limit.bet_type"),
             Path::Player { index, member } => {
                 let text = behind_point(alloc, member.name())?;
                 item_text(alloc, "ohh.players[", index, text)
@@ -311,7 +311,7 @@ impl Path {
             }
             _ => {
                 let name = self.name();
-                Ok(format!(in alloc; "ohh.{name}")?)
+                try_format!(in alloc; "ohh.{name}")
             }
         }
     }
@@ -330,9 +330,9 @@ fn behind_point(alloc: Global, name: &str) -> Result<String, Memory>
     ensures { IfOk result (λ text. string_bytes text ≡ with_point name.now) }
 {
     if name.is_empty() {
-        Ok(String::from_str(alloc, "")?)
+        string_from(alloc, "")
     } else {
-        Ok(format!(in alloc; ".{name}")?)
+        try_format!(in alloc; ".{name}")
     }
 }
 
@@ -341,5 +341,5 @@ fn item_text(alloc: Global, list: &str, index: u64, text: String) -> Result<Stri
     ensures { IfOk result (λ item. string_bytes item
         ≡ list.now ++ (decimal index ++ (codes "]" ++ string_bytes text))) }
 {
-    Ok(format!(in alloc; "{list}{index}]{text}")?)
+    try_format!(in alloc; "{list}{index}]{text}")
 }

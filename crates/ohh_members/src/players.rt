@@ -12,6 +12,7 @@ use crate::player::Player;
 use crate::values::{
     fault_at, field, read_integer, read_list, read_number, read_object, read_text, required,
 };
+use card_set::TryPush;
 use chip_ledger::MOST_CHIPS;
 use first_fault::{MOST_TEXT_BYTES, Quantity, ReadError, has_count};
 use serde_json::Value;
@@ -63,7 +64,7 @@ fn add_player<'a>(
     ensures count { IfOk result (λ x. length players.new.items ≡ length players.old.items + 1) }
 {
     let player = read_player(players.as_slice(), index, value)?;
-    players.push(player)?;
+    players.try_push(player)?;
     Ok(())
 }
 

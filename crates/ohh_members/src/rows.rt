@@ -6,7 +6,7 @@ ghost use Rattle.chip_ledger.specs.SeatRow.{amounts_in};
 ghost use Rattle.ohh_members.specs.Players.{plain_player};
 
 use crate::player::Player;
-use card_set::Memory;
+use card_set::{Memory, TryPush};
 use chip_ledger::SeatRow;
 use std::alloc::Global;
 
@@ -17,7 +17,7 @@ pub fn ids_of(alloc: Global, players: &[Player]) -> Result<Vec<i128>, Memory>
 {
     let mut ids = Vec::new(alloc);
     for player in players {
-        ids.push(player.id)?;
+        ids.try_push(player.id)?;
     }
     Ok(ids)
 }

@@ -8,7 +8,7 @@ use crate::fault::{MemberFault, MemberFaultKind, Path};
 use crate::player::Player;
 use crate::players::list_players;
 use crate::values::{fault_at, read_integer, required};
-use card_set::Memory;
+use card_set::{Memory, TryPush};
 use first_fault::ReadError;
 use serde_json::Value;
 use std::alloc::Global;
@@ -74,7 +74,7 @@ fn sit<'a>(
     let mut last = button;
     for _seat in 0..players.len() {
         last = next_player(players, last);
-        found.push(last)?;
+        found.try_push(last)?;
     }
     Ok(found)
 }

@@ -4,7 +4,7 @@ ghost use Rattle.std.specs.List.{position_or_len};
 ghost use Rattle.std.specs.Option.{option_map_or};
 ghost use Rattle.ohh_reading.specs.Blocks.{blocks_from, blocks_of, is_blank as is_blank_said, lines_of};
 
-use card_set::Memory;
+use card_set::{Memory, TryExtend, TryPush, vec_from};
 use std::alloc::Global;
 
 /// The blocks of a text, in order.
@@ -26,8 +26,8 @@ pub fn cut_blocks(alloc: Global, text: &[u8]) -> Result<Vec<Vec<u8>>, Memory>
     Ok(found)
 }
 
-// The first line, and what comes after its end, if it has one.
-fn cut_line(text: &[u8]) -> (&[u8], Option<&[u8]>)
+/// The first line, and what comes after its end, if it has one.
+pub fn cut_line(text: &[u8]) -> (&[u8], Option<&[u8]>)
     ensures lines { lines_of text.now ≡ result.0.now
         ∷ option_map_or (λ rest. lines_of rest.now) result.1 [] }
     ensures shorter { length text.now
@@ -70,19 +70,19 @@ fn take_line(
     }
     match begun {
         None => {
-            let block = Vec::from_slice(alloc, line)?;
+            let block = vec_from(alloc, line)?;
             Ok((None, Some(block)))
         }
         Some(mut block) => {
-            block.push(b'\n')?;
-            block.extend_from_slice(line)?;
+            block.try_push(b'\n')?;
+            block.try_extend_from_slice(line)?;
             Ok((None, Some(block)))
         }
     }
 }
 
-// Whether the line separates blocks.
-fn is_blank(line: &[u8]) -> bool
+/// Whether the line separates blocks.
+pub fn is_blank(line: &[u8]) -> bool
     ensures { result ≡ is_blank_said line.now }
 {
     for sign in line {
@@ -100,7 +100,7 @@ fn push_block(found: &mut Vec<Vec<u8>>, block: Option<Vec<u8>>) -> Result<(), Me
         ++ option_map_or (λ block. block.items ∷ []) block []) }
 {
     match block {
-        Some(block) => Ok(found.push(block)?),
+        Some(block) => Ok(found.try_push(block)?),
         None => Ok(()),
     }
 }

@@ -1,6 +1,7 @@
 //! Reads bytes in Open Hand History as records, or refuses them with their first fault.
 #![tactic(auto)]
 
+mod begins;
 mod blocks;
 pub mod fault;
 mod file;
@@ -11,5 +12,6 @@ mod reading;
 mod record;
 mod sizes;
 
+pub use begins::block_lines;
 pub use fault::OhhFault;
 pub use reading::read;

@@ -24,7 +24,7 @@ use crate::post::{Post, PostFault};
 use crate::rounds::read_told;
 use crate::rounds_so_far::RoundsSoFar;
 use crate::step::{ActionEffect, RoundStep};
-use card_set::{Memory, Slot, SlotRow};
+use card_set::{Memory, Slot, SlotRow, TryPush};
 use chip_ledger::Seat;
 use first_fault::ReadError;
 use ohh_members::fault::{ActionMember, MemberFault, MemberFaultKind, Path};
@@ -108,7 +108,7 @@ fn push_post(posts: &mut Vec<Post>, effect: ActionEffect) -> Result<(), Memory>
 {
     match effect {
         ActionEffect::Posted(post) => {
-            posts.push(post)?;
+            posts.try_push(post)?;
             Ok(())
         }
         ActionEffect::Dealt { .. } | ActionEffect::Happened(_) | ActionEffect::Passed => Ok(()),

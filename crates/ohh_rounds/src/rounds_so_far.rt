@@ -9,7 +9,7 @@ use crate::cards::seats_after;
 use crate::hand_context::HandContext;
 use crate::seat_so_far::SeatSoFar;
 use crate::step::{RoundStep, moves_of, next_after, others_of};
-use card_set::{Memory, SlotRow};
+use card_set::{Memory, SlotRow, TryPush};
 use chip_ledger::Seat;
 use std::alloc::Global;
 
@@ -91,7 +91,7 @@ impl<'a> RoundsSoFar<'a> {
         ensures setting { self.new.setting ≡ self.old.setting }
     {
         let seats = seats_after(self.seats, step, self.steps.as_slice());
-        self.steps.push(step)?;
+        self.steps.try_push(step)?;
         self.seats = seats;
         self.next = next_after(self.next, step);
         self.moves += moves_of(step.effect);

@@ -25,7 +25,7 @@ use crate::seating::{number_among, numbers_spelled};
 use crate::setup::{big_blind, greatest_ante};
 use crate::tidy_trace::TidyTrace;
 use crate::trees::round_values;
-use card_set::Memory;
+use card_set::{Memory, displayed};
 use first_fault::Text;
 use hand_records::{Notes, Play, Trace};
 use ohh_members::Dialect;
@@ -168,7 +168,7 @@ fn hand_name(alloc: Global, place: usize, name: &Option<Text>) -> Result<Value, 
 {
     match name {
         Some(text) => text_value(alloc, text.as_str()),
-        None => Ok(Value::String(place.to_string(alloc)?)),
+        None => Ok(Value::String(displayed(alloc, place)?)),
     }
 }
 

@@ -1,6 +1,11 @@
 //! Writes plays as their lines.
-ghost use Rattle.std.specs.Prelude.{◌≡◌, ◌⊎◌, ◌≤◌, ◌<◌, ◌+◌, List, [], ◌∷◌, ◌++◌, None, Some, length, vec_capacity, vec_len, IfOk, IfErr, IsOk, OnErr, OnOk};
+ghost use Rattle.std.specs.Prelude.{false, ◌≡◌, ◌⊎◌, ◌≤◌, ◌<◌, ◌+◌, List, [], ◌∷◌, ◌++◌, None, Some, length, vec_capacity, vec_len, IfOk, IfErr, IsOk, OnErr, OnOk};
 ghost use Rattle.std.specs.List.{AllByRecursion};
+ghost use Rattle.std.specs.Str.{IsUtf8};
+ghost use Rattle.serde_json.specs.Data.{depth};
+ghost use Rattle.serde_json.specs.Read.{max_depth, read};
+ghost use Rattle.serde_json.specs.View.{view};
+ghost use Rattle.serde_json.specs.Written.{compact_text, has_float};
 ghost use Rattle.hand_canon.specs.Sound.{IsSound};
 ghost use Rattle.first_fault.specs.declared.limits.TheConstants.{MOST_HANDS};
 ghost use Rattle.hand_records.specs.declared.trace.Play.{Play as AnyPlay};
@@ -9,10 +14,12 @@ ghost use Rattle.ohh_writing.specs.Spelled.{unspelled};
 ghost use Rattle.hand_records.specs.WriteRefusals.{IsOutOfMemory, first_refusal};
 
 use crate::hand::hand_value;
+use crate::members::refused_to_tree;
 use crate::spelled::find_refusal;
-use card_set::Memory;
+use card_set::{Memory, TryExtend, TryPush, reserve_for};
 use hand_records::{Keep, Play, WriteRefusal};
 use ohh_members::Dialect;
+use serde_json::Value;
 use std::alloc::Global;
 
 /// The lines of some plays, each the compact text of the tree of its hand, with an empty line
@@ -69,10 +76,10 @@ pub fn push_line(
     // The text comes first, and then the room for all that is appended, so that no step fails after
     // something was appended.
     let text = make_text(alloc, dialect, place, play)?;
-    out.reserve(text.len() + 2)?;
+    reserve_for(out, text.as_slice(), 2)?;
     push_empty_line(out, place)?;
-    out.extend_from_slice(text.as_slice())?;
-    out.push(b'\n')?;
+    out.try_extend_from_slice(text.as_slice())?;
+    out.try_push(b'\n')?;
     Ok(())
 }
 
@@ -86,8 +93,7 @@ fn push_empty_line(out: &mut Vec<u8>, place: usize) -> Result<(), Memory>
     if place == 0 {
         return Ok(());
     }
-    out.push(b'\n')?;
-    Ok(())
+    out.try_push(b'\n')
 }
 
 // The text of the hand at a place of its file, from 0.
@@ -97,5 +103,19 @@ fn make_text(alloc: Global, dialect: Dialect, place: usize, play: &Play) -> Resu
     ensures read { IfOk result (λ text. IsTextOf dialect place play.now) }
 {
     let value = hand_value(alloc, dialect, place, play)?;
-    Ok(value.to_vec(alloc)?)
+    Ok(to_vec(alloc, &value)?)
+}
+
+// The compact text of a tree.
+fn to_vec(alloc: Global, value: &Value) -> Result<Vec<u8>, Memory>
+    ensures text { IfOk result (λ text. has_float (view value.now) ≡ false
+        → text.items ≡ compact_text (view value.now)) }
+    ensures utf8 { IfOk result (λ text. IsUtf8 text.items) }
+    ensures reads_back { IfOk result (λ text. depth (view value.now) ≤ max_depth
+        → read text.items ≡ Some (view value.now)) }
+{
+    match value.to_vec(alloc) {
+        Ok(text) => Ok(text),
+        Err(_) => Err(refused_to_tree()),
+    }
 }

@@ -5,7 +5,7 @@ ghost use Rattle.serde_json.specs.Data.{put as put_said, string};
 ghost use Rattle.serde_json.specs.View.{view, members_view};
 ghost use Rattle.ohh_writing.specs.Tree.{whole};
 
-use card_set::Memory;
+use card_set::{Memory, string_from};
 use serde_json::{Map, Value, put};
 use std::alloc::Global;
 
@@ -47,12 +47,21 @@ pub fn put_value(
     ensures { OnOk result (members_view members.new.entries
         ≡ put_said name.now (view value) (members_view members.old.entries)) }
 {
-    Ok(put(members, alloc, name, value)?)
+    match put(members, alloc, name, value) {
+        Ok(()) => Ok(()),
+        Err(_) => Err(refused_to_tree()),
+    }
 }
 
 /// A text as a value.
 pub fn text_value(alloc: Global, text: &str) -> Result<Value, Memory>
     ensures { IfOk result (λ value. view value ≡ string text.now) }
 {
-    Ok(Value::String(String::from_str(alloc, text)?))
+    Ok(Value::String(string_from(alloc, text)?))
+}
+
+/// `serde_json` answered that memory was refused for a tree, or for its text.
+#[tactic(auto, using(card_set::specs::Refusal::an_allocator_said_so))]
+pub fn refused_to_tree() -> Memory {
+    Memory {}
 }

@@ -2,7 +2,7 @@
 ghost use Rattle.std.specs.Prelude.{◌≡◌, ◌++◌, string_bytes, IfOk, OnOk};
 ghost use Rattle.ohh_writing.specs.Moment.{by_digits, fraction_text, moment_in as moment_in_said, moment_of as moment_said, moment_text as text_said, time_text};
 
-use card_set::Memory;
+use card_set::{Memory, TryPush, TryWrite};
 use hand_records::{CivilDate, Clock, Moment, Notes};
 use std::alloc::Global;
 
@@ -38,13 +38,13 @@ pub fn moment_text(alloc: Global, moment: Moment) -> Result<String, Memory>
 {
     let mut text = String::new(alloc);
     push_digits(&mut text, 4, u32::from(moment.day.year))?;
-    text.push_str("-")?;
+    text.try_push_str("-")?;
     push_digits(&mut text, 2, u32::from(moment.day.month))?;
-    text.push_str("-")?;
+    text.try_push_str("-")?;
     push_digits(&mut text, 2, u32::from(moment.day.day))?;
-    text.push_str("T")?;
+    text.try_push_str("T")?;
     push_time(&mut text, moment.time)?;
-    text.push_str("Z")?;
+    text.try_push_str("Z")?;
     Ok(text)
 }
 
@@ -53,9 +53,9 @@ fn push_time(text: &mut String, time: Clock) -> Result<(), Memory>
     ensures { OnOk result (string_bytes text.new ≡ string_bytes text.old ++ time_text time) }
 {
     push_digits(text, 2, u32::from(time.hour))?;
-    text.push_str(":")?;
+    text.try_push_str(":")?;
     push_digits(text, 2, u32::from(time.minute))?;
-    text.push_str(":")?;
+    text.try_push_str(":")?;
     push_digits(text, 2, u32::from(time.second))?;
     push_fraction(text, time.nano)
 }
@@ -67,7 +67,7 @@ fn push_fraction(text: &mut String, nano: u32) -> Result<(), Memory>
     if nano == 0 {
         return Ok(());
     }
-    text.push_str(".")?;
+    text.try_push_str(".")?;
     push_digits(text, 9, nano)
 }
 
@@ -81,6 +81,6 @@ fn push_digits(text: &mut String, count: u8, number: u32) -> Result<(), Memory>
     }
     push_digits(text, count - 1, number / 10)?;
     let digit = b'0' + (number % 10) as u8;
-    text.push(char::from(digit))?;
+    text.try_push(char::from(digit))?;
     Ok(())
 }

@@ -6,7 +6,7 @@ ghost use Rattle.ohh_writing.specs.Actions.{act_written, action_said, alone, cal
 
 use crate::action::{Action, Detail};
 use crate::posts::{chips_action, left_after_posts};
-use card_set::Memory;
+use card_set::{Memory, TryPush};
 use chip_ledger::Seat;
 use ohh_members::Dialect;
 use ohh_members::words::Word;
@@ -78,7 +78,7 @@ fn push_move(
         Act::Raise => raise_action(dialect, played, left),
         Act::BringIn => return Ok(()),
     };
-    actions.push(action)?;
+    actions.try_push(action)?;
     Ok(())
 }
 

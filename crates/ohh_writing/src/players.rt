@@ -8,7 +8,7 @@ ghost use Rattle.ohh_writing.specs.Tree.{player_tree, players};
 use crate::members::{put_number, put_value};
 use crate::posts::amount_at;
 use crate::seating::number_among;
-use card_set::Memory;
+use card_set::{Memory, TryPush, string_from, try_format};
 use chip_ledger::{Seat, SeatRow};
 use hand_records::Notes;
 use serde_json::{Map, Value};
@@ -27,7 +27,7 @@ pub fn player_values(
     let mut values = Vec::new(alloc);
     for index in 0..stacks.seats {
         let seat = Seat { number: index + 1 };
-        values.push(player_value(alloc, stacks, notes, numbers, seat)?)?;
+        values.try_push(player_value(alloc, stacks, notes, numbers, seat)?)?;
     }
     Ok(Value::Array(values))
 }
@@ -79,7 +79,7 @@ fn name_of(alloc: Global, notes: &Notes, seat: Seat) -> Result<String, Memory>
 {
     let number = seat.number;
     match &notes.names[number as usize - 1] {
-        Some(name) => Ok(String::from_str(alloc, name.as_str())?),
-        None => Ok(format!(in alloc; "p{number}")?),
+        Some(name) => string_from(alloc, name.as_str()),
+        None => try_format!(in alloc; "p{number}"),
     }
 }

@@ -7,7 +7,7 @@ ghost use Rattle.play_event.specs.Seats.{all_seats};
 ghost use Rattle.ohh_writing.specs.Actions.{action_said, ante_post, big_blind_seat as big_blind_seat_said, blind_post, posts, small_blind_seat as small_blind_seat_said, straddle_post, with_chips};
 
 use crate::action::{Action, Detail};
-use card_set::Memory;
+use card_set::{Memory, TryPush};
 use chip_ledger::{Seat, SeatRow};
 use ohh_members::words::Word;
 use play_event::Setup;
@@ -18,8 +18,8 @@ pub fn push_posts(actions: &mut Vec<Action>, setup: &Setup) -> Result<(), Memory
         ≡ map action_said actions.old.items ++ posts setup.now) }
 {
     push_antes(actions, setup)?;
-    actions.push(blind_action(setup, Word::PostSmallBlind, small_blind_seat(setup)))?;
-    actions.push(blind_action(setup, Word::PostBigBlind, big_blind_seat(setup)))?;
+    actions.try_push(blind_action(setup, Word::PostSmallBlind, small_blind_seat(setup)))?;
+    actions.try_push(blind_action(setup, Word::PostBigBlind, big_blind_seat(setup)))?;
     push_straddles(actions, setup)
 }
 
@@ -45,7 +45,7 @@ fn push_ante(actions: &mut Vec<Action>, setup: &Setup, seat: Seat) -> Result<(),
         return Ok(());
     }
     let left = amount_at(&setup.stacks, seat.number).saturating_sub(ante);
-    actions.push(chips_action(Word::PostAnte, seat.number, ante, left))?;
+    actions.try_push(chips_action(Word::PostAnte, seat.number, ante, left))?;
     Ok(())
 }
 
@@ -85,7 +85,7 @@ fn push_straddle(actions: &mut Vec<Action>, setup: &Setup, seat: Seat) -> Result
     if seat.number <= 2 || amount_at(&setup.blinds, seat.number) == 0 {
         return Ok(());
     }
-    actions.push(blind_action(setup, Word::Straddle, seat))?;
+    actions.try_push(blind_action(setup, Word::Straddle, seat))?;
     Ok(())
 }
 

@@ -6,7 +6,7 @@ ghost use Rattle.ohh_writing.specs.Tree.{pot_tree, pots as pots_said, win_object
 
 use crate::members::{put_number, put_value};
 use crate::posts::amount_at;
-use card_set::Memory;
+use card_set::{Memory, TryPush};
 use chip_ledger::{Pot, Seat, SeatRow};
 use hand_records::Trace;
 use serde_json::{Map, Value};
@@ -18,7 +18,7 @@ pub fn pot_values(alloc: Global, trace: &Trace) -> Result<Value, Memory>
 {
     let mut values = Vec::new(alloc);
     for place in 0..trace.pots.count {
-        values.push(pot_value(alloc, trace, place, &trace.pots.pots[place as usize])?)?;
+        values.try_push(pot_value(alloc, trace, place, &trace.pots.pots[place as usize])?)?;
     }
     Ok(Value::Array(values))
 }
@@ -80,7 +80,7 @@ fn push_win(alloc: Global, wins: &mut Vec<Value>, share: &SeatRow, seat: Seat) -
     if amount == 0 {
         return Ok(());
     }
-    wins.push(win_value(alloc, seat.number, amount)?)?;
+    wins.try_push(win_value(alloc, seat.number, amount)?)?;
     Ok(())
 }
 

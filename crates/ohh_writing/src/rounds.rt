@@ -10,7 +10,7 @@ use crate::moves::push_moves;
 use crate::posts::push_posts;
 use crate::shows::{push_deals, push_showings};
 use crate::tidy_trace::TidyTrace;
-use card_set::{Memory, SlotRow};
+use card_set::{Memory, SlotRow, TryPush};
 use hand_records::Trace;
 use ohh_members::Dialect;
 use ohh_members::street::StreetName;
@@ -23,7 +23,7 @@ pub fn hand_rounds(alloc: Global, dialect: Dialect, tidy: &TidyTrace) -> Result<
         ≡ hand_rounds_said dialect tidy.now.trace.now) }
 {
     let mut rounds = Vec::new(alloc);
-    rounds.push(first_round(alloc, dialect, tidy)?)?;
+    rounds.try_push(first_round(alloc, dialect, tidy)?)?;
     push_board_round(alloc, &mut rounds, dialect, tidy, StreetName::Flop, 2)?;
     push_board_round(alloc, &mut rounds, dialect, tidy, StreetName::Turn, 3)?;
     push_board_round(alloc, &mut rounds, dialect, tidy, StreetName::River, 4)?;
@@ -72,7 +72,7 @@ fn push_board_round(
         return Ok(());
     }
     let actions = moves_on(alloc, dialect, tidy.trace, number)?;
-    rounds.push(Round {
+    rounds.try_push(Round {
         street,
         cards,
         actions,
@@ -111,7 +111,7 @@ fn push_showdown(alloc: Global, rounds: &mut Vec<Round>, tidy: &TidyTrace) -> Re
     if actions.is_empty() {
         return Ok(());
     }
-    rounds.push(Round {
+    rounds.try_push(Round {
         street: StreetName::Showdown,
         cards: SlotRow::new(),
         actions,

@@ -9,7 +9,7 @@ ghost use Rattle.ohh_members.specs.declared.words.Word.TheVariants as words;
 use crate::action::{Action, Detail};
 use crate::cards::{dealt_cards, has_known, held_cards};
 use crate::tidy_trace::TidyTrace;
-use card_set::{Memory, SlotRow};
+use card_set::{Memory, SlotRow, TryPush};
 use chip_ledger::Seat;
 use ohh_members::words::Word;
 
@@ -34,7 +34,7 @@ fn push_deal(actions: &mut Vec<Action>, seat: Seat, cards: SlotRow) -> Result<()
     if !has_known(cards.as_slice()) {
         return Ok(());
     }
-    actions.push(cards_action(Word::DealtCards, seat, cards))?;
+    actions.try_push(cards_action(Word::DealtCards, seat, cards))?;
     Ok(())
 }
 
@@ -57,9 +57,9 @@ fn push_showing(actions: &mut Vec<Action>, tidy: &TidyTrace, seat: Seat) -> Resu
     let trace = tidy.trace;
     if trace.shown.flags[seat.number as usize - 1] {
         let cards = held_cards(trace.places.as_slice(), seat);
-        actions.push(cards_action(Word::ShowsCards, seat, cards))?;
+        actions.try_push(cards_action(Word::ShowsCards, seat, cards))?;
     } else if trace.mucked.flags[seat.number as usize - 1] {
-        actions.push(muck_action(seat))?;
+        actions.try_push(muck_action(seat))?;
     }
     Ok(())
 }

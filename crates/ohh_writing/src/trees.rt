@@ -9,7 +9,7 @@ ghost use Rattle.ohh_writing.specs.Tree.{action_tree, action_trees, cards_tree, 
 
 use crate::action::{Action, Detail, Round};
 use crate::members::{put_number, put_text, put_value};
-use card_set::{Memory, Slot, slot_text};
+use card_set::{Memory, Slot, TryPush, slot_text};
 use ohh_members::street::name_of;
 use serde_json::{Map, Value};
 use std::alloc::Global;
@@ -24,7 +24,7 @@ pub fn round_values(alloc: Global, rounds: &[Round]) -> Result<Vec<Value>, Memor
     let mut number = 1;
     let mut rest = rounds;
     while let [round, behind @ ..] = rest {
-        values.push(round_value(alloc, number, round)?)?;
+        values.try_push(round_value(alloc, number, round)?)?;
         number += round.actions.len() as u64;
         rest = behind;
     }
@@ -54,7 +54,7 @@ fn action_values(alloc: Global, first: u64, actions: &[Action]) -> Result<Value,
     let mut number = first;
     let mut rest = actions;
     while let [action, behind @ ..] = rest {
-        values.push(action_value(alloc, number, *action)?)?;
+        values.try_push(action_value(alloc, number, *action)?)?;
         number += 1;
         rest = behind;
     }
@@ -118,7 +118,7 @@ fn card_values(alloc: Global, cards: &[Slot]) -> Result<Value, Memory>
     let mut values = Vec::new(alloc);
     let mut rest = cards;
     while let [card, behind @ ..] = rest {
-        values.push(card_value(alloc, *card)?)?;
+        values.try_push(card_value(alloc, *card)?)?;
         rest = behind;
     }
     Ok(Value::Array(values))
@@ -130,8 +130,8 @@ fn card_value(alloc: Global, card: Slot) -> Result<Value, Memory>
 {
     let [first, second] = letters_of(card);
     let mut text = String::new(alloc);
-    text.push(char::from(first))?;
-    text.push(char::from(second))?;
+    text.try_push(char::from(first))?;
+    text.try_push(char::from(second))?;
     Ok(Value::String(text))
 }
 

@@ -8,7 +8,7 @@ ghost use Rattle.phh_actions.specs.Written.{event_text as text_said, has_words};
 ghost use Rattle.play_event.specs.Ranges.{IsInRange};
 ghost use Rattle.chip_ledger.specs.SeatsSaid.{default_name};
 
-use card_set::{Card, Memory, Slot, slot_text};
+use card_set::{Card, Memory, Slot, TryPush, TryWrite, slot_text, string_from, try_format};
 use chip_ledger::Seat;
 use play_event::{Kind, Spelled};
 use std::alloc::Global;
@@ -38,7 +38,7 @@ fn hole_text(alloc: Global, seat: Seat, slots: &[Slot]) -> Result<String, Memory
     ensures { IfOk result (λ text. string_bytes text ≡ text_said (Hole seat.number slots.now)) }
 {
     let number = seat.number();
-    let mut text = format!(in alloc; "d dh p{number} ")?;
+    let mut text = try_format!(in alloc; "d dh p{number} ")?;
     push_slots(&mut text, slots)?;
     Ok(text)
 }
@@ -47,7 +47,7 @@ fn hole_text(alloc: Global, seat: Seat, slots: &[Slot]) -> Result<String, Memory
 fn board_text(alloc: Global, cards: &[Card]) -> Result<String, Memory>
     ensures { IfOk result (λ text. string_bytes text ≡ text_said (Board cards.now)) }
 {
-    let mut text = String::from_str(alloc, "d db ")?;
+    let mut text = string_from(alloc, "d db ")?;
     push_cards(&mut text, cards)?;
     Ok(text)
 }
@@ -60,7 +60,7 @@ fn raise_text(alloc: Global, seat: Seat, amount: Spelled) -> Result<String, Memo
 {
     let number = seat.number();
     match amount {
-        Spelled::To(amount) => Ok(format!(in alloc; "p{number} cbr {amount}")?),
+        Spelled::To(amount) => try_format!(in alloc; "p{number} cbr {amount}"),
         _ => unreachable!(),
     }
 }
@@ -71,7 +71,7 @@ fn discard_text(alloc: Global, seat: Seat, slots: &[Slot]) -> Result<String, Mem
 {
     let mut text = act_text(alloc, seat, "sd")?;
     if !slots.is_empty() {
-        text.push_str(" ")?;
+        text.try_push_str(" ")?;
         push_slots(&mut text, slots)?;
     }
     Ok(text)
@@ -101,7 +101,7 @@ fn act_text(alloc: Global, seat: Seat, act: &str) -> Result<String, Memory>
     ensures { IfOk result (λ text. string_bytes text ≡ default_name seat.number ++ 32 ∷ act.now) }
 {
     let number = seat.number();
-    Ok(format!(in alloc; "p{number} {act}")?)
+    try_format!(in alloc; "p{number} {act}")
 }
 
 // The letters of cards.
@@ -120,8 +120,8 @@ fn push_slot(text: &mut String, slot: Slot) -> Result<(), Memory>
     ensures { OnOk result (string_bytes text.new ≡ string_bytes text.old ++ slot_spelling slot) }
 {
     let [first, second] = letters_of(slot);
-    text.push(char::from(first))?;
-    text.push(char::from(second))?;
+    text.try_push(char::from(first))?;
+    text.try_push(char::from(second))?;
     Ok(())
 }
 

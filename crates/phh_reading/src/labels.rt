@@ -11,6 +11,7 @@ ghost use Rattle.phh_reading.specs.NoteFields.{label_said, labels_said, text_not
 use crate::field_fault::{FieldFault, FieldKey, FieldPlace};
 use crate::texts::{read_label, read_text_note};
 use crate::values::field;
+use card_set::displayed;
 use first_fault::{ReadError, Text};
 use std::alloc::Global;
 use toml::Table;
@@ -59,7 +60,7 @@ fn hand_at(alloc: Global, table: &Table, place: u32) -> Result<Option<Text>, Rea
 {
     match field(table, FieldKey::Hand) {
         Some(value) => {
-            let usual = place.to_string(alloc)?;
+            let usual = displayed(alloc, place)?;
             read_label(
                 alloc,
                 value,

@@ -7,7 +7,7 @@ ghost use Rattle.first_fault.specs.Digits.{are_digits as are_digits_said};
 ghost use Rattle.phh_reading.specs.Order.{is_multi_hand as are_hands_said, in_order, is_table as is_table_said, tables_among};
 ghost use Rattle.phh_reading.specs.Stripped.{number_digits};
 
-use card_set::Memory;
+use card_set::{Memory, TryInsert, TryPush};
 use first_fault::are_digits;
 use std::alloc::Global;
 use std::collections::BTreeMap;
@@ -72,7 +72,7 @@ fn values_in_order<'a>(alloc: Global, table: &'a Table) -> Result<NumberedTables
     for (key, value) in table.iter() {
         let text = key.as_str().as_bytes();
         let digits = without_zeros(text);
-        hands.insert((digits.len(), digits, text), value)?;
+        hands.try_insert((digits.len(), digits, text), value)?;
     }
     Ok(hands)
 }
@@ -106,7 +106,7 @@ fn push_table<'a>(tables: &mut Vec<&'a Table>, value: &'a Value) -> Result<(), M
 {
     match value {
         Value::Table(hand) => {
-            tables.push(hand)?;
+            tables.try_push(hand)?;
             Ok(())
         }
         _ => Ok(()),

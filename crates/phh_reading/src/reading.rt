@@ -12,7 +12,7 @@ ghost use Rattle.hand_records.specs.Moves.{moves_of};
 use crate::fault::{PhhFault, PhhHandFault};
 use crate::field_fault::{FieldFaultKind, FieldPlace};
 use crate::file::read_hands;
-use card_set::Memory;
+use card_set::{Memory, try_format};
 use first_fault::{ReadError, Text};
 use hand_records::Records;
 use std::alloc::Global;
@@ -92,7 +92,7 @@ fn place_text(alloc: Global, place: FieldPlace) -> Result<Text, Memory>
         return Text::new(alloc, key);
     }
     let item = place.item;
-    let text = format!(in alloc; "{key} {item}")?;
+    let text = try_format!(in alloc; "{key} {item}")?;
     Text::new(alloc, text.as_str())
 }
 

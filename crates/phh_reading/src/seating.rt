@@ -11,6 +11,7 @@ ghost use Rattle.chip_ledger.specs.SeatsSaid.{default_name};
 use crate::field_fault::{FieldFault, FieldKey, FieldPlace};
 use crate::texts::read_text_note;
 use crate::values::{field, read_items, read_number};
+use card_set::try_format;
 use first_fault::{ReadError, Text};
 use hand_records::non_default_seats;
 use std::alloc::Global;
@@ -101,7 +102,7 @@ fn read_name(alloc: Global, value: &Value, seat: u8) -> Result<Option<Text>, Rea
         key: FieldKey::Players,
         item: u64::from(seat),
     };
-    let usual = format!(in alloc; "p{seat}")?;
+    let usual = try_format!(in alloc; "p{seat}")?;
     read_text_note(alloc, value, usual.as_str(), place)
 }
 

@@ -8,6 +8,7 @@ ghost use Rattle.phh_reading.specs.NoteFields.{label_said, text_note_said};
 
 use crate::field_fault::{FieldFault, FieldFaultKind, FieldPlace};
 use crate::values::{field_fault_at, read_text};
+use card_set::displayed;
 use first_fault::{Quantity, ReadError, Text};
 use hand_records::keep_text;
 use std::alloc::Global;
@@ -42,7 +43,7 @@ pub fn read_label(
     match value {
         Value::String(text) => keep_text(alloc, text.as_str(), default, too_long(place)),
         Value::Integer(number) => {
-            let text = number.to_string(alloc)?;
+            let text = displayed(alloc, number)?;
             keep_text(alloc, text.as_str(), default, too_long(place))
         }
         _ => Err(field_fault_at(FieldFaultKind::WrongType, place)),

@@ -13,7 +13,7 @@ use crate::notes::put_notes;
 use crate::played::put_trace;
 use crate::setup::put_setup;
 use crate::spelled::find_refusal;
-use card_set::Memory;
+use card_set::{Memory, displayed};
 use hand_records::{Keep, Play, WriteRefusal};
 use std::alloc::Global;
 use toml::ser::Error;
@@ -44,14 +44,14 @@ pub fn write(alloc: Global, plays: &[Play], keep: Keep) -> Result<Vec<u8>, Write
     match toml::table_to_string(alloc, &table) {
         Ok(text) => Ok(text.into_bytes()),
         Err(Error::DateInvalid) => unreachable!(),
-        Err(Error::OutOfMemory) => Err(WriteRefusal::Memory(told_by_printer())),
+        Err(Error::OutOfMemory) => Err(WriteRefusal::Memory(refused_by_printer())),
     }
 }
 
 // Out of memory, as reported by the printer of documents; that a request was refused is assumed
 // here.
 #[tactic(auto, using(card_set::specs::Refusal::an_allocator_said_so))]
-fn told_by_printer() -> Memory {
+fn refused_by_printer() -> Memory {
     Memory {}
 }
 
@@ -68,7 +68,7 @@ fn make_document(alloc: Global, plays: &[Play]) -> Result<Table, Memory>
     while left > 0 {
         left -= 1;
         let hand = make_hand(alloc, left, &plays[left])?;
-        let key = (left + 1).to_string(alloc)?;
+        let key = displayed(alloc, left + 1)?;
         put(alloc, &mut table, key.as_str(), Value::Table(hand))?;
     }
     Ok(table)

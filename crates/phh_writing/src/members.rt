@@ -7,7 +7,7 @@ ghost use Rattle.phh_writing.specs.Members.{put as put_said};
 ghost use Rattle.phh_writing.specs.HandFields.{numbers};
 ghost use Rattle.chip_ledger.specs.SeatRow.{amounts_in};
 
-use card_set::Memory;
+use card_set::{Memory, TryInsert, TryPush, string_from};
 use chip_ledger::SeatRow;
 use std::alloc::Global;
 use toml::{Table, Value};
@@ -17,7 +17,7 @@ pub fn put_text(alloc: Global, table: &mut Table, key: &str, text: &str) -> Resu
     ensures { OnOk result (table_view table.new
         ≡ put_said key.now (string text.now) (table_view table.old)) }
 {
-    let text = String::from_str(alloc, text)?;
+    let text = string_from(alloc, text)?;
     put(alloc, table, key, Value::String(text))
 }
 
@@ -57,7 +57,7 @@ pub fn put_amounts(
 {
     let mut values = Vec::new(alloc);
     for index in 0..count {
-        values.push(number(amounts[index]))?;
+        values.try_push(number(amounts[index]))?;
     }
     put(alloc, table, key, Value::Array(values))
 }
@@ -75,7 +75,7 @@ pub fn put(alloc: Global, table: &mut Table, key: &str, value: Value) -> Result<
     ensures { OnOk result (table_view table.new
         ≡ put_said key.now (view value) (table_view table.old)) }
 {
-    let name = String::from_str(alloc, key)?;
-    table.insert(name, value)?;
+    let name = string_from(alloc, key)?;
+    table.try_insert(name, value)?;
     Ok(())
 }

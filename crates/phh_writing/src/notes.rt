@@ -9,7 +9,7 @@ ghost use Rattle.phh_writing.specs.HandFields.{fraction as fraction_said, hand_f
 ghost use Rattle.hand_records.specs.AllowedNotes.{name_written};
 
 use crate::members::{number, put, put_text, text};
-use card_set::Memory;
+use card_set::{Memory, TryPush, displayed, string_from, try_format};
 use first_fault::{Text, are_digits, read_digits};
 use hand_records::{Clock, Notes};
 use std::alloc::Global;
@@ -133,7 +133,7 @@ fn put_hand_name(
     let Some(name) = name else {
         return Ok(());
     };
-    let default = place.to_string(alloc)?;
+    let default = displayed(alloc, place)?;
     if name.as_str().as_bytes() == default.as_bytes() {
         return Ok(());
     }
@@ -189,7 +189,7 @@ fn seats_of(alloc: Global, seats: &[u8], count: u8) -> Result<Vec<Value>, Memory
 {
     let mut values = Vec::new(alloc);
     for index in 0..count as usize {
-        values.push(number(u64::from(seats[index])))?;
+        values.try_push(number(u64::from(seats[index])))?;
     }
     Ok(values)
 }
@@ -206,7 +206,7 @@ fn put_names(alloc: Global, table: &mut Table, count: u8, notes: &Notes) -> Resu
     let mut values = Vec::new(alloc);
     for index in 0..count {
         let name = name_of(alloc, notes, index + 1)?;
-        values.push(text(name))?;
+        values.try_push(text(name))?;
     }
     put(alloc, table, "players", Value::Array(values))
 }
@@ -230,7 +230,7 @@ fn name_of(alloc: Global, notes: &Notes, seat: u8) -> Result<String, Memory>
     ensures { IfOk result (λ name. string_bytes name ≡ name_written notes.now seat) }
 {
     match &notes.names[seat as usize - 1] {
-        Some(name) => Ok(String::from_str(alloc, name.as_str())?),
-        None => Ok(format!(in alloc; "p{seat}")?),
+        Some(name) => string_from(alloc, name.as_str()),
+        None => try_format!(in alloc; "p{seat}"),
     }
 }

@@ -11,7 +11,7 @@ ghost use Rattle.phh_writing.specs.Members.{put as put_said, put_if, with_fields
 ghost use Rattle.phh_writing.specs.HandFields.{rakes_field, texts, trace_fields};
 
 use crate::members::{put, put_amounts, put_row};
-use card_set::Memory;
+use card_set::{Memory, TryPush};
 use hand_canon::canon;
 use hand_records::Trace;
 use phh_actions::event_text;
@@ -71,7 +71,7 @@ fn put_actions(alloc: Global, table: &mut Table, script: &Script) -> Result<(), 
     let mut cursor = script.cursor();
     while let Some(event) = cursor.next() {
         let text = event_text(alloc, event.kind)?;
-        values.push(Value::String(text))?;
+        values.try_push(Value::String(text))?;
     }
     put(alloc, table, "actions", Value::Array(values))
 }

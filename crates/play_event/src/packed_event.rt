@@ -1,7 +1,7 @@
 //! A buffer on the stack for the bytes of one event, until they are complete.
 ghost use Rattle.std.specs.Prelude.{◌≡◌, ◌+◌, ◌<◌, ◌≤◌, [], ◌∷◌, ◌++◌, length, OnOk, OnErr};
 
-use card_set::Memory;
+use card_set::{Memory, TryExtend};
 use std::marker::Model;
 
 /// The bytes of a packed event so far, at most fifteen: those of a raise, or of a call with chips.
@@ -58,7 +58,7 @@ impl PackedEvent {
         ensures unchanged { OnErr result (script.new.items ≡ script.old.items) }
     {
         let before = script.len();
-        script.extend_from_slice(&self.bytes)?;
+        script.try_extend_from_slice(&self.bytes)?;
         script.truncate(before + self.len);
         Ok(())
     }

@@ -7,7 +7,7 @@ ghost use Rattle.play_event.specs.PackedForm.{actor_byte, card_byte, slot_byte, 
 
 use crate::event::{Event, Kind, Spelled};
 use crate::packed_event::PackedEvent;
-use card_set::{Card, Memory, Slot, place_in_deck};
+use card_set::{Card, Memory, Slot, place_in_deck, reserve};
 use chip_ledger::Seat;
 
 // Enough bytes for the events of most hands.
@@ -29,7 +29,7 @@ pub(crate) fn append(script: &mut Vec<u8>, event: Event) -> Result<(), Memory>
     ensures event { IsEvent event }
 {
     if script.is_empty() {
-        script.try_reserve(USUAL_BYTES)?;
+        reserve(script, USUAL_BYTES)?;
     }
     let mut packed = PackedEvent::new();
     packed.push(number_of_kind(event.kind));

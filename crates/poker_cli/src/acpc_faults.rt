@@ -9,7 +9,7 @@ use crate::answer::{Answer, refusal};
 use crate::limits::limit_line;
 use crate::status::Status;
 use acpc_game::AcpcFault;
-use card_set::Memory;
+use card_set::{Memory, try_format};
 use std::alloc::Global;
 
 /// The answer to a log that cannot be read.
@@ -37,7 +37,7 @@ fn bad_acpc_line(alloc: Global, fault: &AcpcFault) -> Result<String, Memory>
     let line = line_of(fault);
     let byte = byte_of(fault);
     let name = fault_name(fault);
-    Ok(format!(in alloc; "bad input: line {line}, byte {byte}: {name}\n")?)
+    try_format!(in alloc; "bad input: line {line}, byte {byte}: {name}\n")
 }
 
 /// The name of a fault.

@@ -15,7 +15,7 @@ use crate::status::Status;
 use crate::task::Format;
 use crate::ways::{format_under, plain_format};
 use acpc_game::Game;
-use card_set::Memory;
+use card_set::{Memory, try_format};
 use command_words::{NotationName, PlainNotation};
 use convert_core::{Acpc, ConvertFault, Ohh, Phh, plays};
 use hand_differences::{Difference, difference_text, first_difference};
@@ -116,7 +116,7 @@ fn in_file(alloc: Global, answer: Answer) -> Result<Answer, Memory>
         line,
     } = answer;
     let line = line.as_str();
-    let line = format!(in alloc; "file: {line}")?;
+    let line = try_format!(in alloc; "file: {line}")?;
     Ok(Answer {
         status,
         output,
@@ -178,7 +178,7 @@ fn first_different(notes: bool, plays: &[Play], others: &[Play]) -> Option<HandD
 fn to_same(alloc: Global, hands: usize) -> Result<Answer, Memory>
     ensures { IfOk result (λ answer. answer_told answer ≡ to_same_said hands) }
 {
-    let text = format!(in alloc; "same hands: {hands}\n")?;
+    let text = try_format!(in alloc; "same hands: {hands}\n")?;
     Ok(done_with(alloc, text))
 }
 
@@ -190,7 +190,7 @@ fn to_different(alloc: Global, differs: HandDifference) -> Result<Answer, Memory
     let number = differs.number;
     let text = difference_text(alloc, differs.difference)?;
     let text = text.as_str();
-    let line = format!(in alloc; "differs: hand {number}: {text}\n")?;
+    let line = try_format!(in alloc; "differs: hand {number}: {text}\n")?;
     Ok(refusal(alloc, Status::Differs, line))
 }
 
@@ -198,6 +198,6 @@ fn to_different(alloc: Global, differs: HandDifference) -> Result<Answer, Memory
 fn to_other_count(alloc: Global, hands: usize, others: usize) -> Result<Answer, Memory>
     ensures { IfOk result (λ answer. answer_told answer ≡ to_other_count_said hands others) }
 {
-    let line = format!(in alloc; "differs: hands {hands} and {others}\n")?;
+    let line = try_format!(in alloc; "differs: hands {hands} and {others}\n")?;
     Ok(refusal(alloc, Status::Differs, line))
 }

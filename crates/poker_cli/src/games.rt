@@ -11,7 +11,7 @@ use crate::answer::{Answer, MOST_INPUT, refusal};
 use crate::limits::excess_line;
 use crate::status::Status;
 use acpc_game::{AcpcFault, Game, read_game};
-use card_set::Memory;
+use card_set::{Memory, try_format};
 use host_io::{Fetched, Shelf, ShelfFault};
 use std::alloc::Global;
 
@@ -79,5 +79,5 @@ fn bad_game_line(alloc: Global, fault: &AcpcFault) -> Result<String, Memory>
 {
     let line = line_of(fault);
     let name = fault_name(fault);
-    Ok(format!(in alloc; "bad game: line {line}: {name}\n")?)
+    try_format!(in alloc; "bad game: line {line}: {name}\n")
 }

@@ -7,7 +7,7 @@ ghost use Rattle.hand_records.specs.SoundRecord.{IsSoundRecord};
 ghost use Rattle.poker_cli.specs.Verdicts.{ArePrinted, IsJudged, judged_end};
 
 use crate::refusals::refusal_text;
-use card_set::Memory;
+use card_set::{Memory, TryWrite, try_write};
 use convert_core::{PlaysFault, Refusal, VerdictVisitor, judge_all};
 use hand_records::{Play, Records};
 use std::alloc::Global;
@@ -82,7 +82,7 @@ fn push_legal(text: &mut String, number: usize) -> Result<(), Memory>
     ensures { OnOk result (string_bytes text.new ≡ string_bytes text.old
         ++ (codes "hand " ++ (decimal number ++ codes ": legal\n"))) }
 {
-    write!(text, "hand {number}: legal\n")?;
+    try_write!(text, "hand {number}: legal\n")?;
     Ok(())
 }
 
@@ -93,7 +93,7 @@ fn push_refused(text: &mut String, number: usize, why: &String) -> Result<(), Me
         ++ codes "\n"))))) }
 {
     let why = why.as_str();
-    write!(text, "hand {number}: {why}\n")?;
+    try_write!(text, "hand {number}: {why}\n")?;
     Ok(())
 }
 
@@ -102,6 +102,6 @@ fn push_end(text: &mut String, legal: usize, hands: usize) -> Result<(), Memory>
     ensures { OnOk result (string_bytes text.new
         ≡ string_bytes text.old ++ judged_end legal hands) }
 {
-    write!(text, "legal hands: {legal} of {hands}\n")?;
+    try_write!(text, "legal hands: {legal} of {hands}\n")?;
     Ok(())
 }

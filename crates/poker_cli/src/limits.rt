@@ -2,7 +2,7 @@
 ghost use Rattle.std.specs.Prelude.{◌≡◌, IfOk, string_bytes};
 ghost use Rattle.poker_cli.specs.Limits as limits;
 
-use card_set::Memory;
+use card_set::{Memory, try_format};
 use first_fault::{MOST_FILE_MOVES, MOST_HANDS, MOST_TEXT_BYTES, Quantity};
 use play_event::{MOST_MOVES, MOST_OTHER_EVENTS};
 use std::alloc::Global;
@@ -18,7 +18,7 @@ pub fn limit_line(alloc: Global, quantity: Quantity) -> Result<String, Memory>
 pub fn excess_line(alloc: Global, what: &str, most: usize) -> Result<String, Memory>
     ensures { IfOk result (λ line. string_bytes line ≡ limits.excess_line what.now most) }
 {
-    Ok(format!(in alloc; "limit: {what} {most}\n")?)
+    try_format!(in alloc; "limit: {what} {most}\n")
 }
 
 // What a file has too many of.

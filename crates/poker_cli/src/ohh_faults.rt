@@ -9,7 +9,7 @@ ghost use Rattle.poker_cli.specs.OhhFaults.{bad_member_line, fault_name as fault
 use crate::answer::{Answer, refusal};
 use crate::limits::limit_line;
 use crate::status::Status;
-use card_set::Memory;
+use card_set::{Memory, try_format};
 use first_fault::Text;
 use ohh_reading::OhhFault;
 use std::alloc::Global;
@@ -46,7 +46,7 @@ pub fn answer_to_ohh_fault(alloc: Global, fault: &OhhFault) -> Result<Answer, Me
 fn no_text_line(alloc: Global, hand: u32) -> Result<String, Memory>
     ensures { IfOk result (λ line. string_bytes line ≡ no_text_line_said hand) }
 {
-    Ok(format!(in alloc; "bad input: hand {hand}: Text\n")?)
+    try_format!(in alloc; "bad input: hand {hand}: Text\n")
 }
 
 // The answer to a fault of this name at a member of a hand.
@@ -55,7 +55,7 @@ fn bad_member(alloc: Global, hand: u32, path: &Text, name: &str) -> Result<Answe
         ≡ definition.refusal Status.BadInput (bad_member_line hand path.now name.now)) }
 {
     let path = path.as_str();
-    let line = format!(in alloc; "bad input: hand {hand}, {path}: {name}\n")?;
+    let line = try_format!(in alloc; "bad input: hand {hand}, {path}: {name}\n")?;
     Ok(refusal(alloc, Status::BadInput, line))
 }
 

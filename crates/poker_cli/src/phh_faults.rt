@@ -9,7 +9,7 @@ ghost use Rattle.poker_cli.specs.Told.{answer_told};
 use crate::answer::{Answer, refusal};
 use crate::limits::limit_line;
 use crate::status::Status;
-use card_set::Memory;
+use card_set::{Memory, string_from, try_format};
 use first_fault::Text;
 use phh_reading::PhhFault;
 use std::alloc::Global;
@@ -21,7 +21,7 @@ pub fn answer_to_phh_fault(alloc: Global, fault: &PhhFault) -> Result<Answer, Me
 {
     match fault {
         PhhFault::Text => {
-            let line = String::from_str(alloc, "bad input: Text\n")?;
+            let line = string_from(alloc, "bad input: Text\n")?;
             Ok(refusal(alloc, Status::BadInput, line))
         }
         PhhFault::TooMany { quantity, .. } => {
@@ -46,7 +46,7 @@ fn bad_hand(alloc: Global, hand: u32, key: &Text, name: &str) -> Result<Answer, 
         ≡ definition.refusal Status.BadInput (bad_hand_line hand key.now name.now)) }
 {
     let key = key.as_str();
-    let line = format!(in alloc; "bad input: hand {hand}, {key}: {name}\n")?;
+    let line = try_format!(in alloc; "bad input: hand {hand}, {key}: {name}\n")?;
     Ok(refusal(alloc, Status::BadInput, line))
 }
 

@@ -13,7 +13,7 @@ ghost use Rattle.poker_cli.specs.declared.status.Status.{Status as AnyStatus};
 
 use crate::entry::{print_line, run};
 use crate::status::Status;
-use card_set::Memory;
+use card_set::{Memory, TryPush};
 use host_io::{FileShelf, Shelf, Sink, Source, StdSink, StdSource};
 use std::alloc::Global;
 use std::env::{self, Args};
@@ -143,7 +143,7 @@ fn words_left(alloc: Global, mut all: Args) -> Result<Vec<String>, Memory>
 {
     let mut words = Vec::new(alloc);
     while let Some(word) = all.next() {
-        words.push(word)?;
+        words.try_push(word)?;
     }
     Ok(words)
 }

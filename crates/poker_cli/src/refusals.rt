@@ -2,7 +2,7 @@
 ghost use Rattle.std.specs.Prelude.{◌≡◌, IfOk, string_bytes};
 ghost use Rattle.poker_cli.specs.Refusals as definition;
 
-use card_set::Memory;
+use card_set::{Memory, string_from, try_format};
 use convert_core::Refusal;
 use hand_canon::{FactDiffers, Which};
 use play_event::Illegal;
@@ -15,7 +15,7 @@ pub fn refused_line(alloc: Global, hand: u32, why: &Refusal) -> Result<String, M
 {
     let why = refusal_text(alloc, why)?;
     let why = why.as_str();
-    Ok(format!(in alloc; "refused: hand {hand}: {why}\n")?)
+    try_format!(in alloc; "refused: hand {hand}: {why}\n")
 }
 
 /// Why a hand is refused.
@@ -36,13 +36,13 @@ fn fault_text(alloc: Global, fault: &ReplayFault) -> Result<String, Memory>
         ReplayFault::Illegal { event, at, why } => {
             let why = reason_text(alloc, why)?;
             let why = why.as_str();
-            Ok(format!(in alloc; "event {event}, action {at}: {why}")?)
+            try_format!(in alloc; "event {event}, action {at}: {why}")
         }
         ReplayFault::EndsEarly { events } => {
-            Ok(format!(in alloc; "ends early after {events} events")?)
+            try_format!(in alloc; "ends early after {events} events")
         }
-        ReplayFault::RakeTooBig { pot } => Ok(format!(in alloc; "pot {pot}: rake too big")?),
-        ReplayFault::NoShownHand { pot } => Ok(format!(in alloc; "pot {pot}: no shown hand")?),
+        ReplayFault::RakeTooBig { pot } => try_format!(in alloc; "pot {pot}: rake too big"),
+        ReplayFault::NoShownHand { pot } => try_format!(in alloc; "pot {pot}: no shown hand"),
         ReplayFault::Memory(_) => Ok(String::new(alloc)),
     }
 }
@@ -55,7 +55,7 @@ fn difference_text(alloc: Global, differs: &FactDiffers) -> Result<String, Memor
     let which = which.as_str();
     let stated = differs.stated;
     let replayed = differs.replayed;
-    Ok(format!(in alloc; "{which} stated {stated}, replayed {replayed}")?)
+    try_format!(in alloc; "{which} stated {stated}, replayed {replayed}")
 }
 
 // Which stated fact differs from the replayed one.
@@ -65,16 +65,16 @@ fn which_text(alloc: Global, which: Which) -> Result<String, Memory>
     match which {
         Which::Finish(seat) => {
             let number = seat.number;
-            Ok(format!(in alloc; "finish p{number}")?)
+            try_format!(in alloc; "finish p{number}")
         }
         Which::Win(seat) => {
             let number = seat.number;
-            Ok(format!(in alloc; "win p{number}")?)
+            try_format!(in alloc; "win p{number}")
         }
-        Which::Pots => Ok(String::from_str(alloc, "pots")?),
+        Which::Pots => string_from(alloc, "pots"),
         Which::Value(seat) => {
             let number = seat.number;
-            Ok(format!(in alloc; "value p{number}")?)
+            try_format!(in alloc; "value p{number}")
         }
     }
 }
@@ -85,7 +85,7 @@ fn reason_text(alloc: Global, reason: Illegal) -> Result<String, Memory>
 {
     let name = match reason {
         Illegal::AmountDiffers { stated, due } => {
-            return Ok(format!(in alloc; "AmountDiffers stated {stated}, due {due}")?);
+            return try_format!(in alloc; "AmountDiffers stated {stated}, due {due}");
         }
         Illegal::HandOver => "HandOver",
         Illegal::WrongKind => "WrongKind",
@@ -99,5 +99,5 @@ fn reason_text(alloc: Global, reason: Illegal) -> Result<String, Memory>
         Illegal::RaiseTooSmall => "RaiseTooSmall",
         Illegal::RaiseTooBig => "RaiseTooBig",
     };
-    Ok(String::from_str(alloc, name)?)
+    string_from(alloc, name)
 }

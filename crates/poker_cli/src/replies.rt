@@ -11,7 +11,7 @@ use crate::answer::{Answer, answer_to_unspelled, done, refusal};
 use crate::status::Status;
 use acpc_game::write_game;
 use acpc_writing::game_of;
-use card_set::Memory;
+use card_set::{Memory, try_format};
 use hand_equity::{NoEquity, equity_of, equity_text};
 use hand_options::{options, options_text};
 use hand_records::Play;
@@ -103,7 +103,7 @@ fn answer_with_equity(
 fn no_hand(alloc: Global, hand: u32, hands: usize) -> Result<Answer, Memory>
     ensures { IfOk result (λ answer. answer_told answer ≡ replies.no_hand hand hands) }
 {
-    let line = format!(in alloc; "no such hand: {hand} of {hands}\n")?;
+    let line = try_format!(in alloc; "no such hand: {hand} of {hands}\n")?;
     Ok(refusal(alloc, Status::NoSuch, line))
 }
 
@@ -111,7 +111,7 @@ fn no_hand(alloc: Global, hand: u32, hands: usize) -> Result<Answer, Memory>
 fn no_event(alloc: Global, hand: u32, events: u32, all: usize) -> Result<Answer, Memory>
     ensures { IfOk result (λ answer. answer_told answer ≡ replies.no_event hand events all) }
 {
-    let line = format!(in alloc; "no such event: hand {hand}: {events} of {all}\n")?;
+    let line = try_format!(in alloc; "no such event: hand {hand}: {events} of {all}\n")?;
     Ok(refusal(alloc, Status::NoSuch, line))
 }
 
@@ -119,7 +119,7 @@ fn no_event(alloc: Global, hand: u32, events: u32, all: usize) -> Result<Answer,
 fn no_street(alloc: Global, hand: u32, street: u8) -> Result<Answer, Memory>
     ensures { IfOk result (λ answer. answer_told answer ≡ replies.no_street hand street) }
 {
-    let line = format!(in alloc; "no such street: hand {hand}: {street}\n")?;
+    let line = try_format!(in alloc; "no such street: hand {hand}: {street}\n")?;
     Ok(refusal(alloc, Status::NoSuch, line))
 }
 
@@ -127,6 +127,6 @@ fn no_street(alloc: Global, hand: u32, street: u8) -> Result<Answer, Memory>
 fn no_cards(alloc: Global, hand: u32, seat: u8) -> Result<Answer, Memory>
     ensures { IfOk result (λ answer. answer_told answer ≡ replies.no_cards hand seat) }
 {
-    let line = format!(in alloc; "no such cards: hand {hand}: p{seat}\n")?;
+    let line = try_format!(in alloc; "no such cards: hand {hand}: p{seat}\n")?;
     Ok(refusal(alloc, Status::NoSuch, line))
 }

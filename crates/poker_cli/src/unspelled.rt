@@ -2,7 +2,7 @@
 ghost use Rattle.std.specs.Prelude.{◌≡◌, IfOk, string_bytes};
 ghost use Rattle.poker_cli.specs.Unspelled.{fact_text as fact_text_said, unspelled_line as unspelled_line_said};
 
-use card_set::Memory;
+use card_set::{Memory, string_from, try_format};
 use hand_differences::note_text;
 use hand_records::Unspelled;
 use std::alloc::Global;
@@ -13,7 +13,7 @@ pub fn unspelled_line(alloc: Global, hand: u32, fact: Unspelled) -> Result<Strin
 {
     let fact = fact_text(alloc, fact)?;
     let fact = fact.as_str();
-    Ok(format!(in alloc; "unspelled: hand {hand}: {fact}\n")?)
+    try_format!(in alloc; "unspelled: hand {hand}: {fact}\n")
 }
 
 // The name of a fact.
@@ -37,8 +37,8 @@ fn fact_text(alloc: Global, fact: Unspelled) -> Result<String, Memory>
         Unspelled::OddChip => "OddChip",
         Unspelled::Note(note) => {
             let note = note_text(note);
-            return Ok(format!(in alloc; "Note {note}")?);
+            return try_format!(in alloc; "Note {note}");
         }
     };
-    Ok(String::from_str(alloc, name)?)
+    string_from(alloc, name)
 }

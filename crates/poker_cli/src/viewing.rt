@@ -18,7 +18,7 @@ use crate::limits::excess_line;
 use crate::status::Status;
 use acpc_game::Game;
 use acpc_view::{views, views_len};
-use card_set::Memory;
+use card_set::{Memory, TryExtend, try_format};
 use chip_ledger::Seat;
 use convert_core::{Notation, PlaysFault, read_records};
 use hand_records::{Play, Records};
@@ -153,7 +153,7 @@ fn push_views(
         ++ views_text game.now.no_limit seat.number place play.now) }
 {
     let seen = views(alloc, game, play, place as u32, seat)?;
-    lines.extend_from_slice(&seen)?;
+    lines.try_extend_from_slice(&seen)?;
     Ok(())
 }
 
@@ -162,6 +162,6 @@ fn no_seat(alloc: Global, seat: Seat, seats: u8) -> Result<Answer, Memory>
     ensures { IfOk result (λ answer. answer_told answer ≡ no_seat_said seat.number seats) }
 {
     let seat = seat.number;
-    let line = format!(in alloc; "no such seat: {seat} of {seats}\n")?;
+    let line = try_format!(in alloc; "no such seat: {seat} of {seats}\n")?;
     Ok(refusal(alloc, Status::NoSuch, line))
 }

@@ -8,7 +8,7 @@ ghost use Rattle.play_event.specs.declared.setup.Setup.{Setup as AnySetup};
 ghost use Rattle.printed_hands.specs.Steps.{HasPut, MayAdd, chips_text};
 
 use crate::amounts::push_row;
-use card_set::Memory;
+use card_set::{Memory, TryWrite};
 use chip_ledger::{Seat, SeatRow};
 use play_event::{Move, Setup};
 
@@ -56,10 +56,10 @@ pub fn push_chips(text: &mut String, setup: &Setup, put: &SeatRow) -> Result<(),
         let seat = Seat { number: index + 1 };
         left.set(seat, setup.stacks.get(seat).saturating_sub(put.get(seat)));
     }
-    text.push_str(" | stacks")?;
+    text.try_push_str(" | stacks")?;
     push_row(text, &left)?;
-    text.push_str(" | in")?;
+    text.try_push_str(" | in")?;
     push_row(text, put)?;
-    text.push_str("\n")?;
+    text.try_push_str("\n")?;
     Ok(())
 }

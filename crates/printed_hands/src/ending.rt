@@ -5,7 +5,7 @@ ghost use Rattle.chip_ledger.specs.SeatRow.{amounts_in};
 ghost use Rattle.printed_hands.specs.Ending.{divided, ending_lines, entries, listed_from, pot_line, pot_lines, rake_entry, return_line, return_lines};
 
 use crate::amounts::push_row;
-use card_set::Memory;
+use card_set::{Memory, TryWrite, try_write};
 use chip_ledger::{Pot, SeatRow};
 use hand_records::Trace;
 
@@ -22,9 +22,9 @@ pub fn push_ending(text: &mut String, trace: &Trace) -> Result<(), Memory>
         &trace.shares.shares[..trace.shares.count as usize],
         &trace.setup.rakes.rakes,
     )?;
-    text.push_str("finish")?;
+    text.try_push_str("finish")?;
     push_row(text, &trace.finish)?;
-    text.push_str("\n")?;
+    text.try_push_str("\n")?;
     Ok(())
 }
 
@@ -46,7 +46,7 @@ fn push_return(text: &mut String, seat: u8, amount: u64) -> Result<(), Memory>
         ≡ string_bytes text.old ++ return_line seat amount) }
 {
     if amount > 0 {
-        write!(text, "return p{seat} {amount}\n")?;
+        try_write!(text, "return p{seat} {amount}\n")?;
     }
     Ok(())
 }
@@ -88,9 +88,9 @@ fn push_pot(
         ≡ string_bytes text.old ++ pot_line number pot.now share.now rake) }
 {
     let chips = pot.chips;
-    write!(text, "pot {number} {chips}: ")?;
+    try_write!(text, "pot {number} {chips}: ")?;
     push_entries(text, true, 1, &share.amounts[..share.seats as usize], rake)?;
-    text.push_str("\n")?;
+    text.try_push_str("\n")?;
     Ok(())
 }
 
@@ -114,7 +114,7 @@ fn push_entries(
                 return push_entries(text, is_first, seat + 1, others, rake);
             }
             push_comma(text, is_first)?;
-            write!(text, "p{seat} {amount}")?;
+            try_write!(text, "p{seat} {amount}")?;
             push_entries(text, false, seat + 1, others, rake)
         }
     }
@@ -129,7 +129,7 @@ fn push_rake(text: &mut String, is_first: bool, rake: u64) -> Result<(), Memory>
         return Ok(());
     }
     push_comma(text, is_first)?;
-    write!(text, "rake {rake}")?;
+    try_write!(text, "rake {rake}")?;
     Ok(())
 }
 
@@ -141,6 +141,6 @@ fn push_comma(text: &mut String, is_first: bool) -> Result<(), Memory>
     if is_first {
         return Ok(());
     }
-    text.push_str(", ")?;
+    text.try_push_str(", ")?;
     Ok(())
 }

@@ -13,7 +13,7 @@ ghost use Rattle.printed_hands.specs.Steps.{HasPut, MayAdd, chips_text, head_lin
 
 use crate::chips::{add, posted_row, push_chips};
 use crate::ending::push_ending;
-use card_set::Memory;
+use card_set::{Memory, TryWrite, try_write};
 use chip_ledger::SeatRow;
 use hand_canon::named_move;
 use hand_records::Play;
@@ -59,7 +59,7 @@ fn push_head(text: &mut String, number: u64, setup: &Setup) -> Result<(), Memory
         ≡ string_bytes text.old ++ head_lines number setup.now) }
 {
     let code = setup.code.text();
-    write!(text, "hand {number} {code}\n0 posts")?;
+    try_write!(text, "hand {number} {code}\n0 posts")?;
     push_chips(text, setup, &posted_row(setup))?;
     Ok(())
 }
@@ -120,7 +120,7 @@ fn push_event(
 {
     let event = event_text(alloc, kind)?;
     let event = event.as_str();
-    write!(text, "{number} {event}")?;
+    try_write!(text, "{number} {event}")?;
     push_chips(text, setup, put)?;
     Ok(())
 }

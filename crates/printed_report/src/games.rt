@@ -7,7 +7,7 @@ ghost use Rattle.printed_report.specs.Games.{AreFewSums, MOST_POTS, all_wanted, 
 ghost use Rattle.printed_report.specs.Report.{hand_of};
 
 use crate::lines::push_hands_line;
-use card_set::{Memory, list_with_room};
+use card_set::{Memory, TryPush, list_with_room};
 use hand_records::{Play, Trace};
 use play_event::Code;
 use std::alloc::Global;
@@ -42,7 +42,7 @@ pub fn no_sums(alloc: Global) -> Result<Vec<Sums>, Memory>
     ];
     let mut sums = list_with_room(alloc, wanted.len())?;
     for one in &wanted {
-        sums.push(none_of(*one))?;
+        sums.try_push(none_of(*one))?;
     }
     Ok(sums)
 }

@@ -6,7 +6,7 @@ ghost use Rattle.printed_report.specs.Tallies.{IsWithin, MOST_SEATS};
 ghost use Rattle.report_layout.specs.Columns.{left_in, right_in};
 
 use crate::tally::Tally;
-use card_set::Memory;
+use card_set::{Memory, TryWrite, try_format};
 use report_layout::{push_left, push_number, push_right, push_signed};
 use std::alloc::Global;
 
@@ -24,9 +24,9 @@ pub fn push_hands_line(
 {
     push_left(text, title, 6)?;
     push_number(alloc, text, hands, 8)?;
-    let pots = format!(in alloc; "{pots}")?;
+    let pots = try_format!(in alloc; "{pots}")?;
     push_right(text, pots.as_str(), 20)?;
-    text.push_str("\n")?;
+    text.try_push_str("\n")?;
     Ok(())
 }
 
@@ -43,9 +43,9 @@ pub fn push_name_line(
 {
     push_signed(alloc, text, net_of(tally), 20)?;
     push_number(alloc, text, tally.hands, 8)?;
-    text.push_str("  ")?;
-    text.push_str(name)?;
-    text.push_str("\n")?;
+    text.try_push_str("  ")?;
+    text.try_push_str(name)?;
+    text.try_push_str("\n")?;
     Ok(())
 }
 

@@ -34,10 +34,25 @@ pub fn tally_seat(
     if place == others {
         let tally = with_seat(no_tally(), number, play, seat);
         let name = Text::new(alloc, name)?;
-        tallies.insert(place, NamedTally { name, tally })?;
-        return Ok(());
+        return insert_tally(tallies, place, NamedTally { name, tally });
     }
     let tally = with_seat(tallies[place].tally, number, play, seat);
     tallies[place].tally = tally;
     Ok(())
+}
+
+// Puts a tally under its place. `indexmap` fails only if memory is refused.
+#[tactic(auto, using(card_set::specs::Refusal::an_allocator_said_so))]
+fn insert_tally(
+    tallies: &mut IndexMap<usize, NamedTally>,
+    place: usize,
+    tally: NamedTally,
+) -> Result<(), Memory>
+    ensures entries { OnOk result
+        (tallies.new.entries ≡ insert_entry usize.eq tallies.old.entries place tally) }
+{
+    match tallies.insert(place, tally) {
+        Ok(_) => Ok(()),
+        Err(_) => Err(Memory {}),
+    }
 }

@@ -49,7 +49,7 @@ pub fn play_out<V: Variant>(
     }
     match at_end(alloc, &hand, moves) {
         Ok(ended) => Ok(ended),
-        Err(refused) => Err(ReplayFault::Memory(Memory::from(refused))),
+        Err(memory) => Err(ReplayFault::Memory(memory)),
     }
 }
 
@@ -109,7 +109,7 @@ fn play_event<V: Variant>(
     match hand.advance(event) {
         Ok(told) => match tell(moves, told) {
             Ok(()) => Ok(()),
-            Err(refused) => Err(ReplayFault::Memory(Memory::from(refused))),
+            Err(memory) => Err(ReplayFault::Memory(memory)),
         },
         Err(why) => Err(ReplayFault::Illegal {
             event: number,

@@ -3,7 +3,7 @@ ghost use Rattle.std.specs.Prelude.{◌≡◌, ◌++◌, replicate, OnOk, string
 ghost use Rattle.std.specs.Fmt.{decimal, signed_decimal};
 ghost use Rattle.report_layout.specs.Columns.{left_in, right_in};
 
-use card_set::Memory;
+use card_set::{Memory, TryWrite, try_format};
 use std::alloc::Global;
 
 /// Appends a number with its sign, right-aligned in `places` columns.
@@ -16,7 +16,7 @@ pub fn push_signed(
     ensures { OnOk result (string_bytes text.new
         ≡ string_bytes text.old ++ right_in places (signed_decimal number)) }
 {
-    let number = format!(in alloc; "{number}")?;
+    let number = try_format!(in alloc; "{number}")?;
     push_right(text, number.as_str(), places)
 }
 
@@ -30,7 +30,7 @@ pub fn push_number(
     ensures { OnOk result (string_bytes text.new
         ≡ string_bytes text.old ++ right_in places (decimal number)) }
 {
-    let number = format!(in alloc; "{number}")?;
+    let number = try_format!(in alloc; "{number}")?;
     push_right(text, number.as_str(), places)
 }
 
@@ -40,7 +40,7 @@ pub fn push_right(text: &mut String, shown: &str, places: usize) -> Result<(), M
         ≡ string_bytes text.old ++ right_in places shown.now) }
 {
     push_spaces(text, places.saturating_sub(shown.len()))?;
-    text.push_str(shown)?;
+    text.try_push_str(shown)?;
     Ok(())
 }
 
@@ -49,7 +49,7 @@ pub fn push_left(text: &mut String, shown: &str, places: usize) -> Result<(), Me
     ensures { OnOk result (string_bytes text.new
         ≡ string_bytes text.old ++ left_in places shown.now) }
 {
-    text.push_str(shown)?;
+    text.try_push_str(shown)?;
     push_spaces(text, places.saturating_sub(shown.len()))
 }
 
@@ -58,7 +58,7 @@ fn push_spaces(text: &mut String, count: usize) -> Result<(), Memory>
     ensures { OnOk result (string_bytes text.new ≡ string_bytes text.old ++ replicate count 32) }
 {
     for _ in 0..count {
-        text.push_str(" ")?;
+        text.try_push_str(" ")?;
     }
     Ok(())
 }

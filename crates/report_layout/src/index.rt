@@ -5,7 +5,7 @@ ghost use Rattle.std.specs.List.{position_from};
 ghost use Rattle.report_layout.specs.Indexed.{AreIndexed};
 ghost use Rattle.report_layout.specs.Names.{with_name};
 
-use card_set::Memory;
+use card_set::{Memory, TryInsert, string_from};
 use std::alloc::Global;
 use std::collections::BTreeMap;
 
@@ -47,8 +47,8 @@ impl NameIndex {
         if let Some(place) = self.places.get(name) {
             return Ok(*place);
         }
-        let name = name.to_owned(alloc)?;
-        self.places.insert(name, others)?;
+        let name = string_from(alloc, name)?;
+        self.places.try_insert(name, others)?;
         Ok(others)
     }
 }

@@ -1,11 +1,10 @@
 //! Whose up-cards open before others', for any number of cards.
-ghost use Rattle.std.specs.Prelude.{false, ◌≡◌, ◌+◌, ◌*◌, ◌<◌, ◌≤◌, ◌++◌, length};
+ghost use Rattle.std.specs.Prelude.{false, ◌≡◌, ◌+◌, ◌*◌, ◌≤◌, ◌++◌, length};
 ghost use Rattle.std.specs.List.{list_any};
 ghost use Rattle.card_set.specs.Deck as deck;
-ghost use Rattle.card_set.specs.Ranks.{occurring, ranks_of};
+ghost use Rattle.card_set.specs.Ranks.{high_ace, low_ace, ranks_of};
 ghost use Rattle.card_set.specs.Row.{cards_of, slots_of};
 ghost use Rattle.card_set.specs.UpCards as up_cards;
-ghost use Rattle.hand_order.specs.Height.{height_with};
 ghost use Rattle.play_event.specs.Openers as openers;
 ghost use Rattle.play_event.specs.declared.limit.Opener.TheVariants as openings;
 ghost use Rattle.play_event.specs.Openers.{card_stands, is_lower, razz_place};
@@ -14,9 +13,10 @@ ghost use Rattle.up_card_order.specs.HeightRow.{heights_in};
 ghost use Rattle.up_card_order.specs.Earliest as earliest;
 ghost use Rattle.up_card_order.specs.UpClass.{high_class_by, low_class_by};
 
+use crate::counting::ranks_in;
 use crate::heights::Heights;
 use card_set::{CardRow, Slot, SlotRow, place_in_deck, place_of_suit};
-use hand_order::{Ace, all_heights, count_of_ranks, height_of, times_of};
+use hand_order::{Ace, height_of};
 use play_event::Opener;
 
 /// Whether one of the cards is unknown.
@@ -81,22 +81,20 @@ pub fn is_opener_before(opener: Opener, first: bool, a: &CardRow, b: &CardRow) -
 fn worse_high(a: &CardRow, b: &CardRow) -> bool
     ensures { result ≡ openers.is_weaker_up_high (cards_of a.now) (cards_of b.now) }
 {
-    let class = high_class_of(a);
-    let other = high_class_of(b);
-    let ranks = heights_of(a, Ace::High);
-    let others = heights_of(b, Ace::High);
-    other < class || (class == other && lower(ranks.as_slice(), others.as_slice()))
+    let one = high_standing(a);
+    let other = high_standing(b);
+    other.class < one.class
+        || (one.class == other.class && lower(one.heights.as_slice(), other.heights.as_slice()))
 }
 
 // The up-cards are weaker in razz.
 fn worse_low(a: &CardRow, b: &CardRow) -> bool
     ensures { result ≡ openers.is_weaker_low (cards_of a.now) (cards_of b.now) }
 {
-    let class = low_class_of(a);
-    let other = low_class_of(b);
-    let ranks = heights_of(a, Ace::Low);
-    let others = heights_of(b, Ace::Low);
-    other < class || (class == other && lower(others.as_slice(), ranks.as_slice()))
+    let one = low_standing(a);
+    let other = low_standing(b);
+    other.class < one.class
+        || (one.class == other.class && lower(other.heights.as_slice(), one.heights.as_slice()))
 }
 
 // At the first place where the ranks differ, the left one is lower.
@@ -151,27 +149,34 @@ fn as_good_high(a: &CardRow, b: &CardRow) -> bool
     ensures { result ≡ earliest.opens_no_later openings.LowUp false (cards_of a.now)
         (cards_of b.now) }
 {
-    let class = high_class_of(a);
-    let other = high_class_of(b);
-    let ranks = heights_of(a, Ace::High);
-    let others = heights_of(b, Ace::High);
-    class < other || (other == class && as_high(ranks.as_slice(), others.as_slice()))
+    let one = high_standing(a);
+    let other = high_standing(b);
+    one.class < other.class
+        || (other.class == one.class && as_high(one.heights.as_slice(), other.heights.as_slice()))
 }
 
-// The class of up-cards in games where the high hand opens.
+// How up-cards compare: their class, numbered from the best, and then their ranks in order.
+#[derive(Clone, Copy, Debug)]
+struct Standing {
+    class: u8,
+    heights: Heights,
+}
+
+// The class and the ranks of up-cards in games where the high hand opens.
 #[tactic(auto, unfolding(card_set::specs::UpCards::up_high_class))]
-fn high_class_of(cards: &CardRow) -> u8
-    ensures { result ≡ up_cards.up_high_class (cards_of cards.now) }
+fn high_standing(cards: &CardRow) -> Standing
+    ensures class { result.class ≡ up_cards.up_high_class (cards_of cards.now) }
+    ensures heights { heights_in result.heights ≡ ranks_of high_ace (cards_of cards.now) }
 {
-    high_class(
-        count_of_ranks(cards, Ace::High, 4),
-        count_of_ranks(cards, Ace::High, 3),
-        count_of_ranks(cards, Ace::High, 2),
-    )
+    let ranks = ranks_in(cards, Ace::High);
+    Standing {
+        class: high_class(ranks.fours, ranks.threes, ranks.pairs),
+        heights: ranks.heights,
+    }
 }
 
 // The classes of high up-cards, numbered from the best.
-fn high_class(fours: usize, threes: usize, pairs: usize) -> u8
+fn high_class(fours: u8, threes: u8, pairs: u8) -> u8
     ensures { result ≡ high_class_by fours threes pairs }
 {
     if fours == 1 {
@@ -217,27 +222,27 @@ fn as_good_low(a: &CardRow, b: &CardRow) -> bool
     ensures { result
         ≡ earliest.opens_no_later openings.HighUp false (cards_of a.now) (cards_of b.now) }
 {
-    let class = low_class_of(a);
-    let other = low_class_of(b);
-    let ranks = heights_of(a, Ace::Low);
-    let others = heights_of(b, Ace::Low);
-    class < other || (other == class && as_low(ranks.as_slice(), others.as_slice()))
+    let one = low_standing(a);
+    let other = low_standing(b);
+    one.class < other.class
+        || (other.class == one.class && as_low(one.heights.as_slice(), other.heights.as_slice()))
 }
 
-// The class of up-cards in razz.
+// The class and the ranks of up-cards in razz.
 #[tactic(auto, unfolding(card_set::specs::UpCards::low_class))]
-fn low_class_of(cards: &CardRow) -> u8
-    ensures { result ≡ up_cards.low_class (cards_of cards.now) }
+fn low_standing(cards: &CardRow) -> Standing
+    ensures class { result.class ≡ up_cards.low_class (cards_of cards.now) }
+    ensures heights { heights_in result.heights ≡ ranks_of low_ace (cards_of cards.now) }
 {
-    low_class(
-        count_of_ranks(cards, Ace::Low, 4),
-        count_of_ranks(cards, Ace::Low, 3),
-        count_of_ranks(cards, Ace::Low, 2),
-    )
+    let ranks = ranks_in(cards, Ace::Low);
+    Standing {
+        class: low_class(ranks.fours, ranks.threes, ranks.pairs),
+        heights: ranks.heights,
+    }
 }
 
 // The classes of low up-cards, numbered from the best.
-fn low_class(fours: usize, threes: usize, pairs: usize) -> u8
+fn low_class(fours: u8, threes: u8, pairs: u8) -> u8
     ensures { result ≡ low_class_by fours threes pairs }
 {
     if fours == 0 && threes == 0 && pairs == 0 {
@@ -254,34 +259,6 @@ fn low_class(fours: usize, threes: usize, pairs: usize) -> u8
         5
     } else {
         6
-    }
-}
-
-// The different ranks of the cards: first those that occur more often, then the higher ones.
-#[tactic(auto, unfolding(card_set::specs::Ranks::ranks_of))]
-fn heights_of(cards: &CardRow, ace: Ace) -> Heights
-    ensures { heights_in result ≡ ranks_of (height_with ace) (cards_of cards.now) }
-{
-    let mut row = Heights::new();
-    push_occurring(&mut row, cards, ace, 4);
-    push_occurring(&mut row, cards, ace, 3);
-    push_occurring(&mut row, cards, ace, 2);
-    push_occurring(&mut row, cards, ace, 1);
-    row
-}
-
-// Appends the ranks that occur `occurrences` times.
-fn push_occurring(row: &mut Heights, cards: &CardRow, ace: Ace, occurrences: usize)
-    requires { row.old.len ≤ 42 }
-    ensures entries { heights_in row.new
-        ≡ heights_in row.old ++ occurring (height_with ace) (cards_of cards.now) occurrences }
-    ensures longer { row.new.len ≤ row.old.len + 14 }
-{
-    let heights = all_heights();
-    for height in heights {
-        if times_of(cards, ace, height) == occurrences {
-            row.push(height);
-        }
     }
 }
 

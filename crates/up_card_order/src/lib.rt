@@ -2,6 +2,7 @@
 #![tactic(auto)]
 
 mod comparing;
+mod counting;
 mod heights;
 
 pub use comparing::{has_unknown, is_opener_before, known, opens_no_later};

@@ -23,9 +23,9 @@ loop-word-preserved c =
     let parts = and_parts (are_digits c.in-Some.word.now) (list_all are_digits (words_of c.in-Some.behind.now)) (rw c.in-Some.ensures.words at inv.digits) in
     record {
       digits = parts.1;
-      count = omega (arith, inv.count, ap length c.in-Some.ensures.words, ap length c.in_ok-push.ensures.items ∙ length-append c.loop-word.numbers.items (number ∷ []));
-      bounded = rw (c.in_ok-push.ensures.items, list_all-append (λ n. nat_le n (most_of c.args.key)) c.loop-word.numbers.items (number ∷ []), inv.bounded, le-leb number (most_of c.args.key) c.in_ok-number.ensures.bounded) refl;
-      read = rw c.in_ok-push.ensures.items (word_read c.args.line (most_of c.args.key) c.loop-word.numbers.items (words_of c.loop-word.rest.now) (numbers_after c.args.line (most_of c.args.key) [] (words_of c.args.text.now)) c.in-Some.word.now (words_of c.in-Some.behind.now) number c.in-Some.ensures.words c.in_ok-number.ensures.said inv.read);
+      count = omega (arith, inv.count, ap length c.in-Some.ensures.words, ap length c.in_ok-try_push.ensures.items ∙ length-append c.loop-word.numbers.items (number ∷ []));
+      bounded = rw (c.in_ok-try_push.ensures.items, list_all-append (λ n. nat_le n (most_of c.args.key)) c.loop-word.numbers.items (number ∷ []), inv.bounded, le-leb number (most_of c.args.key) c.in_ok-number.ensures.bounded) refl;
+      read = rw c.in_ok-try_push.ensures.items (word_read c.args.line (most_of c.args.key) c.loop-word.numbers.items (words_of c.loop-word.rest.now) (numbers_after c.args.line (most_of c.args.key) [] (words_of c.args.text.now)) c.in-Some.word.now (words_of c.in-Some.behind.now) number c.in-Some.ensures.words c.in_ok-number.ensures.said inv.read);
     }
 
 pub returns-clause-said : goal.returns-clause-said

@@ -15,6 +15,6 @@ pub returns : goal.returns
 returns c =
     on_ok c.push_cards.result
     (seen_written c.args.no_limit c.args.trace.now c.args.viewer.number c.args.count c.in_ok-seen.seen.items c.as_slice-2.result.now c.as_slice-3.result.now c.as_slice.result.now
-    c.args.out.now.items c.push_betting.new.out.items c.extend_from_slice.new.self.items c.push_cards.new.out.items
-    c.in_ok-seen.ensures c.as_slice-2.ensures.value c.as_slice-3.ensures.value c.as_slice.ensures c.in_ok-push_betting.ensures c.in_ok-extend_from_slice.ensures.items)
+    c.args.out.now.items c.push_betting.new.out.items c.try_extend_from_slice.new.self.items c.push_cards.new.out.items
+    c.in_ok-seen.ensures c.as_slice-2.ensures.value c.as_slice-3.ensures.value c.as_slice.ensures c.in_ok-push_betting.ensures c.in_ok-try_extend_from_slice.ensures.items)
     c.push_cards.ensures

@@ -12,6 +12,6 @@ push_seen-requires-clause-few c = sound_few c.args.play.now c.requires.sound
 pub returns : goal.returns
 unfolding view_line
 returns c =
-    four_pieces c.args.out.now.items c.push_head.new.out.items c.extend_from_slice.new.self.items c.push_seen.new.out.items c.extend_from_slice-2.new.self.items
+    four_pieces c.args.out.now.items c.push_head.new.out.items c.try_extend_from_slice.new.self.items c.push_seen.new.out.items c.try_extend_from_slice-2.new.self.items
     (head_text c.args.viewer.number c.args.place c.args.play.now.hand.notes.hand) (seen_text c.args.no_limit c.args.play.now.trace c.args.viewer.number c.args.count)
-    c.in_ok-push_head.ensures c.in_ok-extend_from_slice.ensures.items c.in_ok-push_seen.ensures c.in_ok-extend_from_slice-2.ensures.items
+    c.in_ok-push_head.ensures c.in_ok-try_extend_from_slice.ensures.items c.in_ok-push_seen.ensures c.in_ok-try_extend_from_slice-2.ensures.items

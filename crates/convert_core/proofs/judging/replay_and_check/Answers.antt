@@ -23,5 +23,5 @@ returns-in-Ok-clause-pushed c =
         traced = record { legal = c.in-Ok.ensures.legal; whole = c.in-Ok.ensures.trace };
         agrees = sym c.in_default.ensures;
       };
-      behind = c.in_ok-push-in-Ok.ensures.items;
+      behind = c.in_ok-try_push-in-Ok.ensures.items;
     }

@@ -8,7 +8,7 @@ pub loop-place-preserved : goal.loop-place-preserved
 loop-place-preserved c =
     let inv = c.loop-place.invariant in
     let play : Play = c.in-Ok.made.play in
-    let file : c.as_slice.result.now ≡ play ∷ [] = c.as_slice.ensures.value ∙ c.in-Ok-push.ensures.items ∙ ap (λ (l : List Play). l ++ play ∷ []) c.new-file.ensures.items in
+    let file : c.as_slice.result.now ≡ play ∷ [] = c.as_slice.ensures.value ∙ c.in-Ok-try_push.ensures.items ∙ ap (λ (l : List Play). l ++ play ∷ []) c.new-file.ensures.items in
     record {
       loaded = one_play_more c.args.seed c.loop-place.number c.loop-place.summary c.with_counts-summary.result play c.in-Ok-counts_of.counts c.loop-place.place c.in-Ok.made.number
           inv.loaded inv.counted c.in-Ok.ensures.made c.in-Ok.ensures.behind c.in-Ok.ensures.sound (c.in-Ok-counts_of.ensures play file) c.with_counts-summary.ensures.sums;

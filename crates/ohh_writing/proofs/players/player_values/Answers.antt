@@ -11,7 +11,7 @@ pub loop-index-preserved : goal.loop-index-preserved
 loop-index-preserved c =
     let tree = player_tree c.args.stacks.now c.args.notes.now c.args.numbers in
     let seats = seats_of c.loop-index.index in
-    ap (map view) c.in_ok-push.ensures.items
+    ap (map view) c.in_ok-try_push.ensures.items
     ∙ map_push view c.loop-index.values.items c.in_ok-player_value.field-0
     ∙ ap (λ (d : Data). map view c.loop-index.values.items ++ d ∷ []) c.in_ok-player_value.ensures
     ∙ ap (λ l. l ++ tree (c.loop-index.index + 1) ∷ []) c.loop-index.invariant

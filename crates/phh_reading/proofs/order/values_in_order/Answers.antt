@@ -19,15 +19,15 @@ loop-key-preserved c =
     let parts = and_parts (are_digits name && is_table (view c.in-Some.value.now)) (is_multi_hand (members_view c.next.new.self)) hands in
     let digits : AreDigits text.now = rw text_is (digits_of_number name (and_parts (are_digits name) (is_table (view c.in-Some.value.now)) parts.0).0) in
     let is : IsKeyed (k, c.in-Some.value) = (ap length c.without_zeros-digits.ensures, c.without_zeros-digits.ensures, digits) in
-    let step : entries_view c.insert.new.self.entries ≡ placed name (view c.in-Some.value.now) (entries_view l.hands.entries) =
-    ap entries_view c.in_ok-insert.ensures.entries
+    let step : entries_view c.try_insert.new.self.entries ≡ placed name (view c.in-Some.value.now) (entries_view l.hands.entries) =
+    ap entries_view c.in_ok-try_insert.ensures.entries
     ∙ insert_placed l.hands.entries k c.in-Some.value is l.invariant.keyed
     ∙ ap (λ (t : List ℕ). placed t (view c.in-Some.value.now) (entries_view l.hands.entries)) text_is in
     let left = rw c.in-Some.ensures.steps at l.invariant.placed in
     record {
       can_next = tt;
       is_finite = tt;
-      keyed = rw c.in_ok-insert.ensures.entries (insert_keyed l.hands.entries k c.in-Some.value is l.invariant.keyed);
+      keyed = rw c.in_ok-try_insert.ensures.entries (insert_keyed l.hands.entries k c.in-Some.value is l.invariant.keyed);
       hands = parts.1;
       placed = ap (λ (hs : List Entry). placed_all hs (members_view c.next.new.self)) step ∙ left;
     }

@@ -6,6 +6,6 @@ use Rattle.phh_writing.proofs.members.put.Goals as goal
 
 pub returns : goal.returns
 returns c =
-    ap members_view c.in_ok-insert.ensures.entries
+    ap members_view c.in_ok-try_insert.ensures.entries
     ∙ members_view-insert_entry c.args.table.now.entries c.in_ok-name.name c.args.value
     ∙ ap (λ (k : List ℕ). put k (view c.args.value) (members_view c.args.table.now.entries)) c.in_ok-name.ensures.ok

@@ -17,7 +17,7 @@ loop-index-preserved c =
     ap (range_with_len 1) next ∙ range_more 1 n ∙ ap (λ (seat : ℕ). range_with_len 1 n ++ seat ∷ []) last in
     let more : map string (map f (range_with_len 1 (n + 1))) ≡ map string (map f (range_with_len 1 n)) ++ string (f (n + 1)) ∷ [] =
     ap (λ (seats : List ℕ). map string (map f seats)) longer ∙ ap (map string) (map_push f (range_with_len 1 n) (n + 1)) ∙ map_push string (map f (range_with_len 1 n)) (f (n + 1)) in
-    ap (map view) c.in_ok-push.ensures.items ∙ map_push view c.loop-index.values.items c.text.result
+    ap (map view) c.in_ok-try_push.ensures.items ∙ map_push view c.loop-index.values.items c.text.result
     ∙ ap (λ (d : Data). map view c.loop-index.values.items ++ d ∷ []) (c.text.ensures ∙ ap string c.in_ok-name.ensures)
     ∙ ap (λ (ds : List Data). ds ++ string (f (n + 1)) ∷ []) c.loop-index.invariant
     ∙ sym more

@@ -11,7 +11,7 @@ seats_after-seats-requires-clause-told c = rw c.as_slice.ensures.value c.args.se
 pub invariant_of-self : goal.invariant_of-self
 invariant_of-self c =
     let told = c.args.self.now in
-    let same = c.in_err-push.ensures.items in
+    let same = c.in_err-try_push.ensures.items in
     record {
       next_is = rw same told.next_is;
       moves_are = rw same told.moves_are;
@@ -27,7 +27,7 @@ invariant_of-self-2 c =
     let told = c.args.self.now in
     let step = c.args.step in
     let steps = map plain_step told.steps.items in
-    let items = ap (map plain_step) c.in_ok-push.ensures.items ∙ map_push plain_step told.steps.items step in
+    let items = ap (map plain_step) c.in_ok-try_push.ensures.items ∙ map_push plain_step told.steps.items step in
     let few = counts_stay_few told.setting.table.stacks.seats told.setting.file_moves told.moves told.other_events steps (plain_effect step.effect) told.moves_are told.others_are c.requires.within (record { moves_few = told.few_moves; file_few = told.few_file_moves; others_few = told.few_others }) in
     let actions = count_by-push is_action steps (plain_step step) in
     let moves = count_by-push (λ x. is_move_effect x.effect) steps (plain_step step) in

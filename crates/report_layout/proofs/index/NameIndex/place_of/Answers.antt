@@ -7,7 +7,7 @@ use Rattle.std.proofs.lemmas.Map.Text.{btree_map_updates_text}
 use Rattle.report_layout.specs.Indexed.{AreIndexed}
 use Rattle.report_layout.proofs.Placed.{indexed_more, new_place, placed, unplaced, with_known, with_new}
 use Rattle.report_layout.proofs.index.NameIndex.place_of.Goals as goal
-use Rattle.report_layout.proofs.index.NameIndex.place_of.Goals.{In_ok-insert}
+use Rattle.report_layout.proofs.index.NameIndex.place_of.Goals.{In_ok-try_insert}
 
 -- a name that is found
 module _ (c : goal.After-row_known-1) (names : List (List ℕ)) (are : AreIndexed c.args.self.now names) where
@@ -29,23 +29,23 @@ returns-in-Some-clause-place c = λ names are counted.
     ap (position_from (bytes_eq (name c names are)) 0) (with_known (name c names are) names (known c names are)) ∙ found c names are
 
 -- a new name
-module _ (c : In_ok-insert) (names : List (List ℕ)) (are : AreIndexed c.args.self.now names) (counted : length names ≡ c.args.others) where
+module _ (c : In_ok-try_insert) (names : List (List ℕ)) (are : AreIndexed c.args.self.now names) (counted : length names ≡ c.args.others) where
   abbrev asked : List ℕ
   asked = c.args.name.now
 
   missing : list_any (bytes_eq asked) names ≡ false
   missing = unplaced asked names 0 (sym (are asked) ∙ sym c.get.ensures.value ∙ ap option_copied c.in_default.is)
 
-  updates : (other : List ℕ) → get_by_text c.insert.new.self other ≡ cond (bytes_eq asked other) (Some c.args.others) (get_by_text c.args.self.now.places other)
+  updates : (other : List ℕ) → get_by_text c.try_insert.new.self other ≡ cond (bytes_eq asked other) (Some c.args.others) (get_by_text c.args.self.now.places other)
   updates other =
-      btree_map_updates_text (string_bytes c.in_ok-name.name) c.args.self.now.places c.insert.new.self _ c.in_ok-insert.ensures.updates other
+      btree_map_updates_text (string_bytes c.in_ok-name.name) c.args.self.now.places c.try_insert.new.self _ c.in_ok-try_insert.ensures.updates other
       ∙ ap (λ (text : List ℕ). cond (bytes_eq text other) (Some c.args.others) (get_by_text c.args.self.now.places other)) c.in_ok-name.ensures.ok
 
 pub returns-clause-names : goal.returns-clause-names
 returns-clause-names c = λ names are counted.
-    subst (λ (all : List (List ℕ)). (other : List ℕ) → get_by_text c.insert.new.self other ≡ position_from (bytes_eq other) 0 all)
+    subst (λ (all : List (List ℕ)). (other : List ℕ) → get_by_text c.try_insert.new.self other ≡ position_from (bytes_eq other) 0 all)
     (sym (with_new (asked c names are counted) names (missing c names are counted)))
-    (indexed_more (get_by_text c.args.self.now.places) (get_by_text c.insert.new.self) names (asked c names are counted) c.args.others
+    (indexed_more (get_by_text c.args.self.now.places) (get_by_text c.try_insert.new.self) names (asked c names are counted) c.args.others
     are (missing c names are counted) counted (updates c names are counted))
 
 pub returns-clause-place : goal.returns-clause-place
