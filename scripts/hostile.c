@@ -1,15 +1,19 @@
 /* Runs the program on damaged inputs, or with each of its requests refused, and checks how it ends.
  *
- *   hostile each KIND ERRNO COUNT WORDS.. < INPUT
- *       refuses COUNT requests of a kind in a row, from each in turn; scripts/refusing.c has the kinds
+ *   hostile each KIND ERRNO COUNT SIZE WORDS.. < INPUT
+ *       refuses COUNT requests of a kind in a row, from each in turn; scripts/refusing.c has the kinds, and what SIZE does
  *   hostile damaged SEED COUNT HANDS < COMMANDS
- *       damages inputs; HANDS has a line NOTATION, a file and its game for each
+ *       damages inputs by scripts/damage.c, as many at once as HOSTILE_WORKERS says, or as there are processors; HANDS has
+ *       a line for each input: NOTATION, a file and its game
  *   hostile once WORDS.. < INPUT
  *       prints status, bytes of output, seconds and kilobytes of one run
  *
- * HOSTILE_PROGRAM is the program, HOSTILE_LIBRARY the library that refuses, HOSTILE_FOLDER a folder for what it writes.
+ * HOSTILE_PROGRAM is the program, HOSTILE_LIBRARY the library that refuses, HOSTILE_FOLDER a folder for the inputs that
+ * failed, and HOSTILE_WORK one for files of this run alone.
  */
 #define _GNU_SOURCE
+#include "damage.h"
+
 #include <errno.h>
 #include <fcntl.h>
 #include <signal.h>
@@ -25,20 +29,15 @@
 #include <sys/wait.h>
 #include <unistd.h>
 
-struct bytes {
-    unsigned char *at;
-    size_t size;
-};
-
 /* How a run ended. */
 struct ending {
-    int status, signal, is_refused;
-    struct bytes out, line;
+    int status, signal;
+    struct bytes out, line, told;
     double seconds;
     long kilobytes;
 };
 
-static const char *program, *library, *folder;
+static const char *program, *library, *folder, *work_folder;
 static int input_file, out_file, line_file, told_file;
 
 static void stop(const char *why) {
@@ -130,21 +129,21 @@ static struct ending run(char *const *words, const char *refused) {
     struct rusage used;
     while (wait4(child, &how, 0, &used) < 0)
         if (errno != EINTR) stop("wait4");
-    struct ending ending = {
-        WIFEXITED(how) ? WEXITSTATUS(how) : -1, WIFSIGNALED(how) ? WTERMSIG(how) : 0, 0, {0}, {0}, 0, used.ru_maxrss};
+    struct ending ending = {.status = WIFEXITED(how) ? WEXITSTATUS(how) : -1,
+                            .signal = WIFSIGNALED(how) ? WTERMSIG(how) : 0,
+                            .kilobytes = used.ru_maxrss};
     ending.seconds =
         used.ru_utime.tv_sec + used.ru_stime.tv_sec + (used.ru_utime.tv_usec + used.ru_stime.tv_usec) / 1e6;
     ending.out = file_bytes(out_file, "out");
     ending.line = file_bytes(line_file, "line");
-    struct bytes told = file_bytes(told_file, "told");
-    ending.is_refused = told.size > 0;
-    free(told.at);
+    ending.told = file_bytes(told_file, "told");
     return ending;
 }
 
 static void drop(struct ending *ending) {
     free(ending->out.at);
     free(ending->line.at);
+    free(ending->told.at);
 }
 
 static int is_same(struct bytes a, struct bytes b) {
@@ -213,44 +212,89 @@ static void complain(char *const *words, const char *what, const struct ending *
             ending->line.at, ending->line.size ? "" : "\n");
 }
 
+/* How a run ends whose file is cut where a read came to an early end, as the library has reported. */
+static struct ending run_cut(char **words, struct bytes input, struct bytes told) {
+    char name[4200] = "", cut_name[4200], *changed[40];
+    unsigned long size = 0;
+    told.at[told.size - 1] = 0;
+    sscanf((char *)told.at, "%lu %4100s", &size, name);
+    snprintf(cut_name, sizeof cut_name, "%s/cut", work_folder);
+    int cut = open(cut_name, O_RDWR | O_CREAT | O_CLOEXEC, 0600), i = 0;
+    if (cut < 0) stop(cut_name);
+    for (; words[i] != NULL && i < 39; i++)
+        changed[i] = strcmp(words[i], name) == 0 ? cut_name : words[i];
+    changed[i] = NULL;
+    if (strncmp(name, "/memfd:", 7) == 0) {
+        put_bytes(input_file, input.at, size);
+    } else {
+        struct bytes whole = read_file(name);
+        put_bytes(cut, whole.at, size);
+        free(whole.at);
+    }
+    struct ending ending = run(changed, NULL);
+    put_bytes(input_file, input.at, input.size);
+    close(cut);
+    return ending;
+}
+
+/* What a refusal of a kind is tested by: the run without one, and the status that is wanted. */
+struct refusal {
+    const char *kind, *command;
+    int error, wanted;
+    struct ending whole;
+};
+
+static int wanted_status(const char *kind, int error, int status) {
+    if (strcmp(kind, "memory") == 0) return 8;
+    if (strcmp(kind, "in") == 0) return 5;
+    if (strcmp(kind, "out") == 0) return 6;
+    if (strcmp(kind, "line") == 0) return status;
+    if (strcmp(kind, "open") == 0 && error == EINTR) return status; /* the library opens again */
+    return strcmp(kind, "open") == 0 && (error == ENOENT || error == ENOTDIR) ? 9 : 11;
+}
+
+static int is_same_ending(const struct ending *one, const struct ending *other) {
+    return one->status == other->status && is_same(one->out, other->out) && is_same(one->line, other->line);
+}
+
+/* What is wrong with the end of a run in which something was refused, but for what `wrong` says. */
+static const char *wrong_refusal(const struct refusal *of, const struct ending *ending) {
+    if (strcmp(of->kind, "line") == 0)
+        return ending->line.size >= of->whole.line.size || !is_same(ending->out, of->whole.out) ? "a refused line" : NULL;
+    if (of->wanted == 9 && ending->status == 15 && strcmp(of->command, "compare") == 0)
+        return NULL; /* the other file, which is opened after the game file */
+    if (ending->status != of->wanted) return "another status";
+    if (ending->out.size > of->whole.out.size || memcmp(ending->out.at, of->whole.out.at, ending->out.size) != 0)
+        return "no front of the output";
+    return NULL;
+}
+
 /* Refuses each request of a kind in turn. */
-static int refuse_each(const char *kind, const char *error, const char *times, char **words) {
+static int refuse_each(const char *kind, const char *error, const char *times, const char *size, char **words) {
     struct bytes input = file_bytes(0, "input");
     put_bytes(input_file, input.at, input.size);
-    struct ending whole = run(words, NULL);
-    int wanted = strcmp(kind, "memory") == 0 ? 8
-                 : strcmp(kind, "in") == 0   ? 5
-                 : strcmp(kind, "out") == 0  ? 6
-                 : strcmp(kind, "line") == 0 ? whole.status
-                                             : 11;
-    if (strcmp(kind, "open") == 0 && atoi(error) == EINTR) wanted = whole.status; /* the library opens again */
-    if (strcmp(kind, "open") == 0 && (atoi(error) == ENOENT || atoi(error) == ENOTDIR)) wanted = 9;
-    const char *command = words[1] == NULL ? "" : words[1];
-    int bad = wrong(command, &whole) != NULL;
-    if (bad) complain(words, wrong(command, &whole), &whole);
-    int spared = 0;
-    for (long number = 0;; number++) {
-        char refused[80];
-        snprintf(refused, sizeof refused, "%s %ld %s %s", kind, number, error, times);
+    struct refusal of = {kind, words[1] == NULL ? "" : words[1], atoi(error), 0, run(words, NULL)};
+    of.wanted = wanted_status(kind, of.error, of.whole.status);
+    int ends_early = of.error == 0 && (strcmp(kind, "in") == 0 || strcmp(kind, "game") == 0);
+    int bad = wrong(of.command, &of.whole) != NULL, is_last = 0, spared = 0;
+    if (bad) complain(words, wrong(of.command, &of.whole), &of.whole);
+    long number = 0;
+    for (; !is_last && number <= 1000000; number++) {
+        char refused[120];
+        snprintf(refused, sizeof refused, "%s %ld %s %s %s", kind, number, error, times, size);
         struct ending ending = run(words, refused);
-        const char *what = wrong(command, &ending);
-        int is_last = !ending.is_refused;
+        const char *what = strcmp(kind, "line") == 0 ? NULL : wrong(of.command, &ending);
+        is_last = ending.told.size == 0;
         if (is_last) {
-            if (ending.status != whole.status || !is_same(ending.out, whole.out) || !is_same(ending.line, whole.line))
-                what = "another answer where nothing is refused";
-        } else if (strcmp(kind, "line") == 0) {
-            what = ending.status != wanted || ending.signal || ending.line.size >= whole.line.size ||
-                           !is_same(ending.out, whole.out)
-                       ? "a refused line"
-                       : NULL;
-        } else if (strcmp(kind, "memory") == 0 && ending.status == whole.status && is_same(ending.out, whole.out)) {
+            if (!is_same_ending(&ending, &of.whole)) what = "another answer where nothing is refused";
+        } else if (ends_early) {
+            struct ending cut = run_cut(words, input, ending.told);
+            if (!is_same_ending(&ending, &cut)) what = "another answer than for as much of the file";
+            drop(&cut);
+        } else if (strcmp(kind, "memory") == 0 && ending.status == of.whole.status && is_same(ending.out, of.whole.out)) {
             spared++; /* room that is reserved ahead; without it the answer is the same */
-        } else if (wanted == 9 && ending.status == 15 && strcmp(command, "compare") == 0) {
-            what = NULL; /* the other file, which is opened after the game file */
-        } else if (ending.status != wanted) {
-            what = "another status";
-        } else if (ending.out.size > whole.out.size || memcmp(ending.out.at, whole.out.at, ending.out.size) != 0) {
-            what = "no front of the output";
+        } else if (what == NULL) {
+            what = wrong_refusal(&of, &ending);
         }
         if (what != NULL) {
             bad = 1;
@@ -258,202 +302,14 @@ static int refuse_each(const char *kind, const char *error, const char *times, c
             complain(words, what, &ending);
         }
         drop(&ending);
-        if (is_last || number > 1000000) {
-            printf("%ld %s", number, kind);
-            if (spared > 0) printf(" (%d that the answer does not need)", spared);
-            for (int i = 1; words[i] != NULL; i++)
-                printf(" %s", words[i]);
-            printf("\n");
-            /* A reader reserves room once, and `compare` reads twice. */
-            return bad || spared > (strcmp(command, "compare") == 0 ? 2 : 1);
-        }
     }
-}
-
-/* The random numbers of a seed, one after the other. */
-static uint64_t state;
-
-static uint64_t draw(uint64_t below) {
-    state += 0x9e3779b97f4a7c15u;
-    uint64_t mixed = state;
-    mixed = (mixed ^ (mixed >> 30)) * 0xbf58476d1ce4e5b9u;
-    mixed = (mixed ^ (mixed >> 27)) * 0x94d049bb133111ebu;
-    return (mixed ^ (mixed >> 31)) % below;
-}
-
-enum { MOST = 16384 };
-
-/* The beginning of names of 240 letters. */
-#define SHARED_40 "xxxxxxxxxxxxxxxxxxxxxxxxxxxxxxxxxxxxxxxx"
-#define SHARED SHARED_40 SHARED_40 SHARED_40 SHARED_40 SHARED_40 SHARED_40
-
-/* What is put into inputs. */
-static const char *const scraps[] = {"\xff",
-                                     "\xc3",
-                                     "\xed\xa0\x80",
-                                     "\xef\xbb\xbf",
-                                     "\r\n",
-                                     "\r",
-                                     "\n\n",
-                                     "\n",
-                                     "\t",
-                                     " ",
-                                     "[",
-                                     "]",
-                                     "{",
-                                     "}",
-                                     "[[",
-                                     "]]",
-                                     "\"",
-                                     "'",
-                                     "'''",
-                                     "\"\"\"",
-                                     "#",
-                                     "=",
-                                     ",",
-                                     ":",
-                                     "|",
-                                     "/",
-                                     "-",
-                                     "+",
-                                     ".",
-                                     "\\",
-                                     "\\ud800",
-                                     "\\u0000",
-                                     "\\x00",
-                                     "1e400",
-                                     "1.5",
-                                     "0.0",
-                                     "-1",
-                                     "0",
-                                     "1",
-                                     "2",
-                                     "99",
-                                     "255",
-                                     "256",
-                                     "1000000000000",
-                                     "1000000000001",
-                                     "10000000000001",
-                                     "9223372036854775807",
-                                     "9223372036854775808",
-                                     "18446744073709551616",
-                                     "4294967296",
-                                     "0x7f",
-                                     "nan",
-                                     "inf",
-                                     "true",
-                                     "null",
-                                     "??",
-                                     "????",
-                                     "AhAh",
-                                     "2c",
-                                     "d dh p1 ",
-                                     "d db ",
-                                     "p1 ",
-                                     "p2 ",
-                                     "p10 ",
-                                     " f",
-                                     " cc",
-                                     " cbr ",
-                                     " pb",
-                                     " sd ",
-                                     " sm ",
-                                     "'p1 f', ",
-                                     "'', ",
-                                     "[1]\n",
-                                     "[2]\n",
-                                     "[_x]\n",
-                                     "[a.b.c]\n",
-                                     "_x = ",
-                                     "_rakes = [1]\n",
-                                     "variant = 'NT'\n",
-                                     "'FT'",
-                                     "'F7S'",
-                                     "'N2L1D'",
-                                     "STATE:",
-                                     "SCORE:",
-                                     "GAMEDEF\n",
-                                     "END GAMEDEF\n",
-                                     "limit\n",
-                                     "maxRaises = 1 1 1 1\n",
-                                     "r100",
-                                     "r",
-                                     "c",
-                                     "f",
-                                     "cccc",
-                                     "//",
-                                     "\"ohh\":",
-                                     "{\"ohh\":{",
-                                     "}}",
-                                     "\"amount\":",
-                                     "\"action\":\"Fold\"",
-                                     "\"Raise\"",
-                                     "\"player_id\":2",
-                                     "\"cards\":[\"2c\"]",
-                                     "{\"action\":\"Sits Down\",\"player_id\":1},",
-                                     SHARED,
-                                     SHARED "a",
-                                     "_" SHARED "=1\n",
-                                     "[_" SHARED "]\n",
-                                     "[_" SHARED "." SHARED "]\n",
-                                     "\"" SHARED "\":1,",
-                                     "\"name\":\"" SHARED "\","};
-
-static void replace(struct bytes *text, size_t from, size_t to, const unsigned char *with, size_t size) {
-    if (text->size - (to - from) + size > MOST) return;
-    memmove(text->at + from + size, text->at + to, text->size - to);
-    memcpy(text->at + from, with, size);
-    text->size = text->size - (to - from) + size;
-}
-
-/* Damages an input in one way. */
-static void damage(struct bytes *text, struct bytes other) {
-    static unsigned char part[MOST];
-    size_t from = draw(text->size + 1), to = from + draw(text->size - from < 40 ? text->size - from + 1 : 40);
-    size_t other_from = draw(other.size + 1),
-           size = draw(other.size - other_from < 200 ? other.size - other_from + 1 : 200);
-    unsigned char byte = draw(256);
-    const char *scrap;
-    switch (draw(12)) {
-    case 0:
-        if (from < text->size) text->at[from] = byte;
-        break;
-    case 1:
-        if (from < text->size) text->at[from] ^= 1 << draw(8);
-        break;
-    case 2: replace(text, from, to, NULL, 0); break;
-    case 3: text->size = from; break;
-    case 4: replace(text, from, from, &byte, 1); break;
-    case 5:
-    case 6:
-        scrap = scraps[draw(sizeof scraps / sizeof *scraps)];
-        replace(text, from, draw(2) ? from : to, (const unsigned char *)scrap, strlen(scrap));
-        break;
-    case 7:
-        memcpy(part, text->at + from, to - from);
-        replace(text, from, from, part, to - from);
-        break;
-    case 8: replace(text, from, to, other.at + other_from, size); break;
-    case 9: /* a number becomes another */
-        while (from < text->size && (text->at[from] < '0' || text->at[from] > '9'))
-            from++;
-        for (to = from; to < text->size && text->at[to] >= '0' && text->at[to] <= '9';)
-            to++;
-        scrap = scraps[33 + draw(20)];
-        replace(text, from, to, (const unsigned char *)scrap, strlen(scrap));
-        break;
-    case 10: /* a part many times */
-        memcpy(part, text->at + from, to - from);
-        for (uint64_t times = draw(draw(8) ? 8 : 2000); times > 0; times--)
-            replace(text, from, from, part, to - from);
-        break;
-    default: /* a line or an item goes elsewhere */
-        memcpy(part, text->at + from, to - from);
-        size = to - from;
-        replace(text, from, to, NULL, 0);
-        from = draw(text->size + 1);
-        replace(text, from, from, part, size);
-    }
+    printf("%ld %s", number - 1, kind);
+    if (spared > 0) printf(" (%d that the answer does not need)", spared);
+    for (int i = 1; words[i] != NULL; i++)
+        printf(" %s", words[i]);
+    printf("\n");
+    /* A reader reserves room once, and `compare` reads twice. */
+    return bad || spared > (strcmp(of.command, "compare") == 0 ? 2 : 1);
 }
 
 struct hands {
@@ -472,7 +328,7 @@ static int class_of(size_t size) {
 struct command {
     char notations[64];
     char *words[20];
-    int has_game;
+    int has_game, has_other;
     double seconds[CLASSES];
     long kilobytes[CLASSES];
 };
@@ -511,6 +367,7 @@ static void read_commands(void) {
         command->words[count++] = "handref";
         for (char *word = strtok(bar + 1, " \n"); word != NULL && count < 19; word = strtok(NULL, " \n")) {
             command->has_game |= strcmp(word, "GAME") == 0;
+            command->has_other |= strcmp(word, "OTHER") == 0;
             command->words[count++] = strdup(word);
         }
         commands_count++;
@@ -525,12 +382,12 @@ static int is_for(const struct command *command, const struct hands *item) {
 
 static char *const digits[] = {"1", "2", "3", "4", "5", "6", "7", "8", "9"};
 
-static void words_with(const struct command *command, const struct hands *item, char *game, char **words) {
+static void words_with(const struct command *command, char *game, char *other, char **words) {
     int i = 0;
     for (; command->words[i] != NULL; i++) {
         char *word = command->words[i];
         words[i] = strcmp(word, "GAME") == 0     ? game
-                   : strcmp(word, "OTHER") == 0  ? item->name
+                   : strcmp(word, "OTHER") == 0  ? other
                    : strcmp(word, "NUMBER") == 0 ? digits[draw(9)]
                                                  : word;
     }
@@ -548,7 +405,7 @@ static void measure(void) {
             int class = class_of(hands[i].input.size);
             if (!is_for(command, &hands[i]) || seen[class] == 200) continue;
             seen[class]++;
-            words_with(command, &hands[i], hands[i].game_name, words);
+            words_with(command, hands[i].game_name, hands[i].name, words);
             put_bytes(input_file, hands[i].input.at, hands[i].input.size);
             struct ending ending = run(words, NULL);
             if (ending.seconds > command->seconds[class]) command->seconds[class] = ending.seconds;
@@ -625,53 +482,85 @@ static void keep(const char *name, uint64_t number, struct bytes bytes) {
     fprintf(stderr, "  kept: %s\n", path);
 }
 
+/* What a damaged run reads: the input, its game, and the other file of `compare`, in files of this worker. */
+struct damaged {
+    struct bytes input, game, other;
+    char game_name[4200], other_name[4200];
+    int game_file, other_file;
+};
+
+/* Opens a file of a worker for what it damages. */
+static int open_damaged(char *path, size_t size, const char *name, int worker) {
+    snprintf(path, size, "%s/%s-%d", work_folder, name, worker);
+    int file = open(path, O_RDWR | O_CREAT | O_TRUNC | O_CLOEXEC, 0600);
+    if (file < 0) stop(path);
+    return file;
+}
+
+/* Damages the input, or in some runs the game or the other file, and fills in the words. */
+static void damage_one(const struct command *command, const struct hands *item, struct damaged *all, char **words) {
+    char *game = item->game_name, *other = item->name;
+    memcpy(all->input.at, item->input.at, all->input.size = item->input.size);
+    memcpy(all->game.at, item->game.at, all->game.size = item->game.size);
+    memcpy(all->other.at, item->input.at, all->other.size = item->input.size);
+    int damages_game = command->has_game && draw(5) == 0, damages_other = command->has_other && draw(3) == 0;
+    const struct hands *source = &hands[draw(hands_count)];
+    for (uint64_t times = 1 + draw(draw(2) ? 2 : 8); times > 0; times--)
+        if (damages_game)
+            damage(&all->game, source->game);
+        else
+            damage(damages_other ? &all->other : &all->input, source->input);
+    if (damages_game) {
+        put_bytes(all->game_file, all->game.at, all->game.size);
+        game = all->game_name;
+    }
+    if (damages_other) {
+        put_bytes(all->other_file, all->other.at, all->other.size);
+        other = all->other_name;
+    }
+    words_with(command, game, other, words);
+    put_bytes(input_file, all->input.at, all->input.size);
+}
+
 /* Runs every WORKERS-th damaged input, and counts statuses and failures. */
-static void work(uint64_t seed, uint64_t count, int worker, int workers, long *counts) {
-    static unsigned char input_room[MOST], game_room[MOST];
-    char game_name[4200], *words[20];
+static void work(uint64_t first, uint64_t count, int worker, int workers, long *counts) {
+    static unsigned char input_room[MOST], game_room[MOST], other_room[MOST];
+    static struct damaged all = {{input_room, 0}, {game_room, 0}, {other_room, 0}, "", "", 0, 0};
+    char *words[20];
     open_files();
-    snprintf(game_name, sizeof game_name, "%s/game-%d", folder, worker);
-    int game_file = open(game_name, O_RDWR | O_CREAT | O_TRUNC | O_CLOEXEC, 0600);
-    if (game_file < 0) stop(game_name);
+    all.game_file = open_damaged(all.game_name, sizeof all.game_name, "game", worker);
+    all.other_file = open_damaged(all.other_name, sizeof all.other_name, "other", worker);
     for (uint64_t number = worker; number < count; number += workers) {
-        state = seed * 0x2545f4914f6cdd1du + number;
+        seed(first * 0x2545f4914f6cdd1du + number);
         const struct hands *item = &hands[draw(hands_count)];
         const struct command *command = &commands[draw(commands_count)];
         while (!is_for(command, item))
             command = &commands[draw(commands_count)];
-        struct bytes input = {input_room, item->input.size}, game = {game_room, item->game.size};
-        memcpy(input.at, item->input.at, input.size);
-        memcpy(game.at, item->game.at, game.size);
-        int damages_game = command->has_game && draw(5) == 0;
-        const struct hands *other = &hands[draw(hands_count)];
-        for (uint64_t times = 1 + draw(draw(2) ? 2 : 8); times > 0; times--)
-            if (damages_game)
-                damage(&game, other->game);
-            else
-                damage(&input, other->input);
-        if (damages_game) put_bytes(game_file, game.at, game.size);
-        words_with(command, item, damages_game ? game_name : item->game_name, words);
-        put_bytes(input_file, input.at, input.size);
+        damage_one(command, item, &all, words);
         struct ending ending = run(words, NULL);
-        size_t size = input.size; /* a comparison reads the file of the hands, too */
-        if (strcmp(words[1], "compare") == 0 && size < item->input.size) size = item->input.size;
+        size_t size = all.input.size; /* a comparison reads the other file, too */
+        if (strcmp(words[1], "compare") == 0 && size < all.other.size) size = all.other.size;
         const char *what = wrong_run(command, size, &ending, words);
         if (what != NULL) {
             counts[WRONG]++;
-            fprintf(stderr, "seed %llu, input %llu: ", (unsigned long long)seed, (unsigned long long)number);
+            fprintf(stderr, "seed %llu, input %llu: ", (unsigned long long)first, (unsigned long long)number);
             complain(words, what, &ending);
-            keep("input", number, input);
-            if (command->has_game) keep("game", number, game);
+            keep("input", number, all.input);
+            if (command->has_game) keep("game", number, all.game);
+            if (command->has_other) keep("other", number, all.other);
         } else {
             counts[ending.status]++;
         }
         drop(&ending);
     }
-    unlink(game_name);
+    unlink(all.game_name);
+    unlink(all.other_name);
 }
 
-static int damage_all(uint64_t seed, uint64_t count) {
-    int workers = sysconf(_SC_NPROCESSORS_ONLN);
+static int damage_all(uint64_t first, uint64_t count) {
+    const char *wanted = getenv("HOSTILE_WORKERS");
+    int workers = wanted != NULL ? atoi(wanted) : sysconf(_SC_NPROCESSORS_ONLN);
+    if (workers < 1) workers = 1;
     if (workers > 64) workers = 64;
     long all[COUNTS] = {0};
     pid_t children[64];
@@ -682,7 +571,7 @@ static int damage_all(uint64_t seed, uint64_t count) {
         children[worker] = fork();
         if (children[worker] < 0) stop("fork");
         if (children[worker] == 0) {
-            work(seed, count, worker, workers, shared + worker * COUNTS);
+            work(first, count, worker, workers, shared + worker * COUNTS);
             exit(0);
         }
     }
@@ -694,7 +583,8 @@ static int damage_all(uint64_t seed, uint64_t count) {
         for (int status = 0; status < COUNTS; status++)
             all[status] += shared[worker * COUNTS + status];
     }
-    printf("%llu damaged inputs, seed %llu:", (unsigned long long)count, (unsigned long long)seed);
+    printf("%llu damaged inputs, seed %llu:", (unsigned long long)count,
+           (unsigned long long)first);
     for (int status = 0; status < STATUSES; status++)
         if (all[status] > 0) printf(" status %d %ld,", status, all[status]);
     printf(" wrong %ld\n", all[WRONG]);
@@ -705,12 +595,13 @@ int main(int count, char **words) {
     program = getenv("HOSTILE_PROGRAM");
     library = getenv("HOSTILE_LIBRARY");
     folder = getenv("HOSTILE_FOLDER");
-    if (program == NULL || library == NULL || folder == NULL) return 70;
+    work_folder = getenv("HOSTILE_WORK");
+    if (program == NULL || library == NULL || folder == NULL || work_folder == NULL) return 70;
     open_files();
-    if (count >= 5 && strcmp(words[1], "each") == 0) {
-        char *kind = words[2], *error = words[3], *times = words[4];
-        words[4] = "handref";
-        return refuse_each(kind, error, times, words + 4);
+    if (count >= 6 && strcmp(words[1], "each") == 0) {
+        char *size = words[5];
+        words[5] = "handref";
+        return refuse_each(words[2], words[3], words[4], size, words + 5);
     }
     if (count == 5 && strcmp(words[1], "damaged") == 0) {
         read_hands(words[4]);

@@ -7,13 +7,15 @@ slip=
 
 # Runs a program with words. It asks the C library for large pages, so that the kernel hands out
 # the memory of many hands in fewer pieces; a library that does not know them ignores this. The
-# shell stays only if the output is a pipe, if a person at a terminal should see which word is
-# wrong, or if the caller asks for it (`stays`).
+# shell stays only if the output is a pipe or a terminal, if a person at a terminal should see which
+# word is wrong, or if the caller asks for it (`stays`).
 run_program() {
     GLIBC_TUNABLES=glibc.malloc.hugetlb=1${GLIBC_TUNABLES:+:$GLIBC_TUNABLES}
     export GLIBC_TUNABLES
     if [ -p /dev/stdout ]; then
         run_in_pipe "$@"
+    elif [ -t 1 ] && [ "$(printf '\033\n' | shown 2>/dev/null)" = '\x1b' ]; then
+        run_at_terminal "$@"
     elif [ -z "${stays-}" ] && { [ ! -t 2 ] || wanted "$@"; }; then
         exec "$@"
     else
@@ -51,6 +53,23 @@ run_in_pipe() {
     exec 3>&-
     if [ "$ended" -eq 6 ] && has_no_reader; then die_of 141; fi
     [ -z "$told" ] || printf '%s\n' "$told" >&2
+}
+
+# Runs a program whose output is a terminal. Names can have control characters, which the terminal
+# would obey.
+run_at_terminal() {
+    exec 4>&1
+    ended=$({ { "$@" 3>&- 4>&-; echo "$?" >&3; } | shown >&4; } 3>&1)
+    exec 4>&-
+}
+
+# Shows control characters as `\x1b`, but for tabs and line ends.
+shown() {
+    LC_ALL=C sed "$(awk 'BEGIN {
+        for (i = 0; i < 32; i++) if (i != 9 && i != 10) printf "s/\\x%02x/\\\\x%02x/g\n", i, i
+        print "s/\\x7f/\\\\x7f/g"
+        for (i = 128; i < 160; i++) printf "s/\\xc2\\x%02x/\\\\x%02x/g\n", i, i
+    }')"
 }
 
 # Whether nobody reads the pipe of standard output, after a write to it failed. A pipe that does

@@ -159,18 +159,23 @@ def _put(data: bytes, out: Optional[str], is_folder: bool) -> None:
 
 
 
+def no_room(fault: OSError) -> str:
+    """The line of a file that could not be written, or nothing if the fault is another one."""
+    if fault.errno not in (errno.ENOSPC, errno.EDQUOT, errno.EROFS, errno.EFBIG):
+        return ""
+    place = f"{cut.shown(str(fault.filename))}: " if fault.filename else ""
+    return f"{place}write fault: {(fault.strerror or str(fault)).lower()}"
+
+
 def run(given: argparse.Namespace) -> int:
     """Runs `many` or `cents`. Status 6: nothing can be written."""
     try:
         return run_many(given) if given.command == "many" else run_cents(given)
-    except handref.NotDone:
-        raise
-    except BrokenPipeError:
+    except (handref.NotDone, BrokenPipeError):
         raise
     except OSError as fault:
-        if fault.errno in (errno.ENOSPC, errno.EDQUOT, errno.EROFS, errno.EFBIG):
-            place = f"{cut.shown(str(fault.filename))}: " if fault.filename else ""
-            print(f"{place}write fault: {(fault.strerror or str(fault)).lower()}", file=sys.stderr,
-                  flush=True)
-            return 6
-        raise
+        line = no_room(fault)
+        if not line:
+            raise
+        print(line, file=sys.stderr, flush=True)
+        return 6

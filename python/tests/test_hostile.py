@@ -116,6 +116,56 @@ class NamesOfPlayers(Case):
             self.assertIsNone(re.search("[\x00-\x1f\x7f-\x9f\u2028\u202e]", text))
 
 
+class Explained(Case):
+    FOREIGN = "\x1b]0;title\x07\x1b[2J\r\x85\x9b31m\u2028\u202e\x7f"
+
+    def lines(self, *words):
+        """What a command says of a file, which has to be plain signs in lines."""
+        status, text, told = self.call(*words)
+        for said in (text.decode(), told):
+            self.assertIsNone(re.search("[\x00-\x09\x0b-\x1f\x7f-\x9f\u2028\u202e]", said), said)
+        return status, text.decode() + told
+
+    def files(self):
+        """Files with a fault, each with signs in it that change a terminal."""
+        quoted = json.dumps(self.FOREIGN)
+        hand = (EXAMPLES / "folds.phh").read_text()
+        move = json.dumps("p1 " + self.FOREIGN)
+        yield "variant.phh", hand.replace('"NT"', quoted), ()
+        yield "action.phh", hand.replace('"p1 f"', move), ()
+        yield "key.phh", hand.replace("min_bet", quoted), ()
+        yield "raw.phh", hand.replace("min_bet", self.FOREIGN), ()
+        yield "twice.phh", hand + f"{quoted} = 1\n{quoted} = 2\n", ()
+        game = (EXAMPLES / "raise_adds.ohh").read_text()
+        yield "game.ohh", game.replace('"Holdem"', quoted), ()
+        yield "action.ohh", game.replace('"Raise"', quoted), ()
+        yield "raw.ohh", game.replace('"Raise"', self.FOREIGN), ()
+        yield "stated.ohh", game.replace('"win_amount":200', '"win_amount":199').replace(
+            '"name":"A"', f'"name":{quoted}'), ()
+        log = (EXAMPLES / "match.acpc").read_text()
+        yield "betting.acpc", log.replace("r300f", self.FOREIGN), ("--game", MATCH)
+        yield "name.acpc", log.replace("100:A|B", "101:" + self.FOREIGN), ("--game", MATCH)
+        (self.folder / "foreign.game").write_text(
+            Path(MATCH).read_text().replace("numSuits", self.FOREIGN))
+        yield "good.acpc", log, ("--game", "foreign.game")
+        yield f"name{self.FOREIGN}.phh", hand.replace("cbr 6", "cbr 3"), ()
+
+    def test_plain(self):
+        """Nothing of a file reaches the terminal as it is, by `explain`, `many` and `cents`."""
+        count = 0
+        for name, text, words in self.files():
+            with self.subTest(name=name):
+                (self.folder / name).write_text(text)
+                status, said = self.lines("explain", *words, name)
+                self.assertGreater(len(said.split("\n")), 2, said)
+                for task in ("check", "judge", "report"):
+                    self.lines("many", task, "-k", *words, name)
+                if not name.endswith(".acpc"):
+                    self.lines("cents", "--out", "cents", name)
+                count += 1
+        self.assertEqual(count, 13)
+
+
 class NamesOfFiles(Case):
     def test_lines(self):
         names = [b"new\nline.phh", b"\x1b[31m.phh", b"not\xffutf8.phh", b"-k.phh", b"a b'\".phh",
@@ -131,6 +181,26 @@ class NamesOfFiles(Case):
         rows = [json.loads(line) for line in text.decode().split("\n")[:-1]]
         self.assertEqual({os.fsencode(row["file"]) for row in rows},
                          {b"./" + name for name in names})
+
+
+class OddInputs(Case):
+    def test_exceptions(self):
+        """What is no file of hands is an exception, and the program's line where it has one."""
+        for hands, notation, wanted in (
+                ("/dev/zero", "phh", "limit: input bytes 16777216"),
+                (b'{"ohh":' + b"[" * 100_000, "ohh", "bad input: hand 1: Text"),
+                (b'{"ohh":{"dealer_seat":1e999999999}}', "ohh", "bad input: hand 1: Text"),
+                (b"min_bet = 1e999999999\n", "phh", "bad input: Text"),
+                (b"min_bet = " + b"9" * 100_000, "phh", "bad input: Text"),
+                (str(self.folder), "phh", IsADirectoryError), ("a\0b", "phh", ValueError),
+                (str(self.folder / "absent"), "phh", FileNotFoundError)):
+            for call in (handref.check, handref.judge, handref.report, handref.session):
+                with self.subTest(hands=hands[:40], call=call.__name__):
+                    error = handref.NotDone if isinstance(wanted, str) else wanted
+                    with self.assertRaises(error) as caught:
+                        call(hands, notation)
+                    if isinstance(wanted, str):
+                        self.assertIn(wanted, str(caught.exception))
 
 
 class Packed(Case):
@@ -181,6 +251,15 @@ class Room(Case):
                 status, _, told = self.call("many", *words, "--game", MATCH, "match.acpc", out=full)
             self.assertEqual((status, told.count("\n")), (6, 1), told)
 
+    def test_page(self):
+        """A page or a file in cents that has no room is not left in half."""
+        (self.folder / "hand.phh").write_bytes((EXAMPLES / "folds.phh").read_bytes() + b"#" * 9000)
+        before = sorted(os.listdir(self.folder))
+        for words in (("page", "hand.phh", "out.html"), ("cents", "--out", "out.phh", "hand.phh")):
+            status, _, told = self.call(*words, limit=[(resource.RLIMIT_FSIZE, 2000)])
+            self.assertEqual((status, told.count("\n")), (6, 1), told)
+            self.assertEqual(sorted(os.listdir(self.folder)), before)
+
     def test_closed(self):
         """A reader that goes away ends the call in a line."""
         log = self.folder / "match.acpc"
@@ -230,16 +309,16 @@ class OtherPrograms(Case):
                          [""] * sum(path.exists() for path in children))
 
     def test_many_files(self):
-        """Hundreds of files, in order, each with its line."""
+        """Thousands of files, in order, each with its line."""
         hands = self.folder / "hands"
         hands.mkdir()
-        for number in range(300):
+        for number in range(3000):
             (hands / f"hand-{number}.phh").write_text(f"variant = '{number}'\n")
         stub = self.stub("read line; echo \"bad input: hand 1, variant: WrongType\" >&2; exit 3")
         status, text, _ = self.call("many", "check", "-k", "-j", "8", hands, program=stub)
         lines = text.decode().split("\n")
-        self.assertEqual((status, [line.split(":")[0] for line in lines[:300]]),
-                         (3, [f"{hands}/hand-{number}.phh" for number in range(300)]))
+        self.assertEqual((status, [line.split(":")[0] for line in lines[:3000]]),
+                         (3, [f"{hands}/hand-{number}.phh" for number in range(3000)]))
 
 
 if __name__ == "__main__":
