@@ -20,7 +20,7 @@ options_of() {
     convert) needs='from to' may=game flags=drop-notes ;;
     game) needs=from ;;
     load) needs='seed hands' ;;
-    judge) needs=from may=game ;;
+    judge) needs=from may=game flags=lines ;;
     options) needs='from hand after' may=game ;;
     views) needs='from seat' may=game ;;
     session) needs=from may=game ;;
@@ -36,7 +36,8 @@ help_text() {
 handref: a converter and referee of recorded poker hands
 
   handref check   --from FORMAT [--game FILE] < HANDS    final stacks of each hand, or the first fault
-  handref judge   --from FORMAT [--game FILE] < HANDS    one line per hand: legal, or its first fault
+  handref judge   --from FORMAT [--game FILE] [--lines] < HANDS
+                                                         one line per hand: legal, or its first fault
   handref replay  --from FORMAT [--game FILE] < HANDS    each hand step by step
   handref report  --from FORMAT [--game FILE] < HANDS    hands and pots of each game, net chips of each player
   handref session --from FORMAT [--game FILE] < HANDS    each player's stack and counts over all hands
@@ -65,6 +66,7 @@ FORMAT  phh     Poker Hand History (.phh and .phhs files)
         acpc    a log of the Annual Computer Poker Competition
 
 --game FILE     the game file; needed for acpc, and only for acpc
+--lines         names the line of the file on which each hand begins; not for phh
 --drop-notes    leaves out names, dates and other notes that cannot be written in the other notation
 --with FILE     the other file for compare; --as FORMAT is its notation
 --no-notes      ignores names, dates and other notes
@@ -198,6 +200,9 @@ fits_notations() {
     case $command:$from in
     views:acpc) ;;
     views:*) slip='views takes a log: --from acpc' && return 1 ;;
+    judge:phh)
+        case $given in *' lines '*) slip='--lines is not for phh' && return 1 ;; esac
+        ;;
     game:acpc) slip='game takes no log, because a log has a game file already' && return 1 ;;
     esac
     case $from:$to:$other in

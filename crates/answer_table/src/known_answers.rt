@@ -16,11 +16,12 @@ ghost use Rattle.hand_records.specs.declared.trace.Play.{Play};
 ghost use Rattle.hand_records.specs.declared.writing.Keep.{Keep};
 ghost use Rattle.hand_records.specs.declared.writing.Keep.TheVariants as keeps;
 ghost use Rattle.hand_records.specs.declared.writing.Unspelled.TheVariants as facts;
+ghost use Rattle.ohh_members.specs.declared.dialect.Dialect.{Dialect};
 ghost use Rattle.poker_cli.specs.Answer.{Answer, AsksToCompare, Files, IsAnswer, IsComparison, IsReply, IsWay, most_input};
 ghost use Rattle.poker_cli.specs.Compared.{compared};
 ghost use Rattle.poker_cli.specs.ComparedRuns.{AreFoundOther, AreFoundSame, AreOther, AreSame, BothRead, FindsOther};
 ghost use Rattle.poker_cli.specs.Headline.{ConversionEnds, ConvertsInto};
-ghost use Rattle.poker_cli.specs.Inputs.{SayRecords};
+ghost use Rattle.poker_cli.specs.Inputs.{SayRecords, first_lines};
 ghost use Rattle.poker_cli.specs.LegalInputs.{AsksOfLegal};
 ghost use Rattle.poker_cli.specs.OneAnswer.{AreOneAnswer};
 ghost use Rattle.poker_cli.specs.Outputs.{AreSameIn, first_refusal_in, kept_in, unspelled_in};
@@ -40,7 +41,7 @@ ghost use Rattle.convert_core.specs.SameAnswers.{AreSameAnswers};
 
 use poker_cli::{
     law_of_compared_conversions, law_of_compared_hands, law_of_compared_outputs,
-    law_of_comparisons, law_of_equal_answers, law_of_equal_runs, law_of_legal_inputs,
+    law_of_comparisons, law_of_equal_answers, law_of_equal_runs, law_of_legal_inputs, law_of_lines,
     law_of_one_answer, law_of_read_hands, law_of_runs_again, law_of_runs_by_way,
 };
 
@@ -53,6 +54,18 @@ pub fn answer_is_one()
         → IsComparison by file bytes answer → IsComparison by file bytes other → answer ≡ other }
 {
     law_of_one_answer();
+}
+
+/// Each hand of a log and of Open Hand History has a line on which it begins.
+pub fn hands_have_lines()
+    ensures log { (game : Game) (bytes : List ℕ) (records : List Record)
+        → SayRecords (readers.Acpc game) bytes records
+        → length (first_lines (readers.Acpc game) bytes) ≡ length records }
+    ensures blocks { (dialect : Dialect) (bytes : List ℕ) (records : List Record)
+        → SayRecords (readers.Ohh dialect) bytes records
+        → length (first_lines (readers.Ohh dialect) bytes) ≡ length records }
+{
+    law_of_lines();
 }
 
 /// No legal input is refused.
@@ -89,9 +102,9 @@ pub fn legal_inputs_are_answered()
         → seat.number ≤ game.stacks.seats
         → length (each_view game seat 0 plays) ≤ most_view_bytes
         → Ends request files bytes out diag status → RefusesNothing status }
-    ensures judge { (request : Request) (reader : Format) (files : Files) (bytes : List ℕ)
-        → (records : List Record) (out diag : Sinks) (status : Status)
-        → IsWay files request (way tasks.Judge reader)
+    ensures judge { (request : Request) (lines : Bool) (reader : Format) (files : Files)
+        → (bytes : List ℕ) (records : List Record) (out diag : Sinks) (status : Status)
+        → IsWay files request (way (tasks.Judge lines) reader)
         → length bytes ≤ most_input → SayRecords reader bytes records
         → Ends request files bytes out diag status → RefusesNothing status }
     ensures convert { (request : Request) (reader target : Format) (keep : Keep) (files : Files)

@@ -62,18 +62,19 @@ abbrev flag_row : Text → Bool → Option Row
 flag_row name true = Some (given_row (flag name) (codes "true"))
 flag_row name false = None
 
-abbrev values : Text → GivenOptions → Named
-values first options =
+abbrev values : Text → GivenOptions → (lines : Option Row) → Named
+values first options lines =
     (codes "command", Some (given_row command first)) ∷ option_row (codes "from") options.from ∷ option_row (codes "to") options.to
     ∷ option_row (codes "game") options.game ∷ option_row (codes "seed") options.seed ∷ option_row (codes "hands") options.hands
     ∷ option_row (codes "seat") options.seat ∷ option_row (codes "hand") options.hand ∷ option_row (codes "after") options.after
     ∷ option_row (codes "street") options.street ∷ option_row (codes "with") options.other_file
-    ∷ option_row (codes "as") options.other_notation ∷ []
+    ∷ option_row (codes "as") options.other_notation ∷ (codes "lines", lines) ∷ []
 
 abbrev named : Text → GivenOptions → Named
 named first options =
     (codes "drop-notes", flag_row (codes "drop-notes") options.drops_notes)
-    ∷ (codes "no-notes", flag_row (codes "no-notes") options.ignores_notes) ∷ values first options
+    ∷ (codes "no-notes", flag_row (codes "no-notes") options.ignores_notes)
+    ∷ values first options (flag_row (codes "lines") options.shows_lines)
 
 -- A walk that is between options, with the rows of a command's word and of some options.
 record IsAt (walk : Walk) (first : Text) (options : GivenOptions) : Type 0 where
@@ -364,6 +365,20 @@ no_notes_set options off = record {
     empty : (first : Text) (rows : List Row) → Hold (named first options) rows → row_named (codes "no-notes") rows ≡ None
     empty first rows held = held.1.0 ∙ ap (flag_row (codes "no-notes")) off
 
+lines_set : (options : GivenOptions) → options.shows_lines ≡ false → IsSet options (codes "lines") (record options { shows_lines = true })
+unfolding clap_on_literals
+lines_set options off = record {
+  argument = flag (codes "lines");
+  stands = record { by_name = refl; takes = refl; once = flag_once (codes "lines") };
+  empty = empty;
+  held = λ first rows held.
+      rw (flag_last (codes "lines") rows (empty first rows held))
+      (hold_given (named first options) rows (given_row (flag (codes "lines")) (codes "true")) (empty first rows held) held);
+}
+  where
+    empty : (first : Text) (rows : List Row) → Hold (named first options) rows → row_named (codes "lines") rows ≡ None
+    empty first rows held = held.1.1.1.1.1.1.1.1.1.1.1.1.1.1.0 ∙ ap (flag_row (codes "lines")) off
+
 -- a flag is this one, or one of the others
 either_flag : (options more taken : GivenOptions) (name own : Text) (stood : Bool) (others : Option GivenOptions) (is : Bool)
     → Decides is (name ≡ own) → (stood ≡ false → IsSet options own taken) → (others ≡ Some more → IsSet options name more)
@@ -377,7 +392,8 @@ either_flag options more taken name own stood others false decides here there e 
 is_set : (options more : GivenOptions) (name : Text) → with_flag options name ≡ Some more → IsSet options name more
 is_set options more name e =
     by (codes "drop-notes") options.drops_notes _ _ (drop_notes_set options)
-    (by (codes "no-notes") options.ignores_notes _ _ (no_notes_set options) (λ none. cc)) e
+    (by (codes "no-notes") options.ignores_notes _ _ (no_notes_set options)
+    (by (codes "lines") options.shows_lines _ _ (lines_set options) (λ none. cc))) e
   where
     by : (own : Text) (stood : Bool) (taken : GivenOptions) (others : Option GivenOptions) → (stood ≡ false → IsSet options own taken)
         → (others ≡ Some more → IsSet options name more) → (if bytes_eq name own && not stood then Some taken else others) ≡ Some more
@@ -472,7 +488,7 @@ begins word plain =
     (record {
       rows = used command (word ∷ []) [];
       between = first arguments (walk_from nothing_held) [] word command begin refl plain refl refl refl refl refl refl;
-      held = (refl, (refl, (refl, (refl, (refl, (refl, (refl, (refl, (refl, (refl, (refl, (refl, (refl, (refl, _))))))))))))));
+      held = (refl, (refl, (refl, (refl, (refl, (refl, (refl, (refl, (refl, (refl, (refl, (refl, (refl, (refl, (refl, _)))))))))))))));
     })
 
 -- a walk over all words of a command
@@ -516,30 +532,37 @@ no_defaults [] rows none = refl
 no_defaults (argument ∷ rules) rows none =
     ap (λ (some : List Row). fold with_default some rules) (no_default argument rows none.0) ∙ no_defaults rules rows none.1
 
--- if the others have no defaults, only the defaults of these two arguments are added
-two_defaults : (before : List Rule) (argument other : Rule) (after : List Rule) (rows : List Row) → HaveNoDefaults before → HaveNoDefaults after
-    → fold with_default rows (before ++ argument ∷ other ∷ after) ≡ with_default (with_default rows argument) other
-two_defaults [] argument other after rows none_before none_after =
-    no_defaults after (with_default (with_default rows argument) other) none_after
-two_defaults (rule ∷ before) argument other after rows none_before none_after =
-    ap (λ (some : List Row). fold with_default some (before ++ argument ∷ other ∷ after)) (no_default rule rows none_before.0)
-    ∙ two_defaults before argument other after rows none_before.1 none_after
+-- if the others have no defaults, only the defaults of these three arguments are added
+three_defaults : (before : List Rule) (argument other third : Rule) (after : List Rule) (rows : List Row) → HaveNoDefaults before → HaveNoDefaults after
+    → fold with_default rows (before ++ argument ∷ other ∷ third ∷ after) ≡ with_default (with_default (with_default rows argument) other) third
+three_defaults [] argument other third after rows none_before none_after =
+    no_defaults after (with_default (with_default (with_default rows argument) other) third) none_after
+three_defaults (rule ∷ before) argument other third after rows none_before none_after =
+    ap (λ (some : List Row). fold with_default some (before ++ argument ∷ other ∷ third ∷ after)) (no_default rule rows none_before.0)
+    ∙ three_defaults before argument other third after rows none_before.1 none_after
 
 -- a flag's row at the end: its default if it was not given
 abbrev last_flag_row : Text → Bool → Row
 last_flag_row name true = given_row (flag name) (codes "true")
 last_flag_row name false = row_of (flag name) DefaultValue (codes "false")
 
--- what is found if the first flag is settled, and if both are
+-- what is found if the first flag is settled, if the first two are, and if all are
 abbrev first_settled : Text → GivenOptions → Named
 first_settled first options =
     (codes "drop-notes", Some (last_flag_row (codes "drop-notes") options.drops_notes))
-    ∷ (codes "no-notes", flag_row (codes "no-notes") options.ignores_notes) ∷ values first options
+    ∷ (codes "no-notes", flag_row (codes "no-notes") options.ignores_notes)
+    ∷ values first options (flag_row (codes "lines") options.shows_lines)
+
+abbrev notes_settled : Text → GivenOptions → (lines : Option Row) → Named
+notes_settled first options lines =
+    (codes "drop-notes", Some (last_flag_row (codes "drop-notes") options.drops_notes))
+    ∷ (codes "no-notes", Some (last_flag_row (codes "no-notes") options.ignores_notes)) ∷ values first options lines
 
 abbrev both_settled : Text → GivenOptions → Named
-both_settled first options =
-    (codes "drop-notes", Some (last_flag_row (codes "drop-notes") options.drops_notes))
-    ∷ (codes "no-notes", Some (last_flag_row (codes "no-notes") options.ignores_notes)) ∷ values first options
+both_settled first options = notes_settled first options (flag_row (codes "lines") options.shows_lines)
+
+abbrev all_settled : Text → GivenOptions → Named
+all_settled first options = notes_settled first options (Some (last_flag_row (codes "lines") options.shows_lines))
 
 drop_notes_settled : (first : Text) (options : GivenOptions) (rows : List Row) → Hold (named first options) rows
     → Hold (first_settled first options) (with_default rows (flag (codes "drop-notes")))
@@ -547,7 +570,9 @@ unfolding clap_on_literals
 drop_notes_settled first options rows held = go options.drops_notes held
   where
     others : Named
-    others = (codes "no-notes", flag_row (codes "no-notes") options.ignores_notes) ∷ values first options
+    others =
+        (codes "no-notes", flag_row (codes "no-notes") options.ignores_notes)
+        ∷ values first options (flag_row (codes "lines") options.shows_lines)
 
     go : (b : Bool) → Hold ((codes "drop-notes", flag_row (codes "drop-notes") b) ∷ others) rows
         → Hold ((codes "drop-notes", Some (last_flag_row (codes "drop-notes") b)) ∷ others) (with_default rows (flag (codes "drop-notes")))
@@ -568,8 +593,11 @@ no_notes_settled first options rows held = go options.ignores_notes held
     before : Text × Option Row
     before = (codes "drop-notes", Some (last_flag_row (codes "drop-notes") options.drops_notes))
 
-    go : (b : Bool) → Hold (before ∷ (codes "no-notes", flag_row (codes "no-notes") b) ∷ values first options) rows
-        → Hold (before ∷ (codes "no-notes", Some (last_flag_row (codes "no-notes") b)) ∷ values first options)
+    others : Named
+    others = values first options (flag_row (codes "lines") options.shows_lines)
+
+    go : (b : Bool) → Hold (before ∷ (codes "no-notes", flag_row (codes "no-notes") b) ∷ others) rows
+        → Hold (before ∷ (codes "no-notes", Some (last_flag_row (codes "no-notes") b)) ∷ others)
         (with_default rows (flag (codes "no-notes")))
     go true held =
         let some : has_row (codes "no-notes") rows ≡ true = has_row-named (codes "no-notes") rows ∙ ap is_some held.1.0 in
@@ -578,7 +606,23 @@ no_notes_settled first options rows held = go options.ignores_notes held
         let none : has_row (codes "no-notes") rows ≡ false = has_row-named (codes "no-notes") rows ∙ ap is_some held.1.0 in
         let row = last_flag_row (codes "no-notes") false in
         rw (none, at_row-end (codes "no-notes") (more_values DefaultValue (codes "false" ∷ [])) (row ∷ []) rows held.1.0)
-        (hold_given (before ∷ (codes "no-notes", None) ∷ values first options) rows row held.1.0 held)
+        (hold_given (before ∷ (codes "no-notes", None) ∷ others) rows row held.1.0 held)
+
+lines_settled : (first : Text) (options : GivenOptions) (rows : List Row) → Hold (both_settled first options) rows
+    → Hold (all_settled first options) (with_default rows (flag (codes "lines")))
+unfolding clap_on_literals
+lines_settled first options rows held = go options.shows_lines held
+  where
+    go : (b : Bool) → Hold (notes_settled first options (flag_row (codes "lines") b)) rows
+        → Hold (notes_settled first options (Some (last_flag_row (codes "lines") b))) (with_default rows (flag (codes "lines")))
+    go true held =
+        let some : has_row (codes "lines") rows ≡ true = has_row-named (codes "lines") rows ∙ ap is_some held.1.1.1.1.1.1.1.1.1.1.1.1.1.1.0 in
+        rw some held
+    go false held =
+        let none : has_row (codes "lines") rows ≡ false = has_row-named (codes "lines") rows ∙ ap is_some held.1.1.1.1.1.1.1.1.1.1.1.1.1.1.0 in
+        let row = last_flag_row (codes "lines") false in
+        rw (none, at_row-end (codes "lines") (more_values DefaultValue (codes "false" ∷ [])) (row ∷ []) rows held.1.1.1.1.1.1.1.1.1.1.1.1.1.1.0)
+        (hold_given (notes_settled first options None) rows row held.1.1.1.1.1.1.1.1.1.1.1.1.1.1.0 held)
 
 -- what the parser finds in a first word that does not begin with a hyphen, and in the options after
 -- it
@@ -597,6 +641,7 @@ pub record IsFound (first : Text) (options : GivenOptions) (rows : List Row) : T
   pub other_notation : first_of (codes "as") rows ≡ options.other_notation
   pub drops_notes : one_of (codes "drop-notes") rows ≡ Some (flag_text options.drops_notes)
   pub ignores_notes : one_of (codes "no-notes") rows ≡ Some (flag_text options.ignores_notes)
+  pub shows_lines : one_of (codes "lines") rows ≡ Some (flag_text options.shows_lines)
 
 value_of_row : (argument : Rule) (value : Option Text) → option_and_then (λ (row : Row). slice_get row.values 0) (option_map (given_row argument) value) ≡ value
 value_of_row argument None = refl
@@ -611,7 +656,7 @@ unfolding clap_on_literals
 text_of_flag name true = refl
 text_of_flag name false = refl
 
-found_in : (first : Text) (options : GivenOptions) (rows : List Row) → Hold (both_settled first options) rows → IsFound first options rows
+found_in : (first : Text) (options : GivenOptions) (rows : List Row) → Hold (all_settled first options) rows → IsFound first options rows
 found_in first options rows held = record {
   command = ap (option_and_then (λ (row : Row). slice_get row.values 0)) held.1.1.0;
   from = value_of_option (codes "from") rows options.from held.1.1.1.0;
@@ -627,19 +672,21 @@ found_in first options rows held = record {
   other_notation = value_of_option (codes "as") rows options.other_notation held.1.1.1.1.1.1.1.1.1.1.1.1.1.0;
   drops_notes = ap (option_and_then row_text) held.0 ∙ text_of_flag (codes "drop-notes") options.drops_notes;
   ignores_notes = ap (option_and_then row_text) held.1.0 ∙ text_of_flag (codes "no-notes") options.ignores_notes;
+  shows_lines = ap (option_and_then row_text) held.1.1.1.1.1.1.1.1.1.1.1.1.1.1.0 ∙ text_of_flag (codes "lines") options.shows_lines;
 }
 
 -- the rows if all defaults are added
 abbrev with_defaults : List Row → List Row
-with_defaults rows = with_default (with_default rows (flag (codes "drop-notes"))) (flag (codes "no-notes"))
+with_defaults rows =
+    with_default (with_default (with_default rows (flag (codes "drop-notes"))) (flag (codes "no-notes"))) (flag (codes "lines"))
 
-two_have_defaults : (rows : List Row) → fold with_default rows arguments ≡ with_defaults rows
+three_have_defaults : (rows : List Row) → fold with_default rows arguments ≡ with_defaults rows
 unfolding clap_on_literals
-two_have_defaults rows = two_defaults
+three_have_defaults rows = three_defaults
     (command ∷ option (codes "from") ∷ option (codes "to") ∷ option (codes "game") ∷ option (codes "seed") ∷ option (codes "hands")
     ∷ option (codes "seat") ∷ option (codes "hand") ∷ option (codes "after") ∷ option (codes "street") ∷ option (codes "with")
     ∷ option (codes "as") ∷ [])
-    (flag (codes "drop-notes")) (flag (codes "no-notes")) (filled help_rule ∷ []) rows
+    (flag (codes "drop-notes")) (flag (codes "no-notes")) (flag (codes "lines")) (filled help_rule ∷ []) rows
     (refl, (refl, (refl, (refl, (refl, (refl, (refl, (refl, (refl, (refl, (refl, (refl, _)))))))))))) (refl, _)
 
 pub finds : (word : Text) (words : List Text) (options : GivenOptions) → strip_byte 45 word ≡ None → options_said no_options words ≡ Some options
@@ -648,7 +695,8 @@ unfolding rows_found
 finds word words options plain said =
     let at = (whole word words options plain said).at in
     let rows : rows_found (word ∷ words) ≡ with_defaults at.rows =
-    ap (λ (some : List Row). fold with_default some arguments) at.between.rows ∙ two_have_defaults at.rows in
-    let held = drop_notes_settled word options at.rows at.held in
-    rw rows (found_in word options (with_defaults at.rows)
-    (no_notes_settled word options (with_default at.rows (flag (codes "drop-notes"))) held))
+    ap (λ (some : List Row). fold with_default some arguments) at.between.rows ∙ three_have_defaults at.rows in
+    let dropped = with_default at.rows (flag (codes "drop-notes")) in
+    let ignored = with_default dropped (flag (codes "no-notes")) in
+    let held = no_notes_settled word options dropped (drop_notes_settled word options at.rows at.held) in
+    rw rows (found_in word options (with_defaults at.rows) (lines_settled word options ignored held))

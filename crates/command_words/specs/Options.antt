@@ -32,6 +32,8 @@ pub record GivenOptions : Type 0 where
   pub drops_notes : Bool
   -- --no-notes: notes are ignored
   pub ignores_notes : Bool
+  -- --lines: the line on which each hand begins is asked for
+  pub shows_lines : Bool
 
 -- no options
 abbrev pub no_options : GivenOptions
@@ -49,6 +51,7 @@ no_options = record {
   other_notation = None;
   drops_notes = false;
   ignores_notes = false;
+  shows_lines = false;
 }
 
 -- no notation and no game is given: no --from, --to, --game
@@ -70,7 +73,8 @@ lack_other options = is_none options.other_file && is_none options.other_notatio
 
 -- no flag is given
 abbrev pub lack_flags : GivenOptions → Bool
-lack_flags options = not options.drops_notes && not options.ignores_notes
+lack_flags options =
+    not options.drops_notes && not options.ignores_notes && not options.shows_lines
 
 -- no option is given
 abbrev pub are_none : GivenOptions → Bool
@@ -131,11 +135,15 @@ with_flag options name =
     then Some (record options { drops_notes = true })
     else if bytes_eq name (codes "no-notes") && not options.ignores_notes
     then Some (record options { ignores_notes = true })
+    else if bytes_eq name (codes "lines") && not options.shows_lines
+    then Some (record options { shows_lines = true })
     else None
 
 -- the option is a flag, which has no value
 abbrev pub is_flag : List ℕ → Bool
-is_flag name = bytes_eq name (codes "drop-notes") || bytes_eq name (codes "no-notes")
+is_flag name =
+    bytes_eq name (codes "drop-notes") || bytes_eq name (codes "no-notes")
+    || bytes_eq name (codes "lines")
 
 -- the options with the option of this name, whose value may be the next word
 abbrev pub with_value : GivenOptions → List ℕ → Option (List ℕ) → Option GivenOptions

@@ -28,6 +28,7 @@ options_in options = record {
   other_notation = option_map (λ text. text.now) options.other_notation;
   drops_notes = options.drops_notes;
   ignores_notes = options.ignores_notes;
+  shows_lines = options.shows_lines;
 }
 
 -- the notations of two files, with the name of the game's file
@@ -62,6 +63,7 @@ pub record AreFound (found : Found) (options : words.GivenOptions) : Type 0 wher
   pub other_notation : first_value found (codes "as") ≡ options.other_notation
   pub drops_notes : one_text found (codes "drop-notes") ≡ Some (flag_text options.drops_notes)
   pub ignores_notes : one_text found (codes "no-notes") ≡ Some (flag_text options.ignores_notes)
+  pub shows_lines : one_text found (codes "lines") ≡ Some (flag_text options.shows_lines)
 
 -- What a command line parser found is what the words say: the word of the command, and the options.
 pub record IsSaidBy (said : List (List ℕ)) (found : Found) : Type 0 where

@@ -1,5 +1,5 @@
 -- What a command line asks for: the word of a command, followed by its options and no others.
-use Rattle.std.specs.Prelude.{ℕ, Bool, false, not, if◌then◌else◌, List, [], ◌∷◌, codes, Option, Some, None, option_and_then}
+use Rattle.std.specs.Prelude.{ℕ, Bool, true, false, not, if◌then◌else◌, List, [], ◌∷◌, codes, Option, Some, None, option_and_then}
 use Rattle.std.specs.Str.{bytes_eq}
 use Rattle.command_words.specs.Numbers.{events_said, hand_said, hands_said, seat_said, seed_said, street_said}
 use Rattle.command_words.specs.Options.{GivenOptions, are_none, no_options, options_said}
@@ -111,11 +111,17 @@ abbrev pub question_asked : Question → GivenOptions → Option Request
 question_asked question options =
     if are_none (record options { from = None; game = None }) then asked options question else None
 
--- `judge` takes --from, and --game for logs
+-- The verdict on each hand of a notation, with the line on which it begins if lines are asked for;
+-- these are not given for the Poker Hand History format.
+abbrev pub judging_of : NotationName → (game : Option (List ℕ)) → (lines : Bool) → Option Request
+judging_of (names.Plain notations.Phh) game true = None
+judging_of from game lines = reading_of from game (tasks.Judge lines) (tasks.Judge lines)
+
+-- `judge` takes --from, --game for logs, and --lines
 abbrev pub judge_asked : GivenOptions → Option Request
 judge_asked options =
-    if are_none (record options { from = None; game = None })
-    then option_and_then (λ from. reading_of from options.game tasks.Judge tasks.Judge)
+    if are_none (record options { from = None; game = None; shows_lines = false })
+    then option_and_then (λ from. judging_of from options.game options.shows_lines)
     (notation_named options.from)
     else None
 

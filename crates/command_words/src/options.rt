@@ -33,6 +33,8 @@ pub struct GivenOptions<'a> {
     pub drops_notes: bool,
     /// Whether notes are ignored.
     pub ignores_notes: bool,
+    /// Whether the lines on which hands begin are asked for.
+    pub shows_lines: bool,
 }
 
 /// The options that the words say, or `None` if one is unknown or repeated.
@@ -54,6 +56,7 @@ pub fn read_options(words: &[String]) -> Option<GivenOptions<'_>>
         other_notation: None,
         drops_notes: false,
         ignores_notes: false,
+        shows_lines: false,
     };
     let mut rest = words;
     while let Some((word, behind)) = rest.split_first() {
@@ -210,7 +213,7 @@ fn with_other<'a>(options: GivenOptions<'a>, name: &str, value: &'a str) -> Opti
 fn is_flag(name: &str) -> bool
     ensures { result ≡ is_flag_said name.now }
 {
-    name == "drop-notes" || name == "no-notes"
+    name == "drop-notes" || name == "no-notes" || name == "lines"
 }
 
 // The options with the flag of this name, if it is not given yet.
@@ -224,6 +227,10 @@ fn with_flag<'a>(options: GivenOptions<'a>, name: &str) -> Option<GivenOptions<'
         }),
         "no-notes" if !options.ignores_notes => Some(GivenOptions {
             ignores_notes: true,
+            ..options
+        }),
+        "lines" if !options.shows_lines => Some(GivenOptions {
+            shows_lines: true,
             ..options
         }),
         _ => None,

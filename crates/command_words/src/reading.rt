@@ -86,7 +86,8 @@ fn parser<'a>(alloc: Global) -> Result<clap::Command<'a>, AllocError>
         .arg(option(alloc, "with"))?
         .arg(option(alloc, "as"))?
         .arg(flag(alloc, "drop-notes"))?
-        .arg(flag(alloc, "no-notes"))
+        .arg(flag(alloc, "no-notes"))?
+        .arg(flag(alloc, "lines"))
 }
 
 // An option of this name.
@@ -123,5 +124,6 @@ fn options_found<'a>(matches: &ArgMatches<'a>) -> GivenOptions<'a>
         other_notation: matches.get_str("as"),
         drops_notes: matches.get_flag("drop-notes"),
         ignores_notes: matches.get_flag("no-notes"),
+        shows_lines: matches.get_flag("lines"),
     }
 }

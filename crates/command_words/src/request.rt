@@ -2,7 +2,7 @@
 ghost use Rattle.std.specs.Prelude.{◌≡◌, option_map};
 ghost use Rattle.command_words.specs.Options.{are_none as are_none_said, lack_counts as lack_counts_said, lack_flags as lack_flags_said, lack_names as lack_names_said, lack_other as lack_other_said, lack_places as lack_places_said};
 ghost use Rattle.command_words.specs.Requests.{options_in, request_in, sides_in};
-ghost use Rattle.command_words.specs.Words.{asked as asked_said, comparison_asked, conversion_asked, conversion_of as conversion_of_said, equity_asked, file_named as file_named_said, game_asked, judge_asked, keep_said, load_asked, options_asked, question_asked, reading_of as reading_of_said, request_by, sides_of as sides_of_said, views_asked, views_of as views_of_said};
+ghost use Rattle.command_words.specs.Words.{asked as asked_said, comparison_asked, conversion_asked, conversion_of as conversion_of_said, equity_asked, file_named as file_named_said, game_asked, judge_asked, judging_of as judging_of_said, keep_said, load_asked, options_asked, question_asked, reading_of as reading_of_said, request_by, sides_of as sides_of_said, views_asked, views_of as views_of_said};
 
 use crate::command::Command;
 use crate::notation::{NotationName, PlainNotation, notation_named};
@@ -103,20 +103,38 @@ fn question_alone<'a>(question: Question, options: GivenOptions<'a>) -> Option<R
     asked(options, question)
 }
 
-// The verdict on each hand; takes only the notation and the game.
+// The verdict on each hand; takes the notation, the game, and whether lines are asked for.
 fn judgement<'a>(options: GivenOptions<'a>) -> Option<Request<'a>>
     ensures { option_map request_in result ≡ judge_asked (options_in options.entry) }
 {
     let others = GivenOptions {
         from: None,
         game: None,
+        shows_lines: false,
         ..options
     };
     if !are_none(others) {
         return None;
     }
     let from = notation_named(options.from)?;
-    reading_of(from, options.game, NamedTask::Judge, NamedTask::Judge)
+    judging_of(from, options.game, options.shows_lines)
+}
+
+// The verdict on each hand of a notation. A line is given only if its number says where a hand can
+// be cut out, so not for tables of TOML.
+fn judging_of<'a>(from: NotationName, game: Option<&'a str>, lines: bool) -> Option<Request<'a>>
+    ensures { option_map request_in result
+        ≡ judging_of_said from (option_map (λ s. s.now) game.entry) lines }
+{
+    match from {
+        NotationName::Plain(PlainNotation::Phh) if lines => None,
+        from => reading_of(
+            from,
+            game,
+            NamedTask::Judge { lines },
+            NamedTask::Judge { lines },
+        ),
+    }
 }
 
 // Makes a game file from hands that have none.
@@ -397,7 +415,7 @@ fn lack_other(options: GivenOptions<'_>) -> bool
 fn lack_flags(options: GivenOptions<'_>) -> bool
     ensures { result ≡ lack_flags_said (options_in options.entry) }
 {
-    !options.drops_notes && !options.ignores_notes
+    !options.drops_notes && !options.ignores_notes && !options.shows_lines
 }
 
 // Whether no seat, hand or place in a hand is given.

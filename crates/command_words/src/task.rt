@@ -20,8 +20,9 @@ pub enum Question {
 pub enum NamedTask<N> {
     /// The answer to a question.
     Ask(Question),
-    /// The verdict on each hand: whether it is legal, and why it is not.
-    Judge,
+    /// The verdict on each hand: whether it is legal, and why it is not; `lines` asks for the line
+    /// on which it begins, too.
+    Judge { lines: bool },
     /// The same hands in another notation; `keep` says which notes are kept.
     Convert { to: N, keep: Keep },
 }

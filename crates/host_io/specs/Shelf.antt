@@ -11,6 +11,11 @@ IsAnswer file max (Bytes fetched) = (file ≡ Some fetched.items) × (length fet
 IsAnswer file max Absent = file ≡ None
 IsAnswer file max TooLong = IsSomeAnd file (λ bytes. max < length bytes)
 
+-- the bytes of an answer are within max
+abbrev pub IsWithin : ℕ → Fetched → Type 0
+IsWithin max (Bytes fetched) = length fetched.items ≤ max
+IsWithin max fetched = Unit {0}
+
 -- whether the answer is that the shelf failed
 abbrev pub has_failed : Result Fetched ShelfFault → Bool
 has_failed (Err Failed) = true

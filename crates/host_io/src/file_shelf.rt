@@ -3,7 +3,7 @@
 ghost use Rattle.std.specs.Prelude.{◌≡◌, ◌≤◌, ◌≢◌, ◌↔◌, ◌⊎◌, None, Some, Ok, Err, IfOk, IfErr, IfSome, IsErrAnd, IsErrOf, IsTrue};
 ghost use Rattle.host_io.specs.Faults.{count_after, Rose};
 ghost use Rattle.host_io.specs.OpenError.{IsMissing};
-ghost use Rattle.host_io.specs.Shelf.{IsAnswer, has_failed};
+ghost use Rattle.host_io.specs.Shelf.{IsAnswer, IsWithin, has_failed};
 
 use crate::fault::count_fault;
 use crate::shelf::{Fetched, Shelf, ShelfFault};
@@ -33,6 +33,7 @@ impl<R: Files> Shelf for FileShelf<R> {
     ghost Asked = { λ _ _ _. Unit {0} };
 
     fn fetch(&mut self, alloc: Global, name: &str, max: usize) -> Result<Fetched, ShelfFault>
+        ensures within { IfOk result (IsWithin max) }
         ensures later { fault_count self.old ≤ fault_count self.new }
         ensures failed { IsErrOf result ShelfFault.Failed →
             Rose (fault_count self.old) (fault_count self.new) }
@@ -54,6 +55,7 @@ fn fetch_opened<F: Read + Drop>(
     opened: io::Result<F>,
     max: usize,
 ) -> Result<Fetched, ShelfFault>
+    ensures within { IfOk result (IsWithin max) }
     ensures absent { (result ≡ Ok Fetched.Absent) ↔ IsErrAnd opened IsMissing }
     ensures unopened { IfErr opened (λ error. IsMissing error ⊎ (result ≡ Err ShelfFault.Failed)) }
 {
@@ -79,6 +81,7 @@ impl<R: Files> FileShelf<R> {
 fn fetch_from<S: Source>(alloc: Global, source: &mut S, max: usize) -> Result<Fetched, ShelfFault>
     ensures answer { IfOk result (λ fetched.
         IfSome (S.left source.old) (λ bytes. IsAnswer (Some bytes) max fetched)) }
+    ensures within { IfOk result (IsWithin max) }
     ensures there { result ≢ Ok Fetched.Absent }
     ensures failed { IsErrOf result ShelfFault.Failed →
         Rose (S.faults source.old) (S.faults source.new) }

@@ -3,7 +3,7 @@ ghost use Rattle.std.specs.Prelude.{◌≡◌, ◌≤◌, ◌↔◌, Some, IfOk,
 ghost use Rattle.std.specs.Option.{option_copied};
 ghost use Rattle.host_io.specs.Faults.{Rose};
 ghost use Rattle.host_io.specs.FaultPlan.{IsFresh, FailsNext, CountsCall, CountsOneCall};
-ghost use Rattle.host_io.specs.Shelf.{IsAnswer, has_failed};
+ghost use Rattle.host_io.specs.Shelf.{IsAnswer, IsWithin, has_failed};
 ghost use Rattle.host_io.specs.MemShelf.{file_named};
 
 use crate::fault_plan::FaultPlan;
@@ -45,6 +45,7 @@ impl Shelf for MemShelf {
 
     fn fetch(&mut self, alloc: Global, name: &str, max: usize) -> Result<Fetched, ShelfFault>
         ensures answer { IfOk result (IsAnswer (shelf_files self.old name.now) max) }
+        ensures within { IfOk result (IsWithin max) }
         ensures unchanged { shelf_files self.new ≡ shelf_files self.old }
         ensures asked { CountsOneCall (shelf_plan self.old) (shelf_plan self.new) }
         ensures later { (shelf_plan self.old).faults ≤ (shelf_plan self.new).faults }

@@ -1,7 +1,7 @@
 //! A shelf has bytes under names, and reading it changes none of them.
 ghost use Rattle.std.specs.Prelude.{◌≡◌, ◌≤◌, List, ℕ, Option, IfOk, IfSome, IsErrOf};
 ghost use Rattle.host_io.specs.Faults.{Rose};
-ghost use Rattle.host_io.specs.Shelf.{IsAnswer};
+ghost use Rattle.host_io.specs.Shelf.{IsAnswer, IsWithin};
 ghost use Rattle.host_io.specs.declared.shelf.ShelfFault.TheVariants.{Failed as ShelfFailed, Memory as OutOfMemory};
 
 use crate::fault::Failed;
@@ -64,6 +64,7 @@ pub trait Shelf {
     fn fetch(&mut self, alloc: Global, name: &str, max: usize) -> Result<Fetched, ShelfFault>
         ensures answer { IfOk result (λ fetched.
             IfSome (files self.old) (λ files. IsAnswer (files name.now) max fetched)) }
+        ensures within { IfOk result (IsWithin max) }
         ensures unchanged { files self.new ≡ files self.old }
         ensures asked { Asked self.old self.new name.now }
         ensures later { faults self.old ≤ faults self.new }

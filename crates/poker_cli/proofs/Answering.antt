@@ -24,7 +24,7 @@ use Rattle.ohh_reading.specs.declared.fault.OhhFault.{OhhFault}
 use Rattle.ohh_reading.specs.declared.fault.OhhFault.TheVariants as in_ohh
 use Rattle.phh_reading.specs.declared.fault.PhhFault.{PhhFault}
 use Rattle.phh_reading.specs.declared.fault.PhhFault.TheVariants as in_phh
-use Rattle.poker_cli.specs.Answer.{Answer, Files, GivesGame, GivesNoGame, IsAnswer, IsAnswerBy, IsAnswerIn, IsAnswerTo, IsAnswerUnder, IsJudgement, IsToldOf, IsWritten, done, most_input, to_excess, to_fault, to_refusal}
+use Rattle.poker_cli.specs.Answer.{Answer, Files, FilesByName, GivesGame, GivesNoGame, IsAnswer, IsAnswerBy, IsAnswerIn, IsAnswerTo, IsAnswerUnder, IsJudgement, IsToldOf, IsWritten, done, most_input, to_excess, to_fault, to_refusal}
 use Rattle.poker_cli.specs.Answer as answers
 use Rattle.poker_cli.specs.Lacking.{IsGameFileErrorTold, Lacks}
 use Rattle.poker_cli.specs.Told.{answer_told}
@@ -32,11 +32,12 @@ use Rattle.poker_cli.specs.declared.answer.Answer as made
 use Rattle.poker_cli.specs.declared.no_answer.NoAnswerError.{NoAnswerError}
 use Rattle.poker_cli.specs.declared.games.GameFileError.{GameFileError}
 use Rattle.poker_cli.specs.declared.games.GameFileError.TheVariants as lacks
-use Rattle.poker_cli.specs.Run.{AsksForFile, Ends, EndsLeaving, IsFileMissing, IsGameMissing, IsOwn, LacksFile, MayEnd, OfBytes, ReadsHands, Sinks, TellsLine, Writes, WhereTold, line_of}
+use Rattle.poker_cli.specs.Run.{AsksForFile, Ends, EndsLeaving, IsFileMissing, IsGameMissing, IsOwn, IsWithoutFile, MayEnd, OfBytes, OfFile, ReadsHands, Sinks, TellsLine, Writes, WhereTold, line_of}
 use Rattle.poker_cli.specs.declared.status.Status.{Status}
 use Rattle.poker_cli.specs.declared.status.Status.TheVariants as statuses
 use Rattle.poker_cli.specs.declared.task.Format.{Format}
 use Rattle.poker_cli.specs.Ways.{job_under}
+use Rattle.poker_cli.proofs.FilesTold.{any_file, any_game_file, game_alone, of_file, of_game_file, two_files}
 
 -- the bytes that were read are those that the source had left
 pub answer_within : (task : Task) (reader : Format) (left : Option (List ℕ)) (bytes : List ℕ) (answer : Answer)
@@ -131,11 +132,12 @@ module _ (Say : List Record → Type 0) (HaveFault : FormatFault → Type 0) whe
   answer_wrong IsMade answer (convert_faults.Memory memory) have told = absurd told
 
   -- and no verdicts
-  pub not_judged : (answer : Answer) (fault : ConvertFault) → IsReadFault HaveFault fault → IsToldOf fault answer → IsJudgement Say HaveFault answer
-  not_judged answer (convert_faults.Format fault) have told = answers.NotJudged fault have answer told
-  not_judged answer (convert_faults.Refused number why) have told = absurd have
-  not_judged answer (convert_faults.Unspelled number fact) have told = absurd have
-  not_judged answer (convert_faults.Memory memory) have told = absurd told
+  pub not_judged : (lines : List ℕ) (answer : Answer) (fault : ConvertFault) → IsReadFault HaveFault fault → IsToldOf fault answer
+      → IsJudgement Say HaveFault lines answer
+  not_judged lines answer (convert_faults.Format fault) have told = answers.NotJudged fault have answer told
+  not_judged lines answer (convert_faults.Refused number why) have told = absurd have
+  not_judged lines answer (convert_faults.Unspelled number fact) have told = absurd have
+  not_judged lines answer (convert_faults.Memory memory) have told = absurd told
 
   module _ (unspelled : Play → Option Unspelled) (Spell Back : List Play → List ℕ → Type 0) (answer : Answer) where
     -- bytes that cannot be converted
@@ -196,35 +198,33 @@ pub of_all : (left : Option (List ℕ)) (P : List ℕ → Type 0) → ((bytes : 
 of_all (Some bytes) P each = each bytes
 of_all None P each = ([], each [])
 
--- what follows for files and bytes, if they are shown
-pub where_told : (request : Request) (left : Option (List ℕ)) (told : Option Files) (P Q : Files → List ℕ → Type 0)
+-- what follows for files and bytes, whether they are shown or not
+pub where_told : (request : Request) (left : Option (List ℕ)) (told : Option FilesByName) (P Q : Files → List ℕ → Type 0)
     → ((files : Files) (bytes : List ℕ) → P files bytes → Q files bytes) → WhereTold request left told P → WhereTold request left told Q
 where_told (Load seed hands) left told P Q more is = more _ _ is
 where_told (Plain from task) left told P Q more is = bytes_told left _ _ (more _) is
-where_told (Under name logs) left (Some files) P Q more is = bytes_told left _ _ (more files) is
-where_told (Under name logs) left None P Q more is = tt
-where_told (Compare sides file notes) left (Some files) P Q more is = bytes_told left _ _ (more files) is
-where_told (Compare sides file notes) left None P Q more is = tt
+where_told (Under name logs) left told P Q more is =
+    of_file told name (λ game. OfBytes left (P (game_alone game))) (λ game. OfBytes left (Q (game_alone game)))
+    (λ game. bytes_told left (P (game_alone game)) (Q (game_alone game)) (more (game_alone game))) is
+where_told (Compare sides name notes) left told P Q more is =
+    of_game_file told sides (λ game. OfFile told name (λ other. OfBytes left (P (two_files game other))))
+    (λ game. OfFile told name (λ other. OfBytes left (Q (two_files game other))))
+    (λ game.
+    of_file told name (λ other. OfBytes left (P (two_files game other))) (λ other. OfBytes left (Q (two_files game other)))
+    (λ other. bytes_told left (P (two_files game other)) (Q (two_files game other)) (more (two_files game other)))) is
 
 -- what holds of all files and bytes
-pub always_told : (request : Request) (left : Option (List ℕ)) (told : Option Files) (P : Files → List ℕ → Type 0)
+pub always_told : (request : Request) (left : Option (List ℕ)) (told : Option FilesByName) (P : Files → List ℕ → Type 0)
     → ((files : Files) (bytes : List ℕ) → P files bytes) → WhereTold request left told P
 always_told (Load seed hands) left told P each = each _ _
 always_told (Plain from task) left told P each = of_all left _ (each _)
-always_told (Under name logs) left (Some files) P each = of_all left _ (each files)
-always_told (Under name logs) left None P each = tt
-always_told (Compare sides file notes) left (Some files) P each = of_all left _ (each files)
-always_told (Compare sides file notes) left None P each = tt
-
--- the input is read if no file is missing
-pub read_told : (request : Request) (left : Option (List ℕ)) (told : Option Files) → ReadsHands request → (LacksFile request told → ⊥)
-    → WhereTold request left told (λ files bytes. ReadsHands request × (LacksFile request (Some files) → ⊥))
-read_told (Load seed hands) left told reads there = absurd reads
-read_told (Plain from task) left told reads there = of_all left _ (λ bytes. (reads, λ lacks. lacks))
-read_told (Under name logs) left (Some files) reads there = of_all left _ (λ bytes. (reads, there))
-read_told (Under name logs) left None reads there = tt
-read_told (Compare sides file notes) left (Some files) reads there = of_all left _ (λ bytes. (reads, there))
-read_told (Compare sides file notes) left None reads there = tt
+always_told (Under name logs) left told P each =
+    any_file told name (λ game. OfBytes left (P (game_alone game))) (λ game. of_all left (P (game_alone game)) (each (game_alone game)))
+always_told (Compare sides name notes) left told P each =
+    any_game_file told sides (λ game. OfFile told name (λ other. OfBytes left (P (two_files game other))))
+    (λ game.
+    any_file told name (λ other. OfBytes left (P (two_files game other)))
+    (λ other. of_all left (P (two_files game other)) (each (two_files game other))))
 
 -- if the answer is done and has no output, the sink stays the same
 leaves_with : (request : Request) (files : Files) (bytes : List ℕ) (out diag : Sinks) (answer : Answer) (status : Status) (Same : Type 0)
@@ -241,8 +241,8 @@ leaves_with request files bytes out diag answer statuses.Done Same is own ends w
 leaves_with request files bytes out diag answer status Same is own ends written line same =
     record { ends = ends_with request files bytes out diag answer status is own ends written line; unwritten = tt }
 
--- if the source shows what it has left, and the shelf its files
-pub ends_where_told : (request : Request) (left : Option (List ℕ)) (told : Option Files) (out diag : Sinks) (answer : Answer) (status : Status) (Same : Type 0)
+-- whether the devices show what they hold or not
+pub ends_where_told : (request : Request) (left : Option (List ℕ)) (told : Option FilesByName) (out diag : Sinks) (answer : Answer) (status : Status) (Same : Type 0)
     → WhereTold request left told (λ files bytes. IsAnswerIn request files bytes answer)
     → IsOwn answer.status → MayEnd answer status → Writes out.held out.holds answer status
     → TellsLine diag.before diag.now diag.held diag.holds (line_of answer status)
@@ -253,12 +253,12 @@ ends_where_told request left told out diag answer status Same is own ends writte
     (λ files bytes it. leaves_with request files bytes out diag answer status Same it own ends written line same) is
 
 -- a run ends before there is an answer
-module _ (request : Request) (left : Option (List ℕ)) (told : Option Files) (out diag : Sinks) (Same : Type 0) where
-  pub ends_unread_input : ReadsHands request → (LacksFile request told → ⊥)
+module _ (request : Request) (left : Option (List ℕ)) (told : Option FilesByName) (out diag : Sinks) (Same : Type 0) where
+  pub ends_unread_input : WhereTold request left told (λ files bytes. ReadsHands request × (IsWithoutFile request files → ⊥))
       → WhereTold request left told (λ files bytes. EndsLeaving request files bytes out diag statuses.ReadFault Same)
-  ends_unread_input reads there =
-      where_told request left told _ (λ files bytes. EndsLeaving request files bytes out diag statuses.ReadFault Same)
-      (λ files bytes is. record { ends = is; unwritten = tt }) (read_told request left told reads there)
+  ends_unread_input reads =
+      where_told request left told (λ files bytes. ReadsHands request × (IsWithoutFile request files → ⊥))
+      (λ files bytes. EndsLeaving request files bytes out diag statuses.ReadFault Same) (λ files bytes is. record { ends = is; unwritten = tt }) reads
 
   pub ends_game_missing : WhereTold request left told (λ files bytes. IsGameMissing request files)
       → WhereTold request left told (λ files bytes. EndsLeaving request files bytes out diag statuses.GameMissing Same)
@@ -318,13 +318,14 @@ told_alone answer statuses.GameMissing held same own undone = absurd own
 told_alone answer statuses.FileMissing held same own undone = absurd own
 
 -- if logs are under a game, the answer is that under the game in its file
-pub game_reply : (told : Option Files) (left : Option (List ℕ)) (name : List ℕ) (logs : Logs) (game : Game) (result : Result made.Answer NoAnswerError)
-    → IfSome told (λ files. GivesGame (files name) game)
+pub game_reply : (told : Option FilesByName) (left : Option (List ℕ)) (name : List ℕ) (logs : Logs) (game : Game) (result : Result made.Answer NoAnswerError)
+    → OfFile told name (λ file. GivesGame file game)
     → IfOk result (λ answer. OfBytes left (λ bytes. IsAnswerBy (job_under game logs) bytes (answer_told answer)))
-    → IfOk result (λ answer. IfSome told (λ files. OfBytes left (λ bytes. IsAnswerUnder (files name) logs bytes (answer_told answer))))
-game_reply (Some files) left name logs game (Ok answer) gives is =
-    bytes_told left _ (λ bytes. IsAnswerUnder (files name) logs bytes (answer_told answer)) (λ bytes to. answers.OfInput game gives (answer_told answer) to) is
-game_reply None left name logs game (Ok answer) gives is = tt
+    → IfOk result (λ answer. OfFile told name (λ file. OfBytes left (λ bytes. IsAnswerUnder file logs bytes (answer_told answer))))
+game_reply told left name logs game (Ok answer) gives is =
+    of_file told name (λ file. GivesGame file game) (λ file. OfBytes left (λ bytes. IsAnswerUnder file logs bytes (answer_told answer)))
+    (λ file given.
+    bytes_told left _ (λ bytes. IsAnswerUnder file logs bytes (answer_told answer)) (λ bytes to. answers.OfInput game given (answer_told answer) to) is) gives
 game_reply told left name logs game (Err why) gives is = tt
 
 -- or it reports what is wrong with the file
@@ -333,20 +334,15 @@ no_game file lacks.TooLong answer is told = subst (λ (a : Answer). GivesNoGame 
 no_game file (lacks.Bad fault) answer is told =
     subst (λ (a : Answer). GivesNoGame file a) (sym told) (answers.BadGame is.0 is.1.0 is.1.1.0 fault is.1.1.1)
 
-pub game_file_error_reply : (told : Option Files) (left : Option (List ℕ)) (name : List ℕ) (logs : Logs) (lack : GameFileError) (answer : Answer)
-    → IfSome told (λ files. Lacks (files name) lack) → IsGameFileErrorTold lack answer
-    → IfSome told (λ files. OfBytes left (λ bytes. IsAnswerUnder (files name) logs bytes answer))
-game_file_error_reply (Some files) left name logs lack answer is tells =
-    of_all left (λ bytes. IsAnswerUnder (files name) logs bytes answer) (λ bytes. answers.NoGameError answer (no_game (files name) lack answer is tells))
-game_file_error_reply None left name logs lack answer is tells = tt
-
--- what is known of the files holds whatever the bytes are
-pub of_files : (left : Option (List ℕ)) (told : Option Files) (P : Files → Type 0) → IfSome told P → IfSome told (λ files. OfBytes left (λ bytes. P files))
-of_files left (Some files) P is = of_all left (λ bytes. P files) (λ bytes. is)
-of_files left None P is = tt
+pub game_file_error_reply : (told : Option FilesByName) (left : Option (List ℕ)) (name : List ℕ) (logs : Logs) (lack : GameFileError) (answer : Answer)
+    → OfFile told name (λ file. Lacks file lack) → IsGameFileErrorTold lack answer
+    → OfFile told name (λ file. OfBytes left (λ bytes. IsAnswerUnder file logs bytes answer))
+game_file_error_reply told left name logs lack answer is tells =
+    of_file told name (λ file. Lacks file lack) (λ file. OfBytes left (λ bytes. IsAnswerUnder file logs bytes answer))
+    (λ file lacking. of_all left (λ bytes. IsAnswerUnder file logs bytes answer) (λ bytes. answers.NoGameError answer (no_game file lack answer lacking tells))) is
 
 -- running out of memory says nothing about files and bytes, and leaves the input as it was
-pub ends_unread : (said : Option Request) (left : Option (List ℕ)) (told : Option Files) (out diag : Sinks) (Same : Type 0) → WasRefused
+pub ends_unread : (said : Option Request) (left : Option (List ℕ)) (told : Option FilesByName) (out diag : Sinks) (Same : Type 0) → WasRefused
     → IfSome said (λ request. WhereTold request left told (λ files bytes. EndsLeaving request files bytes out diag statuses.Memory Same))
 ends_unread None left told out diag Same refused = tt
 ends_unread (Some request) left told out diag Same refused = ends_memory request left told out diag Same refused

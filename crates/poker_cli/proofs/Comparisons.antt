@@ -161,14 +161,14 @@ by_request (Plain from task) files by text bytes answer asks is = absurd asks
 by_request (Under name logs) files by text bytes answer asks is = absurd asks
 by_request (Compare (PlainSides from other) file notes) files by text bytes answer asks is =
     subst (λ (c : Comparison). IsComparison c text bytes answer) (sym asks.comparison)
-    (to_other (answers.plain_comparison from other notes) (files file) text bytes answer asks.there asks.short is)
+    (to_other (answers.plain_comparison from other notes) files.other text bytes answer asks.there asks.short is)
 by_request (Compare (SidesUnder name from other) file notes) files by text bytes answer asks (answers.NoGameToCompare _ lacks) =
-    absurd (no_game (files name) asks.comparison.game answer asks.comparison.gives lacks)
+    absurd (no_game files.game asks.comparison.game answer asks.comparison.gives lacks)
 by_request (Compare (SidesUnder name from other) file notes) files by text bytes answer asks (answers.ComparedInGame game gives _ to) =
     subst (λ (c : Comparison). IsComparison c text bytes answer)
-    (ap (λ (g : AnyGame). comparison_under g from other notes) (games_same (files name) game asks.comparison.game gives asks.comparison.gives)
+    (ap (λ (g : AnyGame). comparison_under g from other notes) (games_same files.game game asks.comparison.game gives asks.comparison.gives)
     ∙ sym asks.comparison.same)
-    (to_other (comparison_under game from other notes) (files file) text bytes answer asks.there asks.short to)
+    (to_other (comparison_under game from other notes) files.other text bytes answer asks.there asks.short to)
 
 -- no game file and no other file is missing
 no_game_missing : (request : Request) (files : Files) (by : Comparison) (text : List ℕ) → AsksToCompare files request by text → IsGameMissing request files → ⊥

@@ -18,7 +18,7 @@ use Rattle.ohh_reading.specs.Reading as in_ohh
 use Rattle.phh_reading.specs.declared.field_fault.FieldFaultKind.TheVariants as whats
 use Rattle.phh_reading.specs.Reading.{InHand, NoDocument, Wrong}
 use Rattle.phh_reading.specs.Reading as in_phh
-use Rattle.poker_cli.specs.Answer.{Answer, Files, IsAnswer, most_input, to_fault, to_wrong_acpc, to_wrong_ohh, to_wrong_phh}
+use Rattle.poker_cli.specs.Answer.{Answer, Files, FilesByName, IsAnswer, most_input, to_fault, to_wrong_acpc, to_wrong_ohh, to_wrong_phh}
 use Rattle.poker_cli.specs.Answer as answers
 use Rattle.poker_cli.specs.PhhFaults.{phh_status}
 use Rattle.poker_cli.specs.Headline.{AsksToConvert, CanConvert, ConversionEnds, ConvertsInto, Headline, IsOfHands, IsOfLogs, NamesFault, IsTooLong, NamesRefused, NamesUnspelled, TellsAlone}
@@ -287,17 +287,17 @@ module _ (request : Request) (files : Files) (from to : Format) (keep : Keep) (b
       let so = conversion_ends status found ends left in
       record { ends = so; reads = conversion_reads status so; exactly = conversion_exactly status found ends }
 
--- if the shelf shows its files
-abbrev pub EndsTold : Option Request → Option (List ℕ) → Option Files → (out diag : Sinks) → Status → Type 0 → Type 0
+-- whether the devices show what they hold or not
+abbrev pub EndsTold : Option Request → Option (List ℕ) → Option FilesByName → (out diag : Sinks) → Status → Type 0 → Type 0
 EndsTold said left told out diag status Same =
     IfSome said (λ request. WhereTold request left told (λ files bytes. EndsLeaving request files bytes out diag status Same))
 
-abbrev pub HeadlineTold : Option Request → Option (List ℕ) → Option Files → (out diag : Sinks) → Status → Type 0
+abbrev pub HeadlineTold : Option Request → Option (List ℕ) → Option FilesByName → (out diag : Sinks) → Status → Type 0
 HeadlineTold said left told out diag status =
     IfSome said (λ request. WhereTold request left told (λ files bytes.
     (from to : Format) (keep : Keep) → AsksToConvert files request from to keep → Headline from to keep bytes out diag status))
 
-pub headline_told : (said : Option Request) (left : Option (List ℕ)) (told : Option Files) (out diag : Sinks) (status : Status) (Same : Type 0)
+pub headline_told : (said : Option Request) (left : Option (List ℕ)) (told : Option FilesByName) (out diag : Sinks) (status : Status) (Same : Type 0)
     → EndsTold said left told out diag status Same → IsLeft out diag status → HeadlineTold said left told out diag status
 headline_told said left told out diag status Same ends is_left =
     some_more said _ _
@@ -305,7 +305,7 @@ headline_told said left told out diag status Same ends is_left =
     (λ files bytes so. λ from to keep. headline request files from to keep bytes out diag status so.ends is_left)) ends
 
 -- of the request that the words are read as
-pub headline_read : (request : Request) (said : Option Request) (left : Option (List ℕ)) (told : Option Files) (out diag : Sinks) (status : Status) (Same : Type 0)
+pub headline_read : (request : Request) (said : Option Request) (left : Option (List ℕ)) (told : Option FilesByName) (out diag : Sinks) (status : Status) (Same : Type 0)
     → Some request ≡ said → EndsTold (Some request) left told out diag status Same → IsLeft out diag status → HeadlineTold said left told out diag status
 headline_read request said left told out diag status Same read ends is_left =
     subst (λ (s : Option Request). HeadlineTold s left told out diag status) read (headline_told (Some request) left told out diag status Same ends is_left)

@@ -1,5 +1,6 @@
 -- How a run ends with the answer to its input, why an input has one answer, and what a conversion ends with.
 mod OwnStatus
+mod FilesTold
 mod Answering
 mod AlikeGames
 mod LawfulFormats

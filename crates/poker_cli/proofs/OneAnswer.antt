@@ -37,13 +37,13 @@ use Rattle.convert_core.proofs.LawfulNotations.{AreReadSame, all_read_same}
 use Rattle.convert_core.proofs.OneConversion.{all_same, IsReadAlike}
 use Rattle.convert_core.specs.Conversion.{ReadAsPlays}
 use Rattle.convert_core.proofs.OneOutcome.{AllTraced, no_plays, same_refused, same_traces}
-use Rattle.poker_cli.specs.Answer.{Answer, Files, GivesGame, GivesNoGame, IsAnswer, IsAnswerBy, IsAnswerIn, IsAnswerOf, IsAnswerTo, IsConversion, IsJudgement, IsReply, IsWay, done, most_input, text_of, to_excess, to_fault, to_first_game, to_refusal, to_unspelled, to_wrong_acpc, to_wrong_ohh, to_wrong_phh}
+use Rattle.poker_cli.specs.Answer.{Answer, Files, FilesByName, GivesGame, GivesNoGame, IsAnswer, IsAnswerBy, IsAnswerIn, IsAnswerOf, IsAnswerTo, IsConversion, IsJudgement, IsReply, IsWay, done, most_input, text_of, to_excess, to_fault, to_first_game, to_refusal, to_unspelled, to_wrong_acpc, to_wrong_ohh, to_wrong_phh}
 use Rattle.poker_cli.specs.Answer as answers
-use Rattle.poker_cli.specs.Inputs.{HaveFault, SayRecords}
+use Rattle.poker_cli.specs.Inputs.{HaveFault, SayRecords, first_lines, if_asked}
 use Rattle.poker_cli.specs.OneAnswer.{AreOneAnswer}
 use Rattle.poker_cli.specs.Outputs.{AreSameIn, first_refusal_in, kept_in, unspelled_in}
 use Rattle.poker_cli.specs.Ways.{way, job_under}
-use Rattle.poker_cli.specs.Run.{Ends, GivesNone, IsFileMissing, IsGameMissing, NeedsNoInput, RefusesNothing, Sinks}
+use Rattle.poker_cli.specs.Run.{Ends, GivesNone, IsFileMissing, IsGameMissing, NeedsNoInput, OfFile, RefusesNothing, Sinks}
 use Rattle.poker_cli.specs.declared.status.Status.{Status}
 use Rattle.poker_cli.specs.declared.status.Status.TheVariants as statuses
 use Rattle.poker_cli.specs.declared.task.Format.{Format}
@@ -129,7 +129,7 @@ same_game (p ∷ ps) (q ∷ qs) traced = ap (λ (trace : Trace). to_first_game (
 -- the same answer counts as one
 pub one_itself : (task : Task) (answer other : Answer) → answer ≡ other → AreOneAnswer task answer other
 one_itself (tasks.Ask question) answer other same = same
-one_itself tasks.Judge answer other same = same
+one_itself (tasks.Judge asked) answer other same = same
 one_itself (tasks.Views game seat) answer other same = same
 one_itself (tasks.Convert (readers.Ohh dialect) keep) answer other same = same
 one_itself (tasks.Convert (readers.Acpc game) keep) answer other same = same
@@ -231,18 +231,18 @@ same_answer Say HaveFault IsMade One answer other one alike same told apart (ans
     (alike_hands read.records reads.records plays too both read.are reads.are) (same plays too read reads) made makes
 
 -- the verdicts on hands count as one
-same_judgement : (Say : List Record → Type 0) (HaveFault : FormatFault → Type 0) (answer other : Answer)
+same_judgement : (Say : List Record → Type 0) (HaveFault : FormatFault → Type 0) (lines : List ℕ) (answer other : Answer)
     → IsReadAlike Say → AllToldAlike HaveFault → SayOrFault Say HaveFault
-    → IsJudgement Say HaveFault answer → IsJudgement Say HaveFault other → answer ≡ other
+    → IsJudgement Say HaveFault lines answer → IsJudgement Say HaveFault lines other → answer ≡ other
 unfolding AllToldAlike SayOrFault
-same_judgement Say HaveFault answer other alike told apart (answers.NotJudged fault have _ is) (answers.NotJudged found has _ it) =
+same_judgement Say HaveFault lines answer other alike told apart (answers.NotJudged fault have _ is) (answers.NotJudged found has _ it) =
     told fault found answer other have has is it
-same_judgement Say HaveFault answer _ alike told apart (answers.NotJudged fault have _ is) (answers.Judged records say verdicts are) =
+same_judgement Say HaveFault lines answer _ alike told apart (answers.NotJudged fault have _ is) (answers.Judged records say verdicts are) =
     absurd (apart records fault say have)
-same_judgement Say HaveFault _ other alike told apart (answers.Judged records say verdicts are) (answers.NotJudged fault have _ is) =
+same_judgement Say HaveFault lines _ other alike told apart (answers.Judged records say verdicts are) (answers.NotJudged fault have _ is) =
     absurd (apart records fault say have)
-same_judgement Say HaveFault _ _ alike told apart (answers.Judged records say verdicts are) (answers.Judged others says too is) =
-    ap done (same_judged records others verdicts too (all_same records others (alike records others say says)) are is)
+same_judgement Say HaveFault lines _ _ alike told apart (answers.Judged records say verdicts are) (answers.Judged others says too is) =
+    ap done (same_judged lines records others verdicts too (all_same records others (alike records others say says)) are is)
 
 -- a fault of bytes is reported in one way
 pub one_told : (reader : Format) (bytes : List ℕ) → AllToldAlike (HaveFault reader bytes)
@@ -298,13 +298,13 @@ one_written to keep =
     }
 
 one_read : (task : Task) (reader : Format) (bytes : List ℕ) (answer other : Answer)
-    → IsAnswerOf task (SayRecords reader bytes) (HaveFault reader bytes) answer
-    → IsAnswerOf task (SayRecords reader bytes) (HaveFault reader bytes) other → AreOneAnswer task answer other
+    → IsAnswerOf task (SayRecords reader bytes) (HaveFault reader bytes) (first_lines reader bytes) answer
+    → IsAnswerOf task (SayRecords reader bytes) (HaveFault reader bytes) (first_lines reader bytes) other → AreOneAnswer task answer other
 one_read (tasks.Ask question) reader bytes answer other is it =
     same_answer (SayRecords reader bytes) (HaveFault reader bytes) (IsReply question) (λ one too. one ≡ too) answer other
     (one_question question) (one_reading reader bytes) (read_the_same reader bytes) (one_told reader bytes) (say_or_fault reader bytes) is it
-one_read tasks.Judge reader bytes answer other is it =
-    same_judgement (SayRecords reader bytes) (HaveFault reader bytes) answer other
+one_read (tasks.Judge asked) reader bytes answer other is it =
+    same_judgement (SayRecords reader bytes) (HaveFault reader bytes) (if_asked asked (first_lines reader bytes)) answer other
     (one_reading reader bytes) (one_told reader bytes) (say_or_fault reader bytes) is it
 one_read (tasks.Views game seat) reader bytes answer other is it =
     same_answer (SayRecords reader bytes) (HaveFault reader bytes) (AreViews game seat) (λ one too. one ≡ too) answer other
@@ -382,11 +382,11 @@ viewed_status : (game : AnyGame) (seat : Seat) (plays : List Play) (answer reply
 viewed_status game seat plays answer reply to is =
     ap (λ (a : Answer). a.status) (sym (one_view game seat plays is.others reply answer is.traced is.hands to is.made))
 
-judged_status : (reader : Format) (bytes : List ℕ) (records : List Record) (answer : Answer) → length bytes ≤ most_input
-    → SayRecords reader bytes records → IsAnswer tasks.Judge reader bytes answer → answer.status ≡ statuses.Done
-judged_status reader bytes records _ few say (answers.TooLong many) = absurd (omega (arith, many, few))
-judged_status reader bytes records answer few say (answers.Read less _ (answers.NotJudged fault have _ is)) = absurd (no_fault reader bytes records fault say have)
-judged_status reader bytes records _ few say (answers.Read less _ (answers.Judged others says verdicts are)) = refl
+judged_status : (asked : Bool) (reader : Format) (bytes : List ℕ) (records : List Record) (answer : Answer) → length bytes ≤ most_input
+    → SayRecords reader bytes records → IsAnswer (tasks.Judge asked) reader bytes answer → answer.status ≡ statuses.Done
+judged_status asked reader bytes records _ few say (answers.TooLong many) = absurd (omega (arith, many, few))
+judged_status asked reader bytes records answer few say (answers.Read less _ (answers.NotJudged fault have _ is)) = absurd (no_fault reader bytes records fault say have)
+judged_status asked reader bytes records _ few say (answers.Read less _ (answers.Judged others says verdicts are)) = refl
 
 spelled_status : (to : Format) (keep : Keep) (plays : List Play) (answer : Answer) → first_refusal_in to keep plays ≡ None
     → IsConversion to keep plays answer → answer.status ≡ statuses.Done
@@ -414,8 +414,8 @@ pub lacks_none : (file : Option (List ℕ)) (game : AnyGame) → GivesGame file 
 lacks_none file game gives (inl none) = let there = gives.there in cc (none, there)
 lacks_none file game gives (inr lacks) = no_game file game lacks.0 gives lacks.1
 
-pub not_lacking : {X : Type 0} (told : Option Files) (name : List ℕ) (game : AnyGame) (input read : X)
-    → IfSome told (λ files. GivesGame (files name) game) → IfSome told (λ files. GivesNone (files name) → read ≡ input)
+pub not_lacking : {X : Type 0} (told : Option FilesByName) (name : List ℕ) (game : AnyGame) (input read : X)
+    → OfFile told name (λ file. GivesGame file game) → IfSome told (λ files. GivesNone (files name) → read ≡ input)
 not_lacking (Some files) name game input read gives = λ lacks. absurd (lacks_none (files name) game gives lacks)
 not_lacking None name game input read gives = tt
 
@@ -431,10 +431,10 @@ pub in_way : (request : Request) (files : Files) (bytes : List ℕ) (by : Job) (
     → IsAnswerIn request files bytes answer → IsAnswerBy by bytes answer
 in_way (Load seed hands) files bytes by answer found is = absurd found
 in_way (Plain from task) files bytes by answer found is = subst (λ (w : Job). IsAnswerBy w bytes answer) (sym found) is
-in_way (Under name logs) files bytes by answer found (answers.NoGameError _ lacks) = absurd (no_game (files name) found.game answer found.gives lacks)
+in_way (Under name logs) files bytes by answer found (answers.NoGameError _ lacks) = absurd (no_game files.game found.game answer found.gives lacks)
 in_way (Under name logs) files bytes by answer found (answers.OfInput game gives _ to) =
     subst (λ (w : Job). IsAnswerBy w bytes answer)
-    (ap (λ (g : AnyGame). job_under g logs) (games_same (files name) game found.game gives found.gives) ∙ sym found.same) to
+    (ap (λ (g : AnyGame). job_under g logs) (games_same files.game game found.game gives found.gives) ∙ sym found.same) to
 in_way (Compare sides file notes) files bytes by answer found is = absurd found
 
 -- a request that is read and handled in a way misses no game file and no other file
@@ -514,15 +514,15 @@ legal_views request game seat reader files bytes records plays reply out diag st
     (no_missing files request by found) (no_file_missing files request by found) ends
 
 -- hands are judged, including refused ones
-pub all_judged : (request : Request) (reader : Format) (files : Files) (bytes : List ℕ) (records : List Record)
-    → (out diag : Sinks) (status : Status) → IsWay files request (way tasks.Judge reader)
+pub all_judged : (request : Request) (asked : Bool) (reader : Format) (files : Files) (bytes : List ℕ) (records : List Record)
+    → (out diag : Sinks) (status : Status) → IsWay files request (way (tasks.Judge asked) reader)
     → length bytes ≤ most_input → SayRecords reader bytes records
     → Ends request files bytes out diag status → RefusesNothing status
-all_judged request reader files bytes records out diag status found few is ends =
-    let by = way tasks.Judge reader in
+all_judged request asked reader files bytes records out diag status found few is ends =
+    let by = way (tasks.Judge asked) reader in
     done_so status
     (ends_so request files bytes out diag status statuses.Done
-    (λ answer to. judged_status reader bytes records answer few is (in_way request files bytes by answer found to))
+    (λ answer to. judged_status asked reader bytes records answer few is (in_way request files bytes by answer found to))
     (no_missing files request by found) (no_file_missing files request by found) ends)
 
 -- hands whose facts can all be written are converted

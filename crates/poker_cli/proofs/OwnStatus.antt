@@ -26,6 +26,7 @@ use Rattle.poker_cli.specs.OhhFaults.{ohh_status}
 use Rattle.poker_cli.specs.PhhFaults.{phh_status}
 use Rattle.poker_cli.specs.Replies.{AreOptionsAt, AreViews, IsEquityAt}
 use Rattle.poker_cli.specs.Replies as replies
+use Rattle.poker_cli.specs.Inputs.{if_asked}
 use Rattle.poker_cli.specs.Run.{IsOfInput, IsOwn, OfBytes, ReadsNothing}
 use Rattle.poker_cli.specs.Told.{answer_told}
 use Rattle.poker_cli.specs.declared.answer.Answer as made
@@ -129,19 +130,20 @@ made_own Say HaveFault IsMade made answer (answers.Unread fault have _ told) = f
 made_own Say HaveFault IsMade made _ (answers.Refused number why is) = tt
 made_own Say HaveFault IsMade made answer (answers.Played plays read _ is) = made plays answer is
 
-judged_own : (Say : List Record → Type 0) (HaveFault : FormatFault → Type 0) (answer : Answer) → IsJudgement Say HaveFault answer → IsOfInput answer.status
-judged_own Say HaveFault answer (answers.NotJudged fault have _ told) = fault_own fault answer told
-judged_own Say HaveFault _ (answers.Judged records say verdicts are) = tt
+judged_own : (Say : List Record → Type 0) (HaveFault : FormatFault → Type 0) (lines : List ℕ) (answer : Answer) → IsJudgement Say HaveFault lines answer → IsOfInput answer.status
+judged_own Say HaveFault lines answer (answers.NotJudged fault have _ told) = fault_own fault answer told
+judged_own Say HaveFault lines _ (answers.Judged records say verdicts are) = tt
 
-task_own : (task : Task) (Say : List Record → Type 0) (HaveFault : FormatFault → Type 0) (answer : Answer) → IsAnswerOf task Say HaveFault answer → IsOfInput answer.status
-task_own (tasks.Ask question) Say HaveFault answer is = made_own Say HaveFault (IsReply question) (reply_own question) answer is
-task_own tasks.Judge Say HaveFault answer is = judged_own Say HaveFault answer is
-task_own (tasks.Convert to keep) Say HaveFault answer is = made_own Say HaveFault _ (written_own _ _ _) answer is
-task_own (tasks.Views game seat) Say HaveFault answer is = made_own Say HaveFault (AreViews game seat) (views_own game seat) answer is
+task_own : (task : Task) (Say : List Record → Type 0) (HaveFault : FormatFault → Type 0) (lines : List ℕ) (answer : Answer)
+    → IsAnswerOf task Say HaveFault lines answer → IsOfInput answer.status
+task_own (tasks.Ask question) Say HaveFault lines answer is = made_own Say HaveFault (IsReply question) (reply_own question) answer is
+task_own (tasks.Judge asked) Say HaveFault lines answer is = judged_own Say HaveFault (if_asked asked lines) answer is
+task_own (tasks.Convert to keep) Say HaveFault lines answer is = made_own Say HaveFault _ (written_own _ _ _) answer is
+task_own (tasks.Views game seat) Say HaveFault lines answer is = made_own Say HaveFault (AreViews game seat) (views_own game seat) answer is
 
 answer_own : (task : Task) (reader : Format) (bytes : List ℕ) (answer : Answer) → IsAnswer task reader bytes answer → IsOfInput answer.status
 answer_own task reader bytes _ (answers.TooLong many) = tt
-answer_own task reader bytes answer (answers.Read few _ is) = task_own task _ _ answer is
+answer_own task reader bytes answer (answers.Read few _ is) = task_own task _ _ _ answer is
 
 -- ---- two files
 

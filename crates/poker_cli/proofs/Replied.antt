@@ -6,17 +6,17 @@ use Rattle.command_words.specs.declared.notation.PlainNotation.{PlainNotation}
 use Rattle.command_words.specs.declared.request.Logs.{Logs}
 use Rattle.command_words.specs.declared.task.NamedTask.{NamedTask}
 use Rattle.host_io.specs.Faults.{Rose}
-use Rattle.poker_cli.specs.Answer.{Files, GivesGame, IsComparisonOf}
+use Rattle.poker_cli.specs.Answer.{FilesByName, GivesGame, IsComparisonOf}
 use Rattle.poker_cli.specs.Lacking.{ComesFirst}
 use Rattle.poker_cli.specs.Replied.{HasNoAnswer, Keeps}
-use Rattle.poker_cli.specs.Run.{IsNotThere, IsOfInput}
+use Rattle.poker_cli.specs.Run.{IsNotThere, IsOfInput, OfFile, OfGameFile}
 use Rattle.poker_cli.specs.declared.answer.Answer as made
 use Rattle.poker_cli.specs.declared.comparison.Comparison.{Comparison}
 use Rattle.poker_cli.specs.declared.no_answer.NoAnswerError.{NoAnswerError}
 use Rattle.poker_cli.specs.declared.no_answer.NoAnswerError.TheVariants as whys
-use Rattle.poker_cli.proofs.Answering.{of_files}
+use Rattle.poker_cli.proofs.Answering.{of_all}
 use Rattle.poker_cli.proofs.OwnStatus.{own_of_input, read_of_input}
-use Rattle.poker_cli.proofs.Replying.{game_there, missing_reply, where_lacking}
+use Rattle.poker_cli.proofs.Replying.{game_there, missing_reply, read_beside}
 
 -- if nothing but the input is read
 pub keeps_read : {S : Type 0} (input read : S) (reads asks : ℕ × ℕ) (result : Result made.Answer NoAnswerError)
@@ -30,17 +30,17 @@ keeps_read input read reads asks (Err whys.ShelfFault) of rose alone = absurd (a
 keeps_read input read reads asks (Err whys.GameMissing) of rose alone = absurd (alone tt)
 keeps_read input read reads asks (Err whys.FileMissing) of rose alone = absurd (alone tt)
 
-pub none_of_plain : (from : PlainNotation) (task : NamedTask PlainNotation) (left : Option (List ℕ)) (told : Option Files) (why : NoAnswerError)
+pub none_of_plain : (from : PlainNotation) (task : NamedTask PlainNotation) (left : Option (List ℕ)) (told : Option FilesByName) (why : NoAnswerError)
     → (ComesFirst why → ⊥) → HasNoAnswer (Plain from task) left told why
-none_of_plain from task left told whys.ReadFault alone = (tt, λ lacks. lacks)
+none_of_plain from task left told whys.ReadFault alone = of_all left _ (λ bytes. (tt, λ without. without))
 none_of_plain from task left told (whys.Memory memory) alone = tt
 none_of_plain from task left told whys.ShelfFault alone = absurd (alone tt)
 none_of_plain from task left told whys.GameMissing alone = absurd (alone tt)
 none_of_plain from task left told whys.FileMissing alone = absurd (alone tt)
 
-pub none_under_game : (name : List ℕ) (logs : Logs) (game : Game) (left : Option (List ℕ)) (told : Option Files)
-    → IfSome told (λ files. GivesGame (files name) game) → (why : NoAnswerError) → (ComesFirst why → ⊥) → HasNoAnswer (Under name logs) left told why
-none_under_game name logs game left told gives whys.ReadFault alone = (tt, game_there told name logs game gives)
+pub none_under_game : (name : List ℕ) (logs : Logs) (game : Game) (left : Option (List ℕ)) (told : Option FilesByName)
+    → OfFile told name (λ file. GivesGame file game) → (why : NoAnswerError) → (ComesFirst why → ⊥) → HasNoAnswer (Under name logs) left told why
+none_under_game name logs game left told gives whys.ReadFault alone = game_there told left name logs game gives
 none_under_game name logs game left told gives (whys.Memory memory) alone = tt
 none_under_game name logs game left told gives whys.ShelfFault alone = absurd (alone tt)
 none_under_game name logs game left told gives whys.GameMissing alone = absurd (alone tt)
@@ -55,17 +55,17 @@ keeps_later input read reads before between now (Err why) later kept = kept
 keeps_later input read reads before between now (Ok answer) later kept = kept
 
 -- if the file to compare with is asked for after a game
-pub none_beside : (sides : Sides) (name : List ℕ) (notes : Bool) (by : Comparison) (left : Option (List ℕ)) (told : Option Files)
-    → IfSome told (λ files. IsComparisonOf files sides notes by) → (result : Result made.Answer NoAnswerError)
-    → (IsErrOf result whys.ReadFault → IfSome told (λ files. IsNotThere (files name) → ⊥))
+pub none_beside : (sides : Sides) (name : List ℕ) (notes : Bool) (by : Comparison) (left : Option (List ℕ)) (told : Option FilesByName)
+    → OfGameFile told sides (λ game. IsComparisonOf game sides notes by) → (result : Result made.Answer NoAnswerError)
+    → (IsErrOf result whys.ReadFault → OfFile told name (λ file. IsNotThere file → ⊥))
     → IfErr result (λ why. why ≡ whys.GameMissing → ⊥)
-    → (IsErrOf result whys.FileMissing → IfSome told (λ files. files name ≡ None))
+    → (IsErrOf result whys.FileMissing → OfFile told name (λ file. file ≡ None))
     → IfErr result (λ why. HasNoAnswer (Compare sides name notes) left told why)
 none_beside sides name notes by left told so (Ok answer) there of_file missing = tt
 none_beside sides name notes by left told so (Err whys.ReadFault) there of_file missing =
-    (tt, where_lacking ⊥ told sides name notes by so (there refl))
+    read_beside told left sides name notes by so (there refl)
 none_beside sides name notes by left told so (Err whys.ShelfFault) there of_file missing = tt
 none_beside sides name notes by left told so (Err whys.GameMissing) there of_file missing = absurd (of_file refl)
 none_beside sides name notes by left told so (Err whys.FileMissing) there of_file missing =
-    of_files left told _ (missing_reply told sides name notes by so (missing refl))
+    missing_reply told left sides name notes by so (missing refl)
 none_beside sides name notes by left told so (Err (whys.Memory memory)) there of_file missing = tt

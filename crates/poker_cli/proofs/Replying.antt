@@ -1,5 +1,6 @@
 -- A request to compare is answered by what the shelf and the source have.
-use Rattle.std.proofs.Common.{◌≡◌, ℕ, ◌<◌, ◌≤◌, Bool, List, length, Option, Some, None, IfOk, IfSome, Result, Ok, Err, refl, sym, subst, inl, inr}
+use Rattle.std.proofs.Common.{◌≡◌, ℕ, ◌<◌, ◌≤◌, Bool, List, length, Option, Some, None, IfOk, IfSome, Result, Ok, Err, refl, sym, subst, inl, inr, arith, ◌∙◌}
+use Rattle.std.proofs.lemmas.Option.{same_Some}
 use Rattle.command_words.specs.Words.{Sides, Compare, PlainSides, SidesUnder, Under}
 use Rattle.command_words.specs.declared.request.Logs.{Logs}
 use Rattle.acpc_game.specs.declared.game.Game.{Game}
@@ -8,11 +9,11 @@ use Rattle.convert_core.specs.Conversion.{IsPlaysRefusal}
 use Rattle.convert_core.specs.declared.convert_fault.ConvertFault.{ConvertFault}
 use Rattle.convert_core.specs.declared.convert_fault.ConvertFault.TheVariants as convert_faults
 use Rattle.hand_records.specs.declared.trace.Play.{Play}
-use Rattle.poker_cli.specs.Answer.{Answer, Files, GivesGame, IsComparedIn, IsComparedTo, IsComparedWith, IsComparison, IsComparisonOf, IsToldOf, in_file, most_input, to_excess, to_file_excess}
+use Rattle.poker_cli.specs.Answer.{Answer, Files, FilesByName, GivesGame, IsComparedIn, IsComparedTo, IsComparedWith, IsComparison, IsComparisonOf, IsToldOf, in_file, most_input, to_excess, to_file_excess}
 use Rattle.poker_cli.specs.Answer as answers
 use Rattle.poker_cli.specs.Inputs.{HaveFault, SayRecords}
 use Rattle.poker_cli.specs.Lacking.{AreOfLogs, AsksForGame, HasNoFile, HasNoGameFor, IsGameFileErrorTold}
-use Rattle.poker_cli.specs.Run.{Asks, GivesSome, IsFileMissing, IsNotThere, LacksFile, OfBytes}
+use Rattle.poker_cli.specs.Run.{Asks, GivesNone, GivesSome, IsFileMissing, IsGameMissing, IsNotThere, IsWithoutFile, LacksFile, OfBytes, OfFile, OfGameFile, ReadsHands, WhereTold}
 use Rattle.poker_cli.specs.Told.{answer_told}
 use Rattle.poker_cli.specs.declared.answer.Answer as made
 use Rattle.poker_cli.specs.declared.comparing.NoFileError.TheVariants as no_files
@@ -22,6 +23,7 @@ use Rattle.poker_cli.specs.declared.games.NoGameError.TheVariants as reasons
 use Rattle.poker_cli.specs.declared.no_answer.NoAnswerError.{NoAnswerError}
 use Rattle.poker_cli.specs.declared.task.Format.{Format}
 use Rattle.poker_cli.proofs.Answering.{beyond, bytes_told, no_game, of_all}
+use Rattle.poker_cli.proofs.FilesTold.{any_file, of_file, of_game_file, two_files}
 use Rattle.poker_cli.proofs.OneAnswer.{lacks_none}
 
 -- what is wrong inside the other file
@@ -47,72 +49,145 @@ compared_within by file (Some left) bytes answer all is = subst (λ (l : List �
 compared_within by file None bytes answer all is = (bytes, is)
 
 -- the file of a name has these bytes
-pub beside_reply : (told : Option Files) (left : Option (List ℕ)) (name : List ℕ) (by : Comparison) (file : List ℕ) (result : Result made.Answer NoAnswerError)
-    → IfSome told (λ files. (files name ≡ Some file) × (length file ≤ most_input))
+pub beside_reply : (told : Option FilesByName) (left : Option (List ℕ)) (name : List ℕ) (by : Comparison) (file : List ℕ) (result : Result made.Answer NoAnswerError)
+    → OfFile told name (λ other. (other ≡ Some file) × (length file ≤ most_input))
     → IfOk result (λ answer. OfBytes left (λ bytes. IsComparison by file bytes (answer_told answer)))
-    → IfOk result (λ answer. IfSome told (λ files. OfBytes left (λ bytes. IsComparedTo by (files name) bytes (answer_told answer))))
-beside_reply (Some files) left name by file (Ok answer) there is =
-    bytes_told left _ (λ bytes. IsComparedTo by (files name) bytes (answer_told answer))
-    (λ bytes to. answers.ToOther file there.0 there.1 (answer_told answer) to) is
-beside_reply None left name by file (Ok answer) there is = tt
+    → IfOk result (λ answer. OfFile told name (λ other. OfBytes left (λ bytes. IsComparedTo by other bytes (answer_told answer))))
+beside_reply told left name by file (Ok answer) there is =
+    of_file told name (λ other. (other ≡ Some file) × (length file ≤ most_input))
+    (λ other. OfBytes left (λ bytes. IsComparedTo by other bytes (answer_told answer)))
+    (λ other found.
+    bytes_told left _ (λ bytes. IsComparedTo by other bytes (answer_told answer))
+    (λ bytes to. answers.ToOther file found.0 found.1 (answer_told answer) to) is) there
 beside_reply told left name by file (Err why) there is = tt
 
+-- a file that is there within the limit
+there_alone : (other : Option (List ℕ)) (file : List ℕ) → (other ≡ Some file) × (length file ≤ most_input) → IsNotThere other → ⊥
+there_alone other file found (inl none) = let is = found.0 in cc (is, none)
+there_alone other file found (inr long) =
+    let same : file ≡ long.0 = same_Some file long.0 (sym found.0 ∙ long.1.0) in
+    let few : length long.0 ≤ most_input = subst (λ (text : List ℕ). length text ≤ most_input) same found.1 in
+    let many : most_input < length long.0 = long.1.1 in
+    absurd (omega (arith, few, many))
+
+pub is_there : (told : Option FilesByName) (name : List ℕ) (file : List ℕ) → OfFile told name (λ other. (other ≡ Some file) × (length file ≤ most_input))
+    → OfFile told name (λ other. IsNotThere other → ⊥)
+is_there told name file found =
+    of_file told name (λ other. (other ≡ Some file) × (length file ≤ most_input)) (λ other. IsNotThere other → ⊥)
+    (λ other here. there_alone other file here) found
+
+pub kept_there : {X : Type 0} (told : Option FilesByName) (name : List ℕ) (file : List ℕ) (input read : X)
+    → OfFile told name (λ other. (other ≡ Some file) × (length file ≤ most_input)) → IfSome told (λ files. IsNotThere (files name) → read ≡ input)
+kept_there (Some files) name file input read found = λ without. absurd (there_alone (files name) file found without)
+kept_there None name file input read found = tt
+
 -- or more bytes than the limit
-pub long_reply : (told : Option Files) (left : Option (List ℕ)) (name : List ℕ) (by : Comparison) (answer : Answer)
-    → IfSome told (λ files. HasNoFile (files name) no_files.TooLong) → answer ≡ to_file_excess
-    → IfSome told (λ files. OfBytes left (λ bytes. IsComparedTo by (files name) bytes answer))
-long_reply (Some files) left name by answer long is =
-    of_all left (λ bytes. IsComparedTo by (files name) bytes answer)
-    (λ bytes. subst (λ (a : Answer). IsComparedTo by (files name) bytes a) (sym is) (answers.OtherTooLong long.0 long.1.0 long.1.1))
-long_reply None left name by answer long is = tt
+pub long_reply : (told : Option FilesByName) (left : Option (List ℕ)) (name : List ℕ) (by : Comparison) (answer : Answer)
+    → OfFile told name (λ other. HasNoFile other no_files.TooLong) → answer ≡ to_file_excess
+    → OfFile told name (λ other. OfBytes left (λ bytes. IsComparedTo by other bytes answer))
+long_reply told left name by answer long is =
+    of_file told name (λ other. HasNoFile other no_files.TooLong) (λ other. OfBytes left (λ bytes. IsComparedTo by other bytes answer))
+    (λ other found.
+    of_all left (λ bytes. IsComparedTo by other bytes answer)
+    (λ bytes. subst (λ (a : Answer). IsComparedTo by other bytes a) (sym is) (answers.OtherTooLong found.0 found.1.0 found.1.1))) long
 
 -- two files are compared so
-by_sides : (files : Files) (sides : Sides) (name : List ℕ) (notes : Bool) (by : Comparison) (bytes : List ℕ) (answer : Answer)
-    → IsComparisonOf files sides notes by → IsComparedTo by (files name) bytes answer → IsComparedIn files sides name notes bytes answer
-by_sides files (PlainSides from other) name notes by bytes answer so is =
-    subst (λ (c : Comparison). IsComparedTo c (files name) bytes answer) so is
-by_sides files (SidesUnder game from other) name notes by bytes answer so is =
-    answers.ComparedInGame so.game so.gives answer (subst (λ (c : Comparison). IsComparedTo c (files name) bytes answer) so.same is)
+by_sides : (game file : Option (List ℕ)) (sides : Sides) (notes : Bool) (by : Comparison) (bytes : List ℕ) (answer : Answer)
+    → IsComparisonOf game sides notes by → IsComparedTo by file bytes answer
+    → IsComparedIn (two_files game file) sides notes bytes answer
+by_sides game file (PlainSides from other) notes by bytes answer so is =
+    subst (λ (c : Comparison). IsComparedTo c file bytes answer) so is
+by_sides game file (SidesUnder name from other) notes by bytes answer so is =
+    answers.ComparedInGame so.game so.gives answer (subst (λ (c : Comparison). IsComparedTo c file bytes answer) so.same is)
 
-pub compared_reply : (told : Option Files) (left : Option (List ℕ)) (sides : Sides) (name : List ℕ) (notes : Bool) (by : Comparison)
-    → (result : Result made.Answer NoAnswerError) → IfSome told (λ files. IsComparisonOf files sides notes by)
-    → IfOk result (λ answer. IfSome told (λ files. OfBytes left (λ bytes. IsComparedTo by (files name) bytes (answer_told answer))))
-    → IfOk result (λ answer. IfSome told (λ files. OfBytes left (λ bytes. IsComparedIn files sides name notes bytes (answer_told answer))))
-compared_reply (Some files) left sides name notes by (Ok answer) so is =
-    bytes_told left _ (λ bytes. IsComparedIn files sides name notes bytes (answer_told answer))
-    (λ bytes to. by_sides files sides name notes by bytes (answer_told answer) so to) is
-compared_reply None left sides name notes by (Ok answer) so is = tt
+-- what follows from what is known of both files, whatever the bytes are
+with_both : (told : Option FilesByName) (left : Option (List ℕ)) (sides : Sides) (name : List ℕ) (notes : Bool) (G F : Option (List ℕ) → Type 0)
+    → (P : Files → Type 0) → ((game file : Option (List ℕ)) → G game → F file → P (two_files game file))
+    → OfGameFile told sides G → OfFile told name F → WhereTold (Compare sides name notes) left told (λ files bytes. P files)
+with_both told left sides name notes G F P more of too =
+    of_game_file told sides G (λ game. OfFile told name (λ file. OfBytes left (λ bytes. P (two_files game file))))
+    (λ game is.
+    of_file told name F (λ file. OfBytes left (λ bytes. P (two_files game file)))
+    (λ file here. of_all left (λ bytes. P (two_files game file)) (λ bytes. more game file is here)) too) of
+
+pub compared_reply : (told : Option FilesByName) (left : Option (List ℕ)) (sides : Sides) (name : List ℕ) (notes : Bool) (by : Comparison)
+    → (result : Result made.Answer NoAnswerError) → OfGameFile told sides (λ game. IsComparisonOf game sides notes by)
+    → IfOk result (λ answer. OfFile told name (λ file. OfBytes left (λ bytes. IsComparedTo by file bytes (answer_told answer))))
+    → IfOk result (λ answer. WhereTold (Compare sides name notes) left told (λ files bytes. IsComparedIn files sides notes bytes (answer_told answer)))
+compared_reply told left sides name notes by (Ok answer) so is =
+    of_game_file told sides (λ game. IsComparisonOf game sides notes by)
+    (λ game. OfFile told name (λ file. OfBytes left (λ bytes. IsComparedIn (two_files game file) sides notes bytes (answer_told answer))))
+    (λ game of.
+    of_file told name (λ file. OfBytes left (λ bytes. IsComparedTo by file bytes (answer_told answer)))
+    (λ file. OfBytes left (λ bytes. IsComparedIn (two_files game file) sides notes bytes (answer_told answer)))
+    (λ file.
+    bytes_told left (λ bytes. IsComparedTo by file bytes (answer_told answer))
+    (λ bytes. IsComparedIn (two_files game file) sides notes bytes (answer_told answer))
+    (λ bytes to. by_sides game file sides notes by bytes (answer_told answer) of to)) is) so
 compared_reply told left sides name notes by (Err why) so is = tt
 
 -- the file is not there
-missing_in : (files : Files) (sides : Sides) (name : List ℕ) (notes : Bool) (by : Comparison) → IsComparisonOf files sides notes by
-    → files name ≡ None → IsFileMissing (Compare sides name notes) files
-missing_in files (PlainSides from other) name notes by so none = none
-missing_in files (SidesUnder game from other) name notes by so none = ((so.game, so.gives), none)
+missing_in : (game file : Option (List ℕ)) (sides : Sides) (name : List ℕ) (notes : Bool) (by : Comparison) → IsComparisonOf game sides notes by
+    → file ≡ None → IsFileMissing (Compare sides name notes) (two_files game file)
+missing_in game file (PlainSides from other) name notes by so none = none
+missing_in game file (SidesUnder of from other) name notes by so none = ((so.game, so.gives), none)
 
-pub missing_reply : (told : Option Files) (sides : Sides) (name : List ℕ) (notes : Bool) (by : Comparison)
-    → IfSome told (λ files. IsComparisonOf files sides notes by) → IfSome told (λ files. files name ≡ None)
-    → IfSome told (λ files. IsFileMissing (Compare sides name notes) files)
-missing_reply (Some files) sides name notes by so none = missing_in files sides name notes by so none
-missing_reply None sides name notes by so none = tt
+pub missing_reply : (told : Option FilesByName) (left : Option (List ℕ)) (sides : Sides) (name : List ℕ) (notes : Bool) (by : Comparison)
+    → OfGameFile told sides (λ game. IsComparisonOf game sides notes by) → OfFile told name (λ file. file ≡ None)
+    → WhereTold (Compare sides name notes) left told (λ files bytes. IsFileMissing (Compare sides name notes) files)
+missing_reply told left sides name notes by so none =
+    with_both told left sides name notes (λ game. IsComparisonOf game sides notes by) (λ file. file ≡ None) (IsFileMissing (Compare sides name notes))
+    (λ game file of is. missing_in game file sides name notes by of is) so none
+
+-- both files are there, so the input is read
+there_in : (game file : Option (List ℕ)) (sides : Sides) (name : List ℕ) (notes : Bool) (by : Comparison) → IsComparisonOf game sides notes by
+    → (IsNotThere file → ⊥) → IsWithoutFile (Compare sides name notes) (two_files game file) → ⊥
+there_in game file (PlainSides from other) name notes by so there without = there without
+there_in game file (SidesUnder of from other) name notes by so there (inl none) = lacks_none game so.game so.gives none
+there_in game file (SidesUnder of from other) name notes by so there (inr without) = there without
+
+pub read_beside : (told : Option FilesByName) (left : Option (List ℕ)) (sides : Sides) (name : List ℕ) (notes : Bool) (by : Comparison)
+    → OfGameFile told sides (λ game. IsComparisonOf game sides notes by) → OfFile told name (λ file. IsNotThere file → ⊥)
+    → WhereTold (Compare sides name notes) left told
+    (λ files bytes. ReadsHands (Compare sides name notes) × (IsWithoutFile (Compare sides name notes) files → ⊥))
+read_beside told left sides name notes by so there =
+    with_both told left sides name notes (λ game. IsComparisonOf game sides notes by) (λ file. IsNotThere file → ⊥)
+    (λ files. ReadsHands (Compare sides name notes) × (IsWithoutFile (Compare sides name notes) files → ⊥))
+    (λ game file of is. (tt, there_in game file sides name notes by of is)) so there
 
 -- this is wrong with the game file
-game_file_error_in : (files : Files) (sides : Sides) (name : List ℕ) (notes : Bool) (bytes : List ℕ) (lack : GameFileError) (answer : Answer)
-    → HasNoGameFor files sides (reasons.Lacking lack) → IsGameFileErrorTold lack answer → IsComparedIn files sides name notes bytes answer
-game_file_error_in files (PlainSides from other) name notes bytes lack answer none told = absurd none
-game_file_error_in files (SidesUnder game from other) name notes bytes lack answer none told =
-    answers.NoGameToCompare answer (no_game (files game) lack answer none told)
+game_file_error_in : (game file : Option (List ℕ)) (sides : Sides) (notes : Bool) (bytes : List ℕ) (lack : GameFileError) (answer : Answer)
+    → HasNoGameFor game sides (reasons.Lacking lack) → IsGameFileErrorTold lack answer
+    → IsComparedIn (two_files game file) sides notes bytes answer
+game_file_error_in game file (PlainSides from other) notes bytes lack answer none told = absurd none
+game_file_error_in game file (SidesUnder name from other) notes bytes lack answer none told =
+    answers.NoGameToCompare answer (no_game game lack answer none told)
 
-pub compared_game_file_error : (told : Option Files) (left : Option (List ℕ)) (sides : Sides) (name : List ℕ) (notes : Bool) (lack : GameFileError) (answer : Answer)
-    → IfSome told (λ files. HasNoGameFor files sides (reasons.Lacking lack)) → IsGameFileErrorTold lack answer
-    → IfSome told (λ files. OfBytes left (λ bytes. IsComparedIn files sides name notes bytes answer))
-compared_game_file_error (Some files) left sides name notes lack answer none tells =
-    of_all left (λ bytes. IsComparedIn files sides name notes bytes answer) (λ bytes. game_file_error_in files sides name notes bytes lack answer none tells)
-compared_game_file_error None left sides name notes lack answer none tells = tt
+pub compared_game_file_error : (told : Option FilesByName) (left : Option (List ℕ)) (sides : Sides) (name : List ℕ) (notes : Bool) (lack : GameFileError) (answer : Answer)
+    → OfGameFile told sides (λ game. HasNoGameFor game sides (reasons.Lacking lack)) → IsGameFileErrorTold lack answer
+    → WhereTold (Compare sides name notes) left told (λ files bytes. IsComparedIn files sides notes bytes answer)
+compared_game_file_error told left sides name notes lack answer none tells =
+    of_game_file told sides (λ game. HasNoGameFor game sides (reasons.Lacking lack))
+    (λ game. OfFile told name (λ file. OfBytes left (λ bytes. IsComparedIn (two_files game file) sides notes bytes answer)))
+    (λ game lacking.
+    any_file told name (λ file. OfBytes left (λ bytes. IsComparedIn (two_files game file) sides notes bytes answer))
+    (λ file.
+    of_all left (λ bytes. IsComparedIn (two_files game file) sides notes bytes answer)
+    (λ bytes. game_file_error_in game file sides notes bytes lack answer lacking tells))) none
+
+-- the game file is not there
+pub no_game_file : (told : Option FilesByName) (left : Option (List ℕ)) (sides : Sides) (name : List ℕ) (notes : Bool)
+    → OfGameFile told sides (λ game. HasNoGameFor game sides reasons.Missing)
+    → WhereTold (Compare sides name notes) left told (λ files bytes. IsGameMissing (Compare sides name notes) files)
+no_game_file told left (PlainSides from other) name notes none = absurd none
+no_game_file told left (SidesUnder game from other) name notes none =
+    of_file told game (λ found. found ≡ None) (λ found. OfFile told name (λ file. OfBytes left (λ bytes. found ≡ None)))
+    (λ found is.
+    any_file told name (λ file. OfBytes left (λ bytes. found ≡ None)) (λ file. of_all left (λ bytes. found ≡ None) (λ bytes. is))) none
 
 -- what holds if the other file is missing holds if any file is missing, because the game is given
-lacks_in : (Q : Type 0) (files : Files) (sides : Sides) (name : List ℕ) (notes : Bool) (by : Comparison)
-    → IsComparisonOf files sides notes by → (IsNotThere (files name) → Q)
+lacks_in : (Q : Type 0) (files : FilesByName) (sides : Sides) (name : List ℕ) (notes : Bool) (by : Comparison)
+    → OfGameFile (Some files) sides (λ game. IsComparisonOf game sides notes by) → (IsNotThere (files name) → Q)
     → LacksFile (Compare sides name notes) (Some files) → Q
 lacks_in Q files (PlainSides from other) name notes by so then lacks = then lacks
 lacks_in Q files (SidesUnder game from other) name notes by so then (inl none) = absurd (lacks_none (files game) so.game so.gives none)
@@ -122,26 +197,34 @@ never_lacks : (sides : Sides) (name : List ℕ) (notes : Bool) → LacksFile (Co
 never_lacks (PlainSides from other) name notes lacks = lacks
 never_lacks (SidesUnder game from other) name notes lacks = lacks
 
-pub where_lacking : (Q : Type 0) (told : Option Files) (sides : Sides) (name : List ℕ) (notes : Bool) (by : Comparison)
-    → IfSome told (λ files. IsComparisonOf files sides notes by) → IfSome told (λ files. IsNotThere (files name) → Q)
+pub where_lacking : (Q : Type 0) (told : Option FilesByName) (sides : Sides) (name : List ℕ) (notes : Bool) (by : Comparison)
+    → OfGameFile told sides (λ game. IsComparisonOf game sides notes by) → IfSome told (λ files. IsNotThere (files name) → Q)
     → LacksFile (Compare sides name notes) told → Q
 where_lacking Q (Some files) sides name notes by so then lacks = lacks_in Q files sides name notes by so then lacks
 where_lacking Q None sides name notes by so then lacks = absurd (never_lacks sides name notes lacks)
 
--- a game that its file gives is not missing
-pub game_there : (told : Option Files) (name : List ℕ) (logs : Logs) (game : Game) → IfSome told (λ files. GivesGame (files name) game)
-    → LacksFile (Under name logs) told → ⊥
-game_there (Some files) name logs game gives lacks = lacks_none (files name) game gives lacks
-game_there None name logs game gives lacks = lacks
+-- a game that its file gives is not missing, so the input is read
+pub game_there : (told : Option FilesByName) (left : Option (List ℕ)) (name : List ℕ) (logs : Logs) (game : Game)
+    → OfFile told name (λ file. GivesGame file game)
+    → WhereTold (Under name logs) left told (λ files bytes. ReadsHands (Under name logs) × (IsWithoutFile (Under name logs) files → ⊥))
+game_there told left name logs game gives =
+    of_file told name (λ file. GivesGame file game) (λ file. OfBytes left (λ bytes. ReadsHands (Under name logs) × (GivesNone file → ⊥)))
+    (λ file given. of_all left (λ bytes. ReadsHands (Under name logs) × (GivesNone file → ⊥)) (λ bytes. (tt, lacks_none file game given))) gives
+
+-- the game file is not there
+pub game_not_there : (told : Option FilesByName) (left : Option (List ℕ)) (name : List ℕ) (logs : Logs)
+    → OfFile told name (λ file. file ≡ None) → WhereTold (Under name logs) left told (λ files bytes. IsGameMissing (Under name logs) files)
+game_not_there told left name logs none =
+    of_file told name (λ file. file ≡ None) (λ file. OfBytes left (λ bytes. file ≡ None)) (λ file is. of_all left (λ bytes. file ≡ None) (λ bytes. is)) none
 
 -- a shelf is asked for the game file and then for the other file
-gives_some : (told : Option Files) (game : List ℕ) (from other : NotationName) (notes : Bool) (by : Comparison)
-    → IfSome told (λ files. IsComparisonOf files (SidesUnder game from other) notes by) → GivesSome told game
+gives_some : (told : Option FilesByName) (game : List ℕ) (from other : NotationName) (notes : Bool) (by : Comparison)
+    → OfGameFile told (SidesUnder game from other) (λ file. IsComparisonOf file (SidesUnder game from other) notes by) → GivesSome told game
 gives_some (Some files) game from other notes by so = (so.game, so.gives)
 gives_some None game from other notes by so = tt
 
-module _ {H : Type 0} (Asked : H → H → List ℕ → Type 0) (told : Option Files) (name : List ℕ) (notes : Bool) (shelf between : H) where
-  pub both_asked : (sides : Sides) (by : Comparison) (seen : H) → IfSome told (λ files. IsComparisonOf files sides notes by)
+module _ {H : Type 0} (Asked : H → H → List ℕ → Type 0) (told : Option FilesByName) (name : List ℕ) (notes : Bool) (shelf between : H) where
+  pub both_asked : (sides : Sides) (by : Comparison) (seen : H) → OfGameFile told sides (λ game. IsComparisonOf game sides notes by)
       → AsksForGame Asked sides shelf between → Asked between seen name → Asks Asked told (Compare sides name notes) shelf seen
   both_asked (PlainSides from other) by seen so none asked = subst (λ (s : H). Asked s seen name) none asked
   both_asked (SidesUnder game from other) by seen so first asked =

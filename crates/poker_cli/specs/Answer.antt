@@ -42,7 +42,7 @@ use Rattle.convert_core.specs.declared.format_fault.FormatFault.TheVariants as f
 use Rattle.poker_cli.specs.Compared.{compared}
 use Rattle.poker_cli.specs.Limits.{excess_line}
 use Rattle.poker_cli.specs.PhhFaults.{phh_fault_line, phh_status}
-use Rattle.poker_cli.specs.Inputs.{HaveFault, SayRecords}
+use Rattle.poker_cli.specs.Inputs.{HaveFault, SayRecords, first_lines, if_asked}
 use Rattle.poker_cli.specs.Refusals.{refused_line}
 use Rattle.poker_cli.specs.Replies.{AreOptionsAt, AreViews, IsEquityAt}
 use Rattle.poker_cli.specs.AcpcFaults.{acpc_fault_line, acpc_status, bad_game_line}
@@ -173,26 +173,28 @@ pub data IsAnswerTo (Say : List Record → Type 0) (HaveFault : FormatFault → 
       → IsAnswerTo Say HaveFault IsMade answer
 
 -- The answer to `judge`; the notation of the bytes says which records are in them and which fault
--- they have.
-pub data IsJudgement (Say : List Record → Type 0) (HaveFault : FormatFault → Type 0) : Answer
-    → Type 0 where
+-- they have, and `lines` on which lines the hands begin, if that is asked for.
+pub data IsJudgement (Say : List Record → Type 0) (HaveFault : FormatFault → Type 0)
+    (lines : List ℕ) : Answer → Type 0 where
   -- the bytes cannot be read as hands
   NotJudged : (fault : FormatFault) → HaveFault fault → (answer : Answer)
       → to_fault fault ≡ Some answer
-      → IsJudgement Say HaveFault answer
+      → IsJudgement Say HaveFault lines answer
   -- the verdict on each hand is printed: legal or refused
   Judged : (records : List Record) → Say records → (verdicts : List Verdict)
       → AreVerdictsOn records verdicts
-      → IsJudgement Say HaveFault (done (judged_said verdicts))
+      → IsJudgement Say HaveFault lines (done (judged_said lines verdicts))
 
--- the answer to bytes, by what is done with their hands
-abbrev pub IsAnswerOf : Task → (List Record → Type 0) → (FormatFault → Type 0) → Answer → Type 0
-IsAnswerOf (tasks.Ask question) Say HaveFault answer =
+-- the answer to bytes whose hands begin on these lines, by what is done with their hands
+abbrev pub IsAnswerOf : Task → (List Record → Type 0) → (FormatFault → Type 0) → (lines : List ℕ)
+    → Answer → Type 0
+IsAnswerOf (tasks.Ask question) Say HaveFault lines answer =
     IsAnswerTo Say HaveFault (IsReply question) answer
-IsAnswerOf tasks.Judge Say HaveFault answer = IsJudgement Say HaveFault answer
-IsAnswerOf (tasks.Convert to keep) Say HaveFault answer =
+IsAnswerOf (tasks.Judge asked) Say HaveFault lines answer =
+    IsJudgement Say HaveFault (if_asked asked lines) answer
+IsAnswerOf (tasks.Convert to keep) Say HaveFault lines answer =
     IsAnswerTo Say HaveFault (IsConversion to keep) answer
-IsAnswerOf (tasks.Views game seat) Say HaveFault answer =
+IsAnswerOf (tasks.Views game seat) Say HaveFault lines answer =
     IsAnswerTo Say HaveFault (AreViews game seat) answer
 
 -- The answer to the bytes of an input, by how they are read and what is done with their hands.
@@ -201,7 +203,8 @@ pub data IsAnswer (task : Task) (reader : Format) (bytes : List ℕ) : Answer �
   TooLong : most_input < length bytes → IsAnswer task reader bytes to_excess
   -- the bytes are within the limit, and are read
   Read : length bytes ≤ most_input → (answer : Answer)
-      → IsAnswerOf task (SayRecords reader bytes) (HaveFault reader bytes) answer
+      → IsAnswerOf task (SayRecords reader bytes) (HaveFault reader bytes)
+      (first_lines reader bytes) answer
       → IsAnswer task reader bytes answer
 
 -- the answer to the bytes of an input that is read and handled this way
@@ -233,8 +236,14 @@ pub data GivesNoGame (file : Option (List ℕ)) : Answer → Type 0 where
       → (fault : AcpcFault) → game_said text ≡ Err fault → GivesNoGame file (to_bad_game fault)
 
 -- The files on a shelf by their names; `None` if there is no file of this name.
-abbrev pub Files : Type 0
-Files = List ℕ → Option (List ℕ)
+abbrev pub FilesByName : Type 0
+FilesByName = List ℕ → Option (List ℕ)
+
+-- The files of a request: the game file, and the other file of a comparison; `None` for one that is
+-- not there or is not named.
+pub record Files : Type 0 where
+  pub game : Option (List ℕ)
+  pub other : Option (List ℕ)
 
 -- Hands are read and handled this way if logs are under the game in this game file.
 pub record IsWayUnder (file : Option (List ℕ)) (logs : Logs) (way : Job) : Type 0 where
@@ -242,12 +251,12 @@ pub record IsWayUnder (file : Option (List ℕ)) (logs : Logs) (way : Job) : Typ
   pub gives : GivesGame file game
   pub same : way ≡ job_under game logs
 
--- how the hands of a request are read and handled, by the files on a shelf; none for generated
--- hands and for comparisons
+-- how the hands of a request are read and handled, by its files; none for generated hands and for
+-- comparisons
 abbrev pub IsWay : Files → Request → Job → Type 0
 IsWay files (Load seed hands) way = ⊥
 IsWay files (Plain from task) way = way ≡ plain_job from task
-IsWay files (Under name logs) way = IsWayUnder (files name) logs way
+IsWay files (Under name logs) way = IsWayUnder files.game logs way
 IsWay files (Compare sides file notes) way = ⊥
 
 -- The answer is the summary of `hands` hands that are generated from a seed.
@@ -334,13 +343,12 @@ pub data IsComparedUnder (game_file : Option (List ℕ)) (from other : NotationN
       → IsComparedTo (comparison_under game from other notes) file bytes answer
       → IsComparedUnder game_file from other notes file bytes answer
 
--- the answer if the hands of an input are compared with those in the file of this name
-abbrev pub IsComparedIn : Files → Sides → (file : List ℕ) → (notes : Bool) → (bytes : List ℕ)
-    → Answer → Type 0
-IsComparedIn files (PlainSides from other) file notes bytes answer =
-    IsComparedTo (plain_comparison from other notes) (files file) bytes answer
-IsComparedIn files (SidesUnder game from other) file notes bytes answer =
-    IsComparedUnder (files game) from other notes (files file) bytes answer
+-- the answer if the hands of an input are compared with those in the other file
+abbrev pub IsComparedIn : Files → Sides → (notes : Bool) → (bytes : List ℕ) → Answer → Type 0
+IsComparedIn files (PlainSides from other) notes bytes answer =
+    IsComparedTo (plain_comparison from other notes) files.other bytes answer
+IsComparedIn files (SidesUnder name from other) notes bytes answer =
+    IsComparedUnder files.game from other notes files.other bytes answer
 
 -- how two files are compared if logs are under the game in a game file
 pub record IsComparisonUnder (game_file : Option (List ℕ)) (from other : NotationName)
@@ -349,32 +357,32 @@ pub record IsComparisonUnder (game_file : Option (List ℕ)) (from other : Notat
   pub gives : GivesGame game_file game
   pub same : by ≡ comparison_under game from other notes
 
--- how two files are compared, by the files on a shelf
-abbrev pub IsComparisonOf : Files → Sides → (notes : Bool) → Comparison → Type 0
-IsComparisonOf files (PlainSides from other) notes by = by ≡ plain_comparison from other notes
-IsComparisonOf files (SidesUnder game from other) notes by =
-    IsComparisonUnder (files game) from other notes by
+-- how two files are compared, by the game file if one is named
+abbrev pub IsComparisonOf : (game : Option (List ℕ)) → Sides → (notes : Bool) → Comparison → Type 0
+IsComparisonOf game (PlainSides from other) notes by = by ≡ plain_comparison from other notes
+IsComparisonOf game (SidesUnder name from other) notes by =
+    IsComparisonUnder game from other notes by
 
--- The request is to compare hands in this way with those in a file, which has these bytes and is
--- within the limit.
-pub record AsksToCompareWith (files : Files) (sides : Sides) (file : List ℕ) (notes : Bool)
-    (by : Comparison) (text : List ℕ) : Type 0 where
-  pub comparison : IsComparisonOf files sides notes by
-  pub there : files file ≡ Some text
+-- The request is to compare hands in this way with those in the other file, which has these bytes
+-- and is within the limit.
+pub record AsksToCompareWith (files : Files) (sides : Sides) (notes : Bool) (by : Comparison)
+    (text : List ℕ) : Type 0 where
+  pub comparison : IsComparisonOf files.game sides notes by
+  pub there : files.other ≡ Some text
   pub short : length text ≤ most_input
 
 -- the request is to compare hands with those in a file: both are read as `Comparison` says, and the
 -- file has these bytes
 abbrev pub AsksToCompare : Files → Request → Comparison → (text : List ℕ) → Type 0
 AsksToCompare files (Compare sides file notes) by text =
-    AsksToCompareWith files sides file notes by text
+    AsksToCompareWith files sides notes by text
 AsksToCompare files request by text = ⊥
 
--- the answer to a request, by the files on a shelf and the bytes of the input; neither matters if
--- hands are generated
+-- the answer to a request, by its files and the bytes of the input; neither matters if hands are
+-- generated
 abbrev pub IsAnswerIn : Request → Files → List ℕ → Answer → Type 0
 IsAnswerIn (Load seed hands) files bytes answer = IsSummed seed hands answer
 IsAnswerIn (Plain from task) files bytes answer = IsAnswerBy (plain_job from task) bytes answer
-IsAnswerIn (Under name logs) files bytes answer = IsAnswerUnder (files name) logs bytes answer
+IsAnswerIn (Under name logs) files bytes answer = IsAnswerUnder files.game logs bytes answer
 IsAnswerIn (Compare sides file notes) files bytes answer =
-    IsComparedIn files sides file notes bytes answer
+    IsComparedIn files sides notes bytes answer

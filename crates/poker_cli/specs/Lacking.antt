@@ -2,7 +2,7 @@
 -- no answer.
 use Rattle.std.specs.Prelude.{◌≡◌, ℕ, ◌<◌, ◌≤◌, List, length, Option, Some, None, Err}
 use Rattle.acpc_game.specs.GameFile.{game_said}
-use Rattle.poker_cli.specs.Answer.{Answer, Files, most_input, to_bad_game, to_game_excess}
+use Rattle.poker_cli.specs.Answer.{Answer, most_input, to_bad_game, to_game_excess}
 use Rattle.poker_cli.specs.declared.games.GameFileError.{GameFileError}
 use Rattle.poker_cli.specs.declared.games.GameFileError.TheVariants as lacks
 use Rattle.poker_cli.specs.declared.games.NoGameError.{NoGameError}
@@ -29,9 +29,9 @@ HasNoGame file reasons.ShelfFault = Unit {0}
 HasNoGame file (reasons.Memory memory) = Unit {0}
 
 -- two files cannot be compared for this reason, which lies in the game file: only logs have one
-abbrev pub HasNoGameFor : Files → Sides → NoGameError → Type 0
-HasNoGameFor files (PlainSides from other) reason = ⊥
-HasNoGameFor files (SidesUnder game from other) reason = HasNoGame (files game) reason
+abbrev pub HasNoGameFor : (game : Option (List ℕ)) → Sides → NoGameError → Type 0
+HasNoGameFor game (PlainSides from other) reason = ⊥
+HasNoGameFor game (SidesUnder name from other) reason = HasNoGame game reason
 
 -- one of the files that are compared is a log
 abbrev pub AreOfLogs : Sides → Type 0

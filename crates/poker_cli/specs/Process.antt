@@ -8,7 +8,7 @@ use Rattle.std.specs.declared.vec.IntoIter.{IntoIter}
 use Rattle.card_set.specs.Refusal.{WasRefused}
 use Rattle.command_words.specs.Words.{request_said}
 use Rattle.hand_records.specs.declared.writing.Keep.{Keep}
-use Rattle.poker_cli.specs.Answer.{Files}
+use Rattle.poker_cli.specs.Answer.{FilesByName}
 use Rattle.poker_cli.specs.Headline.{AsksToConvert, Headline, IsTold}
 use Rattle.poker_cli.specs.Run.{AsksInTurn, EndsLeaving, LacksFile, Leaves, MakesHands, Sinks, Tells, WhereTold}
 use Rattle.poker_cli.specs.declared.status.Status.{Status}
@@ -23,7 +23,7 @@ words_given (Err error) = []
 -- All that the contract of `run` says of a run on these words that ends with this status, clause by
 -- clause. `reads` and `asks` are the fault counts of the source and of the shelf.
 pub record RunKeeps {S H K D : Type 0} (words : List (List ℕ)) (left : Option (List ℕ))
-    (told : Option Files) (Asked : H → H → List ℕ → Type 0) (reads asks : ℕ × ℕ)
+    (told : Option FilesByName) (Asked : H → H → List ℕ → Type 0) (reads asks : ℕ × ℕ)
     (out diag : Sinks) (status : Status) (input read : S) (shelf seen : H) (sink written : K)
     (lines heard : D) : Type 0 where
   pub memory : status ≡ statuses.Memory → WasRefused

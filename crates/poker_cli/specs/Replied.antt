@@ -2,8 +2,8 @@
 use Rattle.std.specs.Prelude.{◌≡◌, ℕ, List, Option, Result, Ok, Err}
 use Rattle.command_words.specs.Words.{Request}
 use Rattle.host_io.specs.Faults.{Rose}
-use Rattle.poker_cli.specs.Answer.{Files}
-use Rattle.poker_cli.specs.Run.{AsksForFile, IsFileMissing, IsGameMissing, IsOwn, LacksFile, ReadsHands, ReadsNothing, WhereTold}
+use Rattle.poker_cli.specs.Answer.{FilesByName}
+use Rattle.poker_cli.specs.Run.{AsksForFile, IsFileMissing, IsGameMissing, IsOwn, IsWithoutFile, ReadsHands, ReadsNothing, WhereTold}
 use Rattle.poker_cli.specs.declared.answer.Answer as made
 use Rattle.poker_cli.specs.declared.no_answer.NoAnswerError.{NoAnswerError}
 use Rattle.poker_cli.specs.declared.no_answer.NoAnswerError.TheVariants as whys
@@ -11,9 +11,11 @@ use Rattle.poker_cli.specs.declared.no_answer.NoAnswerError.TheVariants as whys
 -- A request has no answer for this reason, by the bytes that a source has left and the files on a
 -- shelf: the input was to be read and no file was missing, or the shelf failed, or a file that is
 -- asked for is not there. Nothing is known of them if memory ran out.
-abbrev pub HasNoAnswer : Request → (left : Option (List ℕ)) → (told : Option Files) → NoAnswerError
-    → Type 0
-HasNoAnswer request left told whys.ReadFault = ReadsHands request × (LacksFile request told → ⊥)
+abbrev pub HasNoAnswer : Request → (left : Option (List ℕ)) → (told : Option FilesByName)
+    → NoAnswerError → Type 0
+HasNoAnswer request left told whys.ReadFault =
+    WhereTold request left told (λ files bytes.
+    ReadsHands request × (IsWithoutFile request files → ⊥))
 HasNoAnswer request left told whys.ShelfFault = AsksForFile request
 HasNoAnswer request left told whys.GameMissing =
     WhereTold request left told (λ files bytes. IsGameMissing request files)

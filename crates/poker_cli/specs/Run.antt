@@ -3,12 +3,12 @@ use Rattle.std.specs.Prelude.{◌≡◌, ◌≢◌, ◌⊎◌, ℕ, ◌<◌, Lis
 use Rattle.std.specs.Io.KnownBytes.{Appends}
 use Rattle.acpc_game.specs.declared.game.Game.{Game}
 use Rattle.card_set.specs.Refusal.{WasRefused}
-use Rattle.command_words.specs.Words.{Load, Plain, Request, Under, Compare, PlainSides, SidesUnder}
+use Rattle.command_words.specs.Words.{Load, Plain, Request, Sides, Under, Compare, PlainSides, SidesUnder}
 use Rattle.host_io.specs.Faults.{Rose}
 use Rattle.host_io.specs.Bytes.{AppendsPart}
 use Rattle.poker_cli.specs.declared.status.Status.{Status}
 use Rattle.poker_cli.specs.declared.status.Status.TheVariants as statuses
-use Rattle.poker_cli.specs.Answer.{Answer, Files, GivesGame, GivesNoGame, IsAnswerIn, most_input}
+use Rattle.poker_cli.specs.Answer.{Answer, Files, FilesByName, GivesGame, GivesNoGame, IsAnswerIn, most_input}
 
 -- the line if the words are no command
 abbrev pub usage_line : List ℕ
@@ -62,9 +62,9 @@ abbrev pub change_of : {K : Type 0} → (K → Option (List ℕ)) → (K → ℕ
 change_of held faults old new =
     record { held = held old; holds = held new; before = faults old; now = faults new }
 
--- there is no file on the shelf
+-- a request that names no file
 abbrev pub no_files : Files
-no_files name = None
+no_files = record { game = None; other = None }
 
 -- What holds of the bytes that a source has left; if the source does not show them, it holds of
 -- some bytes.
@@ -72,15 +72,30 @@ abbrev pub OfBytes : Option (List ℕ) → (List ℕ → Type 0) → Type 0
 OfBytes (Some bytes) P = P bytes
 OfBytes None P = (bytes : List ℕ) × P bytes
 
--- What holds of the files and the bytes of a request. It is claimed only if the shelf shows its
--- files; if the source does not show its bytes, it holds of some bytes. If hands are generated,
--- neither is needed, and if no log is read or written and nothing is compared, the shelf is not
--- needed.
-abbrev pub WhereTold : Request → Option (List ℕ) → Option Files → (Files → List ℕ → Type 0) → Type 0
+-- What holds of the file of a name; if the shelf does not show its files, it holds of some file, or
+-- of none.
+abbrev pub OfFile : Option FilesByName → (name : List ℕ) → (Option (List ℕ) → Type 0) → Type 0
+OfFile (Some files) name P = P (files name)
+OfFile None name P = (file : Option (List ℕ)) × P file
+
+-- what holds of the game file of a comparison, if one is named
+abbrev pub OfGameFile : Option FilesByName → Sides → (Option (List ℕ) → Type 0) → Type 0
+OfGameFile told (PlainSides from other) P = P None
+OfGameFile told (SidesUnder name from other) P = OfFile told name P
+
+-- What holds of the files and the bytes of a request. If the source does not show its bytes, it
+-- holds of some bytes, and if the shelf does not show its files, of some files: one for each name
+-- that is asked for, even if a name is asked for twice. If hands are generated, neither is needed,
+-- and if no log is read or written and nothing is compared, the shelf is not needed.
+abbrev pub WhereTold : Request → Option (List ℕ) → Option FilesByName → (Files → List ℕ → Type 0)
+    → Type 0
 WhereTold (Load seed hands) left told P = P no_files []
 WhereTold (Plain from task) left told P = OfBytes left (P no_files)
-WhereTold (Under name logs) left told P = IfSome told (λ files. OfBytes left (P files))
-WhereTold (Compare sides file notes) left told P = IfSome told (λ files. OfBytes left (P files))
+WhereTold (Under name logs) left told P =
+    OfFile told name (λ game. OfBytes left (P (record { game = game; other = None })))
+WhereTold (Compare sides name notes) left told P =
+    OfGameFile told sides (λ game. OfFile told name (λ other.
+    OfBytes left (P (record { game = game; other = other }))))
 
 -- the request generates hands
 abbrev pub MakesHands : Request → Type 0
@@ -99,13 +114,13 @@ AsksForFile (Compare sides file notes) = Unit {0}
 AsksForFile request = ⊥
 
 -- the game file gives a game, if the shelf shows its files
-abbrev pub GivesSome : Option Files → (name : List ℕ) → Type 0
+abbrev pub GivesSome : Option FilesByName → (name : List ℕ) → Type 0
 GivesSome told name = IfSome told (λ files. (found : Game) × GivesGame (files name) found)
 
 -- The names that a request asks the shelf for, each once and in order: that of the game file, and
 -- that of the file to compare with, which is asked for only if the game file gives a game. `Asked`
 -- relates the shelf before and after one name was asked for.
-abbrev pub Asks : {H : Type 0} → (Asked : H → H → List ℕ → Type 0) → Option Files → Request
+abbrev pub Asks : {H : Type 0} → (Asked : H → H → List ℕ → Type 0) → Option FilesByName → Request
     → (shelf seen : H) → Type 0
 Asks Asked told (Load seed hands) shelf seen = seen ≡ shelf
 Asks Asked told (Plain from task) shelf seen = seen ≡ shelf
@@ -117,7 +132,7 @@ Asks {H} Asked told (Compare (SidesUnder game from other) file notes) shelf seen
 
 -- the names that a run with this status asks the shelf for: those of the request; none if the words
 -- are no request or memory ran out before
-abbrev pub AsksInTurn : {H : Type 0} → (Asked : H → H → List ℕ → Type 0) → Option Files
+abbrev pub AsksInTurn : {H : Type 0} → (Asked : H → H → List ℕ → Type 0) → Option FilesByName
     → Option Request → Status → (shelf seen : H) → Type 0
 AsksInTurn Asked told None status shelf seen = seen ≡ shelf
 AsksInTurn Asked told (Some request) status shelf seen =
@@ -125,15 +140,15 @@ AsksInTurn Asked told (Some request) status shelf seen =
 
 -- the game file that the request names is not there
 abbrev pub IsGameMissing : Request → Files → Type 0
-IsGameMissing (Under name logs) files = files name ≡ None
-IsGameMissing (Compare (SidesUnder game from other) file notes) files = files game ≡ None
+IsGameMissing (Under name logs) files = files.game ≡ None
+IsGameMissing (Compare (SidesUnder name from other) file notes) files = files.game ≡ None
 IsGameMissing request files = ⊥
 
 -- the file to compare with is not there; the game file, if one is named, gives its game
 abbrev pub IsFileMissing : Request → Files → Type 0
-IsFileMissing (Compare (PlainSides from other) file notes) files = files file ≡ None
-IsFileMissing (Compare (SidesUnder game from other) file notes) files =
-    ((found : Game) × GivesGame (files game) found) × (files file ≡ None)
+IsFileMissing (Compare (PlainSides from other) file notes) files = files.other ≡ None
+IsFileMissing (Compare (SidesUnder name from other) file notes) files =
+    ((found : Game) × GivesGame files.game found) × (files.other ≡ None)
 IsFileMissing request files = ⊥
 
 -- a game file is not there, or gives no game
@@ -145,9 +160,16 @@ abbrev pub IsNotThere : Option (List ℕ) → Type 0
 IsNotThere file =
     (file ≡ None) ⊎ ((text : List ℕ) × ((file ≡ Some text) × (most_input < length text)))
 
--- the shelf shows that the game file is not there or gives no game, or that the file to compare
--- with is not there or too long
-abbrev pub LacksFile : Request → Option Files → Type 0
+-- the game file is not there or gives no game, or the file to compare with is not there or too long
+abbrev pub IsWithoutFile : Request → Files → Type 0
+IsWithoutFile (Under name logs) files = GivesNone files.game
+IsWithoutFile (Compare (PlainSides from other) file notes) files = IsNotThere files.other
+IsWithoutFile (Compare (SidesUnder name from other) file notes) files =
+    GivesNone files.game ⊎ IsNotThere files.other
+IsWithoutFile request files = ⊥
+
+-- the shelf shows that a file that is asked for is not there, or cannot be used
+abbrev pub LacksFile : Request → Option FilesByName → Type 0
 LacksFile (Under name logs) (Some files) = GivesNone (files name)
 LacksFile (Compare (PlainSides from other) file notes) (Some files) = IsNotThere (files file)
 LacksFile (Compare (SidesUnder game from other) file notes) (Some files) =
@@ -170,7 +192,7 @@ pub record Answers (request : Request) (files : Files) (bytes : List ℕ) (out d
 abbrev pub Ends : Request → Files → List ℕ → Sinks → Sinks → Status → Type 0
 Ends request files bytes out diag statuses.Usage = ⊥
 Ends request files bytes out diag statuses.ReadFault =
-    ReadsHands request × (LacksFile request (Some files) → ⊥)
+    ReadsHands request × (IsWithoutFile request files → ⊥)
 Ends request files bytes out diag statuses.Memory = WasRefused
 Ends request files bytes out diag statuses.ShelfFault = AsksForFile request
 Ends request files bytes out diag statuses.GameMissing = IsGameMissing request files

@@ -1,5 +1,5 @@
 -- What `judge` prints: one line per hand with its verdict, and then the number of legal hands.
-use Rattle.std.specs.Prelude.{◌≡◌, ℕ, ◌+◌, List, [], ◌∷◌, ◌++◌, length, codes}
+use Rattle.std.specs.Prelude.{◌≡◌, ℕ, ◌+◌, List, [], ◌∷◌, ◌++◌, length, codes, slice_get, Option, Some, None}
 use Rattle.std.specs.Fmt.{decimal}
 use Rattle.convert_core.specs.Verdicts.{AreVerdictsOn, Legal, Refused, Verdict, legal_plays}
 use Rattle.hand_records.specs.declared.record.Record.{Record}
@@ -10,16 +10,25 @@ abbrev pub verdict_text : Verdict → List ℕ
 verdict_text (Legal play) = codes "legal"
 verdict_text (Refused hand why) = refusal_text why
 
--- the line of the hand with this number
-abbrev pub verdict_line : ℕ → Verdict → List ℕ
-verdict_line number verdict =
-    codes "hand " ++ (decimal number ++ (codes ": " ++ (verdict_text verdict ++ codes "\n")))
+-- the line of the input on which a hand begins, as text; nothing if no lines are asked for
+abbrev pub begins_text : Option ℕ → List ℕ
+begins_text None = []
+begins_text (Some line) = codes ", line " ++ decimal line
 
--- the lines of hands; the first has this number
-unfoldable pub each_verdict : ℕ → List Verdict → List ℕ
-each_verdict number [] = []
-each_verdict number (verdict ∷ others) =
-    verdict_line number verdict ++ each_verdict (number + 1) others
+-- the line of the hand with this number, which begins on this line of the input
+abbrev pub verdict_line : ℕ → Option ℕ → Verdict → List ℕ
+verdict_line number line verdict =
+    codes "hand "
+    ++ (decimal number
+    ++ (begins_text line ++ (codes ": " ++ (verdict_text verdict ++ codes "\n"))))
+
+-- The lines of hands; the first is at this place, counted from 0. Each hand begins on the line of
+-- the input that is at its place in `lines`, which is empty if no lines are asked for.
+unfoldable pub each_verdict : (lines : List ℕ) → ℕ → List Verdict → List ℕ
+each_verdict lines place [] = []
+each_verdict lines place (verdict ∷ others) =
+    verdict_line (place + 1) (slice_get lines place) verdict
+    ++ each_verdict lines (place + 1) others
 
 -- the last line: the number of legal hands, and of all hands
 abbrev pub judged_end : ℕ → ℕ → List ℕ
@@ -27,17 +36,20 @@ judged_end legal hands =
     codes "legal hands: " ++ (decimal legal ++ (codes " of " ++ (decimal hands ++ codes "\n")))
 
 -- all that `judge` prints
-abbrev pub judged_said : List Verdict → List ℕ
-judged_said verdicts =
-    each_verdict 1 verdicts ++ judged_end (length (legal_plays verdicts)) (length verdicts)
+abbrev pub judged_said : (lines : List ℕ) → List Verdict → List ℕ
+judged_said lines verdicts =
+    each_verdict lines 0 verdicts ++ judged_end (length (legal_plays verdicts)) (length verdicts)
 
--- These are the lines of these verdicts, and the number of legal hands among them.
-pub record ArePrinted (text : List ℕ) (legal : ℕ) (verdicts : List Verdict) : Type 0 where
-  pub lines : text ≡ each_verdict 1 verdicts
+-- These are the lines of these verdicts, and the number of legal hands among them; it is still
+-- known on which lines of the input the hands begin.
+pub record ArePrinted (lines known : List ℕ) (text : List ℕ) (legal : ℕ) (verdicts : List Verdict)
+    : Type 0 where
+  pub said : text ≡ each_verdict lines 0 verdicts
   pub counted : legal ≡ length (legal_plays verdicts)
+  pub same : known ≡ lines
 
 -- The text is what is printed for the verdicts on records.
-pub record IsJudged (records : List Record) (text : List ℕ) : Type 0 where
+pub record IsJudged (lines : List ℕ) (records : List Record) (text : List ℕ) : Type 0 where
   pub verdicts : List Verdict
   pub are : AreVerdictsOn records verdicts
-  pub said : text ≡ judged_said verdicts
+  pub said : text ≡ judged_said lines verdicts

@@ -29,7 +29,7 @@ format_under game notations.Acpc = readers.Acpc game
 -- what is done with hands, where each name of a notation means this format
 abbrev pub task_in : {N : Type 0} → (N → Format) → NamedTask N → Task
 task_in format (named.Ask question) = tasks.Ask question
-task_in format named.Judge = tasks.Judge
+task_in format (named.Judge lines) = tasks.Judge lines
 task_in format (named.Convert to keep) = tasks.Convert (format to) keep
 
 -- how hands are read, and what is done with them

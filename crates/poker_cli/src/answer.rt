@@ -7,6 +7,7 @@ ghost use Rattle.hand_records.specs.SameHands.{kept_notes};
 ghost use Rattle.poker_cli.specs.Answer as definition;
 ghost use Rattle.poker_cli.specs.Answer.{IsAnswer, IsAnswerOf, IsAnswerTo, IsConversion, IsJudgement, IsReply, IsToldOf, IsWritten, most_input};
 ghost use Rattle.poker_cli.specs.Asked.{IsAsked};
+ghost use Rattle.poker_cli.specs.Inputs.{first_lines, if_asked};
 ghost use Rattle.poker_cli.specs.Told.{answer_told};
 
 use crate::acpc_faults::answer_to_acpc_fault;
@@ -21,6 +22,7 @@ use crate::task::{Format, Task};
 use crate::texts::command_text;
 use crate::unspelled::unspelled_line;
 use crate::viewing::answer_with_views;
+use acpc_reading::hand_lines;
 use card_set::Memory;
 use command_words::{Command, Question};
 use convert_core::{
@@ -28,6 +30,7 @@ use convert_core::{
     read_records,
 };
 use hand_records::{Keep, Unspelled};
+use ohh_reading::block_lines;
 use std::alloc::Global;
 
 /// An answer: its exit status, its output, and the diagnostic line that is printed if it is not
@@ -48,25 +51,30 @@ pub fn answer_to(alloc: Global, task: Task, reader: &Format, bytes: &[u8]) -> Re
     ensures { IfOk result (λ answer. IsAnswer task reader.now bytes.now (answer_told answer)) }
 {
     match reader {
-        Format::Phh => answer_from(alloc, task, &Phh, bytes),
-        Format::Ohh(dialect) => answer_from(alloc, task, &Ohh { dialect: *dialect }, bytes),
-        Format::Acpc(game) => answer_from(alloc, task, &Acpc { game: *game }, bytes),
+        Format::Phh => answer_from(alloc, task, reader, &Phh, bytes),
+        Format::Ohh(dialect) => {
+            let from = Ohh { dialect: *dialect };
+            answer_from(alloc, task, reader, &from, bytes)
+        }
+        Format::Acpc(game) => answer_from(alloc, task, reader, &Acpc { game: *game }, bytes),
     }
 }
 
-// The answer to bytes in one notation.
+// The answer to bytes in one notation, whose hands begin on the lines of this format.
 fn answer_from<N: Notation>(
     alloc: Global,
     task: Task,
+    reader: &Format,
     from: &N,
     bytes: &[u8],
 ) -> Result<Answer, Memory>
     ensures { IfOk result (λ answer. IsAnswerOf task (N.Say from.now bytes.now)
-        (N.HaveFault from.now bytes.now) (answer_told answer)) }
+        (N.HaveFault from.now bytes.now) (first_lines reader.now bytes.now)
+        (answer_told answer)) }
 {
     match task {
         Task::Ask(question) => answer_to_question(alloc, question, from, bytes),
-        Task::Judge => answer_with_verdicts(alloc, from, bytes),
+        Task::Judge { lines } => answer_with_verdicts(alloc, lines, reader, from, bytes),
         Task::Convert { to, keep } => answer_with_hands(alloc, from, &to, keep, bytes),
         Task::Views { game, seat } => answer_with_views(alloc, &game, seat, from, bytes),
     }
@@ -115,21 +123,46 @@ fn answer_with_text<N: Notation>(
     }
 }
 
-// The answer with the verdict on each hand in the bytes.
+// The answer with the verdict on each hand in the bytes, and the line on which it begins if lines
+// are asked for.
 fn answer_with_verdicts<N: Notation>(
     alloc: Global,
+    asked: bool,
+    reader: &Format,
     from: &N,
     bytes: &[u8],
 ) -> Result<Answer, Memory>
     ensures { IfOk result (λ answer. IsJudgement (N.Say from.now bytes.now)
-        (N.HaveFault from.now bytes.now) (answer_told answer)) }
+        (N.HaveFault from.now bytes.now) (if_asked asked (first_lines reader.now bytes.now))
+        (answer_told answer)) }
 {
     match read_records(alloc, from, bytes) {
         Ok(records) => {
-            let text = judge_text(alloc, records)?;
+            let lines = lines_if_asked(alloc, asked, reader, bytes)?;
+            let text = judge_text(alloc, lines, records)?;
             Ok(done_with(alloc, text))
         }
         Err(fault) => answer_to_fault(alloc, &fault),
+    }
+}
+
+// The lines on which the hands in the bytes begin, if they are asked for.
+fn lines_if_asked(
+    alloc: Global,
+    asked: bool,
+    reader: &Format,
+    bytes: &[u8],
+) -> Result<Vec<u64>, Memory>
+    ensures { IfOk result (λ lines. lines.items
+        ≡ if_asked asked (first_lines reader.now bytes.now)) }
+{
+    if !asked {
+        return Ok(Vec::new(alloc));
+    }
+    match reader {
+        Format::Phh => Ok(Vec::new(alloc)),
+        Format::Ohh(_) => block_lines(alloc, bytes),
+        Format::Acpc(_) => hand_lines(alloc, bytes),
     }
 }
 

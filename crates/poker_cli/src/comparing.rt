@@ -8,7 +8,7 @@ ghost use Rattle.poker_cli.specs.Answer as definition;
 ghost use Rattle.poker_cli.specs.Answer.{IsComparedIn, IsComparedTo, IsComparison, IsComparisonOf, most_input};
 ghost use Rattle.poker_cli.specs.Lacking.{AreOfLogs, AsksForGame, ComesFirst, HasNoFile, HasNoGameFor};
 ghost use Rattle.poker_cli.specs.Replied.{HasNoAnswer, Keeps};
-ghost use Rattle.poker_cli.specs.Run.{Asks, IsNotThere, LacksFile, OfBytes};
+ghost use Rattle.poker_cli.specs.Run.{Asks, IsNotThere, LacksFile, OfBytes, OfFile, OfGameFile, WhereTold};
 ghost use Rattle.poker_cli.specs.Told.{answer_told};
 
 use crate::answer::{self, Answer, MOST_INPUT, refusal};
@@ -44,9 +44,10 @@ pub fn reply_to_comparison<S: Source, H: Shelf>(
     input: &mut S,
     shelf: &mut H,
 ) -> Result<Answer, NoAnswerError>
-    ensures answer { IfOk result (λ answer. IfSome (H.files shelf.old) (λ files.
-        OfBytes (S.left input.old) (λ bytes.
-        IsComparedIn files (sides_in sides.entry) name.now notes bytes (answer_told answer)))) }
+    ensures answer { IfOk result (λ answer.
+        WhereTold (Compare (sides_in sides.entry) name.now notes)
+        (S.left input.old) (H.files shelf.old) (λ files bytes.
+        IsComparedIn files (sides_in sides.entry) notes bytes (answer_told answer))) }
     ensures none { IfErr result (λ why.
         HasNoAnswer (Compare (sides_in sides.entry) name.now notes)
         (S.left input.old) (H.files shelf.old) why) }
@@ -76,10 +77,12 @@ fn comparison_of<H: Shelf>(
     notes: bool,
     shelf: &mut H,
 ) -> Result<Comparison, NoGameError>
-    ensures comparison { IfOk result (λ by. IfSome (H.files shelf.old) (λ files.
-        IsComparisonOf files (sides_in sides.entry) notes by)) }
-    ensures none { IfErr result (λ reason. IfSome (H.files shelf.old) (λ files.
-        HasNoGameFor files (sides_in sides.entry) reason)) }
+    ensures comparison { IfOk result (λ by.
+        OfGameFile (H.files shelf.old) (sides_in sides.entry) (λ game.
+        IsComparisonOf game (sides_in sides.entry) notes by)) }
+    ensures none { IfErr result (λ reason.
+        OfGameFile (H.files shelf.old) (sides_in sides.entry) (λ game.
+        HasNoGameFor game (sides_in sides.entry) reason)) }
     ensures failed { IsErrOf result NoGameError.ShelfFault
         → Rose (H.faults shelf.old) (H.faults shelf.new) }
     ensures asked { AsksForGame H.Asked (sides_in sides.entry) shelf.old shelf.new }
@@ -104,17 +107,17 @@ fn reply_beside<S: Source, H: Shelf>(
     input: &mut S,
     shelf: &mut H,
 ) -> Result<Answer, NoAnswerError>
-    ensures answer { IfOk result (λ answer. IfSome (H.files shelf.old) (λ files.
+    ensures answer { IfOk result (λ answer. OfFile (H.files shelf.old) name.now (λ file.
         OfBytes (S.left input.old) (λ bytes.
-        IsComparedTo by.now (files name.now) bytes (answer_told answer)))) }
+        IsComparedTo by.now file bytes (answer_told answer)))) }
     ensures kept { Keeps input.old input.new (S.faults input.old, S.faults input.new)
         (H.faults shelf.old, H.faults shelf.new) result }
-    ensures there { IsErrOf result NoAnswerError.ReadFault → IfSome (H.files shelf.old) (λ files.
-        IsNotThere (files name.now) → ⊥) }
+    ensures there { IsErrOf result NoAnswerError.ReadFault →
+        OfFile (H.files shelf.old) name.now (λ file. IsNotThere file → ⊥) }
     ensures asked { H.Asked shelf.old shelf.new name.now }
     ensures of_file { IfErr result (λ why. why ≡ NoAnswerError.GameMissing → ⊥) }
     ensures missing { IsErrOf result NoAnswerError.FileMissing →
-        IfSome (H.files shelf.old) (λ files. files name.now ≡ None) }
+        OfFile (H.files shelf.old) name.now (λ file. file ≡ None) }
     ensures without_file { IfSome (H.files shelf.old) (λ files.
         IsNotThere (files name.now) → input.new ≡ input.old) }
 {
@@ -132,10 +135,10 @@ fn reply_beside<S: Source, H: Shelf>(
 
 // The bytes of the file of this name.
 fn fetch_file<H: Shelf>(alloc: Global, shelf: &mut H, name: &str) -> Result<Vec<u8>, NoFileError>
-    ensures file { IfOk result (λ file. IfSome (H.files shelf.old) (λ files.
-        (files name.now ≡ Some file.items) × (length file.items ≤ most_input))) }
-    ensures none { IfErr result (λ reason. IfSome (H.files shelf.old) (λ files.
-        HasNoFile (files name.now) reason)) }
+    ensures file { IfOk result (λ file. OfFile (H.files shelf.old) name.now (λ there.
+        (there ≡ Some file.items) × (length file.items ≤ most_input))) }
+    ensures none { IfErr result (λ reason. OfFile (H.files shelf.old) name.now (λ file.
+        HasNoFile file reason)) }
     ensures failed { IsErrOf result NoFileError.ShelfFault
         → Rose (H.faults shelf.old) (H.faults shelf.new) }
     ensures asked { H.Asked shelf.old shelf.new name.now }

@@ -10,7 +10,7 @@ ghost use Rattle.poker_cli.specs.Answer.{IsAnswerBy, IsAnswerIn, IsAnswerUnder};
 ghost use Rattle.poker_cli.specs.Headline.{AsksToConvert, Headline};
 ghost use Rattle.poker_cli.specs.Lacking.{ComesFirst};
 ghost use Rattle.poker_cli.specs.Replied.{HasNoAnswer, Keeps};
-ghost use Rattle.poker_cli.specs.Run.{Asks, AsksInTurn, EndsLeaving, GivesNone, IsOwn, LacksFile, Leaves, MakesHands, MayEnd, OfBytes, Tells, TellsLine, WhereTold, Writes, WritesNothing, change_of, line_of};
+ghost use Rattle.poker_cli.specs.Run.{Asks, AsksInTurn, EndsLeaving, GivesNone, IsOwn, LacksFile, Leaves, MakesHands, MayEnd, OfBytes, OfFile, Tells, TellsLine, WhereTold, Writes, WritesNothing, change_of, line_of};
 ghost use Rattle.poker_cli.specs.Told.{answer_told};
 ghost use Rattle.poker_cli.specs.declared.task.Format.{Format};
 
@@ -50,9 +50,10 @@ pub fn run<S: Source, H: Shelf, K: Sink, D: Sink>(
     ensures usage { (result ≡ Status.Usage) ↔ (request_said (map string_bytes words.now) ≡ None) }
 
     // If the words are a request, the run ends with the answer to the file on the shelf and to the
-    // input, or with a fault whose count rose in this call. What depends on the file holds for
-    // every source: one that does not show its bytes counts as one that has some bytes. If there is
-    // nothing to write, the output stays as it was.
+    // input, or with a fault whose count rose in this call. This holds for every source and every
+    // shelf: a source that does not show its bytes counts as one that has some bytes, and a shelf
+    // that does not show its files as one that has some files. If there is nothing to write, the
+    // output stays as it was.
     ensures ends { IfSome (request_said (map string_bytes words.now)) (λ request.
         WhereTold request (S.left input.old) (H.files shelf.old) (λ files bytes.
         EndsLeaving request files bytes
@@ -188,9 +189,9 @@ fn reply_under<S: Source, H: Shelf>(
     input: &mut S,
     shelf: &mut H,
 ) -> Result<Answer, NoAnswerError>
-    ensures answer { IfOk result (λ answer. IfSome (H.files shelf.old) (λ files.
+    ensures answer { IfOk result (λ answer. OfFile (H.files shelf.old) name.now (λ file.
         OfBytes (S.left input.old) (λ bytes.
-        IsAnswerUnder (files name.now) logs bytes (answer_told answer)))) }
+        IsAnswerUnder file logs bytes (answer_told answer)))) }
     ensures none { IfErr result (λ why.
         HasNoAnswer (Under name.now logs) (S.left input.old) (H.files shelf.old) why) }
     ensures kept { Keeps input.old input.new (S.faults input.old, S.faults input.new)

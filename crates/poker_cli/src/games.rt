@@ -1,9 +1,11 @@
 //! Fetches the game of a log from the shelf, or reports why there is no game.
-ghost use Rattle.std.specs.Prelude.{◌≡◌, ◌≤◌, IfErr, IfOk, IfSome, IsErrOf, string_bytes};
+ghost use Rattle.std.specs.Prelude.{◌≡◌, ◌≤◌, List, ℕ, Option, IfErr, IfOk, IsErrOf, string_bytes};
 ghost use Rattle.host_io.specs.Faults.{Rose};
-ghost use Rattle.poker_cli.specs.Answer.{GivesGame};
+ghost use Rattle.host_io.specs.Shelf.{IsAnswer};
+ghost use Rattle.poker_cli.specs.Answer.{GivesGame, most_input};
 ghost use Rattle.poker_cli.specs.Lacking.{HasNoGame, IsGameFileErrorTold};
 ghost use Rattle.poker_cli.specs.AcpcFaults.{bad_game_line as bad_game_line_said};
+ghost use Rattle.poker_cli.specs.Run.{OfFile};
 ghost use Rattle.poker_cli.specs.Told.{answer_told};
 
 use crate::acpc_faults::{fault_name, line_of};
@@ -35,9 +37,9 @@ pub enum NoGameError {
 /// The game in the file of this name.
 pub fn fetch_game<H: Shelf>(alloc: Global, shelf: &mut H, name: &str) -> Result<Game, NoGameError>
     ensures game { IfOk result (λ game.
-        IfSome (H.files shelf.old) (λ files. GivesGame (files name.now) game)) }
+        OfFile (H.files shelf.old) name.now (λ file. GivesGame file game)) }
     ensures none { IfErr result (λ reason.
-        IfSome (H.files shelf.old) (λ files. HasNoGame (files name.now) reason)) }
+        OfFile (H.files shelf.old) name.now (λ file. HasNoGame file reason)) }
     ensures failed { IsErrOf result NoGameError.ShelfFault
         → Rose (H.faults shelf.old) (H.faults shelf.new) }
     ensures asked { H.Asked shelf.old shelf.new name.now }
@@ -45,15 +47,28 @@ pub fn fetch_game<H: Shelf>(alloc: Global, shelf: &mut H, name: &str) -> Result<
     ensures later { H.faults shelf.old ≤ H.faults shelf.new }
 {
     match shelf.fetch(alloc, name, MOST_INPUT) {
-        Ok(Fetched::Bytes(text)) => match read_game(alloc, &text) {
+        Ok(fetched) => game_fetched(alloc, &fetched),
+        Err(ShelfFault::Failed) => Err(NoGameError::ShelfFault),
+        Err(ShelfFault::Memory(memory)) => Err(NoGameError::Memory(memory)),
+    }
+}
+
+// The game in what a shelf answered, whichever file it answered with.
+fn game_fetched(alloc: Global, fetched: &Fetched) -> Result<Game, NoGameError>
+    ensures game { IfOk result (λ game. (file : Option (List ℕ))
+        → IsAnswer file most_input fetched.now → GivesGame file game) }
+    ensures none { IfErr result (λ reason. (file : Option (List ℕ))
+        → IsAnswer file most_input fetched.now → HasNoGame file reason) }
+    ensures of_answer { IsErrOf result NoGameError.ShelfFault → ⊥ }
+{
+    match fetched {
+        Fetched::Bytes(text) => match read_game(alloc, text) {
             Ok(game) => Ok(game),
             Err(AcpcFault::Memory(memory)) => Err(NoGameError::Memory(memory)),
             Err(fault) => Err(NoGameError::Lacking(GameFileError::Bad(fault))),
         },
-        Ok(Fetched::Absent) => Err(NoGameError::Missing),
-        Ok(Fetched::TooLong) => Err(NoGameError::Lacking(GameFileError::TooLong)),
-        Err(ShelfFault::Failed) => Err(NoGameError::ShelfFault),
-        Err(ShelfFault::Memory(memory)) => Err(NoGameError::Memory(memory)),
+        Fetched::Absent => Err(NoGameError::Missing),
+        Fetched::TooLong => Err(NoGameError::Lacking(GameFileError::TooLong)),
     }
 }
 

@@ -1,10 +1,10 @@
-//! Answers `judge`: one line per hand with its verdict, and then a line with the number of legal
-//! hands.
-ghost use Rattle.std.specs.Prelude.{◌≡◌, ◌≤◌, ◌++◌, true, false, All, codes, length, IfOk, OnOk, string_bytes};
+//! Answers `judge`: one line per hand with its verdict, and the line of the input on which it
+//! begins if that is asked for; and then a line with the number of legal hands.
+ghost use Rattle.std.specs.Prelude.{◌≡◌, ◌≤◌, ◌++◌, true, false, All, codes, length, slice_get, IfOk, OnOk, string_bytes};
 ghost use Rattle.std.specs.Fmt.{decimal};
 ghost use Rattle.first_fault.specs.declared.limits.TheConstants.{MOST_HANDS};
 ghost use Rattle.hand_records.specs.SoundRecord.{IsSoundRecord};
-ghost use Rattle.poker_cli.specs.Verdicts.{ArePrinted, IsJudged, judged_end};
+ghost use Rattle.poker_cli.specs.Verdicts.{ArePrinted, IsJudged, begins_text, judged_end};
 
 use crate::refusals::refusal_text;
 use card_set::{Memory, TryWrite, try_write};
@@ -12,9 +12,11 @@ use convert_core::{PlaysFault, Refusal, VerdictVisitor, judge_all};
 use hand_records::{Play, Records};
 use std::alloc::Global;
 
-// The lines of the hands so far, and how many of these hands are legal.
+// The lines of the hands so far, and how many of these hands are legal. Each hand begins on the
+// line of the input that is at its place in `lines`; there is none if lines are not asked for.
 #[derive(Drop)]
 struct VerdictLines {
+    lines: Vec<u64>,
     text: String,
     legal: usize,
 }
@@ -24,7 +26,8 @@ impl VerdictVisitor for VerdictLines {
 
     ghost KEEPS = { false };
 
-    ghost Took = { λ _ it verdicts. ArePrinted (string_bytes it.text) it.legal verdicts };
+    ghost Took = { λ start it verdicts.
+        ArePrinted start.lines.items it.lines.items (string_bytes it.text) it.legal verdicts };
 
     fn continues(&self) -> bool {
         true
@@ -36,7 +39,8 @@ impl VerdictVisitor for VerdictLines {
 
     fn take(&mut self, _: Global, place: usize, _: &Play) -> Result<(), Memory> {
         let number = place + 1;
-        push_legal(&mut self.text, number)?;
+        let line = line_at(&self.lines, place);
+        push_legal(&mut self.text, number, line)?;
         self.legal += 1;
         Ok(())
     }
@@ -47,23 +51,33 @@ impl VerdictVisitor for VerdictLines {
             Ok(why) => why,
             Err(memory) => return Err(memory),
         };
-        push_refused(&mut self.text, number, &why)?;
+        let line = line_at(&self.lines, place);
+        push_refused(&mut self.text, number, line, &why)?;
         Ok(())
     }
 }
 
-/// One line per hand with its verdict, and then the number of legal hands.
+// The line of the input on which the hand at this place begins, if that is asked for.
+fn line_at(lines: &Vec<u64>, place: usize) -> Option<u64>
+    ensures { result ≡ slice_get lines.now.items place }
+{
+    lines.get(place).copied()
+}
+
+/// One line per hand with its verdict, and with the line of the input on which it begins if `lines`
+/// has these; and then the number of legal hands.
 ///
 /// # Errors
 ///
 /// Out of memory.
-pub fn judge_text(alloc: Global, records: Records) -> Result<String, Memory>
+pub fn judge_text(alloc: Global, lines: Vec<u64>, records: Records) -> Result<String, Memory>
     requires sound { All IsSoundRecord records }
     requires few { length records ≤ MOST_HANDS }
-    ensures { IfOk result (λ text. IsJudged records (string_bytes text)) }
+    ensures { IfOk result (λ text. IsJudged lines.items records (string_bytes text)) }
 {
     let hands = records.len();
     let mut lines = VerdictLines {
+        lines,
         text: String::new(alloc),
         legal: 0,
     };
@@ -78,22 +92,35 @@ pub fn judge_text(alloc: Global, records: Records) -> Result<String, Memory>
 }
 
 // Appends the line of a legal hand.
-fn push_legal(text: &mut String, number: usize) -> Result<(), Memory>
+fn push_legal(text: &mut String, number: usize, line: Option<u64>) -> Result<(), Memory>
     ensures { OnOk result (string_bytes text.new ≡ string_bytes text.old
-        ++ (codes "hand " ++ (decimal number ++ codes ": legal\n"))) }
+        ++ (codes "hand " ++ (decimal number ++ (begins_text line ++ codes ": legal\n")))) }
 {
-    try_write!(text, "hand {number}: legal\n")?;
+    let Some(line) = line else {
+        try_write!(text, "hand {number}: legal\n")?;
+        return Ok(());
+    };
+    try_write!(text, "hand {number}, line {line}: legal\n")?;
     Ok(())
 }
 
 // Appends the line of a refused hand.
-fn push_refused(text: &mut String, number: usize, why: &String) -> Result<(), Memory>
+fn push_refused(
+    text: &mut String,
+    number: usize,
+    line: Option<u64>,
+    why: &String,
+) -> Result<(), Memory>
     ensures { OnOk result (string_bytes text.new ≡ string_bytes text.old
-        ++ (codes "hand " ++ (decimal number ++ (codes ": " ++ (string_bytes why.now
-        ++ codes "\n"))))) }
+        ++ (codes "hand " ++ (decimal number ++ (begins_text line ++ (codes ": "
+        ++ (string_bytes why.now ++ codes "\n")))))) }
 {
     let why = why.as_str();
-    try_write!(text, "hand {number}: {why}\n")?;
+    let Some(line) = line else {
+        try_write!(text, "hand {number}: {why}\n")?;
+        return Ok(());
+    };
+    try_write!(text, "hand {number}, line {line}: {why}\n")?;
     Ok(())
 }
 

@@ -16,11 +16,12 @@ ghost use Rattle.hand_records.specs.declared.trace.Play.{Play};
 ghost use Rattle.hand_records.specs.declared.writing.Keep.{Keep};
 ghost use Rattle.hand_records.specs.declared.writing.Keep.TheVariants as keeps;
 ghost use Rattle.hand_records.specs.declared.writing.Unspelled.TheVariants as facts;
+ghost use Rattle.ohh_members.specs.declared.dialect.Dialect.{Dialect};
 ghost use Rattle.poker_cli.specs.Answer.{Answer, AsksToCompare, Files, IsAnswer, IsComparison, IsReply, IsWay, most_input};
 ghost use Rattle.poker_cli.specs.Compared.{compared};
 ghost use Rattle.poker_cli.specs.ComparedRuns.{AreFoundOther, AreFoundSame, AreOther, AreSame, BothRead, FindsOther};
 ghost use Rattle.poker_cli.specs.Headline.{ConversionEnds, ConvertsInto};
-ghost use Rattle.poker_cli.specs.Inputs.{SayRecords};
+ghost use Rattle.poker_cli.specs.Inputs.{SayRecords, first_lines};
 ghost use Rattle.poker_cli.specs.LegalInputs.{AsksOfLegal};
 ghost use Rattle.poker_cli.specs.OneAnswer.{AreOneAnswer};
 ghost use Rattle.poker_cli.specs.Outputs.{AreSameIn, first_refusal_in, kept_in, unspelled_in};
@@ -96,9 +97,9 @@ pub fn law_of_legal_inputs()
         → seat.number ≤ game.stacks.seats
         → length (each_view game seat 0 plays) ≤ most_view_bytes
         → Ends request files bytes out diag status → RefusesNothing status }
-    ensures judge { (request : Request) (reader : Format) (files : Files) (bytes : List ℕ)
-        → (records : List Record) (out diag : Sinks) (status : Status)
-        → IsWay files request (way tasks.Judge reader)
+    ensures judge { (request : Request) (lines : Bool) (reader : Format) (files : Files)
+        → (bytes : List ℕ) (records : List Record) (out diag : Sinks) (status : Status)
+        → IsWay files request (way (tasks.Judge lines) reader)
         → length bytes ≤ most_input → SayRecords reader bytes records
         → Ends request files bytes out diag status → RefusesNothing status }
     ensures convert { (request : Request) (reader target : Format) (keep : Keep) (files : Files)
@@ -131,6 +132,17 @@ pub fn law_of_read_hands()
         → ReadAsPlays (SayRecords (readers.Acpc game) too) others
         → hand_numbered plays hand ≡ Some play → hand_numbered others another ≡ Some other
         → play.trace.setup ≡ other.trace.setup }
+{}
+
+/// Bytes that are read as hands of a log (`log`) or of Open Hand History (`blocks`) have as many
+/// lines on which a hand begins as hands. The function does nothing: its contract is a law.
+pub fn law_of_lines()
+    ensures log { (game : Game) (bytes : List ℕ) (records : List Record)
+        → SayRecords (readers.Acpc game) bytes records
+        → length (first_lines (readers.Acpc game) bytes) ≡ length records }
+    ensures blocks { (dialect : Dialect) (bytes : List ℕ) (records : List Record)
+        → SayRecords (readers.Ohh dialect) bytes records
+        → length (first_lines (readers.Ohh dialect) bytes) ≡ length records }
 {}
 
 /// The answers to a conversion, without regard to devices and memory. If two inputs are converted

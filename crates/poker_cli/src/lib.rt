@@ -32,7 +32,7 @@ mod ways;
 pub use entry::run;
 pub use laws::{
     law_of_compared_conversions, law_of_compared_hands, law_of_compared_outputs,
-    law_of_comparisons, law_of_equal_answers, law_of_equal_runs, law_of_legal_inputs,
+    law_of_comparisons, law_of_equal_answers, law_of_equal_runs, law_of_legal_inputs, law_of_lines,
     law_of_one_answer, law_of_read_hands, law_of_runs_again, law_of_runs_by_way,
 };
 pub use process::{end_with, run_process};

@@ -10,8 +10,8 @@ use ohh_members::Dialect;
 pub enum Task {
     /// The answer to a question.
     Ask(Question),
-    /// The verdict on each hand.
-    Judge,
+    /// The verdict on each hand; `lines` asks for the line on which it begins, too.
+    Judge { lines: bool },
     /// The same hands in a notation; `keep` says which notes are kept.
     Convert { to: Format, keep: Keep },
     /// The messages that a seat received in these hands, as logs of a game.

@@ -13,7 +13,7 @@ pub fn plain_job(from: PlainNotation, task: NamedTask<PlainNotation>) -> Job
 {
     let task = match task {
         NamedTask::Ask(question) => Task::Ask(question),
-        NamedTask::Judge => Task::Judge,
+        NamedTask::Judge { lines } => Task::Judge { lines },
         NamedTask::Convert { to, keep } => Task::Convert {
             to: plain_format(to),
             keep,
@@ -53,7 +53,7 @@ fn task_under(game: Game, task: NamedTask<NotationName>) -> Task
 {
     match task {
         NamedTask::Ask(question) => Task::Ask(question),
-        NamedTask::Judge => Task::Judge,
+        NamedTask::Judge { lines } => Task::Judge { lines },
         NamedTask::Convert { to, keep } => Task::Convert {
             to: format_under(game, to),
             keep,

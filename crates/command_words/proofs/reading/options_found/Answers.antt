@@ -21,6 +21,7 @@ returns c options found =
       c.get_str-11.ensures ∙ found.other_notation,
       drops options.drops_notes found.drops_notes,
       ignores options.ignores_notes found.ignores_notes,
+      shows options.shows_lines found.shows_lines,
     ) refl
   where
     drops : (b : Bool) → one_text (found_of c.args.matches.now) (codes "drop-notes") ≡ Some (flag_text b) → c.get_flag.result ≡ b
@@ -30,3 +31,7 @@ returns c options found =
     ignores : (b : Bool) → one_text (found_of c.args.matches.now) (codes "no-notes") ≡ Some (flag_text b) → c.get_flag-2.result ≡ b
     ignores true e = c.get_flag-2.ensures.value e
     ignores false e = c.get_flag-2.ensures.other e
+
+    shows : (b : Bool) → one_text (found_of c.args.matches.now) (codes "lines") ≡ Some (flag_text b) → c.get_flag-3.result ≡ b
+    shows true e = c.get_flag-3.ensures.value e
+    shows false e = c.get_flag-3.ensures.other e

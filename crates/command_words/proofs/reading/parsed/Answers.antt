@@ -76,5 +76,6 @@ returns-clause-said c =
         other_notation = value (codes "as") ∙ of_words.found.other_notation;
         drops_notes = text (codes "drop-notes") ∙ of_words.found.drops_notes;
         ignores_notes = text (codes "no-notes") ∙ of_words.found.ignores_notes;
+        shows_lines = text (codes "lines") ∙ of_words.found.shows_lines;
       };
     }) c.try_get_matches_from.ensures.matches

@@ -28,5 +28,6 @@ returns c =
     let eleven = c.in_ok-arg-11.ensures.shape c.option-10.ensures.local ∙ ap₂ with_rule ten c.option-10.ensures.rule in
     let twelve = c.in_ok-arg-12.ensures.shape c.option-11.ensures.local ∙ ap₂ with_rule eleven c.option-11.ensures.rule in
     let thirteen = c.in_ok-arg-13.ensures.shape c.flag.ensures.local ∙ ap₂ with_rule twelve c.flag.ensures.rule in
-    IfOk-weaker c.arg-14.result _ _
-    (λ parser adds. adds.shape c.flag-2.ensures.local ∙ ap₂ with_rule thirteen c.flag-2.ensures.rule) c.arg-14.ensures
+    let fourteen = c.in_ok-arg-14.ensures.shape c.flag-2.ensures.local ∙ ap₂ with_rule thirteen c.flag-2.ensures.rule in
+    IfOk-weaker c.arg-15.result _ _
+    (λ parser adds. adds.shape c.flag-3.ensures.local ∙ ap₂ with_rule fourteen c.flag-3.ensures.rule) c.arg-15.ensures

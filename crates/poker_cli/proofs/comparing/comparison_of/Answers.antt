@@ -1,24 +1,29 @@
 -- The game that the file gives is that of the comparison.
-use Rattle.std.proofs.Common.{◌≡◌, ℕ, Bool, List, Option, Some, None, IfSome, sym, subst}
+use Rattle.std.proofs.Common.{◌≡◌, ℕ, Bool, List, Option, sym, subst}
 use Rattle.acpc_game.specs.declared.game.Game.{Game}
 use Rattle.command_words.specs.Requests.{sides_in}
 use Rattle.command_words.specs.Words.{SidesUnder}
 use Rattle.command_words.specs.declared.notation.NotationName.{NotationName}
 use Rattle.command_words.specs.declared.request.Sides.{Sides}
-use Rattle.poker_cli.specs.Answer.{Files, GivesGame, IsComparisonOf, comparison_under}
+use Rattle.poker_cli.specs.Answer.{FilesByName, GivesGame, IsComparisonOf, comparison_under}
+use Rattle.poker_cli.specs.Run.{OfFile, OfGameFile}
 use Rattle.poker_cli.specs.declared.comparison.Comparison.{Comparison}
+use Rattle.poker_cli.proofs.FilesTold.{of_file}
 use Rattle.poker_cli.proofs.comparing.comparison_of.Goals as goal
 
 -- under the game that a file gives
-under_game : (told : Option Files) (name : List ℕ) (from other : NotationName) (notes : Bool) (game : Game) (by : Comparison)
-    → by ≡ comparison_under game from other notes → IfSome told (λ files. GivesGame (files name) game)
-    → IfSome told (λ files. IsComparisonOf files (SidesUnder name from other) notes by)
-under_game (Some files) name from other notes game by same gives = record { game = game; gives = gives; same = same }
-under_game None name from other notes game by same gives = tt
+under_game : (told : Option FilesByName) (name : List ℕ) (from other : NotationName) (notes : Bool) (game : Game) (by : Comparison)
+    → by ≡ comparison_under game from other notes → OfFile told name (λ file. GivesGame file game)
+    → OfGameFile told (SidesUnder name from other) (λ file. IsComparisonOf file (SidesUnder name from other) notes by)
+under_game told name from other notes game by same gives =
+    of_file told name (λ file. GivesGame file game) (λ file. IsComparisonOf file (SidesUnder name from other) notes by)
+    (λ file given. record { game = game; gives = given; same = same }) gives
 
 pub returns-in-Ok-clause-comparison : goal.returns-in-Ok-clause-comparison
 returns-in-Ok-clause-comparison g c =
     let told = g.H.Shelf.files c.args.shelf.now in
-    subst (λ (sides : Sides). IfSome told (λ (files : Files). IsComparisonOf files (sides_in sides) c.args.notes c.comparison_under.result)) (sym c.in-Under.is)
+    subst
+    (λ (sides : Sides). OfGameFile told (sides_in sides) (λ (game : Option (List ℕ)). IsComparisonOf game (sides_in sides) c.args.notes c.comparison_under.result))
+    (sym c.in-Under.is)
     (under_game told c.in-Under.game.now c.in-Under.from c.in-Under.other c.args.notes c.in-Ok.game c.comparison_under.result
     c.comparison_under.ensures c.in-Ok.ensures.game)

@@ -1,13 +1,13 @@
 -- The answer follows from the bytes of the file, or says that they exceed the limit.
-use Rattle.std.proofs.Common.{IfOk, IfSome, List, ℕ, subst}
-use Rattle.poker_cli.specs.Answer.{Files, IsComparison}
+use Rattle.std.proofs.Common.{IfOk, List, Option, ℕ, subst}
+use Rattle.poker_cli.specs.Answer.{IsComparison}
 use Rattle.poker_cli.specs.Lacking.{HasNoFile}
-use Rattle.poker_cli.specs.Run.{OfBytes}
+use Rattle.poker_cli.specs.Run.{OfBytes, OfFile}
 use Rattle.poker_cli.specs.Told.{answer_told}
 use Rattle.poker_cli.specs.declared.comparing.NoFileError.{NoFileError}
 use Rattle.poker_cli.proofs.OwnStatus.{of_both}
 use Rattle.poker_cli.proofs.Replied.{keeps_read}
-use Rattle.poker_cli.proofs.Replying.{beside_reply, long_reply}
+use Rattle.poker_cli.proofs.Replying.{beside_reply, is_there, kept_there, long_reply}
 use Rattle.poker_cli.proofs.comparing.reply_beside.Goals as goal
 
 pub returns-in-Ok-clause-answer : goal.returns-in-Ok-clause-answer
@@ -21,7 +21,7 @@ pub returns-in-Ok-answer_to_long_file-clause-answer : goal.returns-in-Ok-answer_
 returns-in-Ok-answer_to_long_file-clause-answer g c =
     let told = g.H.Shelf.files c.args.shelf.now in
     long_reply told (g.S.Source.left c.args.input.now) c.args.name.now c.args.by.now (answer_told c.in-Ok-answer_to_long_file.answer)
-    (subst (λ (reason : NoFileError). IfSome told (λ (files : Files). HasNoFile (files c.args.name.now) reason)) c.in-Err-TooLong.field-0-is c.in-Err-TooLong.ensures.none)
+    (subst (λ (reason : NoFileError). OfFile told c.args.name.now (λ (file : Option (List ℕ)). HasNoFile file reason)) c.in-Err-TooLong.field-0-is c.in-Err-TooLong.ensures.none)
     c.in-Ok-answer_to_long_file.ensures
 
 pub returns-in-Ok-clause-kept : goal.returns-in-Ok-clause-kept
@@ -29,3 +29,10 @@ returns-in-Ok-clause-kept g c =
     let both = c.reply_to_both.ensures in
     keeps_read _ _ _ _ c.reply_to_both.result
     (of_both (g.S.Source.left c.args.input.now) c.args.by.now _ c.reply_to_both.result both.answer) both.read_fault both.read_alone
+
+pub returns-in-Ok-clause-there : goal.returns-in-Ok-clause-there
+returns-in-Ok-clause-there g c = λ fault. is_there (g.H.Shelf.files c.args.shelf.now) c.args.name.now c.in-Ok.file.items c.in-Ok.ensures.file
+
+pub returns-in-Ok-clause-without_file : goal.returns-in-Ok-clause-without_file
+returns-in-Ok-clause-without_file g c =
+    kept_there (g.H.Shelf.files c.args.shelf.now) c.args.name.now c.in-Ok.file.items c.args.input.now c.reply_to_both.new.input c.in-Ok.ensures.file

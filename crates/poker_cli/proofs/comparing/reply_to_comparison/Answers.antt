@@ -1,14 +1,14 @@
 -- The answer follows from the two files, or reports what is wrong with the game file.
-use Rattle.std.proofs.Common.{◌≡◌, IfOk, IfSome, Option, None, subst}
+use Rattle.std.proofs.Common.{◌≡◌, ℕ, IfOk, IfSome, List, Option, None, subst}
 use Rattle.command_words.specs.Requests.{sides_in}
-use Rattle.poker_cli.specs.Answer.{Files, IsComparedTo}
+use Rattle.poker_cli.specs.Answer.{FilesByName, IsComparedTo}
 use Rattle.poker_cli.specs.Lacking.{HasNoGameFor, IsGameFileErrorTold}
-use Rattle.poker_cli.specs.Run.{IsNotThere, OfBytes}
+use Rattle.poker_cli.specs.Run.{IsNotThere, OfBytes, OfFile, OfGameFile}
 use Rattle.poker_cli.specs.Told.{answer_told}
 use Rattle.poker_cli.specs.declared.games.GameFileError.{GameFileError}
 use Rattle.poker_cli.specs.declared.games.NoGameError.{NoGameError}
 use Rattle.poker_cli.proofs.Replied.{keeps_later, none_beside}
-use Rattle.poker_cli.proofs.Replying.{both_asked, compared_game_file_error, compared_reply, where_lacking}
+use Rattle.poker_cli.proofs.Replying.{both_asked, compared_game_file_error, compared_reply, no_game_file, where_lacking}
 use Rattle.poker_cli.proofs.comparing.reply_to_comparison.Goals as goal
 
 pub returns-in-Ok-clause-answer : goal.returns-in-Ok-clause-answer
@@ -16,14 +16,14 @@ returns-in-Ok-clause-answer g c =
     let told = g.H.Shelf.files c.args.shelf.now in
     let left = g.S.Source.left c.args.input.now in
     compared_reply told left (sides_in c.args.sides) c.args.name.now c.args.notes c.in-Ok.by c.reply_beside.result c.in-Ok.ensures.comparison
-    (subst (λ (shelf : Option Files). IfOk c.reply_beside.result (λ answer. IfSome shelf (λ files. OfBytes left (λ bytes. IsComparedTo c.in-Ok.by (files c.args.name.now) bytes (answer_told answer)))))
+    (subst (λ (shelf : Option FilesByName). IfOk c.reply_beside.result (λ answer. OfFile shelf c.args.name.now (λ file. OfBytes left (λ bytes. IsComparedTo c.in-Ok.by file bytes (answer_told answer)))))
     c.in-Ok.ensures.unchanged c.reply_beside.ensures.answer)
 
 pub returns-in-Ok-clause-without_file : goal.returns-in-Ok-clause-without_file
 returns-in-Ok-clause-without_file g c =
     let told = g.H.Shelf.files c.args.shelf.now in
     where_lacking (c.reply_beside.new.input ≡ c.args.input.now) told (sides_in c.args.sides) c.args.name.now c.args.notes c.in-Ok.by c.in-Ok.ensures.comparison
-    (subst (λ (shelf : Option Files). IfSome shelf (λ files. IsNotThere (files c.args.name.now) → c.reply_beside.new.input ≡ c.args.input.now)) c.in-Ok.ensures.unchanged
+    (subst (λ (shelf : Option FilesByName). IfSome shelf (λ files. IsNotThere (files c.args.name.now) → c.reply_beside.new.input ≡ c.args.input.now)) c.in-Ok.ensures.unchanged
     c.reply_beside.ensures.without_file)
 
 pub returns-in-Ok-game_file_answer-clause-answer : goal.returns-in-Ok-game_file_answer-clause-answer
@@ -31,7 +31,7 @@ returns-in-Ok-game_file_answer-clause-answer g c =
     let told = g.H.Shelf.files c.args.shelf.now in
     compared_game_file_error told (g.S.Source.left c.args.input.now) (sides_in c.args.sides) c.args.name.now c.args.notes c.in-Err-Lacking.lack
     (answer_told c.in-Ok-game_file_answer.answer)
-    (subst (λ (reason : NoGameError). IfSome told (λ (files : Files). HasNoGameFor files (sides_in c.args.sides) reason)) c.in-Err-Lacking.field-0-is c.in-Err-Lacking.ensures.none)
+    (subst (λ (reason : NoGameError). OfGameFile told (sides_in c.args.sides) (λ (game : Option (List ℕ)). HasNoGameFor game (sides_in c.args.sides) reason)) c.in-Err-Lacking.field-0-is c.in-Err-Lacking.ensures.none)
     (subst (λ (lack : GameFileError). IsGameFileErrorTold lack (answer_told c.in-Ok-game_file_answer.answer)) c.in-Err-Lacking.lack-is c.in-Ok-game_file_answer.ensures)
 
 pub returns-in-Ok-clause-asks : goal.returns-in-Ok-clause-asks
@@ -44,11 +44,18 @@ returns-in-Ok-clause-none g c =
     let told = g.H.Shelf.files c.args.shelf.now in
     let beside = c.reply_beside.ensures in
     none_beside (sides_in c.args.sides) c.args.name.now c.args.notes c.in-Ok.by (g.S.Source.left c.args.input.now) told c.in-Ok.ensures.comparison c.reply_beside.result
-    (λ fault. subst (λ (shelf : Option Files). IfSome shelf (λ files. IsNotThere (files c.args.name.now) → ⊥)) c.in-Ok.ensures.unchanged (beside.there fault))
+    (λ fault. subst (λ (shelf : Option FilesByName). OfFile shelf c.args.name.now (λ file. IsNotThere file → ⊥)) c.in-Ok.ensures.unchanged (beside.there fault))
     beside.of_file
-    (λ missing. subst (λ (shelf : Option Files). IfSome shelf (λ files. files c.args.name.now ≡ None)) c.in-Ok.ensures.unchanged (beside.missing missing))
+    (λ missing. subst (λ (shelf : Option FilesByName). OfFile shelf c.args.name.now (λ file. file ≡ None)) c.in-Ok.ensures.unchanged (beside.missing missing))
 
 pub returns-in-Ok-clause-kept : goal.returns-in-Ok-clause-kept
 returns-in-Ok-clause-kept g c =
     keeps_later c.args.input.now c.reply_beside.new.input _ (g.H.Shelf.faults c.args.shelf.now) (g.H.Shelf.faults c.comparison_of.new.shelf)
     (g.H.Shelf.faults c.reply_beside.new.shelf) c.reply_beside.result c.in-Ok.ensures.later c.reply_beside.ensures.kept
+
+pub returns-in-Err-Missing-clause-none : goal.returns-in-Err-Missing-clause-none
+returns-in-Err-Missing-clause-none g c =
+    let told = g.H.Shelf.files c.args.shelf.now in
+    no_game_file told (g.S.Source.left c.args.input.now) (sides_in c.args.sides) c.args.name.now c.args.notes
+    (subst (λ (reason : NoGameError). OfGameFile told (sides_in c.args.sides) (λ (game : Option (List ℕ)). HasNoGameFor game (sides_in c.args.sides) reason))
+    c.in-Err-Missing.field-0-is c.in-Err-Missing.ensures.none)

@@ -1,11 +1,11 @@
 -- If logs are under a game, the answer is by the game in its file, or what is wrong with the file
 -- is reported.
-use Rattle.std.proofs.Common.{subst, IfOk, IfSome}
+use Rattle.std.proofs.Common.{ℕ, List, Option, subst, IfOk}
 use Rattle.std.proofs.lemmas.Result.{IfErr-weaker}
-use Rattle.poker_cli.specs.Answer.{Files, IsAnswerBy}
+use Rattle.poker_cli.specs.Answer.{IsAnswerBy}
 use Rattle.poker_cli.specs.declared.task.Job.{Job}
 use Rattle.poker_cli.specs.Lacking.{HasNoGame, IsGameFileErrorTold}
-use Rattle.poker_cli.specs.Run.{OfBytes}
+use Rattle.poker_cli.specs.Run.{OfBytes, OfFile}
 use Rattle.poker_cli.specs.Told.{answer_told}
 use Rattle.poker_cli.specs.declared.games.GameFileError.{GameFileError}
 use Rattle.poker_cli.specs.declared.games.NoGameError.{NoGameError}
@@ -13,6 +13,7 @@ use Rattle.poker_cli.proofs.Answering.{game_reply, game_file_error_reply}
 use Rattle.poker_cli.proofs.OneAnswer.{not_lacking}
 use Rattle.poker_cli.proofs.OwnStatus.{of_way}
 use Rattle.poker_cli.proofs.Replied.{keeps_read, none_under_game}
+use Rattle.poker_cli.proofs.Replying.{game_not_there}
 use Rattle.poker_cli.proofs.entry.reply_under.Goals as goal
 
 pub returns-in-Ok-clause-answer : goal.returns-in-Ok-clause-answer
@@ -27,7 +28,7 @@ returns-in-Ok-game_file_answer-clause-answer g c =
     let told = g.H.Shelf.files c.args.shelf.now in
     game_file_error_reply told (g.S.Source.left c.args.input.now) c.args.name.now c.args.logs c.in-Err-Lacking.lack
     (answer_told c.in-Ok-game_file_answer.answer)
-    (subst (λ (reason : NoGameError). IfSome told (λ (files : Files). HasNoGame (files c.args.name.now) reason)) c.in-Err-Lacking.field-0-is c.in-Err-Lacking.ensures.none)
+    (subst (λ (reason : NoGameError). OfFile told c.args.name.now (λ (file : Option (List ℕ)). HasNoGame file reason)) c.in-Err-Lacking.field-0-is c.in-Err-Lacking.ensures.none)
     (subst (λ (lack : GameFileError). IsGameFileErrorTold lack (answer_told c.in-Ok-game_file_answer.answer)) c.in-Err-Lacking.lack-is c.in-Ok-game_file_answer.ensures)
 
 pub returns-in-Ok-clause-without_game : goal.returns-in-Ok-clause-without_game
@@ -45,3 +46,9 @@ returns-in-Ok-clause-kept g c =
     let read = c.reply_with.ensures in
     keeps_read _ _ _ _ c.reply_with.result
     (of_way (g.S.Source.left c.args.input.now) c.job_under.result c.reply_with.result read.answer) read.read_fault read.read_alone
+
+pub returns-in-Err-Missing-clause-none : goal.returns-in-Err-Missing-clause-none
+returns-in-Err-Missing-clause-none g c =
+    let told = g.H.Shelf.files c.args.shelf.now in
+    game_not_there told (g.S.Source.left c.args.input.now) c.args.name.now c.args.logs
+    (subst (λ (reason : NoGameError). OfFile told c.args.name.now (λ (file : Option (List ℕ)). HasNoGame file reason)) c.in-Err-Missing.field-0-is c.in-Err-Missing.ensures.none)

@@ -8,7 +8,7 @@ use Rattle.std.specs.declared.io.ErrorKind.TheVariants.{OutOfMemory}
 use Rattle.std.specs.declared.string.String.{String}
 use Rattle.std.specs.declared.vec.IntoIter.{IntoIter}
 use Rattle.command_words.specs.Words.{request_said}
-use Rattle.poker_cli.specs.Answer.{Files}
+use Rattle.poker_cli.specs.Answer.{FilesByName}
 use Rattle.poker_cli.specs.Run.{Sinks}
 use Rattle.poker_cli.specs.Process.{RunKeeps, words_given}
 use Rattle.poker_cli.specs.declared.status.Status.{Status}
@@ -30,7 +30,7 @@ no_command (Err error) items status none usage =
     λ kind. usage (subst (λ (words : List (String Global)). request_said (map string_bytes words) ≡ None) (sym none) refl)
 
 -- what is promised for some words is promised for the same words
-moved : {S H K D : Type 0} {words given : List (List ℕ)} {left : Option (List ℕ)} {told : Option Files} {Asked : H → H → List ℕ → Type 0} {reads asks : ℕ × ℕ}
+moved : {S H K D : Type 0} {words given : List (List ℕ)} {left : Option (List ℕ)} {told : Option FilesByName} {Asked : H → H → List ℕ → Type 0} {reads asks : ℕ × ℕ}
     {out diag : Sinks} {status : Status} {input read : S} {shelf seen : H} {sink written : K} {lines heard : D}
     → words ≡ given → RunKeeps words left told Asked reads asks out diag status input read shelf seen sink written lines heard
     → RunKeeps given left told Asked reads asks out diag status input read shelf seen sink written lines heard

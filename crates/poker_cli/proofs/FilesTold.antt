@@ -1,0 +1,56 @@
+-- What holds of the files that a request asks for, whether the shelf shows them or not.
+use Rattle.std.proofs.Common.{ℕ, ◌<◌, suc, List, length, Option, Some, None, IfSome, refl, arith}
+use Rattle.std.proofs.Math.ListN.{replicate}
+use Rattle.std.proofs.lemmas.List.{length-replicate}
+use Rattle.command_words.specs.Words.{Sides, PlainSides, SidesUnder}
+use Rattle.host_io.specs.Shelf.{IsAnswer, IsWithin}
+use Rattle.host_io.specs.declared.shelf.Fetched.{Fetched}
+use Rattle.host_io.specs.declared.shelf.Fetched.TheVariants.{Bytes, Absent, TooLong}
+use Rattle.poker_cli.specs.Answer.{Files, FilesByName}
+use Rattle.poker_cli.specs.Run.{OfFile, OfGameFile}
+
+-- what follows for a file
+pub of_file : (told : Option FilesByName) (name : List ℕ) (P Q : Option (List ℕ) → Type 0) → ((file : Option (List ℕ)) → P file → Q file)
+    → OfFile told name P → OfFile told name Q
+of_file (Some files) name P Q more is = more (files name) is
+of_file None name P Q more is = (is.0, more is.0 is.1)
+
+-- what holds of all files
+pub any_file : (told : Option FilesByName) (name : List ℕ) (P : Option (List ℕ) → Type 0) → ((file : Option (List ℕ)) → P file) → OfFile told name P
+any_file (Some files) name P each = each (files name)
+any_file None name P each = (None, each None)
+
+-- the same of the game file of a comparison
+pub of_game_file : (told : Option FilesByName) (sides : Sides) (P Q : Option (List ℕ) → Type 0) → ((file : Option (List ℕ)) → P file → Q file)
+    → OfGameFile told sides P → OfGameFile told sides Q
+of_game_file told (PlainSides from other) P Q more is = more None is
+of_game_file told (SidesUnder name from other) P Q more is = of_file told name P Q more is
+
+pub any_game_file : (told : Option FilesByName) (sides : Sides) (P : Option (List ℕ) → Type 0) → ((file : Option (List ℕ)) → P file) → OfGameFile told sides P
+any_game_file told (PlainSides from other) P each = each None
+any_game_file told (SidesUnder name from other) P each = any_file told name P each
+
+-- the files of a request that names a game file alone, or two files
+abbrev pub game_alone : Option (List ℕ) → Files
+game_alone game = record { game = game; other = None }
+
+abbrev pub two_files : (game other : Option (List ℕ)) → Files
+two_files game other = record { game = game; other = other }
+
+-- what a shelf answers for a name is the answer to a file
+pub answered : (told : Option FilesByName) (name : List ℕ) (max : ℕ) (fetched : Fetched)
+    → IfSome told (λ files. IsAnswer (files name) max fetched) → IsWithin max fetched → OfFile told name (λ file. IsAnswer file max fetched)
+answered (Some files) name max fetched is within = is
+answered None name max (Bytes fetched) is within = (Some fetched.items, (refl, within))
+answered None name max Absent is within = (None, refl)
+answered None name max TooLong is within =
+    let long : List ℕ = replicate (suc max) 0 in
+    let more : max < length long = omega (arith, length-replicate {A = ℕ} (suc max) 0) in
+    (Some long, more)
+
+-- what follows for a file from the answer of a shelf to its name
+pub by_answer : (told : Option FilesByName) (name : List ℕ) (max : ℕ) (fetched : Fetched) (P : Option (List ℕ) → Type 0)
+    → IfSome told (λ files. IsAnswer (files name) max fetched) → IsWithin max fetched
+    → ((file : Option (List ℕ)) → IsAnswer file max fetched → P file) → OfFile told name P
+by_answer told name max fetched P is within more =
+    of_file told name (λ file. IsAnswer file max fetched) P more (answered told name max fetched is within)

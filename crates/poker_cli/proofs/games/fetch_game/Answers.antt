@@ -1,0 +1,20 @@
+-- What is read of the game file holds of the file that the shelf answered with.
+use Rattle.std.proofs.lemmas.Result.{IfErr-weaker, IfOk-weaker}
+use Rattle.poker_cli.specs.Answer.{GivesGame, most_input}
+use Rattle.poker_cli.specs.Lacking.{HasNoGame}
+use Rattle.poker_cli.proofs.FilesTold.{by_answer}
+use Rattle.poker_cli.proofs.games.fetch_game.Goals as goal
+
+pub returns-in-Ok-clause-game : goal.returns-in-Ok-clause-game
+returns-in-Ok-clause-game g c =
+    IfOk-weaker c.game_fetched.result _ _
+    (λ game gives.
+    by_answer (g.H.Shelf.files c.args.shelf.now) c.args.name.now most_input c.in-Ok.fetched (λ file. GivesGame file game) c.in-Ok.ensures.answer
+    c.in-Ok.ensures.within gives) c.game_fetched.ensures.game
+
+pub returns-in-Ok-clause-none : goal.returns-in-Ok-clause-none
+returns-in-Ok-clause-none g c =
+    IfErr-weaker c.game_fetched.result _ _
+    (λ reason none.
+    by_answer (g.H.Shelf.files c.args.shelf.now) c.args.name.now most_input c.in-Ok.fetched (λ file. HasNoGame file reason) c.in-Ok.ensures.answer
+    c.in-Ok.ensures.within none) c.game_fetched.ensures.none
