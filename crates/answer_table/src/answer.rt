@@ -81,7 +81,17 @@ fn push_visible(text: &mut String, byte: u8) -> Result<(), Memory> {
     match byte {
         b'\n' => text.try_push_str("\\n")?,
         b' '..=b'~' => text.try_push(char::from(byte))?,
-        _ => try_write!(text, "\\x{byte:02x}")?,
+        _ => push_code(text, byte)?,
     }
     Ok(())
+}
+
+// The digits of base 16.
+const DIGITS: &[u8; 16] = b"0123456789abcdef";
+
+// Appends the code of a byte, as `\x1b`.
+fn push_code(text: &mut String, byte: u8) -> Result<(), Memory> {
+    text.try_push_str("\\x")?;
+    text.try_push(char::from(DIGITS[(byte / 16) as usize]))?;
+    text.try_push(char::from(DIGITS[(byte % 16) as usize]))
 }

@@ -8,14 +8,14 @@ ghost use Rattle.card_set.specs.UpCards.{AreUpCards};
 
 use crate::words;
 use badugi_rank::Badugi;
-use card_set::{CardRow, CardSet, Memory, Slot, read_slots, string_from, try_format};
+use card_set::{CardRow, CardSet, Slot, read_slots};
 use hand_order::{HandOrder, Pick, Score, best_of};
 use high_rank::{High, ShortDeckHigh, up_high};
 use low_rank::{DeuceSeven, EightLow, RazzLow, up_low};
-use std::alloc::Global;
+use std::alloc::{AllocError, Global};
 
 /// The answer to a row about cards.
-pub fn answer_to(alloc: Global, row: &str) -> Result<Option<String>, Memory> {
+pub fn answer_to(alloc: Global, row: &str) -> Result<Option<String>, AllocError> {
     let (question, rest) = words::first_and_rest(row);
     let (name, hands) = words::first_and_rest(rest);
     let answer = match question.as_bytes() {
@@ -25,7 +25,7 @@ pub fn answer_to(alloc: Global, row: &str) -> Result<Option<String>, Memory> {
         _ => None,
     };
     match answer {
-        Some(text) => Ok(Some(string_from(alloc, text)?)),
+        Some(text) => Ok(Some(String::from_str(alloc, text)?)),
         None => Ok(None),
     }
 }
@@ -71,10 +71,10 @@ fn up_cards(text: &str) -> Option<CardRow>
 }
 
 // How the best hand of hole cards and board compares with a hand.
-fn by_deal(alloc: Global, name: &str, deal: &str) -> Result<Option<&'static str>, Memory> {
+fn by_deal(alloc: Global, name: &str, deal: &str) -> Result<Option<&'static str>, AllocError> {
     let (hole, rest) = words::first_and_rest(deal);
     let (board, hand) = words::first_and_rest(rest);
-    let both = try_format!(in alloc; "{hole}{board}")?;
+    let both = format!(in alloc; "{hole}{board}")?;
     let picked = match name.as_bytes() {
         b"any_five" => best_dealt(both.as_str(), hole.len() / 2, Pick::AnyFive),
         b"two_and_three" => best_dealt(both.as_str(), hole.len() / 2, Pick::TwoAndThree),

@@ -1,6 +1,5 @@
 //! A row of the table that names a device, how it is made, and what is asked of it.
-use card_set::{Memory, vec_from};
-use std::alloc::Global;
+use std::alloc::{AllocError, Global};
 
 /// One case: `DEVICE PIECE CALL LIMIT TEXT`, where `-` means no piece or no call.
 #[derive(Clone, Copy)]
@@ -30,9 +29,9 @@ impl<'a> Case<'a> {
     }
 
     /// The numbers of the calls that fail, at most one.
-    pub fn fail_at(&self, alloc: Global) -> Result<Vec<u64>, Memory> {
+    pub fn fail_at(&self, alloc: Global) -> Result<Vec<u64>, AllocError> {
         match self.failing {
-            Some(number) => vec_from(alloc, &[number]),
+            Some(number) => Ok(vec![in alloc; number]?),
             None => Ok(Vec::new(alloc)),
         }
     }

@@ -6,11 +6,11 @@ ghost use Rattle.hand_equity.specs.Equity.{plays_board};
 
 use crate::playable::can_complete;
 use crate::{rows, words};
-use card_set::{CardRow, CardSet, Memory, TryWrite, try_write};
+use card_set::{CardRow, CardSet};
 use chip_ledger::LiveRow;
 use hand_equity::{EquityRow, equity};
 use play_event::{Code, HandRow};
-use std::alloc::Global;
+use std::alloc::{AllocError, Global};
 use variant_table::{FO8, FT, NS, NT, PO, Variant};
 
 // The cards on the table.
@@ -23,7 +23,7 @@ struct Table {
 }
 
 /// The answer to a row of a game, hands, a board and dead cards.
-pub fn answer_to(alloc: Global, row: &str) -> Result<Option<String>, Memory> {
+pub fn answer_to(alloc: Global, row: &str) -> Result<Option<String>, AllocError> {
     let (name, rest) = words::first_and_rest(row);
     let (Some(code), Some(table)) = (Code::read(name), table_of(rest)) else {
         return Ok(None);
@@ -54,7 +54,7 @@ fn table_of(row: &str) -> Option<Table> {
 }
 
 // The equity in a game with this number of hole cards.
-fn counted<V: Variant>(alloc: Global, table: &Table, hole: u8) -> Result<Option<String>, Memory>
+fn counted<V: Variant>(alloc: Global, table: &Table, hole: u8) -> Result<Option<String>, AllocError>
     requires game { IsTrue (plays_board V.CODE) }
     requires cards { hole ≡ (game_of V.CODE).hole }
 {
@@ -67,12 +67,12 @@ fn counted<V: Variant>(alloc: Global, table: &Table, hole: u8) -> Result<Option<
 }
 
 // The counts of `seats` seats, and then those of low hands.
-fn text_of(alloc: Global, row: &EquityRow, seats: usize) -> Result<String, Memory>
+fn text_of(alloc: Global, row: &EquityRow, seats: usize) -> Result<String, AllocError>
     requires { seats ≤ 10 }
 {
     let mut text = String::new(alloc);
     let total = row.total;
-    try_write!(text, "{total} wins ")?;
+    write!(text, "{total} wins ")?;
     push_counts(
         &mut text,
         &row.wins[..seats],
@@ -80,7 +80,7 @@ fn text_of(alloc: Global, row: &EquityRow, seats: usize) -> Result<String, Memor
         &row.ties[..seats],
     )?;
     let none = row.low_none;
-    try_write!(text, "; low none {none} wins ")?;
+    write!(text, "; low none {none} wins ")?;
     push_counts(
         &mut text,
         &row.low_wins[..seats],
@@ -91,16 +91,21 @@ fn text_of(alloc: Global, row: &EquityRow, seats: usize) -> Result<String, Memor
 }
 
 // How many boards each seat wins, on how many some seats tie, and on how many each seat ties.
-fn push_counts(text: &mut String, wins: &[u32], shared: u32, ties: &[u32]) -> Result<(), Memory> {
+fn push_counts(
+    text: &mut String,
+    wins: &[u32],
+    shared: u32,
+    ties: &[u32],
+) -> Result<(), AllocError> {
     push_numbers(text, wins)?;
-    try_write!(text, " shared {shared} ties ")?;
+    write!(text, " shared {shared} ties ")?;
     push_numbers(text, ties)
 }
 
-fn push_numbers(text: &mut String, numbers: &[u32]) -> Result<(), Memory> {
+fn push_numbers(text: &mut String, numbers: &[u32]) -> Result<(), AllocError> {
     let mut between = "";
     for number in numbers {
-        try_write!(text, "{between}{number}")?;
+        write!(text, "{between}{number}")?;
         between = ",";
     }
     Ok(())

@@ -1,15 +1,15 @@
 //! Prints the tables of the eleven games: `games table CODE`, `games streets CODE`, `games dealt
 //! CODE`.
 use crate::words;
-use card_set::{Card, Memory, Rank, Suit, TryWrite, try_format, try_write};
+use card_set::{Card, Rank, Suit};
 use play_event::Code;
-use std::alloc::Global;
+use std::alloc::{AllocError, Global};
 use variant_table::{
     F2L3D, F7S, F7S8, FB, FO8, FR, FT, N2L1D, NS, NT, PO, Street, Variant, table_of,
 };
 
 /// The answer to a row about a game.
-pub fn answer_to(alloc: Global, row: &str) -> Result<Option<String>, Memory> {
+pub fn answer_to(alloc: Global, row: &str) -> Result<Option<String>, AllocError> {
     let (question, name) = words::first_and_rest(row);
     let Some(code) = Code::read(name) else {
         return Ok(None);
@@ -23,22 +23,22 @@ pub fn answer_to(alloc: Global, row: &str) -> Result<Option<String>, Memory> {
 }
 
 // The values of the table that hold on each street.
-fn table_text(alloc: Global, code: Code) -> Result<String, Memory> {
+fn table_text(alloc: Global, code: Code) -> Result<String, AllocError> {
     let table = table_of(code);
     let (limit, opener, pick) = (table.limit, table.opener, table.pick);
     let (deck, seats) = (table.deck, table.seats);
     let halves = if table.split { "halved" } else { "whole" };
-    try_format!(in alloc; "{limit:?} {opener:?} {pick:?} {halves}, deck {deck}, seats {seats}")
+    format!(in alloc; "{limit:?} {opener:?} {pick:?} {halves}, deck {deck}, seats {seats}")
 }
 
 // What each street deals, and the size of its bets.
-fn streets_text(alloc: Global, code: Code) -> Result<String, Memory> {
+fn streets_text(alloc: Global, code: Code) -> Result<String, AllocError> {
     let table = table_of(code);
     let mut text = String::new(alloc);
     for (index, street) in table.rows.iter().enumerate() {
         if index < usize::from(table.streets) {
             if index > 0 {
-                text.try_push_str(", ")?;
+                text.push_str(", ")?;
             }
             push_street(&mut text, street)?;
         }
@@ -46,7 +46,7 @@ fn streets_text(alloc: Global, code: Code) -> Result<String, Memory> {
     Ok(text)
 }
 
-fn push_street(text: &mut String, street: &Street) -> Result<(), Memory> {
+fn push_street(text: &mut String, street: &Street) -> Result<(), AllocError> {
     let size = street.size;
     let parts = [
         (street.down, "down "),
@@ -56,14 +56,14 @@ fn push_street(text: &mut String, street: &Street) -> Result<(), Memory> {
     ];
     for (count, word) in parts {
         if count > 0 {
-            try_write!(text, "{count} {word}")?;
+            write!(text, "{count} {word}")?;
         }
     }
-    try_write!(text, "{size:?}")
+    write!(text, "{size:?}")
 }
 
 // What a seat and the board hold after the last street, and whether the deck has a five.
-fn dealt_text(alloc: Global, code: Code) -> Result<String, Memory> {
+fn dealt_text(alloc: Global, code: Code) -> Result<String, AllocError> {
     let dealt = match code {
         Code::FT => deal_all::<FT>(),
         Code::NT => deal_all::<NT>(),
@@ -83,7 +83,7 @@ fn dealt_text(alloc: Global, code: Code) -> Result<String, Memory> {
     } else {
         "no fives"
     };
-    try_format!(in alloc; "hole {hole}, board {board}, {fives}")
+    format!(in alloc; "hole {hole}, board {board}, {fives}")
 }
 
 // What one generic function learns about a game from its type alone.

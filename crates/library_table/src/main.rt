@@ -16,7 +16,7 @@ mod spelling;
 mod std_devices;
 mod words;
 
-use card_set::{Memory, string_from, try_format};
+use std::alloc::AllocError;
 use std::io;
 use std::io::{Error, ErrorKind};
 use std::rt::Files;
@@ -32,20 +32,20 @@ fn main(rt: HostRuntime) -> io::Result<()> {
 }
 
 // A row followed by its answer. Headings, which begin with `#`, and empty lines stay as they are.
-fn answered(rt: &(impl Files + AllocGlobal), row: &str) -> Result<String, Memory> {
+fn answered(rt: &(impl Files + AllocGlobal), row: &str) -> Result<String, AllocError> {
     let alloc = rt.alloc();
     if row.is_empty() || row.starts_with('#') {
-        return string_from(alloc, row);
+        return Ok(String::from_str(alloc, row)?);
     }
     match answer_to(rt, row)? {
-        Some(answer) => try_format!(in alloc; "{row} = {answer}"),
-        None => try_format!(in alloc; "{row} ? no such row"),
+        Some(answer) => Ok(format!(in alloc; "{row} = {answer}")?),
+        None => Ok(format!(in alloc; "{row} ? no such row")?),
     }
 }
 
 // The answer of the subject that the first word names, or `None` if the row cannot be read there. A
 // word that is not a subject of the rules names a device.
-fn answer_to(rt: &(impl Files + AllocGlobal), row: &str) -> Result<Option<String>, Memory> {
+fn answer_to(rt: &(impl Files + AllocGlobal), row: &str) -> Result<Option<String>, AllocError> {
     let alloc = rt.alloc();
     let (subject, rest) = words::first_and_rest(row);
     let answer = match subject.as_bytes() {

@@ -2,13 +2,12 @@
 //! RAKES POT..` shares pots, each of them CHIPS:SEATS, and `pots seat NUMBER` and `pots chips
 //! NUMBER` ask for a seat and an amount.
 use crate::{rows, shares, words};
-use card_set::{Memory, TryWrite, string_from, try_write};
 use chip_ledger::{Chips, LiveRow, MOST_AMOUNT, PotRow, Seat, SeatRow, total};
 use side_pots::pots;
-use std::alloc::Global;
+use std::alloc::{AllocError, Global};
 
 /// The answer to a row about pots, seats or chips.
-pub fn answer_to(alloc: Global, row: &str) -> Result<Option<String>, Memory> {
+pub fn answer_to(alloc: Global, row: &str) -> Result<Option<String>, AllocError> {
     let (question, rest) = words::first_and_rest(row);
     match question.as_bytes() {
         b"seat" => is_there(alloc, rest.parse::<u8>().ok().and_then(Seat::new).is_some()),
@@ -22,13 +21,13 @@ pub fn answer_to(alloc: Global, row: &str) -> Result<Option<String>, Memory> {
     }
 }
 
-fn is_there(alloc: Global, found: bool) -> Result<Option<String>, Memory> {
+fn is_there(alloc: Global, found: bool) -> Result<Option<String>, AllocError> {
     let word = if found { "one" } else { "none" };
-    Ok(Some(string_from(alloc, word)?))
+    Ok(Some(String::from_str(alloc, word)?))
 }
 
 // The pots that come from what the seats put in, and what is returned to each.
-fn cut(alloc: Global, row: &str) -> Result<Option<String>, Memory> {
+fn cut(alloc: Global, row: &str) -> Result<Option<String>, AllocError> {
     let (numbers, rest) = words::first_and_rest(row);
     let (amounts, dead) = words::first_and_rest(rest);
     let Some(puts) = rows::amounts(amounts) else {
@@ -50,26 +49,26 @@ fn cut(alloc: Global, row: &str) -> Result<Option<String>, Memory> {
 }
 
 // The pots, the lowest first, and then the returned chips.
-fn pots_text(alloc: Global, row: &PotRow) -> Result<String, Memory> {
+fn pots_text(alloc: Global, row: &PotRow) -> Result<String, AllocError> {
     let mut text = String::new(alloc);
     for pot in &row.pots[..row.count as usize] {
         let chips = pot.chips;
-        try_write!(text, "{chips} for ")?;
+        write!(text, "{chips} for ")?;
         push_seats(&mut text, &pot.eligible)?;
-        text.try_push_str("; ")?;
+        text.push_str("; ")?;
     }
-    text.try_push_str("back ")?;
+    text.push_str("back ")?;
     push_amounts(&mut text, &row.returned)?;
     Ok(text)
 }
 
-fn push_seats(text: &mut String, row: &LiveRow) -> Result<(), Memory> {
+fn push_seats(text: &mut String, row: &LiveRow) -> Result<(), AllocError> {
     let mut between = "";
     for index in 0..row.seats {
         let seat = Seat { number: index + 1 };
         if row.get(seat) {
             let number = seat.number;
-            try_write!(text, "{between}{number}")?;
+            write!(text, "{between}{number}")?;
             between = ",";
         }
     }
@@ -77,11 +76,11 @@ fn push_seats(text: &mut String, row: &LiveRow) -> Result<(), Memory> {
 }
 
 /// Writes the amounts of a row with commas between them.
-pub fn push_amounts(text: &mut String, row: &SeatRow) -> Result<(), Memory> {
+pub fn push_amounts(text: &mut String, row: &SeatRow) -> Result<(), AllocError> {
     let mut between = "";
     for index in 0..row.seats {
         let amount = row.get(Seat { number: index + 1 });
-        try_write!(text, "{between}{amount}")?;
+        write!(text, "{between}{amount}")?;
         between = ",";
     }
     Ok(())

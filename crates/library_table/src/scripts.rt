@@ -2,15 +2,13 @@
 //! EVENT..` how many of the events a cursor and `get` give back. An event is the number of its
 //! action, its kind, and what it says: `4 raise 3 to 6`.
 use crate::words;
-use card_set::{
-    CardRow, Memory, ROW_ENTRIES, Slot, SlotRow, TryWrite, read_slots, try_format, try_write,
-};
+use card_set::{CardRow, ROW_ENTRIES, Slot, SlotRow, read_slots};
 use chip_ledger::Seat;
 use play_event::{Event, Kind, Script, Spelled};
-use std::alloc::Global;
+use std::alloc::{AllocError, Global};
 
 /// The answer to a row about a script.
-pub fn answer_to(alloc: Global, row: &str) -> Result<Option<String>, Memory> {
+pub fn answer_to(alloc: Global, row: &str) -> Result<Option<String>, AllocError> {
     let (question, events) = words::first_and_rest(row);
     let Some(script) = script_of(alloc, events) else {
         return Ok(None);
@@ -31,18 +29,18 @@ fn script_of(alloc: Global, events: &str) -> Option<Script> {
 }
 
 // The bytes in hexadecimal, two digits each, with a space between them, and how many they are.
-fn packed_text(alloc: Global, script: &Script) -> Result<String, Memory> {
+fn packed_text(alloc: Global, script: &Script) -> Result<String, AllocError> {
     let bytes = script.packed();
     let count = bytes.len();
-    let mut text = try_format!(in alloc; "{count}:")?;
+    let mut text = format!(in alloc; "{count}:")?;
     for byte in bytes {
-        try_write!(text, " {byte:02x}")?;
+        write!(text, " {byte:02x}")?;
     }
     Ok(text)
 }
 
 // How many events there are, and how many of them are read back at their place.
-fn read_text(alloc: Global, script: &Script, events: &str) -> Result<String, Memory> {
+fn read_text(alloc: Global, script: &Script, events: &str) -> Result<String, AllocError> {
     let count = script.len();
     let mut cursor = script.cursor();
     let mut by_cursor: usize = 0;
@@ -61,7 +59,7 @@ fn read_text(alloc: Global, script: &Script, events: &str) -> Result<String, Mem
     } else {
         "then more"
     };
-    try_format!(in alloc; "{count} events, {by_cursor} by cursor, {by_index} by index, {end}")
+    format!(in alloc; "{count} events, {by_cursor} by cursor, {by_index} by index, {end}")
 }
 
 fn event_of(text: &str) -> Option<Event> {

@@ -2,11 +2,11 @@
 //! that are shown.
 use crate::playable::{are_playable, are_winnable};
 use crate::{pots, rows, words};
-use card_set::{CardRow, Memory, TryWrite, try_format};
+use card_set::CardRow;
 use chip_ledger::{LiveRow, Pot, PotRow, RakeRow, SeatRow, ShareRow};
 use play_event::{Code, HandRow};
 use showdown_split::{first_rake_above, split};
-use std::alloc::Global;
+use std::alloc::{AllocError, Global};
 use variant_table::{F2L3D, F7S, F7S8, FB, FO8, FR, FT, N2L1D, NS, NT, PO, Variant};
 
 // The end of a hand.
@@ -20,7 +20,7 @@ struct End {
 }
 
 /// The answer to a row of a game, hands, a board and pots.
-pub fn answer_to(alloc: Global, row: &str) -> Result<Option<String>, Memory> {
+pub fn answer_to(alloc: Global, row: &str) -> Result<Option<String>, AllocError> {
     let (name, rest) = words::first_and_rest(row);
     let (Some(code), Some(end)) = (Code::read(name), end_of(rest)) else {
         return Ok(None);
@@ -73,7 +73,7 @@ fn pot_of(seats: u8, word: &str) -> Option<Pot> {
 }
 
 // What each seat gets of each pot, in a game.
-fn paid<V: Variant>(alloc: Global, end: &End) -> Result<Option<String>, Memory> {
+fn paid<V: Variant>(alloc: Global, end: &End) -> Result<Option<String>, AllocError> {
     let pots = &end.pots;
     if end.hands.seats != end.shown.seats
         || !are_playable::<V>(&end.hands, &end.board, &end.shown)
@@ -82,22 +82,22 @@ fn paid<V: Variant>(alloc: Global, end: &End) -> Result<Option<String>, Memory> 
         return Ok(None);
     }
     if let Some(pot) = first_rake_above(pots, &end.rakes) {
-        return Ok(Some(try_format!(in alloc; "rake above pot {pot}")?));
+        return Ok(Some(format!(in alloc; "rake above pot {pot}")?));
     }
     match split::<V>(pots, &end.rakes, &end.hands, &end.board, &end.shown) {
         Ok(shares) => Ok(Some(shares_text(alloc, &shares)?)),
         Err(fault) => {
             let pot = fault.pot;
-            Ok(Some(try_format!(in alloc; "no shown hand for pot {pot}")?))
+            Ok(Some(format!(in alloc; "no shown hand for pot {pot}")?))
         }
     }
 }
 
-fn shares_text(alloc: Global, shares: &ShareRow) -> Result<String, Memory> {
+fn shares_text(alloc: Global, shares: &ShareRow) -> Result<String, AllocError> {
     let mut text = String::new(alloc);
     let mut between = "";
     for row in &shares.shares[..shares.count as usize] {
-        text.try_push_str(between)?;
+        text.push_str(between)?;
         pots::push_amounts(&mut text, row)?;
         between = "; ";
     }
