@@ -1,9 +1,10 @@
 -- A run ends with the answer that was delivered.
-use Rattle.std.proofs.Common.{rules}
+use Rattle.std.proofs.Common.{rules, subst}
 use Rattle.command_words.specs.Requests.{request_in}
 use Rattle.host_io.specs.Faults.{Rose}
+use Rattle.poker_cli.specs.Replied.{HasNoAnswer}
 use Rattle.poker_cli.specs.Told.{answer_told}
-use Rattle.poker_cli.proofs.Answering.{ends_memory, ends_where_told}
+use Rattle.poker_cli.proofs.Answering.{ends_file_missing, ends_game_missing, ends_memory, ends_shelf_fault, ends_unread_input, ends_where_told}
 use Rattle.poker_cli.proofs.entry.run_request.Goals as goal
 
 pub returns-in-Ok-clause-ends : goal.returns-in-Ok-clause-ends
@@ -33,3 +34,23 @@ returns-in-Err-ShelfFault-clause-tells g c =
 pub returns-in-Err-Memory-clause-ends : goal.returns-in-Err-Memory-clause-ends
 returns-in-Err-Memory-clause-ends g c =
     ends_memory (request_in c.args.request) (g.S.Source.left c.args.input.now) (g.H.Shelf.files c.args.shelf.now) _ _ _ c.in-Err-Memory.memory.refused
+
+pub returns-in-Err-ReadFault-clause-ends : goal.returns-in-Err-ReadFault-clause-ends
+returns-in-Err-ReadFault-clause-ends g c =
+    ends_unread_input (request_in c.args.request) (g.S.Source.left c.args.input.now) (g.H.Shelf.files c.args.shelf.now) _ _ _
+    (subst (HasNoAnswer (request_in c.args.request) (g.S.Source.left c.args.input.now) (g.H.Shelf.files c.args.shelf.now)) c.in-Err-ReadFault.field-0-is c.in-Err-ReadFault.ensures.none)
+
+pub returns-in-Err-GameMissing-clause-ends : goal.returns-in-Err-GameMissing-clause-ends
+returns-in-Err-GameMissing-clause-ends g c =
+    ends_game_missing (request_in c.args.request) (g.S.Source.left c.args.input.now) (g.H.Shelf.files c.args.shelf.now) _ _ _
+    (subst (HasNoAnswer (request_in c.args.request) (g.S.Source.left c.args.input.now) (g.H.Shelf.files c.args.shelf.now)) c.in-Err-GameMissing.field-0-is c.in-Err-GameMissing.ensures.none)
+
+pub returns-in-Err-FileMissing-clause-ends : goal.returns-in-Err-FileMissing-clause-ends
+returns-in-Err-FileMissing-clause-ends g c =
+    ends_file_missing (request_in c.args.request) (g.S.Source.left c.args.input.now) (g.H.Shelf.files c.args.shelf.now) _ _ _
+    (subst (HasNoAnswer (request_in c.args.request) (g.S.Source.left c.args.input.now) (g.H.Shelf.files c.args.shelf.now)) c.in-Err-FileMissing.field-0-is c.in-Err-FileMissing.ensures.none)
+
+pub returns-in-Err-ShelfFault-clause-ends : goal.returns-in-Err-ShelfFault-clause-ends
+returns-in-Err-ShelfFault-clause-ends g c =
+    ends_shelf_fault (request_in c.args.request) (g.S.Source.left c.args.input.now) (g.H.Shelf.files c.args.shelf.now) _ _ _
+    (subst (HasNoAnswer (request_in c.args.request) (g.S.Source.left c.args.input.now) (g.H.Shelf.files c.args.shelf.now)) c.in-Err-ShelfFault.field-0-is c.in-Err-ShelfFault.ensures.none)
