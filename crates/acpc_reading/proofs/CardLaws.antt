@@ -44,11 +44,11 @@ pub other_len : (count : ℕ) (word : List ℕ) (row : SlotRow) → word ≡ spe
 other_len count word row is other = known_read count word (slots_of row) is ∙ other_count count (slots_of row) (λ same. other (sym (row_length row) ∙ same))
 
 -- the letters of a row with an unknown slot
-pub some_unknown : (count : ℕ) (word : List ℕ) (row : SlotRow) → word ≡ spelling (slots_of row) → not (list_any is_unknown (slots_of row)) ≡ false → known_said count word ≡ None
-some_unknown count word row is some = known_read count word (slots_of row) is ∙ without (eqb (length (slots_of row)) count) (slots_of row) (not (list_any is_unknown (slots_of row))) some
+pub some_unknown : (count : ℕ) (word : List ℕ) (row : SlotRow) → word ≡ spelling (slots_of row) → list_any is_unknown (slots_of row) ≡ true → known_said count word ≡ None
+some_unknown count word row is some = known_read count word (slots_of row) is ∙ without (eqb (length (slots_of row)) count) (slots_of row) (not (list_any is_unknown (slots_of row))) (ap not some)
 
 -- the letters of a row of `count` known slots
-pub all_known : (count : ℕ) (word : List ℕ) (row : SlotRow) → word ≡ spelling (slots_of row) → row.len ≡ count → not (list_any is_unknown (slots_of row)) ≡ true → known_said count word ≡ Some (slots_of row)
+pub all_known : (count : ℕ) (word : List ℕ) (row : SlotRow) → word ≡ spelling (slots_of row) → row.len ≡ count → list_any is_unknown (slots_of row) ≡ false → known_said count word ≡ Some (slots_of row)
 all_known count word row is same all =
     let long : eqb (length (slots_of row)) count ≡ true = grind (arith, nat_tests, row_length row, same) in
     known_read count word (slots_of row) is ∙ rw (long, all) refl

@@ -7,7 +7,7 @@ ghost use Rattle.acpc_reading.specs.Cards.{Written, dealt, hole_after, holes_aft
 ghost use Rattle.acpc_reading.specs.Left.{parts_left};
 ghost use Rattle.acpc_reading.specs.Scripts.{written_by};
 
-use crate::cards::{known_row, read_hole, read_known};
+use crate::cards::{read_hole, read_known};
 use crate::letters::fault_at;
 use crate::parts::next_part;
 use crate::pending::Pending;
@@ -200,7 +200,7 @@ fn take_board<'a>(
     let (board, rest) = cut_at(left, b'/');
     match read_known(pending.size, board) {
         Some(slots) => {
-            let cards = known_row(&slots);
+            let cards = slots.known_cards();
             script.push(Event {
                 at: 0,
                 kind: Kind::Board { cards },

@@ -11,7 +11,7 @@ ghost use Rattle.acpc_writing.specs.Cards.{board_text, boards_text, cards_text, 
 ghost use Rattle.acpc_writing.specs.Rounds.{has_board as has_board_said};
 ghost use Rattle.acpc_writing.specs.Seats.{bar_before};
 
-use card_set::{Memory, Slot, TryExtend, slot_text};
+use card_set::{Memory, TryExtend, slot_text};
 use chip_ledger::Seat;
 use play_event::Place;
 
@@ -21,7 +21,7 @@ pub fn has_known(places: &[Place], owner: Option<Seat>, street: u8) -> bool
         (dealt_slots (map place_said places.now) (seat_named owner) street) }
 {
     for place in places {
-        if is_dealt(*place, owner, street) && !is_hidden(place.slot) {
+        if is_dealt(*place, owner, street) && !place.slot.is_unknown() {
             return true;
         }
     }
@@ -70,21 +70,11 @@ pub fn has_unknown(places: &[Place], owner: Option<Seat>, street: u8) -> bool
         (dealt_slots (map place_said places.now) (seat_named owner) street) }
 {
     for place in places {
-        if is_dealt(*place, owner, street) && is_hidden(place.slot) {
+        if is_dealt(*place, owner, street) && place.slot.is_unknown() {
             return true;
         }
     }
     false
-}
-
-// Whether a slot is unknown.
-fn is_hidden(slot: Slot) -> bool
-    ensures { result ≡ is_unknown slot }
-{
-    match slot {
-        Slot::Unknown => true,
-        Slot::Known(_) => false,
-    }
 }
 
 // The cards of the board.

@@ -2,8 +2,6 @@
 ghost use Rattle.std.specs.Prelude.{◌≡◌, ◌≤◌, ◌-◌, ◌&&◌, Some, count_by, map};
 ghost use Rattle.std.specs.List.{list_any};
 ghost use Rattle.chip_ledger.specs.Seat.{seats_of};
-ghost use Rattle.play_event.specs.Past.{is_fold as is_fold_said, is_raise as is_raise_said};
-ghost use Rattle.play_event.specs.Played.{act_said};
 ghost use Rattle.hand_records.specs.TraceRows.{core_said, place_said};
 ghost use Rattle.acpc_writing.specs.PlayFacts.{is_above_cap as is_above_cap_said, is_above_caps as is_above_caps_said, is_free_fold as is_free_fold_said, is_off_unit as is_off_unit_said, is_open_muck as is_open_muck_said, is_part_known as is_part_known_said, is_raise_on as is_raise_on_said, play_conditions};
 ghost use Rattle.first_fault.specs.Conditions.{first_where};
@@ -13,7 +11,7 @@ use crate::odd::has_odd_chip;
 use acpc_game::Game;
 use chip_ledger::{LiveRow, Seat};
 use hand_records::{Trace, Unspelled};
-use play_event::{Act, Move, Place};
+use play_event::{Move, Place};
 
 /// The first fact of the play of a hand that the logs of a game cannot write.
 pub fn find_other_play(game: &Game, trace: &Trace) -> Option<Unspelled>
@@ -57,17 +55,7 @@ fn has_free_fold(moves: &[Move]) -> bool
 fn is_free_fold(played: Move) -> bool
     ensures { result ≡ is_free_fold_said played }
 {
-    is_fold(played.act) && played.price <= played.from
-}
-
-// Whether the act is a fold.
-fn is_fold(act: Act) -> bool
-    ensures { result ≡ is_fold_said (act_said act) }
-{
-    match act {
-        Act::Fold => true,
-        _ => false,
-    }
+    played.act.is_fold() && played.price <= played.from
 }
 
 // Whether one of the four streets has more raises than its cap, if there are caps.
@@ -110,7 +98,7 @@ fn count_raises(moves: &[Move], street: u8) -> usize
 fn is_raise_on(played: Move, street: u8) -> bool
     ensures { result ≡ is_raise_on_said street played }
 {
-    is_raise(played.act) && played.street == street
+    played.act.is_raise() && played.street == street
 }
 
 // Whether a raise is not by the unit of the limit game.
@@ -129,17 +117,7 @@ fn has_off_unit(moves: &[Move]) -> bool
 fn is_off_unit(played: Move) -> bool
     ensures { result ≡ is_off_unit_said played }
 {
-    is_raise(played.act) && played.to != played.unit_to
-}
-
-// Whether the act is a bet or raise.
-fn is_raise(act: Act) -> bool
-    ensures { result ≡ is_raise_said (act_said act) }
-{
-    match act {
-        Act::Raise => true,
-        _ => false,
-    }
+    played.act.is_raise() && played.to != played.unit_to
 }
 
 // Whether a seat has one hole card that is known and another that is not.

@@ -43,10 +43,8 @@ impl<V: Variant> Betting<V> {
         ensures same { IsSameHand self.old self.new }
     {
         let turn = self.turn_found(up);
-        match self.legal_move(turn.seat, event) {
-            Ok(legal) => Ok(self.play(legal, turn.behind)),
-            Err(reason) => Err(reason),
-        }
+        let legal = self.legal_move(turn.seat, event)?;
+        Ok(self.play(legal, turn.behind))
     }
 
     // The move that an event says, if it is legal.

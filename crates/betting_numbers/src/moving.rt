@@ -2,7 +2,7 @@
 ghost use Rattle.std.specs.Prelude.{◌<◌, ◌≡◌, ◌≤◌, ◌+◌, ◌-◌, ◌*◌, ◌&&◌, ◌||◌, ℕ, false, None, nat_le, nat_lt, not, min, max, if◌then◌else◌};
 ghost use Rattle.chip_ledger.specs.LiveRow.{flag_of};
 ghost use Rattle.chip_ledger.specs.declared.seat_row.TheConstants.{MOST_AMOUNT};
-ghost use Rattle.play_event.specs.Past.{is_fold, is_raise, is_bring_in};
+ghost use Rattle.play_event.specs.Past.{is_fold};
 ghost use Rattle.play_event.specs.Played.{act_said};
 ghost use Rattle.betting_numbers.specs.Moving.{IsMoved, IsNextStreet, most_raises};
 ghost use Rattle.betting_numbers.specs.Turn.{with_due, with_turn};
@@ -29,8 +29,8 @@ impl BettingState {
         let able = able_after(live, self.setup.stacks.get(seat), put + added);
         let live_count = count_after(self.live_count, was_live, live);
         let able_count = count_after(self.able_count, was_able, able);
-        let raised = raises(act);
-        let opens = raised || brings_in(act);
+        let raised = act.is_raise();
+        let opens = raised || act.is_bring_in();
         let bet_or_bring_in_made = opens || self.bet_or_bring_in_made;
         self.bets.set(seat, bet + added);
         self.puts.set(seat, put + added);
@@ -92,26 +92,6 @@ impl BettingState {
     }
 }
 
-/// The move is a raise.
-pub fn raises(act: Act) -> bool
-    ensures { result ≡ is_raise (act_said act) }
-{
-    match act {
-        Act::Raise => true,
-        Act::Fold | Act::Call | Act::BringIn => false,
-    }
-}
-
-// The move is a bring-in.
-fn brings_in(act: Act) -> bool
-    ensures { result ≡ is_bring_in (act_said act) }
-{
-    match act {
-        Act::BringIn => true,
-        Act::Fold | Act::Call | Act::Raise => false,
-    }
-}
-
 // Keeps the flags, or clears them all.
 fn keep(row: &mut LiveRow, kept: bool)
     ensures seats { row.new.seats ≡ row.old.seats }
@@ -126,17 +106,7 @@ fn keep(row: &mut LiveRow, kept: bool)
 fn live_after(live: bool, act: Act) -> bool
     ensures { result ≡ (live && not (is_fold (act_said act))) }
 {
-    live && !folds(act)
-}
-
-// The move is a fold.
-fn folds(act: Act) -> bool
-    ensures { result ≡ is_fold (act_said act) }
-{
-    match act {
-        Act::Fold => true,
-        Act::Call | Act::Raise | Act::BringIn => false,
-    }
+    live && !act.is_fold()
 }
 
 // Whether a live seat can act after it has put `put` chips of its stack.

@@ -9,7 +9,6 @@ ghost use Rattle.betting_numbers.specs.LegalMoves.{move_of};
 ghost use Rattle.betting_numbers.specs.Traced.{is_closed_seen, traced_seen, unit_seen};
 
 use crate::betting_state::BettingState;
-use crate::moving::raises;
 use crate::raising::Raiser;
 use chip_ledger::Seat;
 use play_event::{Act, Limit, Move, Spelled};
@@ -49,7 +48,7 @@ impl Raiser<'_> {
             from: self.numbers.bets.get(self.seat),
             to: target,
             price: self.numbers.current_bet(),
-            closed: raises(act) && self.closed(target),
+            closed: act.is_raise() && self.closed(target),
             unit_to: self.unit_to(),
         }
     }

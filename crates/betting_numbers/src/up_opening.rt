@@ -8,7 +8,7 @@ ghost use Rattle.betting_numbers.specs.Seen.{first_behind_seen, can_act_seen};
 use crate::betting_state::BettingState;
 use chip_ledger::Seat;
 use play_event::{Opener, UpRow};
-use up_card_order::{has_unknown, is_opener_before, known, opens_no_later};
+use up_card_order::{is_opener_before, opens_no_later};
 
 /// Whose turn it is, if known, and the seat after it.
 #[derive(Clone, Copy, Debug, PartialEq, Eq)]
@@ -87,7 +87,7 @@ impl Ups<'_> {
     fn unknown(&self, seat: Seat) -> bool
         ensures { result ≡ has_unknown_seen self.now.numbers.now self.now.up.now seat.number }
     {
-        self.numbers.can_act(seat) && has_unknown(self.up.get(seat).as_slice())
+        self.numbers.can_act(seat) && self.up.get(seat).has_unknown()
     }
 
     // The one of two seats that can act or, if both can, the one that opens before all that the
@@ -113,8 +113,8 @@ impl Ups<'_> {
         let early = opens_no_later(
             self.opener,
             self.numbers.street == 1,
-            &known(&self.up.get(other)),
-            &known(&self.up.get(lead)),
+            &self.up.get(other).known_cards(),
+            &self.up.get(lead).known_cards(),
         );
         if early { other } else { lead }
     }
@@ -138,8 +138,8 @@ impl Ups<'_> {
             && is_opener_before(
                 self.opener,
                 numbers.street == 1,
-                &known(&self.up.get(lead)),
-                &known(&self.up.get(seat)),
+                &self.up.get(lead).known_cards(),
+                &self.up.get(seat).known_cards(),
             ))
     }
 }

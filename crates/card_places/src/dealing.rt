@@ -1,4 +1,4 @@
-//! Appends dealt cards and counts them.
+//! Starts without cards, appends dealt cards and counts them.
 ghost use Rattle.std.specs.Prelude.{◌≡◌, ◌≤◌, ◌<◌, ◌+◌, ◌++◌, ◌∷◌, [], length, count_by, map, take};
 ghost use Rattle.play_event.specs.Places.{is_in_group, places_dealt};
 ghost use Rattle.play_event.specs.Held.{is_held};
@@ -8,10 +8,33 @@ ghost use Rattle.chip_ledger.specs.SeatsSaid.{seat_said};
 
 use crate::dealt_card::DealtCard;
 use crate::dealt_cards::{DealtCards, MOST_CARDS};
-use card_set::Slot;
+use card_set::{Card, Rank, Slot, Suit};
 use chip_ledger::Seat;
 
 impl DealtCards {
+    /// No cards yet. Unused rows consist of zero bytes, so that all of them are cleared at once.
+    pub fn new() -> Self
+        ensures { placed result ≡ [] }
+    {
+        let none = DealtCard {
+            owner: None,
+            street: 0,
+            index: 0,
+            number: 0,
+            slot: Slot::Known(Card {
+                rank: Rank::Two,
+                suit: Suit::C,
+            }),
+            past_deck: false,
+            gone_after: None,
+            discarded: 0,
+        };
+        DealtCards {
+            count: 0,
+            rows: [none; 120],
+        }
+    }
+
     /// The cards.
     pub fn as_slice(&self) -> &[DealtCard]
         ensures cards { result.now ≡ take self.now.count self.now.rows }

@@ -10,11 +10,13 @@ use crate::dealt_card::DealtCard;
 use crate::dealt_cards::DealtCards;
 use chip_ledger::Seat;
 
-/// Folds the cards of a seat.
-pub fn fold(state: &mut CardState, seat: Seat)
-    ensures { IsFolded state.old state.new seat.number }
-{
-    take_away(&mut state.places, seat);
+impl CardState {
+    /// Folds the cards of a seat.
+    pub fn fold(&mut self, seat: Seat)
+        ensures { IsFolded self.old self.new seat.number }
+    {
+        take_away(&mut self.places, seat);
+    }
 }
 
 // Takes away what the seat held: gone after the cards dealt so far.

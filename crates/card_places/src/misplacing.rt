@@ -9,7 +9,6 @@ ghost use Rattle.card_places.specs.Searches.{searched};
 
 use crate::deal_table::DealTable;
 use crate::dealt_card::DealtCard;
-use crate::names::is_unknown;
 use crate::search::{NamedCards, peek};
 use crate::taken::{is_clash, is_not_in_deck};
 
@@ -43,7 +42,7 @@ fn is_newly_misplaced(
         && taken.is_misplaced table.now.code
         (searched table.now.code search.now (map place_of rows.now)) (place_of new.now)) }
 {
-    is_unknown(old.slot) && !is_unknown(new.slot) && is_misplaced(table, rows, search, new)
+    old.slot.is_unknown() && !new.slot.is_unknown() && is_misplaced(table, rows, search, new)
 }
 
 // The card of a place cannot be there, among the places after the names.

@@ -88,34 +88,11 @@ pub fn blanks(slots: &[Slot]) -> usize
 {
     let mut count = 0;
     for slot in slots {
-        if is_unknown(*slot) {
+        if slot.is_unknown() {
             count += 1;
         }
     }
     count
-}
-
-/// Whether the slot is unknown.
-pub fn is_unknown(slot: Slot) -> bool
-    ensures { result ≡ known.is_unknown slot }
-{
-    match slot {
-        Slot::Unknown => true,
-        Slot::Known(_) => false,
-    }
-}
-
-/// The known cards of the slots, in their order.
-pub fn known(slots: &SlotRow) -> CardRow
-    ensures { cards_of result ≡ known.known_cards (slots_of slots.now) }
-{
-    let mut cards = CardRow::new();
-    for slot in slots.as_slice() {
-        if let Slot::Known(card) = slot {
-            cards.push(*card);
-        }
-    }
-    cards
 }
 
 /// The names without the first that is this card.

@@ -8,7 +8,7 @@ ghost use Rattle.card_places.specs.Searches as searches;
 
 use crate::deal_table::DealTable;
 use crate::dealt_card::DealtCard;
-use crate::names::{is_unknown, left_out};
+use crate::names::left_out;
 use crate::search::{NamedCards, covers};
 
 /// Whether a known card that the event applies to is not named.
@@ -55,5 +55,5 @@ fn is_free(table: &DealTable, card: &DealtCard, search: &NamedCards) -> bool
     ensures { result ≡ (naming.is_covered table.now.code search.now.seat.number search.now.all
         (place_of card.now) && known.is_unknown card.now.slot) }
 {
-    covers(table, card, search.seat, search.all) && is_unknown(card.slot)
+    covers(table, card, search.seat, search.all) && card.slot.is_unknown()
 }

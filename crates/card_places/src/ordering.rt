@@ -12,82 +12,85 @@ use card_set::Slot;
 use chip_ledger::Seat;
 use play_event::Place;
 
-/// The place at this index, from 0, in the order of the trace.
-pub fn place(state: &CardState, index: u8) -> Place
-    requires { index < state.now.places.count }
-    ensures { IsPlaceOf result (slice_get
-        (ordered state.now.table.code state.now.seats (placed state.now.places)) index) }
-{
-    match in_streets(state, 1, state.table.streets(), index) {
-        Ok(card) => Place {
-            owner: card.owner,
-            street: card.street,
-            slot: card.slot,
-            gone: card.discarded,
-        },
-        // An index below the count is never past all cards.
-        Err(_) => Place {
-            owner: None,
-            street: 0,
-            slot: Slot::Unknown,
-            gone: 0,
-        },
+impl CardState {
+    /// The place at this index, from 0, in the order of the trace.
+    pub fn place(&self, index: u8) -> Place
+        requires { index < self.now.places.count }
+        ensures { IsPlaceOf result (slice_get
+            (ordered self.now.table.code self.now.seats (placed self.now.places)) index) }
+    {
+        match self.in_streets(1, self.table.streets(), index) {
+            Ok(card) => Place {
+                owner: card.owner,
+                street: card.street,
+                slot: card.slot,
+                gone: card.discarded,
+            },
+            // An index below the count is never past all cards.
+            Err(_) => Place {
+                owner: None,
+                street: 0,
+                slot: Slot::Unknown,
+                gone: 0,
+            },
+        }
     }
-}
 
-// The card at an index of `count` streets, from this one on, or how far the index is past them.
-fn in_streets(state: &CardState, first: u8, count: u8, index: u8) -> Result<DealtCard, u8>
-    requires { first + count ≤ 6 }
-    ensures found { IfOk result (λ card. slice_get
-        (on_streets state.now.seats (placed state.now.places) first count) index
-        ≡ Some (place_of card)) }
-    ensures past { IfErr result (λ left.
-        index ≡ left + length (on_streets state.now.seats (placed state.now.places) first count)) }
-{
-    if count == 0 {
-        return Err(index);
+    // The card at an index of `count` streets, from this one on, or how far the index is past them.
+    fn in_streets(&self, first: u8, count: u8, index: u8) -> Result<DealtCard, u8>
+        requires { first + count ≤ 6 }
+        ensures found { IfOk result (λ card. slice_get
+            (on_streets self.now.seats (placed self.now.places) first count) index
+            ≡ Some (place_of card)) }
+        ensures past { IfErr result (λ left. index
+            ≡ left + length (on_streets self.now.seats (placed self.now.places) first count)) }
+    {
+        if count == 0 {
+            return Err(index);
+        }
+        match self.in_street(first, index) {
+            Ok(card) => Ok(card),
+            Err(left) => self.in_streets(first + 1, count - 1, left),
+        }
     }
-    match in_street(state, first, index) {
-        Ok(card) => Ok(card),
-        Err(left) => in_streets(state, first + 1, count - 1, left),
-    }
-}
 
-// The card at an index of one street, first those of the seats and then the board's, or how far the
-// index is past them.
-fn in_street(state: &CardState, street: u8, index: u8) -> Result<DealtCard, u8>
-    ensures found { IfOk result (λ card. slice_get
-        (on_street state.now.seats (placed state.now.places) street) index ≡ Some (place_of card)) }
-    ensures past { IfErr result (λ left.
-        index ≡ left + length (on_street state.now.seats (placed state.now.places) street)) }
-{
-    match in_seats(state, street, 1, state.seats, index) {
-        Ok(card) => Ok(card),
-        Err(left) => in_group(state.places.as_slice(), None, street, left),
+    // The card at an index of one street, first those of the seats and then the board's, or how far
+    // the index is past them.
+    fn in_street(&self, street: u8, index: u8) -> Result<DealtCard, u8>
+        ensures found { IfOk result (λ card. slice_get
+            (on_street self.now.seats (placed self.now.places) street) index
+            ≡ Some (place_of card)) }
+        ensures past { IfErr result (λ left.
+            index ≡ left + length (on_street self.now.seats (placed self.now.places) street)) }
+    {
+        match self.in_seats(street, 1, self.seats, index) {
+            Ok(card) => Ok(card),
+            Err(left) => in_group(self.places.as_slice(), None, street, left),
+        }
     }
-}
 
-// The card at an index of those that `count` seats have of a street, from this seat on, or how far
-// the index is past them.
-fn in_seats(state: &CardState, street: u8, first: u8, count: u8, index: u8) -> Result<DealtCard, u8>
-    requires from_one { 1 ≤ first }
-    requires within { first + count ≤ 11 }
-    ensures found { IfOk result (λ card. slice_get
-        (on_seats (placed state.now.places) street first count) index ≡ Some (place_of card)) }
-    ensures past { IfErr result (λ left.
-        index ≡ left + length (on_seats (placed state.now.places) street first count)) }
-{
-    if count == 0 {
-        return Err(index);
-    }
-    match in_group(
-        state.places.as_slice(),
-        Some(Seat { number: first }),
-        street,
-        index,
-    ) {
-        Ok(card) => Ok(card),
-        Err(left) => in_seats(state, street, first + 1, count - 1, left),
+    // The card at an index of those that `count` seats have of a street, from this seat on, or how
+    // far the index is past them.
+    fn in_seats(&self, street: u8, first: u8, count: u8, index: u8) -> Result<DealtCard, u8>
+        requires from_one { 1 ≤ first }
+        requires within { first + count ≤ 11 }
+        ensures found { IfOk result (λ card. slice_get
+            (on_seats (placed self.now.places) street first count) index ≡ Some (place_of card)) }
+        ensures past { IfErr result (λ left.
+            index ≡ left + length (on_seats (placed self.now.places) street first count)) }
+    {
+        if count == 0 {
+            return Err(index);
+        }
+        match in_group(
+            self.places.as_slice(),
+            Some(Seat { number: first }),
+            street,
+            index,
+        ) {
+            Ok(card) => Ok(card),
+            Err(left) => self.in_seats(street, first + 1, count - 1, left),
+        }
     }
 }
 

@@ -5,90 +5,91 @@ ghost use Rattle.card_places.specs.Refusals as why;
 ghost use Rattle.card_places.specs.DueStreet.{due_street};
 
 use crate::card_state::CardState;
-use crate::owing::{board_owed, owed};
 use crate::taken::has_taken_card;
 use card_set::Slot;
 use chip_ledger::{LiveRow, Seat};
 use play_event::{Due, Illegal};
 
-/// Why the seat may not be dealt these cards now.
-pub fn illegal_hole_deal(
-    state: &CardState,
-    live: &LiveRow,
-    due: Due,
-    seat: Seat,
-    cards: &[Slot],
-) -> Option<Illegal>
-    ensures { result ≡ why.illegal_hole_deal state.now live.now due seat.number cards.now }
-{
-    match due {
-        Due::Over => Some(Illegal::HandOver),
-        Due::Deal(on) => {
-            let street = state.table.street(on);
-            if street.down + street.up > 0 {
-                illegal_hole_deal_on(state, live, on, seat, cards)
-            } else {
-                Some(Illegal::WrongKind)
+impl CardState {
+    /// Why the seat may not be dealt these cards now.
+    pub fn illegal_hole_deal(
+        &self,
+        live: &LiveRow,
+        due: Due,
+        seat: Seat,
+        cards: &[Slot],
+    ) -> Option<Illegal>
+        ensures { result ≡ why.illegal_hole_deal self.now live.now due seat.number cards.now }
+    {
+        match due {
+            Due::Over => Some(Illegal::HandOver),
+            Due::Deal(on) => {
+                let street = self.table.street(on);
+                if street.down + street.up > 0 {
+                    self.illegal_hole_deal_on(live, on, seat, cards)
+                } else {
+                    Some(Illegal::WrongKind)
+                }
             }
+            Due::Draw(on) => self.illegal_hole_deal_on(live, on, seat, cards),
+            Due::BringIn | Due::Move | Due::Show => Some(Illegal::WrongKind),
         }
-        Due::Draw(on) => illegal_hole_deal_on(state, live, on, seat, cards),
-        Due::BringIn | Due::Move | Due::Show => Some(Illegal::WrongKind),
     }
-}
 
-// Why the seat may not be dealt these cards on the street.
-fn illegal_hole_deal_on(
-    state: &CardState,
-    live: &LiveRow,
-    on: u8,
-    seat: Seat,
-    cards: &[Slot],
-) -> Option<Illegal>
-    ensures { result ≡ why.illegal_hole_deal_on state.now live.now on seat.number cards.now }
-{
-    if seat.number > state.seats {
-        return Some(Illegal::WrongSeat);
+    // Why the seat may not be dealt these cards on the street.
+    fn illegal_hole_deal_on(
+        &self,
+        live: &LiveRow,
+        on: u8,
+        seat: Seat,
+        cards: &[Slot],
+    ) -> Option<Illegal>
+        ensures { result ≡ why.illegal_hole_deal_on self.now live.now on seat.number cards.now }
+    {
+        if seat.number > self.seats {
+            return Some(Illegal::WrongSeat);
+        }
+        let owed = self.owed(live, on, seat);
+        if owed == 0 {
+            Some(Illegal::WrongSeat)
+        } else if is_wrong_deal(owed, cards.len()) {
+            Some(Illegal::WrongCount)
+        } else if has_taken_card(&self.table, self.places.as_slice(), on, cards) {
+            Some(Illegal::CardTaken)
+        } else {
+            None
+        }
     }
-    let owed = owed(state, live, on, seat);
-    if owed == 0 {
-        Some(Illegal::WrongSeat)
-    } else if is_wrong_deal(owed, cards.len()) {
-        Some(Illegal::WrongCount)
-    } else if has_taken_card(&state.table, state.places.as_slice(), on, cards) {
-        Some(Illegal::CardTaken)
-    } else {
-        None
-    }
-}
 
-/// Why the board may not be dealt these cards now.
-pub fn illegal_board_deal(state: &CardState, due: Due, cards: &[Slot]) -> Option<Illegal>
-    ensures { result ≡ why.illegal_board_deal state.now due cards.now }
-{
-    match due {
-        Due::Over => Some(Illegal::HandOver),
-        Due::Deal(on) => {
-            if state.table.street(on).board > 0 {
-                illegal_board_deal_on(state, on, cards)
-            } else {
-                Some(Illegal::WrongKind)
+    /// Why the board may not be dealt these cards now.
+    pub fn illegal_board_deal(&self, due: Due, cards: &[Slot]) -> Option<Illegal>
+        ensures { result ≡ why.illegal_board_deal self.now due cards.now }
+    {
+        match due {
+            Due::Over => Some(Illegal::HandOver),
+            Due::Deal(on) => {
+                if self.table.street(on).board > 0 {
+                    self.illegal_board_deal_on(on, cards)
+                } else {
+                    Some(Illegal::WrongKind)
+                }
             }
+            Due::Draw(_) | Due::BringIn | Due::Move | Due::Show => Some(Illegal::WrongKind),
         }
-        Due::Draw(_) | Due::BringIn | Due::Move | Due::Show => Some(Illegal::WrongKind),
     }
-}
 
-// Why the board may not be dealt these cards on the street.
-fn illegal_board_deal_on(state: &CardState, on: u8, cards: &[Slot]) -> Option<Illegal>
-    ensures { result ≡ why.illegal_board_deal_on state.now on cards.now }
-{
-    let owed = board_owed(state, on);
-    if is_wrong_deal(owed, cards.len()) {
-        Some(Illegal::WrongCount)
-    } else if has_taken_card(&state.table, state.places.as_slice(), on, cards) {
-        Some(Illegal::CardTaken)
-    } else {
-        None
+    // Why the board may not be dealt these cards on the street.
+    fn illegal_board_deal_on(&self, on: u8, cards: &[Slot]) -> Option<Illegal>
+        ensures { result ≡ why.illegal_board_deal_on self.now on cards.now }
+    {
+        let owed = self.board_owed(on);
+        if is_wrong_deal(owed, cards.len()) {
+            Some(Illegal::WrongCount)
+        } else if has_taken_card(&self.table, self.places.as_slice(), on, cards) {
+            Some(Illegal::CardTaken)
+        } else {
+            None
+        }
     }
 }
 

@@ -16,79 +16,150 @@ use crate::deal_table::DealTable;
 use crate::dealt_card::DealtCard;
 use crate::dealt_cards::DealtCards;
 use crate::misplacing::is_misplacing;
-use crate::names::is_unknown;
 use crate::naming::{has_left_out_card, has_unplaced_name};
 use crate::search::{NamedCards, apply_names, named_cards};
 use card_set::CardRow;
 use chip_ledger::{LiveRow, Seat};
 use play_event::{Due, Illegal};
 
-/// Shows the cards if that is legal; otherwise changes nothing.
-pub fn show_cards(
-    state: &mut CardState,
-    live: &LiveRow,
-    seat: Seat,
-    cards: &CardRow,
-) -> Result<(), Illegal>
-    ensures right { OnOk result (why.illegal_show_on state.old live.now seat.number
-        (cards_of cards.now) ≡ None) }
-    ensures wrong { IfErr result (λ reason. why.illegal_show_on state.old live.now seat.number
-        (cards_of cards.now) ≡ Some reason) }
-    ensures shown { OnOk result (IsShown state.old state.new seat.number (cards_of cards.now)) }
-    ensures unchanged { OnErr result (state.new ≡ state.old) }
-    ensures table { state.new.table ≡ state.old.table }
-    ensures seats { state.new.seats ≡ state.old.seats }
-{
-    let search = show_search(&state.table, &state.places, seat, cards);
-    match illegal_show_on(state, live, seat, cards, &search) {
-        Some(reason) => Err(reason),
-        None => {
-            apply_names(&state.table, &mut state.places, &search);
-            state.shown.set(seat, true);
-            Ok(())
+impl CardState {
+    /// Shows the cards if that is legal; otherwise changes nothing.
+    pub fn show(&mut self, live: &LiveRow, seat: Seat, cards: &CardRow) -> Result<(), Illegal>
+        ensures right { OnOk result (why.illegal_show_on self.old live.now seat.number
+            (cards_of cards.now) ≡ None) }
+        ensures wrong { IfErr result (λ reason. why.illegal_show_on self.old live.now seat.number
+            (cards_of cards.now) ≡ Some reason) }
+        ensures shown { OnOk result (IsShown self.old self.new seat.number (cards_of cards.now)) }
+        ensures unchanged { OnErr result (self.new ≡ self.old) }
+        ensures table { self.new.table ≡ self.old.table }
+        ensures seats { self.new.seats ≡ self.old.seats }
+    {
+        let search = show_search(&self.table, &self.places, seat, cards);
+        match self.illegal_show_on(live, seat, cards, &search) {
+            Some(reason) => Err(reason),
+            None => {
+                apply_names(&self.table, &mut self.places, &search);
+                self.shown.set(seat, true);
+                Ok(())
+            }
         }
     }
-}
 
-// Why the seat may not show the cards.
-fn illegal_show_on(
-    state: &CardState,
-    live: &LiveRow,
-    seat: Seat,
-    cards: &CardRow,
-    search: &NamedCards,
-) -> Option<Illegal>
-    requires { IsShowSearch state.now.table.code search.now (placed state.now.places)
-        seat.number (cards_of cards.now) }
-    ensures value { result ≡ why.illegal_show_on state.now live.now seat.number
-        (cards_of cards.now) }
-    ensures in_hand { IfNone result (seat.number ≤ state.now.seats) }
-{
-    let rows = state.places.as_slice();
-    if !may_show(state, live, seat) {
-        Some(Illegal::WrongSeat)
-    } else if !may_show_many(state, seat, cards.len) {
-        Some(Illegal::WrongCount)
-    } else if is_misplacing(&state.table, rows, search) {
-        Some(Illegal::CardTaken)
-    } else if has_unplaced_name(&state.table, rows, search)
-        || has_left_out_card(&state.table, rows, search)
+    // Why the seat may not show the cards.
+    fn illegal_show_on(
+        &self,
+        live: &LiveRow,
+        seat: Seat,
+        cards: &CardRow,
+        search: &NamedCards,
+    ) -> Option<Illegal>
+        requires { IsShowSearch self.now.table.code search.now (placed self.now.places)
+            seat.number (cards_of cards.now) }
+        ensures value { result ≡ why.illegal_show_on self.now live.now seat.number
+            (cards_of cards.now) }
+        ensures in_hand { IfNone result (seat.number ≤ self.now.seats) }
     {
-        Some(Illegal::NotHeld)
-    } else {
-        None
+        let rows = self.places.as_slice();
+        if !self.may_show(live, seat) {
+            Some(Illegal::WrongSeat)
+        } else if !self.may_show_many(seat, cards.len) {
+            Some(Illegal::WrongCount)
+        } else if is_misplacing(&self.table, rows, search) {
+            Some(Illegal::CardTaken)
+        } else if has_unplaced_name(&self.table, rows, search)
+            || has_left_out_card(&self.table, rows, search)
+        {
+            Some(Illegal::NotHeld)
+        } else {
+            None
+        }
     }
-}
 
-// Whether a show may have `count` cards.
-fn may_show_many(state: &CardState, seat: Seat, count: u8) -> bool
-    ensures { result ≡ why.may_show_many state.now.table.code
-        (placed state.now.places) seat.number count }
-{
-    let rows = state.places.as_slice();
-    count == state.places.held(Some(seat))
-        || count as usize == held_down(&state.table, rows, seat)
-            && !hides_up(&state.table, rows, seat)
+    // Whether a show may have `count` cards.
+    fn may_show_many(&self, seat: Seat, count: u8) -> bool
+        ensures { result ≡ why.may_show_many self.now.table.code
+            (placed self.now.places) seat.number count }
+    {
+        let rows = self.places.as_slice();
+        count == self.places.held(Some(seat))
+            || count as usize == held_down(&self.table, rows, seat)
+                && !hides_up(&self.table, rows, seat)
+    }
+
+    /// Why a show is not due, if it is not.
+    pub fn show_not_due(
+        &self,
+        live: &LiveRow,
+        due: Due,
+        settled: bool,
+        seat: Seat,
+    ) -> Option<Illegal>
+        ensures show_is_due { IfNone result ((cards : List Card)
+            → why.illegal_show self.now live.now due settled seat.number cards
+            ≡ why.illegal_show_on self.now live.now seat.number cards) }
+        ensures show_is_not_due { IfSome result (λ reason. (cards : List Card)
+            → why.illegal_show self.now live.now due settled seat.number cards ≡ Some reason) }
+    {
+        match due {
+            Due::Show => None,
+            Due::Over => {
+                if self.may_show(live, seat) {
+                    None
+                } else {
+                    Some(Illegal::HandOver)
+                }
+            }
+            Due::Deal(_) | Due::Draw(_) | Due::BringIn | Due::Move => {
+                if settled {
+                    None
+                } else {
+                    Some(Illegal::WrongKind)
+                }
+            }
+        }
+    }
+
+    /// Why the seat may not muck now.
+    pub fn illegal_muck(&self, live: &LiveRow, due: Due, seat: Seat) -> Option<Illegal>
+        ensures wrong { result ≡ why.illegal_muck self.now live.now due seat.number }
+        ensures in_hand { IfNone result (seat.number ≤ self.now.seats) }
+    {
+        match due {
+            Due::Show => {
+                if self.may_show(live, seat) {
+                    None
+                } else {
+                    Some(Illegal::WrongSeat)
+                }
+            }
+            Due::Over => {
+                if self.may_show(live, seat) {
+                    None
+                } else {
+                    Some(Illegal::HandOver)
+                }
+            }
+            Due::Deal(_) | Due::Draw(_) | Due::BringIn | Due::Move => Some(Illegal::WrongKind),
+        }
+    }
+
+    // The seat may show or muck.
+    fn may_show(&self, live: &LiveRow, seat: Seat) -> bool
+        ensures may { result ≡ why.may_show_in self.now live.now seat.number }
+        ensures in_hand { IsTrue result → seat.number ≤ self.now.seats }
+    {
+        seat.number <= self.seats
+            && live.get(seat)
+            && !(self.shown.get(seat) || self.mucked.get(seat))
+    }
+
+    /// The seat mucked.
+    pub fn muck(&mut self, seat: Seat)
+        requires { seat.number ≤ self.old.seats }
+        ensures { IsMucked self.old self.new seat.number }
+    {
+        self.mucked.set(seat, true);
+    }
 }
 
 // The number of cards that the seat holds face down.
@@ -119,7 +190,7 @@ fn hides_up(table: &DealTable, rows: &[DealtCard], seat: Seat) -> bool
         (plain.up_slots table.now.code (map place_of rows.now) seat.number) }
 {
     for row in rows {
-        if row.held_by(Some(seat)) && table.is_up(row) && is_unknown(row.slot) {
+        if row.held_by(Some(seat)) && table.is_up(row) && row.slot.is_unknown() {
             return true;
         }
     }
@@ -140,79 +211,4 @@ fn is_show_of_all(places: &DealtCards, seat: Seat, cards: &CardRow) -> bool
     ensures { result ≡ naming.is_show_of_all (placed places.now) seat.number (cards_of cards.now) }
 {
     cards.len == places.held(Some(seat))
-}
-
-/// Why a show is not due, if it is not.
-pub fn show_not_due(
-    state: &CardState,
-    live: &LiveRow,
-    due: Due,
-    settled: bool,
-    seat: Seat,
-) -> Option<Illegal>
-    ensures show_is_due { IfNone result ((cards : List Card)
-        → why.illegal_show state.now live.now due settled seat.number cards
-        ≡ why.illegal_show_on state.now live.now seat.number cards) }
-    ensures show_is_not_due { IfSome result (λ reason. (cards : List Card)
-        → why.illegal_show state.now live.now due settled seat.number cards ≡ Some reason) }
-{
-    match due {
-        Due::Show => None,
-        Due::Over => {
-            if may_show(state, live, seat) {
-                None
-            } else {
-                Some(Illegal::HandOver)
-            }
-        }
-        Due::Deal(_) | Due::Draw(_) | Due::BringIn | Due::Move => {
-            if settled {
-                None
-            } else {
-                Some(Illegal::WrongKind)
-            }
-        }
-    }
-}
-
-/// Why the seat may not muck now.
-pub fn illegal_muck(state: &CardState, live: &LiveRow, due: Due, seat: Seat) -> Option<Illegal>
-    ensures wrong { result ≡ why.illegal_muck state.now live.now due seat.number }
-    ensures in_hand { IfNone result (seat.number ≤ state.now.seats) }
-{
-    match due {
-        Due::Show => {
-            if may_show(state, live, seat) {
-                None
-            } else {
-                Some(Illegal::WrongSeat)
-            }
-        }
-        Due::Over => {
-            if may_show(state, live, seat) {
-                None
-            } else {
-                Some(Illegal::HandOver)
-            }
-        }
-        Due::Deal(_) | Due::Draw(_) | Due::BringIn | Due::Move => Some(Illegal::WrongKind),
-    }
-}
-
-// The seat may show or muck.
-fn may_show(state: &CardState, live: &LiveRow, seat: Seat) -> bool
-    ensures may { result ≡ why.may_show_in state.now live.now seat.number }
-    ensures in_hand { IsTrue result → seat.number ≤ state.now.seats }
-{
-    seat.number <= state.seats
-        && live.get(seat)
-        && !(state.shown.get(seat) || state.mucked.get(seat))
-}
-
-/// The seat mucked.
-pub fn muck_cards(state: &mut CardState, seat: Seat)
-    requires { seat.number ≤ state.old.seats }
-    ensures { IsMucked state.old state.new seat.number }
-{
-    state.mucked.set(seat, true);
 }

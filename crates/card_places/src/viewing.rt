@@ -11,24 +11,81 @@ ghost use Rattle.play_event.specs.Held as held;
 ghost use Rattle.card_places.specs.Placed.{placed};
 
 use crate::card_state::CardState;
-use crate::names::{is_unknown, known};
 use card_set::{CardRow, Slot, SlotRow};
 use chip_ledger::{LiveRow, Seat};
 use play_event::{HandRow, UpRow};
 
-/// The cards that each seat has, in the order of dealing.
-pub fn hands(state: &CardState) -> HandRow
-    ensures seats { result.seats ≡ state.now.seats }
-    ensures hands { (seat : ℕ) → 1 ≤ seat → seat ≤ state.now.seats
-        → slots_of_hand result seat ≡ held.held_slots (Some seat) (placed state.now.places) }
-{
-    let mut row = HandRow::new(state.seats);
-    for card in state.places.as_slice() {
-        if let Some(seat) = card.holder() {
-            put_held(&mut row, seat, card.slot);
+impl CardState {
+    /// The cards that each seat has, in the order of dealing.
+    pub fn hands(&self) -> HandRow
+        ensures seats { result.seats ≡ self.now.seats }
+        ensures hands { (seat : ℕ) → 1 ≤ seat → seat ≤ self.now.seats
+            → slots_of_hand result seat ≡ held.held_slots (Some seat) (placed self.now.places) }
+    {
+        let mut row = HandRow::new(self.seats);
+        for card in self.places.as_slice() {
+            if let Some(seat) = card.holder() {
+                put_held(&mut row, seat, card.slot);
+            }
         }
+        row
     }
-    row
+
+    /// The up-cards of each seat, in the order of dealing.
+    pub fn up(&self) -> UpRow
+        ensures seats { result.seats ≡ self.now.seats }
+        ensures ups { (seat : ℕ) → 1 ≤ seat → seat ≤ self.now.seats → ups_of result seat
+            ≡ places.up_slots self.now.table.code (placed self.now.places) seat }
+    {
+        let mut row = UpRow::new(self.seats);
+        for card in self.places.as_slice() {
+            if let Some(seat) = card.holder() {
+                if self.table.is_up(card) {
+                    put_up(&mut row, seat, card.slot);
+                }
+            }
+        }
+        row
+    }
+
+    /// The known cards of the board, in the order of dealing.
+    pub fn board(&self) -> CardRow
+        ensures { cards_of result
+            ≡ known.known_cards (held.held_slots None (placed self.now.places)) }
+    {
+        self.board_slots().known_cards()
+    }
+
+    // The cards of the board, in the order of dealing.
+    fn board_slots(&self) -> SlotRow
+        ensures { slots_of result ≡ held.held_slots None (placed self.now.places) }
+    {
+        let mut slots = SlotRow::new();
+        for card in self.places.as_slice() {
+            if card.held_by(None) {
+                slots.push(card.slot);
+            }
+        }
+        slots
+    }
+
+    /// Which seats have an unknown card.
+    pub fn unknown(&self) -> LiveRow
+        ensures seats { result.seats ≡ self.now.seats }
+        ensures unknown { (seat : ℕ) → 1 ≤ seat → seat ≤ self.now.seats → flag_of result seat
+            ≡ list_any (λ place. is_held_by seat place && known.is_unknown place.slot)
+            (placed self.now.places) }
+    {
+        let mut row = LiveRow::new(self.seats);
+        for card in self.places.as_slice() {
+            if let Some(seat) = card.holder() {
+                if card.slot.is_unknown() {
+                    row.set(seat, true);
+                }
+            }
+        }
+        row
+    }
 }
 
 // Appends a card to the seat's hand.
@@ -46,23 +103,6 @@ fn put_held(row: &mut HandRow, seat: Seat, slot: Slot)
     row.set(seat, cards);
 }
 
-/// The up-cards of each seat, in the order of dealing.
-pub fn up(state: &CardState) -> UpRow
-    ensures seats { result.seats ≡ state.now.seats }
-    ensures ups { (seat : ℕ) → 1 ≤ seat → seat ≤ state.now.seats → ups_of result seat
-        ≡ places.up_slots state.now.table.code (placed state.now.places) seat }
-{
-    let mut row = UpRow::new(state.seats);
-    for card in state.places.as_slice() {
-        if let Some(seat) = card.holder() {
-            if state.table.is_up(card) {
-                put_up(&mut row, seat, card.slot);
-            }
-        }
-    }
-    row
-}
-
 // Appends a card to the seat's up-cards.
 fn put_up(row: &mut UpRow, seat: Seat, slot: Slot)
     requires seat { seat.number ≤ row.old.seats }
@@ -75,43 +115,4 @@ fn put_up(row: &mut UpRow, seat: Seat, slot: Slot)
     let mut cards = row.get(seat);
     cards.push(slot);
     row.set(seat, cards);
-}
-
-/// The known cards of the board, in the order of dealing.
-pub fn board(state: &CardState) -> CardRow
-    ensures { cards_of result
-        ≡ known.known_cards (held.held_slots None (placed state.now.places)) }
-{
-    known(&board_slots(state))
-}
-
-// The cards of the board, in the order of dealing.
-fn board_slots(state: &CardState) -> SlotRow
-    ensures { slots_of result ≡ held.held_slots None (placed state.now.places) }
-{
-    let mut slots = SlotRow::new();
-    for card in state.places.as_slice() {
-        if card.held_by(None) {
-            slots.push(card.slot);
-        }
-    }
-    slots
-}
-
-/// Which seats have an unknown card.
-pub fn unknown(state: &CardState) -> LiveRow
-    ensures seats { result.seats ≡ state.now.seats }
-    ensures unknown { (seat : ℕ) → 1 ≤ seat → seat ≤ state.now.seats → flag_of result seat
-        ≡ list_any (λ place. is_held_by seat place && known.is_unknown place.slot)
-        (placed state.now.places) }
-{
-    let mut row = LiveRow::new(state.seats);
-    for card in state.places.as_slice() {
-        if let Some(seat) = card.holder() {
-            if is_unknown(card.slot) {
-                row.set(seat, true);
-            }
-        }
-    }
-    row
 }

@@ -1,22 +1,49 @@
-//! Collects the known cards of a row of slots.
+//! Tells unknown cards from known ones, and collects the known cards of a row of slots.
 ghost use Rattle.std.specs.Prelude.{◌≡◌, ◌≤◌, ◌<◌, ◌+◌, [], ◌∷◌, ◌++◌};
+ghost use Rattle.std.specs.List.{list_any};
 ghost use Rattle.card_set.specs.declared.row.TheConstants.{ROW_ENTRIES};
 ghost use Rattle.card_set.specs.Row.{cards_of, slots_of};
-ghost use Rattle.card_set.specs.Known.{known_cards};
+ghost use Rattle.card_set.specs.Known.{is_unknown, known_cards};
 
 use crate::card::Slot;
 use crate::row::{CardRow, SlotRow};
 
-/// The known cards of a row of slots, in order.
-#[tactic(auto, using(crate::proofs::KnownCards::one_known_more))]
-pub fn known_row(slots: &SlotRow) -> CardRow
-    ensures { cards_of result ≡ known_cards (slots_of slots.now) }
-{
-    let mut cards = CardRow::new();
-    for slot in slots.as_slice() {
-        cards = with_known(cards, *slot);
+impl Slot {
+    /// Whether the card is unknown.
+    pub fn is_unknown(self) -> bool
+        ensures { result ≡ is_unknown self }
+    {
+        match self {
+            Slot::Known(_) => false,
+            Slot::Unknown => true,
+        }
     }
-    cards
+}
+
+impl SlotRow {
+    /// Whether one of the cards is unknown.
+    pub fn has_unknown(&self) -> bool
+        ensures { result ≡ list_any is_unknown (slots_of self.now) }
+    {
+        for slot in self.as_slice() {
+            if slot.is_unknown() {
+                return true;
+            }
+        }
+        false
+    }
+
+    /// The known cards, in order.
+    #[tactic(auto, using(crate::proofs::KnownCards::one_known_more))]
+    pub fn known_cards(&self) -> CardRow
+        ensures { cards_of result ≡ known_cards (slots_of self.now) }
+    {
+        let mut cards = CardRow::new();
+        for slot in self.as_slice() {
+            cards = with_known(cards, *slot);
+        }
+        cards
+    }
 }
 
 // The cards, and one more if it is known.

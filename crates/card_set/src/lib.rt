@@ -16,7 +16,6 @@ mod spelling;
 pub use card::{Card, Rank, Slot, Suit};
 pub use deck::{card_at, card_placed, place_in_deck, place_of_rank, place_of_suit};
 pub use growing::{TryExtend, TryInsert, TryPush, TryWrite, displayed, string_from, vec_from};
-pub use known::known_row;
 pub use memory::Memory;
 pub use pick::Pick;
 pub use room::{MOST_ROOM, boxed, list_with_room, repeated_for, reserve, reserve_for};

@@ -28,11 +28,7 @@ ghost use Rattle.deal_core.specs.Board.{board_cards};
 ghost use Rattle.deal_core.specs.NextDeal.{IsNextDeal};
 ghost use Rattle.deal_core.specs.Standing.{StandsFor};
 
-use card_places::{
-    CardState, DealtCard, NextDeal, board, deal_cards, discard_cards, done, fold, hands,
-    illegal_board_deal, illegal_hole_deal, illegal_muck, muck_cards, new_card_state, next_deal,
-    next_to_draw, place, show_cards, show_not_due, slots, street_due, unknown, up,
-};
+use card_places::{CardState, DealtCard, NextDeal, slots, street_due};
 use card_set::{CardRow, Slot};
 use chip_ledger::{LiveRow, Seat};
 use play_event::{Due, Event, HandRow, Illegal, Kind, Place, UpRow};
@@ -68,7 +64,7 @@ impl<V: Variant> Cards<V> {
         ensures seats { result.seats ≡ seats }
     {
         Cards {
-            state: new_card_state(V::CODE, seats),
+            state: CardState::new(V::CODE, seats),
             game: PhantomData,
         }
     }
@@ -82,7 +78,7 @@ impl<V: Variant> Cards<V> {
         match event.kind {
             Kind::Hole { seat, cards } => {
                 let known = cards.as_slice();
-                match illegal_hole_deal(&self.state, live, due, seat, known) {
+                match self.state.illegal_hole_deal(live, due, seat, known) {
                     Some(reason) => Err(reason),
                     None => {
                         self.put(due, Some(seat), known);
@@ -92,7 +88,7 @@ impl<V: Variant> Cards<V> {
             }
             Kind::Board { cards } => {
                 let known = slots(&cards);
-                match illegal_board_deal(&self.state, due, known.as_slice()) {
+                match self.state.illegal_board_deal(due, known.as_slice()) {
                     Some(reason) => Err(reason),
                     None => {
                         self.put(due, None, known.as_slice());
@@ -115,7 +111,7 @@ impl<V: Variant> Cards<V> {
         ensures hand { AreOfOneHand self.old self.new }
     {
         if let Some(on) = street_due(due) {
-            deal_cards(&mut self.state, owner, on, cards);
+            self.state.deal(owner, on, cards);
         }
     }
 
@@ -129,7 +125,7 @@ impl<V: Variant> Cards<V> {
         match event.kind {
             Kind::Discard { seat, cards } => match due {
                 Due::Over => Err(Illegal::HandOver),
-                Due::Draw(on) => discard_cards(&mut self.state, live, on, seat, &cards),
+                Due::Draw(on) => self.state.discard(live, on, seat, &cards),
                 Due::Deal(_) | Due::BringIn | Due::Move | Due::Show => Err(Illegal::WrongKind),
             },
             // The precondition excludes other kinds.
@@ -150,20 +146,14 @@ impl<V: Variant> Cards<V> {
             (said_of event.now) result }
     {
         match event.kind {
-            Kind::Show { seat, cards } => match show_not_due(
-                &self.state,
-                live,
-                due,
-                settled,
-                seat,
-            ) {
+            Kind::Show { seat, cards } => match self.state.show_not_due(live, due, settled, seat) {
                 Some(reason) => Err(reason),
-                None => show_cards(&mut self.state, live, seat, &cards),
+                None => self.state.show(live, seat, &cards),
             },
-            Kind::Muck { seat } => match illegal_muck(&self.state, live, due, seat) {
+            Kind::Muck { seat } => match self.state.illegal_muck(live, due, seat) {
                 Some(reason) => Err(reason),
                 None => {
-                    muck_cards(&mut self.state, seat);
+                    self.state.muck(seat);
                     Ok(())
                 }
             },
@@ -179,7 +169,7 @@ impl<V: Variant> Cards<V> {
             → StandsFor self.new (Moved move ∷ past) }
         ensures hand { AreOfOneHand self.old self.new }
     {
-        fold(&mut self.state, seat);
+        self.state.fold(seat);
     }
 
     /// Whether the deal, the draw or the show named by `due` is complete. It need not be what is
@@ -189,7 +179,7 @@ impl<V: Variant> Cards<V> {
             (λ setup past. result ≡ is_done setup past due) }
         ensures ended { result ≡ true → is_cards_due due ≡ true }
     {
-        done(&self.state, live, due)
+        self.state.done(live, due)
     }
 
     /// What the street deals next: to the first seat that is owed cards, all that it is owed; if no
@@ -199,7 +189,7 @@ impl<V: Variant> Cards<V> {
             (λ setup past. IsNextDeal setup past on result) }
         ensures most { result.count ≤ 7 }
     {
-        next_deal(&self.state, live, on)
+        self.state.next_deal(live, on)
     }
 
     /// The seat that draws next on the street, if one has to.
@@ -208,7 +198,7 @@ impl<V: Variant> Cards<V> {
             (λ setup past. seat_said result ≡ next_to_draw setup past on) }
         ensures in_hand { IfSome result (λ seat. seat.number ≤ self.now.seats) }
     {
-        next_to_draw(&self.state, live, on)
+        self.state.next_to_draw(live, on)
     }
 
     /// The up-cards of each seat, in the order of dealing. Folded seats have none.
@@ -216,7 +206,7 @@ impl<V: Variant> Cards<V> {
         ensures { TellsSeats result.seats self.now
             (λ past seat. ups_of result seat ≡ up_cards V.CODE past seat) }
     {
-        up(&self.state)
+        self.state.up()
     }
 
     /// The cards that each seat has, in the order of dealing. Discarded cards and those of folded
@@ -226,7 +216,7 @@ impl<V: Variant> Cards<V> {
             (λ past seat. slots_of_hand result seat
             ≡ held_slots (Some seat) (places_of V.CODE past)) }
     {
-        hands(&self.state)
+        self.state.hands()
     }
 
     /// The cards of the board, in the order of dealing.
@@ -234,7 +224,7 @@ impl<V: Variant> Cards<V> {
         ensures { (past : Past) → StandsFor self.now past
             → cards_of result ≡ board_cards past }
     {
-        board(&self.state)
+        self.state.board()
     }
 
     /// Which seats mucked.
@@ -251,7 +241,7 @@ impl<V: Variant> Cards<V> {
             (λ past seat. (setup : Setup) → setup.code ≡ V.CODE
             → flag_of result seat ≡ has_unknown_card setup past seat) }
     {
-        unknown(&self.state)
+        self.state.unknown()
     }
 
     /// The number of seats.
@@ -289,6 +279,6 @@ impl<V: Variant> Cards<V> {
             → setup.stacks.seats ≡ self.now.seats → StandsFor self.now past
             → IsSomeAnd (slice_get (traced_places setup past) index) (IsPlace result) }
     {
-        place(&self.state, index)
+        self.state.place(index)
     }
 }

@@ -15,7 +15,7 @@ use crate::folds::{count_unfolded, folds, folds_before};
 use crate::gathered::{dealt_to_board, dealt_to_seats, discarded_by_seats, held_by_seats};
 use crate::numbered::Numbered;
 use crate::streets::{count_streets, draws};
-use card_set::{Memory, SlotRow, known_row};
+use card_set::{Memory, SlotRow};
 use chip_ledger::{LiveRow, Seat};
 use hand_records::Trace;
 use play_event::{Act, HandRow, Kind, Move, Script, Spelled};
@@ -117,7 +117,7 @@ fn write_board(written: &mut Numbered, cards: &SlotRow) -> Result<(), Memory>
     if cards.as_slice().is_empty() {
         return Ok(());
     }
-    let cards = known_row(cards);
+    let cards = cards.known_cards();
     written.push(Kind::Board { cards })
 }
 
@@ -198,7 +198,7 @@ fn write_showing(
         return Ok(());
     }
     if shown.get(seat) {
-        let cards = known_row(&held.get(seat));
+        let cards = held.get(seat).known_cards();
         written.push(Kind::Show { seat, cards })
     } else {
         written.push(Kind::Muck { seat })

@@ -2,12 +2,10 @@
 ghost use Rattle.std.specs.Prelude.{◌≡◌, ◌≤◌, ℕ, ◌&&◌, ◌||◌};
 ghost use Rattle.std.specs.List.{list_any};
 ghost use Rattle.chip_ledger.specs.LiveRow.{flag_of};
-ghost use Rattle.play_event.specs.Past.{is_fold as is_fold_said};
-ghost use Rattle.play_event.specs.Played.{act_said};
 ghost use Rattle.hand_canon.specs.RowTests.{is_fold_before, is_fold_of, unfolded_count};
 
 use chip_ledger::{LiveRow, Seat};
-use play_event::{Act, Move};
+use play_event::Move;
 
 /// Which seats, of ten, fold before a street.
 pub fn folds_before(moves: &[Move], street: u8) -> LiveRow
@@ -40,18 +38,8 @@ fn mark_fold(folded: &mut LiveRow, played: Move, counts: bool)
     ensures flags { (n : ℕ)
         → 1 ≤ n → flag_of folded.new n ≡ (flag_of folded.old n || (counts && is_fold_of n played)) }
 {
-    if counts && is_fold(played.act) {
+    if counts && played.act.is_fold() {
         folded.set(played.seat, true);
-    }
-}
-
-// Whether the act is a fold.
-fn is_fold(act: Act) -> bool
-    ensures { result ≡ is_fold_said (act_said act) }
-{
-    match act {
-        Act::Fold => true,
-        _ => false,
     }
 }
 

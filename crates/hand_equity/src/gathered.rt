@@ -9,7 +9,7 @@ ghost use Rattle.hand_canon.specs.RowTests.{is_fold_before};
 ghost use Rattle.hand_records.specs.TraceRows.{place_said};
 ghost use Rattle.hand_equity.specs.Street.{board_slots};
 
-use card_set::{CardRow, SlotRow, known_row};
+use card_set::{CardRow, SlotRow};
 use chip_ledger::{LiveRow, Seat};
 use hand_canon::{board_with_street, folds_before};
 use play_event::{Move, Place};
@@ -37,7 +37,7 @@ pub fn board_up_to(places: &[Place], street: u8) -> CardRow
     for index in 0..street {
         board = board_with_street(board, places, index + 1);
     }
-    known_row(&board)
+    board.known_cards()
 }
 
 /// Which of the first `seats` seats did not fold before a street.

@@ -1,5 +1,5 @@
 -- The setups of made hands: the games take turns, and seats and stacks are drawn.
-use Rattle.std.specs.Prelude.{◌≡◌, ℕ, ◌+◌, ◌%◌, ◌≤◌, ◌==◌, false, if◌then◌else◌, slice_index_or}
+use Rattle.std.specs.Prelude.{◌≡◌, ℕ, ◌+◌, ◌%◌, ◌≤◌, ◌==◌, false, if◌then◌else◌, length, slice_index_or}
 use Rattle.chip_ledger.specs.RakeRow.{rake_of}
 use Rattle.chip_ledger.specs.SeatRow.{amount_of}
 use Rattle.play_event.specs.declared.code.Code.{Code}
@@ -12,7 +12,7 @@ use Rattle.play_event.specs.Games.{all_games}
 
 -- the game of a hand, by its place among the hands, from 0
 abbrev pub game_at : ℕ → Code
-game_at place = slice_index_or all_games (place % 11) games.FT
+game_at place = slice_index_or all_games (place % length all_games) games.FT
 
 -- the number of seats that is drawn after a number
 abbrev pub seats_drawn : ℕ → ℕ

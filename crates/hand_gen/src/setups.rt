@@ -51,7 +51,7 @@ pub fn setup_at(place: u32, number: u64) -> Setup
 fn game_at(place: u32) -> Code
     ensures { result ≡ setups.game_at place }
 {
-    GAMES[place as usize % 11]
+    GAMES[place as usize % GAMES.len()]
 }
 
 // The stacks, drawn after this number.

@@ -11,7 +11,7 @@ ghost use Rattle.hand_order.specs.Choices.{CanPick};
 ghost use Rattle.play_event.specs.Games.{game_of};
 ghost use Rattle.showdown_split.specs.Playable.{ArePlayable, AreWinnable};
 
-use card_set::{Card, CardRow, known_row};
+use card_set::{Card, CardRow};
 use chip_ledger::{LiveRow, MOST_AMOUNT, Pot, Seat};
 use hand_order::{HandOrder, Pick};
 use play_event::HandRow;
@@ -25,7 +25,7 @@ pub fn are_playable<V: Variant>(hands: &HandRow, board: &CardRow, shown: &LiveRo
 {
     for index in 0..shown.seats {
         let seat = Seat { number: index + 1 };
-        let hole = known_row(&hands.get(seat));
+        let hole = hands.get(seat).known_cards();
         if shown.get(seat)
             && !(can_pick::<V>(&hole, board)
                 && differ_together(hole.as_slice(), board.as_slice()))
@@ -62,7 +62,7 @@ pub fn can_complete<V: Variant>(hands: &HandRow, live: &LiveRow, board: &CardRow
     }
     for index in 0..live.seats {
         let seat = Seat { number: index + 1 };
-        let hole = known_row(&hands.get(seat));
+        let hole = hands.get(seat).known_cards();
         if live.get(seat)
             && !(hole.len == cards && differ_together(hole.as_slice(), board.as_slice()))
         {

@@ -2,7 +2,7 @@
 //! none.
 ghost use Rattle.std.specs.Prelude.{◌<◌};
 
-use card_set::{CardRow, CardSet, SlotRow, known_row, read_slots};
+use card_set::{CardRow, CardSet, SlotRow, read_slots};
 use chip_ledger::{LiveRow, MOST_AMOUNT, RakeRow, Seat, SeatRow};
 use play_event::HandRow;
 
@@ -100,7 +100,7 @@ fn part_count(text: &str) -> u8 {
 
 /// The cards of a board, as `KhKdQs`.
 pub fn board(text: &str) -> Option<CardRow> {
-    Some(known_row(&slots(text)?))
+    Some(slots(text)?.known_cards())
 }
 
 /// A set of cards, as `KhKdQs,2c`.

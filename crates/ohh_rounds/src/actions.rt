@@ -12,7 +12,7 @@ ghost use Rattle.ohh_rounds.specs.Steps.{Dealt, Happened, HasRoom, IsWithin, Lea
 
 use crate::post::{ActionPlace, Post, PostKind};
 use crate::rounds_so_far::RoundsSoFar;
-use crate::step::{ActionEffect, RoundStep, is_move};
+use crate::step::{ActionEffect, RoundStep};
 use card_set::SlotRow;
 use chip_ledger::{Chips, MOST_CHIPS, Seat};
 use first_fault::{MOST_FILE_MOVES, Quantity, ReadError};
@@ -311,7 +311,7 @@ pub fn count_event(told: &RoundsSoFar, path: Path, kind: Kind) -> Result<(), Rea
         told.now.setting.file_moves (is_move_said (kind_said kind))
         (map plain_step told.now.steps.items)) }
 {
-    if is_move(kind) {
+    if kind.is_move() {
         if told.moves >= MOST_MOVES {
             return Err(too_many(Quantity::Moves, path));
         }

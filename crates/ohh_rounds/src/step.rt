@@ -1,7 +1,5 @@
 //! One step of a hand: what an action did, or a deal to the board, and how it counts.
 ghost use Rattle.std.specs.Prelude.{◌≡◌, ◌+◌, cond, min};
-ghost use Rattle.play_event.specs.PlayedScript.{is_move as is_move_said};
-ghost use Rattle.play_event.specs.Said.{kind_said};
 ghost use Rattle.ohh_rounds.specs.Steps.{is_action, is_move_effect, is_other_effect, plain_effect, plain_step};
 
 use crate::post::Post;
@@ -35,7 +33,7 @@ pub fn moves_of(effect: ActionEffect) -> usize
     ensures { result ≡ cond (is_move_effect (plain_effect effect)) 1 0 }
 {
     match effect {
-        ActionEffect::Happened(kind) => if is_move(kind) { 1 } else { 0 },
+        ActionEffect::Happened(kind) => if kind.is_move() { 1 } else { 0 },
         ActionEffect::Posted(_) | ActionEffect::Dealt { .. } | ActionEffect::Passed => 0,
     }
 }
@@ -45,18 +43,8 @@ pub fn others_of(effect: ActionEffect) -> usize
     ensures { result ≡ cond (is_other_effect (plain_effect effect)) 1 0 }
 {
     match effect {
-        ActionEffect::Happened(kind) => if is_move(kind) { 0 } else { 1 },
+        ActionEffect::Happened(kind) => if kind.is_move() { 0 } else { 1 },
         ActionEffect::Posted(_) | ActionEffect::Dealt { .. } | ActionEffect::Passed => 0,
-    }
-}
-
-/// Whether the event is a move.
-pub fn is_move(kind: Kind) -> bool
-    ensures { result ≡ is_move_said (kind_said kind) }
-{
-    match kind {
-        Kind::Fold { .. } | Kind::Call { .. } | Kind::Raise { .. } | Kind::BringIn { .. } => true,
-        _ => false,
     }
 }
 

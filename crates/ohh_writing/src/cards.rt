@@ -1,6 +1,5 @@
 //! The cards that were dealt to one owner on a street, and those that a seat holds at the end.
-ghost use Rattle.std.specs.Prelude.{◌≡◌, ◌≤◌, ◌+◌, ◌&&◌, not, [], ◌∷◌, ◌++◌, length, map, option_map, if◌then◌else◌};
-ghost use Rattle.card_set.specs.Known.{is_unknown};
+ghost use Rattle.std.specs.Prelude.{◌≡◌, ◌≤◌, ◌+◌, ◌&&◌, [], ◌∷◌, ◌++◌, length, map, option_map, if◌then◌else◌};
 ghost use Rattle.card_set.specs.Row.{slots_of};
 ghost use Rattle.play_event.specs.Places.{is_same_owner};
 ghost use Rattle.play_event.specs.CanonScript.{dealt_slots, held_slots};
@@ -70,19 +69,9 @@ pub fn has_known(cards: &[Slot]) -> bool
     ensures { result ≡ has_known_said cards.now }
 {
     for card in cards {
-        if is_known(*card) {
+        if !card.is_unknown() {
             return true;
         }
     }
     false
-}
-
-// Whether a card is known.
-fn is_known(card: Slot) -> bool
-    ensures { result ≡ not (is_unknown card) }
-{
-    match card {
-        Slot::Known(_) => true,
-        Slot::Unknown => false,
-    }
 }

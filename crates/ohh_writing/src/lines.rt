@@ -40,10 +40,7 @@ pub fn write(
     if let Some(refusal) = find_refusal(plays, keep) {
         return Err(refusal);
     }
-    match spell(alloc, dialect, plays) {
-        Ok(bytes) => Ok(bytes),
-        Err(memory) => Err(WriteRefusal::Memory(memory)),
-    }
+    Ok(spell(alloc, dialect, plays)?)
 }
 
 // The lines of some plays.

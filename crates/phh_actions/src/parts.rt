@@ -1,14 +1,12 @@
 //! The parts of an action: the name of a seat, an amount of chips, and cards.
-ghost use Rattle.std.specs.Prelude.{◌≡◌, ◌≤◌, bytes_eq, length};
-ghost use Rattle.std.specs.List.{list_any};
-ghost use Rattle.card_set.specs.Known.{is_unknown, known_cards as known_cards_said};
+ghost use Rattle.std.specs.Prelude.{◌≡◌, ◌≤◌, bytes_eq};
 ghost use Rattle.card_set.specs.Row.{cards_of, slots_of};
 ghost use Rattle.phh_actions.specs.Action.{all_known, amount_said, has_fraction, one_to, seat_said, seen_by, slots_said};
 ghost use Rattle.chip_ledger.specs.SeatsSaid.{default_name};
 
 use crate::fault::ActionFault;
 use crate::words::is_word;
-use card_set::{CardRow, Slot, SlotRow, read_slots as read_row};
+use card_set::{CardRow, SlotRow, read_slots as read_row};
 use chip_ledger::{MOST_CHIPS, Seat};
 use first_fault::{are_digits, place_of, read_digits};
 
@@ -73,10 +71,10 @@ fn is_fraction(word: &[u8]) -> bool
 pub fn known_cards(slots: SlotRow) -> Result<CardRow, ActionFault>
     ensures { seen_by cards_of result ≡ all_known (slots_of slots) }
 {
-    if has_unknown(slots.as_slice()) {
+    if slots.has_unknown() {
         return Err(ActionFault::BadAction);
     }
-    Ok(known_row(slots.as_slice()))
+    Ok(slots.known_cards())
 }
 
 /// One to `most` cards, known or unknown, two letters each.
@@ -101,30 +99,4 @@ fn keep_within(most: u8, slots: SlotRow) -> Result<SlotRow, ActionFault>
     } else {
         Err(ActionFault::BadAction)
     }
-}
-
-// Whether one of the cards is unknown.
-fn has_unknown(slots: &[Slot]) -> bool
-    ensures { result ≡ list_any is_unknown slots.now }
-{
-    for slot in slots {
-        if *slot == Slot::Unknown {
-            return true;
-        }
-    }
-    false
-}
-
-// The known ones of up to seven cards.
-fn known_row(slots: &[Slot]) -> CardRow
-    requires { length slots.now ≤ 7 }
-    ensures { cards_of result ≡ known_cards_said slots.now }
-{
-    let mut row = CardRow::new();
-    for slot in slots {
-        if let Slot::Known(card) = slot {
-            row.push(*card);
-        }
-    }
-    row
 }

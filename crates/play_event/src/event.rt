@@ -1,4 +1,8 @@
 //! An event is one thing that happened in a hand, as its notation reports it.
+ghost use Rattle.std.specs.Prelude.{◌≡◌};
+ghost use Rattle.play_event.specs.PlayedScript.{is_move};
+ghost use Rattle.play_event.specs.Said.{kind_said};
+
 use card_set::{CardRow, SlotRow};
 use chip_ledger::Seat;
 
@@ -55,6 +59,20 @@ pub enum Kind {
     Muck {
         seat: Seat,
     },
+}
+
+impl Kind {
+    /// Whether it is a move: a fold, a call, a raise or a bring-in.
+    pub fn is_move(self) -> bool
+        ensures { result ≡ is_move (kind_said self) }
+    {
+        match self {
+            Kind::Fold { .. } | Kind::Call { .. } => true,
+            Kind::Raise { .. } | Kind::BringIn { .. } => true,
+            Kind::Hole { .. } | Kind::Board { .. } | Kind::Discard { .. } => false,
+            Kind::Show { .. } | Kind::Muck { .. } => false,
+        }
+    }
 }
 
 /// An event, and the number of its action in the notation from 1, or 0 if no action states it.

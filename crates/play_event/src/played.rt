@@ -1,4 +1,8 @@
 //! What was played, as the trace of a hand keeps it: a move with its amounts, and a dealt card.
+ghost use Rattle.std.specs.Prelude.{◌≡◌};
+ghost use Rattle.play_event.specs.Past.{is_bring_in, is_fold, is_raise};
+ghost use Rattle.play_event.specs.Played.{act_said};
+
 use card_set::Slot;
 use chip_ledger::Seat;
 
@@ -11,6 +15,38 @@ pub enum Act {
     /// A bet or raise.
     Raise,
     BringIn,
+}
+
+impl Act {
+    /// Whether it is a fold.
+    pub fn is_fold(self) -> bool
+        ensures { result ≡ is_fold (act_said self) }
+    {
+        match self {
+            Act::Fold => true,
+            Act::Call | Act::Raise | Act::BringIn => false,
+        }
+    }
+
+    /// Whether it is a bet or a raise.
+    pub fn is_raise(self) -> bool
+        ensures { result ≡ is_raise (act_said self) }
+    {
+        match self {
+            Act::Raise => true,
+            Act::Fold | Act::Call | Act::BringIn => false,
+        }
+    }
+
+    /// Whether it is a bring-in.
+    pub fn is_bring_in(self) -> bool
+        ensures { result ≡ is_bring_in (act_said self) }
+    {
+        match self {
+            Act::BringIn => true,
+            Act::Fold | Act::Call | Act::Raise => false,
+        }
+    }
 }
 
 /// A move. Its amounts are chips put in on its street, not counting antes.

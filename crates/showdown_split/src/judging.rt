@@ -12,7 +12,7 @@ ghost use Rattle.showdown_split.specs.Playable.{ArePlayable};
 ghost use Rattle.showdown_split.specs.Scores.{points_of};
 
 use crate::scores::Scores;
-use card_set::{CardRow, known_row};
+use card_set::CardRow;
 use chip_ledger::{LiveRow, Seat};
 use hand_order::{HandOrder, Pick, Score, best_of};
 use play_event::HandRow;
@@ -71,6 +71,6 @@ fn score_of<O: HandOrder>(hands: &HandRow, board: &CardRow, pick: Pick, seat: Se
         (allowed pick (holding hands.now seat.number) (cards_of board.now))
         (option_map (λ s. s.points) result) }
 {
-    let hole = known_row(&hands.hands[seat.number as usize - 1]);
+    let hole = hands.hands[seat.number as usize - 1].known_cards();
     best_of::<O>(&hole, board, pick)
 }

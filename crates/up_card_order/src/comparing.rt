@@ -1,58 +1,21 @@
 //! Whose up-cards open before others', for any number of cards.
-ghost use Rattle.std.specs.Prelude.{false, ◌≡◌, ◌+◌, ◌*◌, ◌≤◌, ◌++◌, length};
-ghost use Rattle.std.specs.List.{list_any};
+ghost use Rattle.std.specs.Prelude.{false, ◌≡◌, ◌*◌};
 ghost use Rattle.card_set.specs.Deck as deck;
 ghost use Rattle.card_set.specs.Ranks.{high_ace, low_ace, ranks_of};
-ghost use Rattle.card_set.specs.Row.{cards_of, slots_of};
+ghost use Rattle.card_set.specs.Row.{cards_of};
 ghost use Rattle.card_set.specs.UpCards as up_cards;
 ghost use Rattle.play_event.specs.Openers as openers;
 ghost use Rattle.play_event.specs.declared.limit.Opener.TheVariants as openings;
 ghost use Rattle.play_event.specs.Openers.{card_stands, is_lower, razz_place};
-ghost use Rattle.card_set.specs.Known.{is_unknown, known_cards};
 ghost use Rattle.up_card_order.specs.HeightRow.{heights_in};
 ghost use Rattle.up_card_order.specs.Earliest as earliest;
 ghost use Rattle.up_card_order.specs.UpClass.{high_class_by, low_class_by};
 
 use crate::counting::ranks_in;
 use crate::heights::Heights;
-use card_set::{CardRow, Slot, SlotRow, place_in_deck, place_of_suit};
+use card_set::{CardRow, place_in_deck, place_of_suit};
 use hand_order::{Ace, height_of};
 use play_event::Opener;
-
-/// Whether one of the cards is unknown.
-pub fn has_unknown(slots: &[Slot]) -> bool
-    ensures { result ≡ list_any is_unknown slots.now }
-{
-    match slots {
-        [] => false,
-        [Slot::Unknown, ..] => true,
-        [Slot::Known(_), rest @ ..] => has_unknown(rest),
-    }
-}
-
-/// The known cards of a row.
-pub fn known(row: &SlotRow) -> CardRow
-    ensures { cards_of result ≡ known_cards (slots_of row.now) }
-{
-    let mut cards = CardRow::new();
-    push_known(&mut cards, row.as_slice());
-    cards
-}
-
-// Appends the known ones of some cards.
-fn push_known(cards: &mut CardRow, slots: &[Slot])
-    requires { cards.old.len + length slots.now ≤ 7 }
-    ensures { cards_of cards.new ≡ cards_of cards.old ++ known_cards slots.now }
-{
-    match slots {
-        [] => {}
-        [Slot::Unknown, rest @ ..] => push_known(cards, rest),
-        [Slot::Known(card), rest @ ..] => {
-            cards.push(*card);
-            push_known(cards, rest);
-        }
-    }
-}
 
 /// The up-cards of one seat open before those of another.
 pub fn is_opener_before(opener: Opener, first: bool, a: &CardRow, b: &CardRow) -> bool

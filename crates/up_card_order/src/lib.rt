@@ -5,4 +5,4 @@ mod comparing;
 mod counting;
 mod heights;
 
-pub use comparing::{has_unknown, is_opener_before, known, opens_no_later};
+pub use comparing::{is_opener_before, opens_no_later};

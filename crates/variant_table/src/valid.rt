@@ -3,25 +3,25 @@ ghost use Rattle.std.specs.Prelude.{◌≡◌, ◌≤◌, ℕ, true, nat_lt, IsT
 ghost use Rattle.std.specs.List.{list_any};
 ghost use Rattle.chip_ledger.specs.Seat.{seats_of};
 ghost use Rattle.chip_ledger.specs.SeatRow.{amount_of};
-ghost use Rattle.play_event.specs.Streets.{is_opened_by_up_cards};
-ghost use Rattle.play_event.specs.ValidSetup as valid;
 ghost use Rattle.play_event.specs.ValidSetup.{IsSize, IsSizeWhere, IsValid};
 
 use crate::table::table_of;
 use chip_ledger::{MOST_AMOUNT, MOST_CHIPS, Seat, SeatRow};
-use play_event::{Limit, Opener, Setup};
+use play_event::Setup;
 
 /// Whether the setup is valid for a hand of its game.
 pub fn is_valid(setup: &Setup) -> bool
     ensures { IsTrue result → IsValid setup.now }
 {
-    let table = table_of(setup.code);
     let seats = setup.stacks.seats;
-    if setup.antes.seats != seats || setup.blinds.seats != seats || table.seats < seats {
+    if setup.antes.seats != seats
+        || setup.blinds.seats != seats
+        || table_of(setup.code).seats < seats
+    {
         return false;
     }
-    let fixed = is_fixed(table.limit);
-    let stud = is_stud(table.opener);
+    let fixed = setup.code.is_fixed();
+    let stud = setup.code.is_stud();
     if !are_sizes(&setup.stacks) || !are_within(&setup.antes, &setup.stacks) {
         return false;
     }
@@ -37,24 +37,6 @@ pub fn is_valid(setup: &Setup) -> bool
     have_some_if(setup.dead_antes, &setup.antes)
         && fall_if(seats == 2, &setup.blinds)
         && are_none_if(stud, &setup.blinds)
-}
-
-fn is_fixed(limit: Limit) -> bool
-    ensures { result ≡ valid.is_fixed limit }
-{
-    match limit {
-        Limit::Fixed => true,
-        Limit::Pot | Limit::No => false,
-    }
-}
-
-fn is_stud(opener: Opener) -> bool
-    ensures { result ≡ is_opened_by_up_cards opener }
-{
-    match opener {
-        Opener::Blinds => false,
-        Opener::LowUp | Opener::HighUp => true,
-    }
 }
 
 // Whether each amount is within the limits of a stack or a bet size.

@@ -15,17 +15,17 @@ returns c =
     let seat = c.args.seat.number in
     let ps = placed c.args.places.now in
     let cards = slots_of c.args.cards.now in
-    let names = cards_of c.known-names.result in
+    let names = cards_of c.known_cards-names.result in
     let all = all_covered c.args.table.now.code seat in
     let mark = discarded_now c.args.on (length ps) in
     let blanks : c.blanks-blanks.result ≡ blanks_in cards = c.blanks-blanks.ensures.blanks ∙ ap blanks_in c.as_slice.ensures in
     record {
       after = c.named_cards.ensures.after
           ∙ ap (λ (p : Place → Bool). after_names p mark names (other_names (filter p ps) names) c.blanks-blanks.result ps) all
-          ∙ ap (λ (cs : List Card). after_names (is_held_by seat) mark cs (other_names (filter (is_held_by seat) ps) cs) c.blanks-blanks.result ps) c.known-names.ensures
+          ∙ ap (λ (cs : List Card). after_names (is_held_by seat) mark cs (other_names (filter (is_held_by seat) ps) cs) c.blanks-blanks.result ps) c.known_cards-names.ensures
           ∙ ap (λ (n : ℕ). after_names (is_held_by seat) mark (known_cards cards) (other_names (filter (is_held_by seat) ps) (known_cards cards)) n ps) blanks;
       lacking = c.named_cards.ensures.lacking
           ∙ ap (λ (p : Place → Bool). has_no_place (filter p ps) names c.blanks-blanks.result) all
-          ∙ ap (λ (cs : List Card). has_no_place (filter (is_held_by seat) ps) cs c.blanks-blanks.result) c.known-names.ensures
+          ∙ ap (λ (cs : List Card). has_no_place (filter (is_held_by seat) ps) cs c.blanks-blanks.result) c.known_cards-names.ensures
           ∙ ap (λ (n : ℕ). has_no_place (filter (is_held_by seat) ps) (known_cards cards) n) blanks;
     }

@@ -25,14 +25,14 @@ returns-in-Draw g c =
     let seat = c.in-Discard.seat.number in
     let cards = slots_of c.in-Discard.cards in
     let on_draw = ap (λ (due : Due). illegal_discard t c.args.live.now due seat cards) c.in-Draw.is in
-    let answer = c.discard_cards.result in
+    let answer = c.discard.result in
     rw (← c.self.view_is)
-    (discard_answered t c.discard_cards.new.state c.args.due c.args.live.now seat cards c.args.event.now.kind answer
+    (discard_answered t c.discard.new.self c.args.due c.args.live.now seat cards c.args.event.now.kind answer
     (ap kind_said c.in-Discard.is)
-    (on_ok answer (λ none. on_draw ∙ none) c.discard_cards.ensures.right) (if_err answer (λ reason is. on_draw ∙ is) c.discard_cards.ensures.wrong)
+    (on_ok answer (λ none. on_draw ∙ none) c.discard.ensures.right) (if_err answer (λ reason is. on_draw ∙ is) c.discard.ensures.wrong)
     (λ on street.
     let same : c.in-Draw.on ≡ on = cc in
-    subst (λ (s : ℕ). OnOk answer (IsDiscarded t c.discard_cards.new.state s seat cards)) same c.discard_cards.ensures.discarded) (one_hand t c.discard_cards.new.state c.discard_cards.ensures.table c.discard_cards.ensures.seats) c.discard_cards.ensures.unchanged)
+    subst (λ (s : ℕ). OnOk answer (IsDiscarded t c.discard.new.self s seat cards)) same c.discard.ensures.discarded) (one_hand t c.discard.new.self c.discard.ensures.table c.discard.ensures.seats) c.discard.ensures.unchanged)
 
 pub returns-in-Deal : goal.returns-in-Deal
 returns-in-Deal g c =

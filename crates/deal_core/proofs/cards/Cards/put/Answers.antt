@@ -6,18 +6,18 @@ use Rattle.deal_core.proofs.Same.{of_itself, one_hand}
 use Rattle.deal_core.proofs.cards.Cards.put.Goals as goal
 use Rattle.std.proofs.lemmas.Option.{same_Some}
 
-pub deal_cards-requires : goal.deal_cards-requires
-deal_cards-requires g c = rw c.self.view_is (c.requires c.in-Some.on (sym c.street_due.ensures ∙ c.in-Some.is))
+pub deal-requires : goal.deal-requires
+deal-requires g c = rw c.self.view_is (c.requires c.in-Some.on (sym c.street_due.ensures ∙ c.in-Some.is))
 
 pub returns-in-Some-clause-dealt : goal.returns-in-Some-clause-dealt
 returns-in-Some-clause-dealt g c =
     rw (← c.self.view_is) λ on street.
-    subst (λ (s : ℕ). IsDealt c.self.inside.state c.deal_cards.new.state (seat_said c.args.owner) s c.args.cards.now)
-    (same_Some c.in-Some.on on (sym c.in-Some.is ∙ c.street_due.ensures ∙ street)) c.deal_cards.ensures
+    subst (λ (s : ℕ). IsDealt c.self.inside.state c.deal.new.self (seat_said c.args.owner) s c.args.cards.now)
+    (same_Some c.in-Some.on on (sym c.in-Some.is ∙ c.street_due.ensures ∙ street)) c.deal.ensures
 
 pub returns-in-Some-clause-hand : goal.returns-in-Some-clause-hand
 returns-in-Some-clause-hand g c =
-    rw (← c.self.view_is) (one_hand c.self.inside.state c.deal_cards.new.state c.deal_cards.ensures.table c.deal_cards.ensures.seats)
+    rw (← c.self.view_is) (one_hand c.self.inside.state c.deal.new.self c.deal.ensures.table c.deal.ensures.seats)
 
 pub returns-in_default-clause-hand : goal.returns-in_default-clause-hand
 returns-in_default-clause-hand g c = of_itself c.args.self.now

@@ -18,11 +18,11 @@ pub returns-in-None : goal.returns-in-None
 returns-in-None g c =
     let cards = cards_of c.in-Show.cards in
     rw (← c.self.view_is)
-    (show_answered c.self.inside.state c.show_cards.new.state c.args.due c.args.live.now c.args.settled c.in-Show.seat.number cards c.args.event.now.kind c.show_cards.result
+    (show_answered c.self.inside.state c.show.new.self c.args.due c.args.live.now c.args.settled c.in-Show.seat.number cards c.args.event.now.kind c.show.result
     (ap kind_said c.in-Show.is)
-    (on_ok c.show_cards.result (λ none. c.in-None.ensures.show_is_due cards ∙ none) c.show_cards.ensures.right)
-    (if_err c.show_cards.result (λ reason is. c.in-None.ensures.show_is_due cards ∙ is) c.show_cards.ensures.wrong)
-    c.show_cards.ensures.shown (one_hand c.self.inside.state c.show_cards.new.state c.show_cards.ensures.table c.show_cards.ensures.seats) c.show_cards.ensures.unchanged)
+    (on_ok c.show.result (λ none. c.in-None.ensures.show_is_due cards ∙ none) c.show.ensures.right)
+    (if_err c.show.result (λ reason is. c.in-None.ensures.show_is_due cards ∙ is) c.show.ensures.wrong)
+    c.show.ensures.shown (one_hand c.self.inside.state c.show.new.self c.show.ensures.table c.show.ensures.seats) c.show.ensures.unchanged)
 
 pub returns-in-Some-illegal_muck : goal.returns-in-Some-illegal_muck
 returns-in-Some-illegal_muck g c =
@@ -34,5 +34,5 @@ returns-in-Some-illegal_muck g c =
 pub returns-in-None-illegal_muck : goal.returns-in-None-illegal_muck
 returns-in-None-illegal_muck g c =
     rw (← c.self.view_is)
-    (muck_answered c.self.inside.state c.muck_cards.new.state c.args.due c.args.live.now c.args.settled c.in-Muck.seat.number c.args.event.now.kind _
-    (ap kind_said c.in-Muck.is) (sym c.illegal_muck.ensures.wrong ∙ c.in-None-illegal_muck.is) tt c.muck_cards.ensures (one_hand c.self.inside.state c.muck_cards.new.state c.muck_cards.ensures.table c.muck_cards.ensures.seats) tt)
+    (muck_answered c.self.inside.state c.muck.new.self c.args.due c.args.live.now c.args.settled c.in-Muck.seat.number c.args.event.now.kind _
+    (ap kind_said c.in-Muck.is) (sym c.illegal_muck.ensures.wrong ∙ c.in-None-illegal_muck.is) tt c.muck.ensures (one_hand c.self.inside.state c.muck.new.self c.muck.ensures.table c.muck.ensures.seats) tt)

@@ -1,0 +1,36 @@
+-- The first seat, and those after it.
+use Rattle.std.proofs.Common.{◌+◌, ◌-◌, Some, List, map}
+use Rattle.play_event.specs.Places.{Place, group_of}
+use Rattle.card_places.specs.Ordered.{on_seats}
+use Rattle.card_places.specs.Placed.{placed}
+use Rattle.card_places.specs.Plain.{place_of}
+use Rattle.card_places.proofs.InOrder.{in_front, is_behind, past_both, split_seats, split_rows}
+use Rattle.card_set.proofs.Numbers.{positive}
+use Rattle.card_set.proofs.Options.{along}
+use Rattle.card_places.proofs.card_state.CardState.+in_seats.Goals as goal
+use Rattle.card_set.proofs.Results.{if_err}
+
+pub returns-in-Ok-clause-found : goal.returns-in-Ok-clause-found
+returns-in-Ok-clause-found t c =
+    let ps : List Place = placed c.args.self.now.places in
+    in_front (on_seats ps c.args.street c.args.first c.args.count) (group_of (map place_of c.as_slice.result.now) c.args.street (Some c.args.first)) (on_seats ps c.args.street (c.args.first + 1) (c.args.count - 1)) c.args.index (place_of c.in-Ok.card)
+    (split_rows _ _ (map place_of c.as_slice.result.now) ps c.args.street (Some c.args.first) c.as_slice.ensures.placed (split_seats ps c.args.street c.args.first c.args.count (positive c.args.count c.if-count-eq0.false)))
+    c.in-Ok.ensures.found
+
+pub returns-in-Err-clause-found : goal.returns-in-Err-clause-found
+returns-in-Err-clause-found t c =
+    let ps : List Place = placed c.args.self.now.places in
+    along c.in_seats.result
+    (λ card got.
+    is_behind (on_seats ps c.args.street c.args.first c.args.count) (group_of (map place_of c.as_slice.result.now) c.args.street (Some c.args.first)) (on_seats ps c.args.street (c.args.first + 1) (c.args.count - 1)) c.args.index c.in-Err.left (place_of card)
+    (split_rows _ _ (map place_of c.as_slice.result.now) ps c.args.street (Some c.args.first) c.as_slice.ensures.placed (split_seats ps c.args.street c.args.first c.args.count (positive c.args.count c.if-count-eq0.false)))
+    c.in-Err.ensures.past got) c.in_seats.ensures.found
+
+pub returns-in-Err-clause-past : goal.returns-in-Err-clause-past
+returns-in-Err-clause-past t c =
+    let ps : List Place = placed c.args.self.now.places in
+    if_err c.in_seats.result
+    (λ rest past.
+    past_both (on_seats ps c.args.street c.args.first c.args.count) (group_of (map place_of c.as_slice.result.now) c.args.street (Some c.args.first)) (on_seats ps c.args.street (c.args.first + 1) (c.args.count - 1)) c.args.index c.in-Err.left rest
+    (split_rows _ _ (map place_of c.as_slice.result.now) ps c.args.street (Some c.args.first) c.as_slice.ensures.placed (split_seats ps c.args.street c.args.first c.args.count (positive c.args.count c.if-count-eq0.false)))
+    c.in-Err.ensures.past past) c.in_seats.ensures.past

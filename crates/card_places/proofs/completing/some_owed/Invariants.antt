@@ -1,8 +1,0 @@
-use Rattle.std.proofs.Common.{◌≡◌}
-use Rattle.std.specs.List.{list_any}
-use Rattle.chip_ledger.specs.Seat.{seats_of}
-use Rattle.card_places.specs.Refusals as why
-use Rattle.card_places.proofs.completing.some_owed.Given as goal
-
-abbrev pub invariant-loop-index : goal.invariant-loop-index
-invariant-loop-index l = l.any ≡ list_any (why.is_owed_draw_in l.state l.on) (seats_of l.index)

@@ -1,8 +1,0 @@
-use Rattle.std.proofs.Common.{◌≡◌}
-use Rattle.std.specs.List.{list_any}
-use Rattle.chip_ledger.specs.Seat.{seats_of}
-use Rattle.card_places.specs.Refusals as why
-use Rattle.card_places.proofs.completing.some_to_show.Given as goal
-
-abbrev pub invariant-loop-index : goal.invariant-loop-index
-invariant-loop-index l = l.any ≡ list_any (why.has_to_show_in l.state l.live) (seats_of l.index)

@@ -1,4 +1,0 @@
-use Rattle.card_places.proofs.ordering.+in_streets.Given as goal
-
-abbrev pub decreases-in_streets : goal.decreases-in_streets
-decreases-in_streets l = l.count

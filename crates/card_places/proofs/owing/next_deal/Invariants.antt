@@ -1,9 +1,0 @@
--- No seat so far is owed a card.
-use Rattle.std.proofs.Common.{◌≡◌, false, nat_lt}
-use Rattle.std.specs.List.{list_any}
-use Rattle.chip_ledger.specs.Seat.{seats_of}
-use Rattle.card_places.specs.Refusals.{owed_in}
-use Rattle.card_places.proofs.owing.next_deal.Given as goal
-
-abbrev pub invariant-loop-index : goal.invariant-loop-index
-invariant-loop-index l = list_any (λ seat. nat_lt 0 (owed_in l.state l.live l.on seat)) (seats_of l.index) ≡ false

@@ -1,8 +1,0 @@
-use Rattle.std.proofs.Common.{◌≡◌, drop}
-use Rattle.std.specs.List.{list_any}
-use Rattle.card_set.specs.Known.{is_unknown}
-use Rattle.phh_actions.proofs.parts.has_unknown.Given as goal
-
--- the cards that are left decide
-abbrev pub invariant-loop-slot : goal.invariant-loop-slot
-invariant-loop-slot l = list_any is_unknown (drop l.slot-index l.slots) ≡ list_any is_unknown l.slots
