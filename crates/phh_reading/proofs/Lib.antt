@@ -8,3 +8,5 @@ pub mod NumberOrder
 pub mod Placing
 pub mod Counting
 pub mod Documents
+pub mod Ascending
+pub mod InTurn

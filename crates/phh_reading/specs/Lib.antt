@@ -11,3 +11,4 @@ pub mod Hand
 pub mod Stripped
 pub mod Order
 pub mod Reading
+pub mod NextTable

@@ -66,9 +66,9 @@ fn read_tables(
     Ok((records, file_moves))
 }
 
-// The hand with this number, from 1, after `file_moves` moves of the file.
+/// The hand with this number, from 1, after `file_moves` moves of the file.
 #[tactic(auto, unfolding(crate::specs::Reading::numbered_hand))]
-fn read_numbered(
+pub fn read_numbered(
     alloc: Global,
     table: &Table,
     number: u32,

@@ -2,6 +2,7 @@
 //! or refused with their first fault.
 #![tactic(auto)]
 
+mod by_table;
 pub mod date;
 pub mod events;
 pub mod fault;

@@ -1,23 +1,25 @@
 //! Reads bytes as records, or refuses them with their first fault.
-ghost use Rattle.std.specs.Prelude.{◌≡◌, ◌≤◌, Some, sum_by, length, option_map, IfOk, IfSome};
+ghost use Rattle.std.specs.Prelude.{◌≡◌, ◌≤◌, Some, sum_by, length, IfOk, IfSome};
 ghost use Rattle.std.specs.List.{AllByRecursion};
-ghost use Rattle.toml.specs.Errors.{IsMemory};
+ghost use Rattle.toml.specs.Parse.{parse_document};
 ghost use Rattle.toml.specs.View.{table_view};
 ghost use Rattle.first_fault.specs.declared.limits.TheConstants.{MOST_FILE_MOVES, MOST_HANDS};
 ghost use Rattle.phh_reading.specs.Fields.{place_text as place_text_said};
-ghost use Rattle.phh_reading.specs.Reading.{InHand, Reads, document_of, document_said, reading, wrong_of};
+ghost use Rattle.phh_reading.specs.Reading.{InHand, Reads, document_said, reading, wrong_of};
 ghost use Rattle.hand_records.specs.Histories.{AreHistories, IsHistory};
 ghost use Rattle.hand_records.specs.Moves.{moves_of};
 
+use crate::by_table::read_by_table;
 use crate::fault::{PhhFault, PhhHandFault};
 use crate::field_fault::{FieldFaultKind, FieldPlace};
 use crate::file::read_hands;
 use card_set::{Memory, try_format};
 use first_fault::{ReadError, Text};
 use hand_records::Records;
+use phh_tables::document;
 use std::alloc::Global;
+use std::str;
 use toml::Table;
-use toml::de::Error;
 
 /// The records in bytes in the Poker Hand History format, one for each hand in the order of
 /// reading; or the first fault. Each record is sound, and under the rules of hand histories.
@@ -28,36 +30,34 @@ pub fn read(alloc: Global, bytes: &[u8]) -> Result<Records, PhhFault>
     ensures few { IfOk result (λ records. length records ≤ MOST_HANDS) }
     ensures moves { IfOk result (λ records. sum_by moves_of records ≤ MOST_FILE_MOVES) }
 {
-    match parse(alloc, bytes) {
-        Ok(Some(table)) => read_document(alloc, &table),
-        Ok(None) => Err(PhhFault::Text),
+    match str::from_utf8(bytes) {
+        Ok(text) => read_text(alloc, text),
+        Err(_) => Err(PhhFault::Text),
+    }
+}
+
+// The records in a text: one table at a time if it has a form that allows it.
+fn read_text(alloc: Global, text: &str) -> Result<Records, PhhFault>
+    ensures reads { Reads result (document_said (parse_document text.now)) }
+    ensures hands { IfOk result AreHistories }
+{
+    match read_by_table(alloc, text) {
+        Ok(Some(records)) => Ok(records),
+        Ok(None) => read_whole(alloc, text),
         Err(memory) => Err(PhhFault::Memory(memory)),
     }
 }
 
-// The document that bytes are, or nothing if they are not TOML.
-#[tactic(auto, using(crate::proofs::Documents::no_document))]
-fn parse(alloc: Global, bytes: &[u8]) -> Result<Option<Table>, Memory>
-    ensures { IfOk result (λ table. option_map (λ t. table_view t) table ≡ document_of bytes.now) }
+// The records in a text that is parsed as a whole.
+fn read_whole(alloc: Global, text: &str) -> Result<Records, PhhFault>
+    ensures reads { Reads result (document_said (parse_document text.now)) }
+    ensures hands { IfOk result AreHistories }
 {
-    match toml::table_from_slice(alloc, bytes) {
-        Ok(table) => Ok(Some(table)),
-        Err(error) => {
-            if error.is_memory() {
-                Err(refused_in_parser(&error))
-            } else {
-                Ok(None)
-            }
-        }
+    match document(alloc, text) {
+        Ok(Some(table)) => read_document(alloc, &table),
+        Ok(None) => Err(PhhFault::Text),
+        Err(memory) => Err(PhhFault::Memory(memory)),
     }
-}
-
-// The parser reports out of memory only if a request was refused; that is assumed here.
-#[tactic(auto, using(card_set::specs::Refusal::an_allocator_said_so))]
-fn refused_in_parser(_error: &Error) -> Memory
-    requires { IsMemory _error.now }
-{
-    Memory {}
 }
 
 // The records in a document.

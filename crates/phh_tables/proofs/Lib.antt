@@ -8,3 +8,4 @@ pub mod MoreLines
 pub mod Headers
 pub mod Cutting
 pub mod Fronts
+pub mod FirstLines

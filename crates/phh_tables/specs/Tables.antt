@@ -1,12 +1,13 @@
 -- A text that is cut into tables, and the document of those tables.
-use Rattle.std.specs.Prelude.{◌≡◌, ℕ, ◌<◌, Bool, true, false, not, ◌||◌, ◌==◌, List, [], ◌∷◌, ◌++◌, length, Some, ◌⊎◌}
+use Rattle.std.specs.Prelude.{◌≡◌, ℕ, ◌<◌, ◌≤◌, Bool, true, false, not, ◌&&◌, ◌||◌, ◌==◌, List, [], ◌∷◌, ◌++◌, length, Some, ◌⊎◌}
 use Rattle.std.specs.Char.{is_digit}
 use Rattle.std.specs.List.{list_all}
 use Rattle.std.specs.Ordering.{nat_cmp, match_ordering}
 use Rattle.std.specs.Cmp.Lexicographic.{slice_cmp}
-use Rattle.toml_parser.specs.Lexical.{left_bracket, right_bracket, line_feed, starts_newline}
+use Rattle.toml_parser.specs.Lexical.{first, left_bracket, right_bracket, line_feed, starts_newline}
 use Rattle.toml.specs.Data.{Data, array, table, Items, no_items, item, Members, no_members, member, same_key}
 use Rattle.toml.specs.Parse.{parse_document}
+use Rattle.phh_tables.specs.declared.table.TheConstants.{LONGEST_TABLE}
 
 -- the text is not empty, and its last byte is a line feed
 abbrev pub ends_line_feed : List ℕ → Bool
@@ -48,6 +49,26 @@ pub record IsTable (text number lines next : List ℕ) (members : Members) : Typ
   pub whole : (next ≡ []) ⊎ (ends_line_feed lines ≡ true)
   pub read : parse_document lines ≡ Some members
   pub plain : has_section members ≡ false
+
+-- a line after the first begins with a bracket
+abbrev pub has_header : List ℕ → Bool
+has_header [] = false
+has_header (c ∷ cs) = (c == line_feed && first cs == left_bracket) || has_header cs
+
+-- a header with a number, and the text after it, which begins a new line
+pub record IsHeader (text number rest : List ℕ) : Type 0 where
+  pub text_is : text ≡ left_bracket ∷ (number ++ right_bracket ∷ rest)
+  pub some_digit : 0 < length number
+  pub digits : list_all (λ sign. is_digit sign 10) number ≡ true
+  pub newline : starts_newline rest ≡ true
+
+-- A table whose lines end before the next line that begins with a bracket, or with the text; there
+-- are no more bytes of them than are read alone.
+pub record IsFirstTable (text number lines next : List ℕ) (members : Members) : Type 0 where
+  pub table : IsTable text number lines next members
+  pub one : has_header lines ≡ false
+  pub ends : (next ≡ []) ⊎ (first next ≡ left_bracket)
+  pub few : length lines ≤ LONGEST_TABLE
 
 -- the text is these tables, one after the other
 abbrev pub IsCut : List ℕ → List Entry → Type 0

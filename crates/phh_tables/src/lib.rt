@@ -2,8 +2,10 @@
 #![tactic(auto)]
 
 mod laws;
+mod parsing;
 mod sections;
 mod table;
 
 pub use laws::{law_of_tables, law_of_worked_documents};
-pub use table::{first_line, first_table};
+pub use parsing::document;
+pub use table::{LONGEST_TABLE, first_line, first_table};

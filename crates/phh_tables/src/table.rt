@@ -1,16 +1,24 @@
 //! Reads the table at the front of a text.
-ghost use Rattle.std.specs.Prelude.{◌≡◌, ℕ, ◌-◌, ◌<◌, ◌≤◌, ◌∷◌, ◌++◌, false, true, List, Some, IfSome, IsTrue, length, slice_index};
+ghost use Rattle.std.specs.Prelude.{◌≡◌, ℕ, suc, ◌-◌, ◌<◌, ◌≤◌, ◌∷◌, ◌++◌, false, true, List, Some, None, IfOk, IfSome, IsTrue, length, slice_index};
 ghost use Rattle.std.specs.List.{list_all, prefix_len};
 ghost use Rattle.std.specs.Char.{is_ascii_digit, is_digit};
 ghost use Rattle.toml_parser.specs.Lexical.{skip_blank as skip_blank_said, starts_newline as starts_newline_said};
+ghost use Rattle.toml.specs.Data.{Members};
 ghost use Rattle.toml.specs.Parse.{parse_document, skip_bom as skip_bom_said};
 ghost use Rattle.toml.specs.View.{table_view};
-ghost use Rattle.phh_tables.specs.Tables.{IsTable, has_section as has_section_said};
+ghost use Rattle.phh_tables.specs.declared.table.TheConstants.{LONGEST_TABLE};
+ghost use Rattle.phh_tables.specs.Tables.{IsFirstTable, IsHeader, has_section as has_section_said};
 
+use crate::parsing::document;
 use crate::sections::has_section;
+use card_set::Memory;
 use std::alloc::Global;
 use toml::Table;
 use toml_parser::text::{byte_at, first, skip, skip_blank, starts_newline};
+
+/// The most bytes of the lines of a table that is parsed alone. So few bytes cannot take long to
+/// parse: a text that is slow to parse is not parsed twice.
+pub const LONGEST_TABLE: usize = 65_536;
 
 /// The text without a byte order mark and without the blank lines and comments at its front.
 pub fn first_line(text: &str) -> &str
@@ -31,16 +39,22 @@ fn skip_bom(text: &str) -> &str
 }
 
 /// The table under the header at the front of a text: the number in the header, the table, and the
-/// text from the next header on. `None` if the text has no such header there, if the lines after it
-/// are no document of their own, or if that document has tables; then nothing is said of the text.
-pub fn first_table(alloc: Global, text: &str) -> Option<(&str, Table, &str)>
-    ensures { IfSome result (λ found. (lines : List ℕ)
-        × IsTable text.now found.0.now lines found.2.now (table_view found.1)) }
+/// text from the next line on that begins with a bracket. Nothing if and only if there is no such
+/// table.
+pub fn first_table(alloc: Global, text: &str) -> Result<Option<(&str, Table, &str)>, Memory>
+    ensures found { IfOk result (λ found. IfSome found (λ parts. (lines : List ℕ)
+        × IsFirstTable text.now parts.0.now lines parts.2.now (table_view parts.1))) }
+    ensures none { IfOk result (λ found. found ≡ None → (number lines next : List ℕ)
+        → (members : Members) → IsFirstTable text.now number lines next members → ⊥) }
 {
-    let (number, rest) = header(text)?;
+    let Some((number, rest)) = header(text) else {
+        return Ok(None);
+    };
     let (lines, next) = rest.split_at(lines_len(rest));
-    let table = plain_table(alloc, lines)?;
-    Some((number, table, next))
+    match plain_table(alloc, lines)? {
+        Some(table) => Ok(Some((number, table, next))),
+        None => Ok(None),
+    }
 }
 
 // The number of the header at the front, and the text after the header, which begins a new line.
@@ -51,6 +65,8 @@ fn header(text: &str) -> Option<(&str, &str)>
     ensures digits { IfSome result (λ parts.
         list_all (λ sign. is_digit sign 10) parts.0.now ≡ true) }
     ensures line { IfSome result (λ parts. starts_newline_said parts.1.now ≡ true) }
+    ensures none { result ≡ None → (number rest : List ℕ)
+        → IsHeader text.now number rest → ⊥ }
 {
     if first(text) != b'[' {
         return None;
@@ -85,6 +101,8 @@ fn lines_len(text: &str) -> usize
     ensures bracket { result < length text.now → slice_index text.now result ≡ 91 }
     ensures line { result < length text.now
         → (0 < result) × (slice_index text.now (result - 1) ≡ 10) }
+    ensures first { (k : ℕ) → suc k < result → slice_index text.now (suc k) ≡ 91
+        → slice_index text.now k ≡ 10 → ⊥ }
 {
     let bytes = text.as_bytes();
     for at in 1..bytes.len() {
@@ -95,19 +113,26 @@ fn lines_len(text: &str) -> usize
     bytes.len()
 }
 
-// The document of the lines, if they are one and have no tables.
-fn plain_table(alloc: Global, lines: &str) -> Option<Table>
-    ensures read { IfSome result (λ table. parse_document lines.now ≡ Some (table_view table)) }
-    ensures plain { IfSome result (λ table. has_section_said (table_view table) ≡ false) }
+// The document of the lines, if they are one, have no tables, and are few enough.
+fn plain_table(alloc: Global, lines: &str) -> Result<Option<Table>, Memory>
+    ensures read { IfOk result (λ found. IfSome found (λ table.
+        parse_document lines.now ≡ Some (table_view table))) }
+    ensures plain { IfOk result (λ found. IfSome found (λ table.
+        has_section_said (table_view table) ≡ false)) }
+    ensures few { IfOk result (λ found. IfSome found (λ table. length lines.now ≤ LONGEST_TABLE)) }
+    ensures none { IfOk result (λ found. found ≡ None → length lines.now ≤ LONGEST_TABLE
+        → (members : Members) → parse_document lines.now ≡ Some members
+        → has_section_said members ≡ false → ⊥) }
 {
-    match toml::table_from_str(alloc, lines) {
-        Ok(table) => {
-            if has_section(&table) {
-                None
-            } else {
-                Some(table)
-            }
-        }
-        Err(_) => None,
+    if lines.len() > LONGEST_TABLE {
+        return Ok(None);
+    }
+    let Some(table) = document(alloc, lines)? else {
+        return Ok(None);
+    };
+    if has_section(&table) {
+        Ok(None)
+    } else {
+        Ok(Some(table))
     }
 }

@@ -1,13 +1,15 @@
 -- The records are those of the document that the bytes are.
-use Rattle.std.proofs.Common.{◌≡◌, Some, ap, sym, ◌∙◌}
-use Rattle.std.specs.Option.{option_map}
-use Rattle.toml.specs.View.{table_view}
-use Rattle.phh_reading.specs.Reading.{document_of, reading}
+use Rattle.std.proofs.Common.{sym, ap, subst}
+use Rattle.phh_reading.specs.Reading.{Reads, document_said, reading}
+use Rattle.phh_reading.proofs.Documents.{no_document, text_document}
 use Rattle.phh_reading.proofs.reading.read.Goals as goal
 
-pub returns-in-Ok-Some-clause-reads : goal.returns-in-Ok-Some-clause-reads
+pub returns-in-Ok-clause-reads : goal.returns-in-Ok-clause-reads
 unfolding reading
-returns-in-Ok-Some-clause-reads c =
-    let document : document_of c.args.bytes.now ≡ Some (table_view c.in-Ok-Some.table) =
-    sym c.in-Ok-Some.ensures ∙ ap (option_map (λ t. table_view t)) c.in-Ok-Some.field-0-is in
-    rw document c.read_document.ensures.reads
+returns-in-Ok-clause-reads c =
+    let same = text_document c.args.bytes.now c.in-Ok.text.now c.in-Ok.ensures.cases.0 c.in-Ok.ensures.cases.1 in
+    subst (λ document. Reads c.read_text.result (document_said document)) (sym same) c.read_text.ensures.reads
+
+pub returns-in-Err-clause-reads : goal.returns-in-Err-clause-reads
+unfolding reading
+returns-in-Err-clause-reads c = ap document_said (no_document c.args.bytes.now c.in-Err.ensures.cases.0)
