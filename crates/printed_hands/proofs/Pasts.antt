@@ -18,18 +18,28 @@ use Rattle.play_event.specs.declared.setup.Setup.{Setup}
 use Rattle.printed_hands.specs.Steps.{event_named}
 use Rattle.play_event.proofs.SaidSoFar.{so_far}
 
--- the events after the first ones, the newest first
-abbrev pub later_than : List Event → ℕ → List Said
-later_than script count = reverse (drop count (map said_of script))
+-- of the first events, those after the first ones, the newest first
+abbrev pub later_than : List Event → (events count : ℕ) → List Said
+later_than script events count = reverse (drop count (take events (map said_of script)))
 
--- all events are those later than some, and these
-pub all_are : (script : List Event) (count : ℕ) → reverse (map said_of script) ≡ later_than script count ++ so_far script count
-all_are script count = ap reverse (sym (take_drop count (map said_of script))) ∙ reverse-append (take count (map said_of script)) (drop count (map said_of script))
+-- the first events are those later than some, and these
+pub all_are : (script : List Event) (events count : ℕ) → count ≤ events → so_far script events ≡ later_than script events count ++ so_far script count
+all_are script events count within =
+    let all = map said_of script in
+    let first = take events all in
+    ap reverse (sym (take_drop count first)) ∙ reverse-append (take count first) (drop count first)
+    ∙ ap (λ (list : List Said). reverse (drop count first) ++ reverse list) (take_take count events all within)
   where
     take_drop : (count : ℕ) (events : List Said) → take count events ++ drop count events ≡ events
     take_drop zero events = refl
     take_drop (suc count) [] = refl
     take_drop (suc count) (event ∷ events) = ap (λ rest. event ∷ rest) (take_drop count events)
+
+    take_take : (count most : ℕ) (events : List Said) → count ≤ most → take count (take most events) ≡ take count events
+    take_take zero most events within = refl
+    take_take (suc count) zero events within = absurd (omega (arith, within))
+    take_take (suc count) (suc most) [] within = refl
+    take_take (suc count) (suc most) (event ∷ events) within = ap (λ rest. event ∷ rest) (take_take count most events (omega (arith, within)))
 
 -- events before legal ones are legal
 pub legal_before : (setup : Setup) (rules : Rules) (later events : List Said) → AreLegal setup rules (later ++ events) → AreLegal setup rules events

@@ -1,4 +1,4 @@
--- The text of legal hands.
+-- The text of hands.
 pub mod Check
 pub mod Ending
 pub mod Steps

@@ -1,21 +1,25 @@
 -- The steps of a hand: what each event did, and the chips that each seat has left and has put in
 -- after it.
-use Rattle.std.specs.Prelude.{◌≡◌, ℕ, ◌≤◌, ◌+◌, ◌-◌, List, [], ◌∷◌, ◌++◌, length, map, codes}
+use Rattle.std.specs.Prelude.{◌≡◌, ℕ, ◌≤◌, ◌+◌, ◌-◌, List, [], ◌∷◌, ◌++◌, length, map, reverse, take, codes}
 use Rattle.std.specs.Fmt.{decimal}
 use Rattle.chip_ledger.specs.SeatRow.{amount_of}
 use Rattle.chip_ledger.specs.declared.seat_row.SeatRow.{SeatRow}
 use Rattle.chip_ledger.specs.declared.seat_row.TheConstants.{MOST_AMOUNT}
 use Rattle.play_event.specs.CanonScript.{move_named}
 use Rattle.hand_records.specs.SoundRecord.{script_said}
+use Rattle.hand_records.specs.declared.record.Record.{Record}
 use Rattle.hand_records.specs.declared.trace.Play.{Play}
 use Rattle.phh_actions.specs.Written.{event_text}
 use Rattle.play_event.specs.Chips.{chips_left, chips_put}
 use Rattle.play_event.specs.Code.{code_text}
+use Rattle.play_event.specs.Laws.{AreLegal}
 use Rattle.play_event.specs.Past as past
 use Rattle.play_event.specs.Past.{Move, Past, Resolved, moves_of}
+use Rattle.play_event.specs.Played.{move_said}
 use Rattle.play_event.specs.Said.{Board, Discard, Hole, Muck, Said, Show}
-use Rattle.play_event.specs.Scripts.{past_at_end}
+use Rattle.play_event.specs.Scripts.{past_after, past_at_end}
 use Rattle.play_event.specs.Seats.{all_seats}
+use Rattle.play_event.specs.Trace.{traced_moves}
 use Rattle.play_event.specs.declared.played.Move as rows
 use Rattle.play_event.specs.declared.setup.Setup.{Setup}
 use Rattle.printed_hands.specs.Ending.{ending_lines}
@@ -65,6 +69,21 @@ head_lines number setup =
     codes "hand "
     ++ (decimal number
     ++ (32 ∷ code_text setup.code ++ (codes "\n0 posts" ++ chips_text setup [])))
+
+-- the lines of the first events of a hand, this number of them
+abbrev pub steps_before : Record → ℕ → List ℕ
+steps_before hand events = step_lines hand.setup (past_after hand.setup (script_said hand) events)
+
+-- the lines of a hand up to the event with this number, from 0, and without it
+abbrev pub begun_lines : ℕ → Record → ℕ → List ℕ
+begun_lines number hand events = head_lines number hand.setup ++ steps_before hand events
+
+-- the first events of a hand, this number of them, are legal, and these are their moves
+pub record AreMovesBefore (hand : Record) (events : ℕ) (moves : List rows.Move) : Type 0 where
+  pub there : events ≤ length hand.script
+  pub legal : AreLegal hand.setup hand.rules (reverse (take events (script_said hand)))
+  pub are : map move_said moves
+      ≡ traced_moves hand.setup (moves_of (past_after hand.setup (script_said hand) events))
 
 -- the lines of a hand
 abbrev pub replay_lines : ℕ → Play → List ℕ

@@ -3,20 +3,21 @@ ghost use Rattle.std.specs.Prelude.{◌≡◌, ◌++◌, ◌∷◌, List, true, 
 ghost use Rattle.std.specs.Fmt.{decimal};
 ghost use Rattle.play_event.specs.CanonScript.{move_named, plain_move};
 ghost use Rattle.play_event.specs.PlayedScript.{is_move as is_move_said};
+ghost use Rattle.hand_canon.specs.Judged.{IsTraceOfLegal};
 ghost use Rattle.hand_canon.specs.Sound.{IsSound};
 ghost use Rattle.phh_actions.specs.Written.{event_text as text_of_event, has_words};
 ghost use Rattle.play_event.specs.Past.{Move as PlainMove};
 ghost use Rattle.play_event.specs.Played.{move_said};
 ghost use Rattle.play_event.specs.Said.{kind_said};
 ghost use Rattle.play_event.specs.ValidSetup.{IsValid};
-ghost use Rattle.printed_hands.specs.Steps.{HasPut, MayAdd, chips_text, head_lines, replay_lines};
+ghost use Rattle.printed_hands.specs.Steps.{AreMovesBefore, HasPut, MayAdd, begun_lines, chips_text, head_lines, replay_lines, steps_before};
 
 use crate::chips::{add, posted_row, push_chips};
 use crate::ending::push_ending;
 use card_set::{Memory, TryWrite, try_write};
 use chip_ledger::SeatRow;
 use hand_canon::named_move;
-use hand_records::Play;
+use hand_records::{Moves, Play, Record, Trace};
 use phh_actions::event_text;
 use play_event::{Kind, Move, Setup};
 use std::alloc::Global;
@@ -26,30 +27,86 @@ use std::alloc::Global;
 pub fn push_replay_lines(
     alloc: Global,
     text: &mut String,
-    hand: u64,
+    number: u64,
     play: &Play,
 ) -> Result<(), Memory>
     requires { IsSound play.now }
     ensures { OnOk result (string_bytes text.new
-        ≡ string_bytes text.old ++ replay_lines hand play.now) }
+        ≡ string_bytes text.old ++ replay_lines number play.now) }
 {
-    let setup = &play.hand.setup;
-    push_head(text, hand, setup)?;
+    push_whole_lines(alloc, text, number, &play.hand, &play.trace)
+}
+
+/// Appends the lines of the hand with this number, which must be legal and have this trace.
+pub fn push_whole_lines(
+    alloc: Global,
+    text: &mut String,
+    number: u64,
+    hand: &Record,
+    trace: &Trace,
+) -> Result<(), Memory>
+    requires valid { IsValid hand.now.setup }
+    requires traced { IsTraceOfLegal hand.now trace.now }
+    ensures { OnOk result (string_bytes text.new ≡ string_bytes text.old
+        ++ replay_lines number (record { hand = hand.now; trace = trace.now })) }
+{
+    let events = hand.script.len() as u64;
+    push_begun_lines(alloc, text, number, hand, &trace.moves, events)?;
+    push_ending(text, trace)
+}
+
+/// Appends the lines of the first `events` events of the hand with this number, as
+/// `push_replay_lines` has them. These events must be legal, and `moves` their moves; whether the
+/// events after them are legal does not matter.
+pub fn push_begun_lines(
+    alloc: Global,
+    text: &mut String,
+    number: u64,
+    hand: &Record,
+    moves: &Moves,
+    events: u64,
+) -> Result<(), Memory>
+    requires valid { IsValid hand.now.setup }
+    requires begun { AreMovesBefore hand.now events moves.now }
+    ensures { OnOk result (string_bytes text.new
+        ≡ string_bytes text.old ++ begun_lines number hand.now events) }
+{
+    push_head(text, number, &hand.setup)?;
+    push_steps(alloc, text, hand, moves, events)
+}
+
+// Appends the lines of the first events of a hand, after those of its head.
+fn push_steps(
+    alloc: Global,
+    text: &mut String,
+    hand: &Record,
+    moves: &Moves,
+    events: u64,
+) -> Result<(), Memory>
+    requires valid { IsValid hand.now.setup }
+    requires begun { AreMovesBefore hand.now events moves.now }
+    ensures { OnOk result (string_bytes text.new
+        ≡ string_bytes text.old ++ steps_before hand.now events) }
+{
+    let setup = &hand.setup;
     let mut put = posted_row(setup);
-    let mut cursor = play.hand.script.cursor();
+    let mut cursor = hand.script.cursor();
     let mut number: u64 = 0;
     let mut made: usize = 0;
     while let Some(event) = cursor.next() {
+        if number == events {
+            return Ok(());
+        }
         number += 1;
         if is_move(event.kind) {
-            let moved = play.trace.moves.get(made);
+            let moved = moves.get(made);
             made += 1;
             push_move(alloc, text, number, &moved, setup, &mut put)?;
         } else {
             push_event(alloc, text, number, event.kind, setup, &put)?;
         }
     }
-    push_ending(text, &play.trace)
+    Ok(())
 }
 
 // Appends the first two lines of a hand: its number and its game, and what is posted.

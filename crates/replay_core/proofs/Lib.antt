@@ -3,6 +3,7 @@ pub mod Joined
 pub mod Kept
 pub mod Moves
 pub mod SoFar
+pub mod LegalParts
 pub mod Counted
 pub mod SameShowdown
 pub mod ShownHands

@@ -2,6 +2,7 @@
 use Rattle.std.proofs.Common.{◌≡◌, ℕ, ◌+◌, ◌-◌, ◌<◌, inl, inr, Option, Some, None, List, slice_get, option_and_then, sym, subst, ◌∙◌, ap, arith}
 use Rattle.std.specs.Option.{option_map}
 use Rattle.std.proofs.lemmas.Bool.{cases_lt}
+use Rattle.std.proofs.lemmas.List.{length-map}
 use Rattle.betting_numbers.specs.declared.betting_state.BettingState.{BettingState}
 use Rattle.card_places.specs.declared.card_state.CardState.{CardState}
 use Rattle.replay_core.specs.Together.{StandTogether}
@@ -17,6 +18,7 @@ use Rattle.play_event.specs.Scripts.{IsFirstIllegal, past_of, past_after, with_e
 use Rattle.replay_core.specs.declared.fault.ReplayFault.{ReplayFault}
 use Rattle.replay_core.specs.declared.fault.ReplayFault.TheVariants as faults
 use Rattle.replay_core.specs.Events.{AreMovesOf, AreRefused, IsRefusedEvent, said_by}
+use Rattle.replay_core.specs.LegalPart.{ArePlayedBefore, IsLegalPart}
 use Rattle.play_event.proofs.SaidSoFar.{IsNext, said_next, so_far}
 
 -- the state of the play of a script after this many events
@@ -67,3 +69,25 @@ refused_at setup rules script count event more b t moves (faults.EndsEarly event
 refused_at setup rules script count event more b t moves (faults.RakeTooBig pot) is played same_setup same_rules refused = refused
 refused_at setup rules script count event more b t moves (faults.NoShownHand pot) is played same_setup same_rules refused = refused
 refused_at setup rules script count event more b t moves (faults.Memory memory) is played same_setup same_rules refused = tt
+
+-- the moves before it
+pub moves_before : (setup : Setup) (rules : Rules) (script : List Event) (count : ℕ) (event : Event) (more : List Event) (b : BettingState) (t : CardState) (moves new : List rows.Move) (fault : ReplayFault)
+    → IsNext script count event more → IsPlayedTo setup rules script count b t moves → new ≡ moves → AreRefused setup rules script fault → IsRefusedEvent b event (count + 1) (past_of setup (so_far script count)) fault
+    → ArePlayedBefore setup rules (said_by script) new fault
+moves_before setup rules script count event more b t moves new (faults.Illegal told at reason) is played same first refused =
+    let index : told - 1 ≡ count = omega (arith, refused.0) in
+    let P : ℕ → Type 0 = λ n. IsLegalPart setup rules (said_by script) n new in
+    subst P (sym index)
+    (record {
+      beginning = record {
+        within = omega (arith, is.within, length-map script said_of);
+        legal = played.earlier;
+        longest = λ there. (reason, subst (λ n. why_at setup rules (said_by script) n ≡ Some reason) index first.first.illegal);
+      };
+      legal = played.legal;
+      are = subst (λ (list : List rows.Move). AreMovesOf setup (past_of setup (so_far script count)) list) (sym same) played.moves;
+    })
+moves_before setup rules script count event more b t moves new (faults.EndsEarly events) is played same first refused = tt
+moves_before setup rules script count event more b t moves new (faults.RakeTooBig pot) is played same first refused = tt
+moves_before setup rules script count event more b t moves new (faults.NoShownHand pot) is played same first refused = tt
+moves_before setup rules script count event more b t moves new (faults.Memory memory) is played same first refused = tt

@@ -4,6 +4,7 @@ pub mod Together
 pub mod Told
 pub mod Advances
 pub mod Events
+pub mod LegalPart
 pub mod EndRows
 pub mod Showdowns
 pub mod AtEnd

@@ -1,5 +1,5 @@
 //! Plays the events of a script, one after the other.
-ghost use Rattle.std.specs.Prelude.{◌≡◌, ◌<◌, ◌^◌, ◌++◌, [], length, map, reverse, None, IfErr, IfOk, OnOk};
+ghost use Rattle.std.specs.Prelude.{◌≡◌, ◌<◌, ◌^◌, ◌++◌, [], length, map, reverse, None, IfErr, IfOk, OnErr, OnOk};
 ghost use Rattle.betting_numbers.specs.LegalMoves.{past_with, reason_after};
 ghost use Rattle.betting_core.specs.Kept.{IsSameHand};
 ghost use Rattle.replay_core.specs.Together.{StandTogether};
@@ -14,6 +14,7 @@ ghost use Rattle.play_event.specs.ValidSetup.{IsValid};
 ghost use Rattle.replay_core.specs.AtEnd.{IsAtEnd};
 ghost use Rattle.replay_core.specs.Events.{AreMovesOf, AreRefused, IsRefusedEvent, said_by};
 ghost use Rattle.replay_core.specs.Faults.{IsFaultOf};
+ghost use Rattle.replay_core.specs.LegalPart.{ArePlayedBefore};
 
 use crate::ending::{HandAtEnd, at_end};
 use crate::fault::ReplayFault;
@@ -53,8 +54,8 @@ pub fn play_out<V: Variant>(
     }
 }
 
-// Plays the events of a script from the first to the last, and counts them.
-fn play_events<V: Variant>(
+/// Plays the events of a script from the first to the last, and counts them.
+pub fn play_events<V: Variant>(
     hand: &mut HandInPlay<V>,
     moves: &mut Moves,
     script: &Script,
@@ -64,6 +65,8 @@ fn play_events<V: Variant>(
     requires few { length script.now < 2 ^ 32 }
     ensures fault { IfErr result
         (AreRefused hand.old.betting.setup hand.old.betting.rules script.now) }
+    ensures part { IfErr result (ArePlayedBefore hand.old.betting.setup
+        hand.old.betting.rules (said_by script.now) moves.new) }
     ensures legal { OnOk result (AreLegal hand.old.betting.setup
         hand.old.betting.rules (reverse (said_by script.now))) }
     ensures count { IfOk result (λ count. count ≡ length script.now) }
@@ -105,6 +108,7 @@ fn play_event<V: Variant>(
         → OnOk result (AreMovesOf hand.old.betting.setup
         (past_with hand.old.betting past (said_of event.now)) moves.new)) }
     ensures same { IsSameHand hand.old.betting hand.new.betting }
+    ensures kept { OnErr result (moves.new ≡ moves.old) }
 {
     match hand.advance(event) {
         Ok(told) => match tell(moves, told) {
@@ -121,7 +125,9 @@ fn play_event<V: Variant>(
 
 // Appends a move, if there is one.
 fn tell(moves: &mut Moves, told: Option<Move>) -> Result<(), Memory>
-    ensures { OnOk result (map move_said moves.new ≡ map move_said moves.old ++ moves_told told) }
+    ensures told { OnOk result
+        (map move_said moves.new ≡ map move_said moves.old ++ moves_told told) }
+    ensures kept { OnErr result (moves.new ≡ moves.old) }
 {
     match told {
         Some(moved) => moves.push(moved),

@@ -9,7 +9,7 @@ use Rattle.play_event.specs.Reasons.{why}
 use Rattle.play_event.specs.Said.{Said, said_of}
 use Rattle.play_event.specs.Scripts.{past_of, with_event}
 use Rattle.replay_core.specs.Events.{AreMovesOf}
-use Rattle.replay_core.proofs.SoFar.{one_more, refused_at}
+use Rattle.replay_core.proofs.SoFar.{moves_before, one_more, refused_at}
 use Rattle.replay_core.proofs.playing.play_events.Goals as goal
 use Rattle.play_event.proofs.SaidSoFar.{all_played, is_next, none_left, so_far}
 
@@ -22,6 +22,18 @@ returns-in-Err-clause-fault g c =
     let next = is_next script count c.in-Some.event c.next.new.self (sym c.in-Some.ensures.first ∙ inv.left) in
     refused_at first.setup first.rules script count c.in-Some.event c.next.new.self c.loop-event.hand.betting c.loop-event.hand.cards c.loop-event.moves c.in-Err.fault next inv.played inv.setup inv.rules
     (c.in-Err.ensures.fault (past_of first.setup (so_far script count)) inv.played.stands)
+
+pub returns-in-Err-clause-part : goal.returns-in-Err-clause-part
+returns-in-Err-clause-part g c =
+    let first = c.args.hand.now.betting in
+    let script = c.args.script.now in
+    let count : ℕ = c.loop-event.count in
+    let inv = c.loop-event.invariant in
+    let next = is_next script count c.in-Some.event c.next.new.self (sym c.in-Some.ensures.first ∙ inv.left) in
+    let refused = c.in-Err.ensures.fault (past_of first.setup (so_far script count)) inv.played.stands in
+    moves_before first.setup first.rules script count c.in-Some.event c.next.new.self c.loop-event.hand.betting c.loop-event.hand.cards c.loop-event.moves c.play_event.new.moves c.in-Err.fault next inv.played c.in-Err.ensures.kept
+    (refused_at first.setup first.rules script count c.in-Some.event c.next.new.self c.loop-event.hand.betting c.loop-event.hand.cards c.loop-event.moves c.in-Err.fault next inv.played inv.setup inv.rules refused)
+    refused
 
 pub loop-event-preserved : goal.loop-event-preserved
 loop-event-preserved g c =
