@@ -9,9 +9,9 @@ use Rattle.hand_options.specs.declared.choices.Options.{Options}
 use Rattle.hand_options.specs.declared.choices.RaiseSet.{RaiseSet}
 use Rattle.hand_options.specs.declared.choices.RaiseSet.TheVariants as sets
 
--- the name of the player to act
+-- the name of the player to act; a question mark if an up-card that decides it is unknown
 abbrev pub seat_text : Option ℕ → List ℕ
-seat_text seat = option_map_or default_name seat []
+seat_text seat = option_map_or default_name seat (codes "?")
 
 -- what is due, with the player to act if it is a move or a bring-in
 abbrev pub due_text : Due → Option ℕ → List ℕ

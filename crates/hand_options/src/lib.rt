@@ -3,6 +3,7 @@
 
 mod asking;
 mod choices;
+mod every_point;
 mod laws;
 mod now;
 mod playing;
@@ -10,7 +11,8 @@ mod printing;
 mod seat_choices;
 mod targets;
 
-pub use asking::options;
+pub use asking::{options, options_at};
 pub use choices::{Options, RaiseSet};
+pub use every_point::push_every_point;
 pub use laws::{law_of_one_options, law_of_one_text};
-pub use printing::options_text;
+pub use printing::{options_text, push_options};

@@ -1,8 +1,7 @@
 //! Prints options as one line for what is due, and one line for each legal move.
-ghost use Rattle.std.specs.Prelude.{◌≡◌, ◌++◌, IfOk, OnOk, is_some, codes, decimal, flat_map, string_bytes};
-ghost use Rattle.chip_ledger.specs.SeatsSaid.{default_name, seat_said};
-ghost use Rattle.hand_options.specs.Printed.{HasTargets, bring_in_line, call_line, due_text, fold_line, options_said, raise_lines, range_line, target_line};
-ghost use Rattle.play_event.specs.TurnTargets.{is_bet_due};
+ghost use Rattle.std.specs.Prelude.{◌≡◌, ◌++◌, IfOk, OnOk, codes, decimal, flat_map, string_bytes};
+ghost use Rattle.chip_ledger.specs.SeatsSaid.{seat_said};
+ghost use Rattle.hand_options.specs.Printed.{HasTargets, bring_in_line, call_line, due_text, fold_line, options_said, raise_lines, range_line, seat_text, target_line};
 
 use crate::choices::{Options, RaiseSet};
 use card_set::{Memory, TryWrite, try_format, try_write};
@@ -12,8 +11,7 @@ use std::alloc::Global;
 
 /// The text of the options after `events` events of the hand with this number, in bytes.
 ///
-/// The options must have a player to act if and only if a move or a bring-in is due, and a list of
-/// one or two targets: the options of a play are always such.
+/// A list must have one or two targets: the options of a hand are always such.
 ///
 /// # Errors
 ///
@@ -24,9 +22,40 @@ pub fn options_text(
     events: u32,
     options: &Options,
 ) -> Result<Vec<u8>, Memory>
-    requires seat { is_some options.now.seat ≡ is_bet_due options.now.due }
     requires listed { HasTargets options.now.raise }
     ensures { IfOk result (λ bytes. bytes.items ≡ options_said hand events options.now) }
+{
+    let text = text_of(alloc, hand, events, options)?;
+    Ok(text.into_bytes())
+}
+
+/// Appends the options after `events` events of the hand with this number.
+///
+/// A list must have one or two targets: the options of a hand are always such.
+///
+/// # Errors
+///
+/// Out of memory.
+pub fn push_options(
+    alloc: Global,
+    text: &mut String,
+    hand: u32,
+    events: u32,
+    options: &Options,
+) -> Result<(), Memory>
+    requires listed { HasTargets options.now.raise }
+    ensures { OnOk result (string_bytes text.new
+        ≡ string_bytes text.old ++ options_said hand events options.now) }
+{
+    let own = text_of(alloc, hand, events, options)?;
+    text.try_push_str(own.as_str())?;
+    Ok(())
+}
+
+// The text of the options after `events` events of the hand with this number.
+fn text_of(alloc: Global, hand: u32, events: u32, options: &Options) -> Result<String, Memory>
+    requires listed { HasTargets options.now.raise }
+    ensures { IfOk result (λ text. string_bytes text ≡ options_said hand events options.now) }
 {
     let mut text = try_format!(in alloc; "hand {hand} after {events}: ")?;
     push_due(&mut text, options.due, options.seat)?;
@@ -35,18 +64,17 @@ pub fn options_text(
     push_call(&mut text, options.call)?;
     push_bring_in(&mut text, options.bring_in)?;
     push_raises(&mut text, options.raise)?;
-    Ok(text.into_bytes())
+    Ok(text)
 }
 
 // Appends what is due to a text, with the player to act if it is a move or a bring-in.
 fn push_due(text: &mut String, due: Due, seat: Option<Seat>) -> Result<(), Memory>
-    requires { is_some seat ≡ is_bet_due due }
     ensures { OnOk result (string_bytes text.new
         ≡ string_bytes text.old ++ due_text due (seat_said seat)) }
 {
     match due {
-        Due::Move => push_turn(text, "move ", seat.unwrap()),
-        Due::BringIn => push_turn(text, "bring-in ", seat.unwrap()),
+        Due::Move => push_turn(text, "move ", seat),
+        Due::BringIn => push_turn(text, "bring-in ", seat),
         Due::Deal(street) => push_street(text, "deal", street),
         Due::Draw(street) => push_street(text, "draw", street),
         Due::Show => Ok(text.try_push_str("show")?),
@@ -55,10 +83,14 @@ fn push_due(text: &mut String, due: Due, seat: Option<Seat>) -> Result<(), Memor
 }
 
 // Appends what the player to act has to do.
-fn push_turn(text: &mut String, what: &str, seat: Seat) -> Result<(), Memory>
+fn push_turn(text: &mut String, what: &str, seat: Option<Seat>) -> Result<(), Memory>
     ensures { OnOk result (string_bytes text.new
-        ≡ string_bytes text.old ++ (what.now ++ default_name seat.number)) }
+        ≡ string_bytes text.old ++ (what.now ++ seat_text (seat_said seat))) }
 {
+    let Some(seat) = seat else {
+        try_write!(text, "{what}?")?;
+        return Ok(());
+    };
     let number = seat.number();
     try_write!(text, "{what}p{number}")?;
     Ok(())

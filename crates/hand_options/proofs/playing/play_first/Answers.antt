@@ -22,7 +22,7 @@ unreachable-requires g c =
     let event = c.unwrap-event.result in
     let next = this_next script count c.next.result c.loop.cursor c.next.new.self event inv.left c.next.ensures.first c.unwrap-event.ensures in
     not_refused first.setup b.setup first.rules b.rules (past_of first.setup (so_far script count)) (said_of event) c.in-Err.field-0 inv.setup inv.rules
-    (legal_next first.setup first.rules script count event c.next.new.self c.requires.legal next)
+    (legal_next first.setup first.rules script c.args.events count event c.next.new.self c.requires.legal (omega (arith, c.loop-test.true)) next)
     (c.in-Err.ensures.advanced.refused (past_of first.setup (so_far script count)) inv.stands)
 
 pub loop-preserved : goal.loop-preserved
