@@ -6,8 +6,6 @@ ghost use Rattle.acpc_game.specs.declared.game.Game.{Game};
 ghost use Rattle.chip_ledger.specs.declared.numbers.Seat.{Seat};
 ghost use Rattle.command_words.specs.Words.{Load, Request};
 ghost use Rattle.command_words.specs.declared.command.Command.{Command};
-ghost use Rattle.command_words.specs.declared.task.Question.{Question};
-ghost use Rattle.command_words.specs.declared.task.Question.TheVariants as questions;
 ghost use Rattle.hand_canon.specs.Sound.{IsSound};
 ghost use Rattle.hand_equity.specs.Street.{deals_board, first_unknown};
 ghost use Rattle.hand_records.specs.SameHands.{AreSameHands, kept_notes};
@@ -18,24 +16,24 @@ ghost use Rattle.hand_records.specs.declared.writing.Keep.TheVariants as keeps;
 ghost use Rattle.hand_records.specs.declared.writing.Unspelled.TheVariants as facts;
 ghost use Rattle.ohh_members.specs.declared.dialect.Dialect.{Dialect};
 ghost use Rattle.poker_cli.specs.Answer.{Answer, AsksToCompare, Files, IsAnswer, IsComparison, IsReply, IsWay, most_input};
-ghost use Rattle.poker_cli.specs.Compared.{compared};
+ghost use Rattle.poker_cli.specs.Compare.{compared};
 ghost use Rattle.poker_cli.specs.ComparedRuns.{AreFoundOther, AreFoundSame, AreOther, AreSame, BothRead, FindsOther};
 ghost use Rattle.poker_cli.specs.Headline.{ConversionEnds, ConvertsInto};
 ghost use Rattle.poker_cli.specs.Inputs.{SayRecords, first_lines};
-ghost use Rattle.poker_cli.specs.LegalInputs.{AsksOfLegal};
+ghost use Rattle.poker_cli.specs.LegalInputs.{AsksOfLegal, PrintsAll};
 ghost use Rattle.poker_cli.specs.OneAnswer.{AreOneAnswer};
 ghost use Rattle.poker_cli.specs.Outputs.{AreSameIn, first_refusal_in, kept_in, unspelled_in};
-ghost use Rattle.poker_cli.specs.Replies.{AreViews, each_view, hand_numbered, most_view_bytes};
+ghost use Rattle.poker_cli.specs.Replies.{hand_numbered};
+ghost use Rattle.poker_cli.specs.Views.{AreViews, each_view, most_view_bytes};
 ghost use Rattle.poker_cli.specs.Run.{Ends, NeedsNoInput, RefusesNothing, Sinks};
 ghost use Rattle.poker_cli.specs.RunTells.{told_by};
 ghost use Rattle.poker_cli.specs.Ways.{way};
-ghost use Rattle.poker_cli.specs.declared.comparison.Comparison.{Comparison};
+ghost use Rattle.poker_cli.specs.declared.compare.Comparison.{Comparison};
 ghost use Rattle.poker_cli.specs.declared.status.Status.{Status};
 ghost use Rattle.poker_cli.specs.declared.status.Status.TheVariants as statuses;
 ghost use Rattle.poker_cli.specs.declared.task.Format.{Format};
 ghost use Rattle.poker_cli.specs.declared.task.Format.TheVariants as readers;
-ghost use Rattle.poker_cli.specs.declared.task.Task.{Task};
-ghost use Rattle.poker_cli.specs.declared.task.Task.TheVariants as tasks;
+ghost use Rattle.command_words.specs.declared.command.Command.TheVariants as commands;
 ghost use Rattle.convert_core.specs.Conversion.{ReadAsPlays};
 ghost use Rattle.convert_core.specs.SameAnswers.{AreSameAnswers};
 
@@ -47,9 +45,10 @@ use poker_cli::{
 
 /// An input has one answer.
 pub fn answer_is_one()
-    ensures task { (task : Task) (reader : Format) (bytes : List ℕ) (answer other : Answer)
-        → IsAnswer task reader bytes answer → IsAnswer task reader bytes other
-        → AreOneAnswer task answer other }
+    ensures command { (command : Command Format) (reader : Format) (bytes : List ℕ)
+        → (answer other : Answer) → IsAnswer command reader bytes answer
+        → IsAnswer command reader bytes other
+        → AreOneAnswer command answer other }
     ensures comparison { (by : Comparison) (file bytes : List ℕ) (answer other : Answer)
         → IsComparison by file bytes answer → IsComparison by file bytes other → answer ≡ other }
 {
@@ -70,46 +69,49 @@ pub fn hands_have_lines()
 
 /// No legal input is refused.
 pub fn legal_inputs_are_answered()
-    ensures show { (request : Request) (command : Command) (reader : Format) (files : Files)
-        → (bytes : List ℕ) (plays : List Play) (out diag : Sinks) (status : Status)
-        → AsksOfLegal files request (tasks.Ask (questions.Show command)) reader bytes plays
+    ensures show { (request : Request) (command : Command Format) (reader : Format)
+        → (files : Files) (bytes : List ℕ) (plays : List Play) (out diag : Sinks)
+        → (status : Status) → PrintsAll command
+        → AsksOfLegal files request command reader bytes plays
         → Ends request files bytes out diag status → RefusesNothing status }
-    ensures ask { (request : Request) (question : Question) (reader : Format) (files : Files)
-        → (bytes : List ℕ) (plays : List Play) (reply : Answer) (out diag : Sinks)
-        → (status : Status) → AsksOfLegal files request (tasks.Ask question) reader bytes plays
-        → IsReply question plays reply → Ends request files bytes out diag status
+    ensures ask { (request : Request) (command : Command Format) (reader : Format)
+        → (files : Files) (bytes : List ℕ) (plays : List Play) (reply : Answer)
+        → (out diag : Sinks) (status : Status)
+        → AsksOfLegal files request command reader bytes plays
+        → IsReply command reader plays reply → Ends request files bytes out diag status
         → RefusesNothing status ⊎ (reply.status ≡ status) }
     ensures options { (request : Request) (hand events : ℕ) (reader : Format) (files : Files)
         → (bytes : List ℕ) (plays : List Play) (play : Play) (out diag : Sinks) (status : Status)
-        → AsksOfLegal files request (tasks.Ask (questions.Options hand events)) reader bytes plays
+        → AsksOfLegal files request (commands.Options hand events) reader bytes plays
         → hand_numbered plays hand ≡ Some play → events ≤ length play.hand.script
         → Ends request files bytes out diag status → RefusesNothing status }
     ensures equity { (request : Request) (hand street : ℕ) (reader : Format) (files : Files)
         → (bytes : List ℕ) (plays : List Play) (play : Play) (out diag : Sinks) (status : Status)
-        → AsksOfLegal files request (tasks.Ask (questions.Equity hand street)) reader bytes plays
+        → AsksOfLegal files request (commands.Equity hand street) reader bytes plays
         → hand_numbered plays hand ≡ Some play → deals_board play.trace street ≡ true
         → first_unknown play.trace street ≡ None
         → Ends request files bytes out diag status → RefusesNothing status }
-    ensures views { (request : Request) (game : Game) (seat : Seat) (reader : Format)
+    ensures views { (request : Request) (game : Game) (seat : Seat)
         → (files : Files) (bytes : List ℕ) (plays : List Play) (reply : Answer)
         → (out diag : Sinks) (status : Status)
-        → AsksOfLegal files request (tasks.Views game seat) reader bytes plays
+        → AsksOfLegal files request (commands.Views seat) (readers.Acpc game) bytes plays
         → AreViews game seat plays reply → Ends request files bytes out diag status
         → RefusesNothing status ⊎ (reply.status ≡ status) }
-    ensures seen { (request : Request) (game : Game) (seat : Seat) (reader : Format)
+    ensures seen { (request : Request) (game : Game) (seat : Seat)
         → (files : Files) (bytes : List ℕ) (plays : List Play) (out diag : Sinks)
-        → (status : Status) → AsksOfLegal files request (tasks.Views game seat) reader bytes plays
+        → (status : Status)
+        → AsksOfLegal files request (commands.Views seat) (readers.Acpc game) bytes plays
         → seat.number ≤ game.stacks.seats
         → length (each_view game seat 0 plays) ≤ most_view_bytes
         → Ends request files bytes out diag status → RefusesNothing status }
     ensures judge { (request : Request) (lines : Bool) (reader : Format) (files : Files)
         → (bytes : List ℕ) (records : List Record) (out diag : Sinks) (status : Status)
-        → IsWay files request (way (tasks.Judge lines) reader)
+        → IsWay files request (way (commands.Judge lines) reader)
         → length bytes ≤ most_input → SayRecords reader bytes records
         → Ends request files bytes out diag status → RefusesNothing status }
     ensures convert { (request : Request) (reader target : Format) (keep : Keep) (files : Files)
         → (bytes : List ℕ) (plays : List Play) (out diag : Sinks) (status : Status)
-        → AsksOfLegal files request (tasks.Convert target keep) reader bytes plays
+        → AsksOfLegal files request (commands.Convert target keep) reader bytes plays
         → first_refusal_in target keep plays ≡ None
         → Ends request files bytes out diag status → RefusesNothing status }
     ensures compare { (request : Request) (by : Comparison) (files : Files) (text bytes : List ℕ)
@@ -146,23 +148,23 @@ pub fn answers_to_equal_hands_are_the_same()
     ensures equal { (from other to : Format) (keep : Keep) (bytes too : List ℕ)
         → (plays others : List Play) (answer written : Answer)
         → ReadAsPlays (SayRecords from bytes) plays → ReadAsPlays (SayRecords other too) others
-        → IsAnswer (tasks.Convert to keep) from bytes answer → answer.status ≡ statuses.Done
-        → IsAnswer (tasks.Convert to keep) other too written → written.status ≡ statuses.Done
+        → IsAnswer (commands.Convert to keep) from bytes answer → answer.status ≡ statuses.Done
+        → IsAnswer (commands.Convert to keep) other too written → written.status ≡ statuses.Done
         → AreSameHands (kept_notes keep (kept_in to)) plays others
         ↔ AreSameIn to answer.output written.output }
     ensures again { (from to : Format) (keep again : Keep) (bytes : List ℕ) (answer other : Answer)
-        → IsAnswer (tasks.Convert to keep) from bytes answer → answer.status ≡ statuses.Done
+        → IsAnswer (commands.Convert to keep) from bytes answer → answer.status ≡ statuses.Done
         → length answer.output ≤ most_input
-        → IsAnswer (tasks.Convert to again) to answer.output other
+        → IsAnswer (commands.Convert to again) to answer.output other
         → (other.status ≡ statuses.Done) × AreSameIn to answer.output other.output }
     ensures by_way { (from by to : Format) (keep : Keep) (bytes : List ℕ)
         → (halfway straight by_way : Answer)
-        → IsAnswer (tasks.Convert by keeps.All) from bytes halfway
+        → IsAnswer (commands.Convert by keeps.All) from bytes halfway
         → halfway.status ≡ statuses.Done
         → length halfway.output ≤ most_input
-        → IsAnswer (tasks.Convert to keep) from bytes straight
-        → IsAnswer (tasks.Convert to keep) by halfway.output by_way
-        → AreOneAnswer (tasks.Convert to keep) straight by_way }
+        → IsAnswer (commands.Convert to keep) from bytes straight
+        → IsAnswer (commands.Convert to keep) by halfway.output by_way
+        → AreOneAnswer (commands.Convert to keep) straight by_way }
 {
     law_of_equal_answers();
 }

@@ -9,7 +9,7 @@ use Rattle.clap.specs.declared.parser.matches.Found.{Found}
 use Rattle.command_words.specs.Requests.{IsSaidBy}
 use Rattle.clap.specs.Lexer.{strip_byte}
 use Rattle.clap.specs.Walk.{Text}
-use Rattle.command_words.specs.Options.{GivenOptions, no_options, options_said}
+use Rattle.command_words.specs.GivenOptions.{GivenOptions, no_options, options_said}
 use Rattle.command_words.specs.Words.{Request, request_by, request_said}
 use Rattle.std.proofs.lemmas.Option.{same_Some}
 

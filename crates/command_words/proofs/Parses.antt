@@ -16,7 +16,7 @@ use Rattle.clap.specs.declared.parser.matches.ValueSource.TheVariants.{CommandLi
 use Rattle.clap.specs.Simple.{Shape, built, filled, help_rule, is_simple, matches_of, new_rule, with_index}
 use Rattle.clap.proofs.OnLiterals.{clap_on_literals}
 use Rattle.command_words.specs.Requests.{flag_text}
-use Rattle.command_words.specs.Options.{GivenOptions, is_complete, is_flag, is_of_other, no_options, options_said, with_flag, with_new, with_option, with_other, with_word}
+use Rattle.command_words.specs.GivenOptions.{GivenOptions, is_complete, is_flag, is_of_other, no_options, options_said, with_flag, with_new, with_option, with_other, with_word}
 use Rattle.command_words.specs.Parser.{are_taken, flag_rule, handref, option_rule}
 use Rattle.command_words.proofs.Finds.{Hold, Named, at_row-end, given, has_row-named, hold_given, row_named}
 use Rattle.command_words.proofs.Walking.{IsBetween, IsFlag, IsOption, alone, alone_taken, apart, first, first_taken, joined, joined_taken, option_taken, value_taken}
@@ -62,19 +62,19 @@ abbrev flag_row : Text → Bool → Option Row
 flag_row name true = Some (given_row (flag name) (codes "true"))
 flag_row name false = None
 
-abbrev values : Text → GivenOptions → (lines : Option Row) → Named
-values first options lines =
+abbrev values : Text → GivenOptions → (lines each : Option Row) → Named
+values first options lines each =
     (codes "command", Some (given_row command first)) ∷ option_row (codes "from") options.from ∷ option_row (codes "to") options.to
     ∷ option_row (codes "game") options.game ∷ option_row (codes "seed") options.seed ∷ option_row (codes "hands") options.hands
     ∷ option_row (codes "seat") options.seat ∷ option_row (codes "hand") options.hand ∷ option_row (codes "after") options.after
     ∷ option_row (codes "street") options.street ∷ option_row (codes "with") options.other_file
-    ∷ option_row (codes "as") options.other_notation ∷ (codes "lines", lines) ∷ []
+    ∷ option_row (codes "as") options.other_notation ∷ (codes "lines", lines) ∷ (codes "each", each) ∷ []
 
 abbrev named : Text → GivenOptions → Named
 named first options =
     (codes "drop-notes", flag_row (codes "drop-notes") options.drops_notes)
     ∷ (codes "no-notes", flag_row (codes "no-notes") options.ignores_notes)
-    ∷ values first options (flag_row (codes "lines") options.shows_lines)
+    ∷ values first options (flag_row (codes "lines") options.shows_lines) (flag_row (codes "each") options.asks_each)
 
 -- A walk that is between options, with the rows of a command's word and of some options.
 record IsAt (walk : Walk) (first : Text) (options : GivenOptions) : Type 0 where
@@ -379,6 +379,20 @@ lines_set options off = record {
     empty : (first : Text) (rows : List Row) → Hold (named first options) rows → row_named (codes "lines") rows ≡ None
     empty first rows held = held.1.1.1.1.1.1.1.1.1.1.1.1.1.1.0 ∙ ap (flag_row (codes "lines")) off
 
+each_set : (options : GivenOptions) → options.asks_each ≡ false → IsSet options (codes "each") (record options { asks_each = true })
+unfolding clap_on_literals
+each_set options off = record {
+  argument = flag (codes "each");
+  stands = record { by_name = refl; takes = refl; once = flag_once (codes "each") };
+  empty = empty;
+  held = λ first rows held.
+      rw (flag_last (codes "each") rows (empty first rows held))
+      (hold_given (named first options) rows (given_row (flag (codes "each")) (codes "true")) (empty first rows held) held);
+}
+  where
+    empty : (first : Text) (rows : List Row) → Hold (named first options) rows → row_named (codes "each") rows ≡ None
+    empty first rows held = held.1.1.1.1.1.1.1.1.1.1.1.1.1.1.1.0 ∙ ap (flag_row (codes "each")) off
+
 -- a flag is this one, or one of the others
 either_flag : (options more taken : GivenOptions) (name own : Text) (stood : Bool) (others : Option GivenOptions) (is : Bool)
     → Decides is (name ≡ own) → (stood ≡ false → IsSet options own taken) → (others ≡ Some more → IsSet options name more)
@@ -393,7 +407,8 @@ is_set : (options more : GivenOptions) (name : Text) → with_flag options name 
 is_set options more name e =
     by (codes "drop-notes") options.drops_notes _ _ (drop_notes_set options)
     (by (codes "no-notes") options.ignores_notes _ _ (no_notes_set options)
-    (by (codes "lines") options.shows_lines _ _ (lines_set options) (λ none. cc))) e
+    (by (codes "lines") options.shows_lines _ _ (lines_set options)
+    (by (codes "each") options.asks_each _ _ (each_set options) (λ none. cc)))) e
   where
     by : (own : Text) (stood : Bool) (taken : GivenOptions) (others : Option GivenOptions) → (stood ≡ false → IsSet options own taken)
         → (others ≡ Some more → IsSet options name more) → (if bytes_eq name own && not stood then Some taken else others) ≡ Some more
@@ -488,7 +503,7 @@ begins word plain =
     (record {
       rows = used command (word ∷ []) [];
       between = first arguments (walk_from nothing_held) [] word command begin refl plain refl refl refl refl refl refl;
-      held = (refl, (refl, (refl, (refl, (refl, (refl, (refl, (refl, (refl, (refl, (refl, (refl, (refl, (refl, (refl, _)))))))))))))));
+      held = (refl, (refl, (refl, (refl, (refl, (refl, (refl, (refl, (refl, (refl, (refl, (refl, (refl, (refl, (refl, (refl, _))))))))))))))));
     })
 
 -- a walk over all words of a command
@@ -532,37 +547,44 @@ no_defaults [] rows none = refl
 no_defaults (argument ∷ rules) rows none =
     ap (λ (some : List Row). fold with_default some rules) (no_default argument rows none.0) ∙ no_defaults rules rows none.1
 
--- if the others have no defaults, only the defaults of these three arguments are added
-three_defaults : (before : List Rule) (argument other third : Rule) (after : List Rule) (rows : List Row) → HaveNoDefaults before → HaveNoDefaults after
-    → fold with_default rows (before ++ argument ∷ other ∷ third ∷ after) ≡ with_default (with_default (with_default rows argument) other) third
-three_defaults [] argument other third after rows none_before none_after =
-    no_defaults after (with_default (with_default (with_default rows argument) other) third) none_after
-three_defaults (rule ∷ before) argument other third after rows none_before none_after =
-    ap (λ (some : List Row). fold with_default some (before ++ argument ∷ other ∷ third ∷ after)) (no_default rule rows none_before.0)
-    ∙ three_defaults before argument other third after rows none_before.1 none_after
+-- if the others have no defaults, only the defaults of these four arguments are added
+four_defaults : (before : List Rule) (argument other third fourth : Rule) (after : List Rule) (rows : List Row) → HaveNoDefaults before → HaveNoDefaults after
+    → fold with_default rows (before ++ argument ∷ other ∷ third ∷ fourth ∷ after) ≡ with_default (with_default (with_default (with_default rows argument) other) third) fourth
+four_defaults [] argument other third fourth after rows none_before none_after =
+    no_defaults after (with_default (with_default (with_default (with_default rows argument) other) third) fourth) none_after
+four_defaults (rule ∷ before) argument other third fourth after rows none_before none_after =
+    ap (λ (some : List Row). fold with_default some (before ++ argument ∷ other ∷ third ∷ fourth ∷ after)) (no_default rule rows none_before.0)
+    ∙ four_defaults before argument other third fourth after rows none_before.1 none_after
 
 -- a flag's row at the end: its default if it was not given
 abbrev last_flag_row : Text → Bool → Row
 last_flag_row name true = given_row (flag name) (codes "true")
 last_flag_row name false = row_of (flag name) DefaultValue (codes "false")
 
--- what is found if the first flag is settled, if the first two are, and if all are
+-- what is found if the first flag is settled, if the first two are, if the first three are, and if
+-- all are
 abbrev first_settled : Text → GivenOptions → Named
 first_settled first options =
     (codes "drop-notes", Some (last_flag_row (codes "drop-notes") options.drops_notes))
     ∷ (codes "no-notes", flag_row (codes "no-notes") options.ignores_notes)
-    ∷ values first options (flag_row (codes "lines") options.shows_lines)
+    ∷ values first options (flag_row (codes "lines") options.shows_lines) (flag_row (codes "each") options.asks_each)
 
-abbrev notes_settled : Text → GivenOptions → (lines : Option Row) → Named
-notes_settled first options lines =
+abbrev notes_settled : Text → GivenOptions → (lines each : Option Row) → Named
+notes_settled first options lines each =
     (codes "drop-notes", Some (last_flag_row (codes "drop-notes") options.drops_notes))
-    ∷ (codes "no-notes", Some (last_flag_row (codes "no-notes") options.ignores_notes)) ∷ values first options lines
+    ∷ (codes "no-notes", Some (last_flag_row (codes "no-notes") options.ignores_notes)) ∷ values first options lines each
 
 abbrev both_settled : Text → GivenOptions → Named
-both_settled first options = notes_settled first options (flag_row (codes "lines") options.shows_lines)
+both_settled first options =
+    notes_settled first options (flag_row (codes "lines") options.shows_lines) (flag_row (codes "each") options.asks_each)
+
+abbrev three_settled : Text → GivenOptions → Named
+three_settled first options =
+    notes_settled first options (Some (last_flag_row (codes "lines") options.shows_lines)) (flag_row (codes "each") options.asks_each)
 
 abbrev all_settled : Text → GivenOptions → Named
-all_settled first options = notes_settled first options (Some (last_flag_row (codes "lines") options.shows_lines))
+all_settled first options =
+    notes_settled first options (Some (last_flag_row (codes "lines") options.shows_lines)) (Some (last_flag_row (codes "each") options.asks_each))
 
 drop_notes_settled : (first : Text) (options : GivenOptions) (rows : List Row) → Hold (named first options) rows
     → Hold (first_settled first options) (with_default rows (flag (codes "drop-notes")))
@@ -572,7 +594,7 @@ drop_notes_settled first options rows held = go options.drops_notes held
     others : Named
     others =
         (codes "no-notes", flag_row (codes "no-notes") options.ignores_notes)
-        ∷ values first options (flag_row (codes "lines") options.shows_lines)
+        ∷ values first options (flag_row (codes "lines") options.shows_lines) (flag_row (codes "each") options.asks_each)
 
     go : (b : Bool) → Hold ((codes "drop-notes", flag_row (codes "drop-notes") b) ∷ others) rows
         → Hold ((codes "drop-notes", Some (last_flag_row (codes "drop-notes") b)) ∷ others) (with_default rows (flag (codes "drop-notes")))
@@ -594,7 +616,7 @@ no_notes_settled first options rows held = go options.ignores_notes held
     before = (codes "drop-notes", Some (last_flag_row (codes "drop-notes") options.drops_notes))
 
     others : Named
-    others = values first options (flag_row (codes "lines") options.shows_lines)
+    others = values first options (flag_row (codes "lines") options.shows_lines) (flag_row (codes "each") options.asks_each)
 
     go : (b : Bool) → Hold (before ∷ (codes "no-notes", flag_row (codes "no-notes") b) ∷ others) rows
         → Hold (before ∷ (codes "no-notes", Some (last_flag_row (codes "no-notes") b)) ∷ others)
@@ -609,12 +631,15 @@ no_notes_settled first options rows held = go options.ignores_notes held
         (hold_given (before ∷ (codes "no-notes", None) ∷ others) rows row held.1.0 held)
 
 lines_settled : (first : Text) (options : GivenOptions) (rows : List Row) → Hold (both_settled first options) rows
-    → Hold (all_settled first options) (with_default rows (flag (codes "lines")))
+    → Hold (three_settled first options) (with_default rows (flag (codes "lines")))
 unfolding clap_on_literals
 lines_settled first options rows held = go options.shows_lines held
   where
-    go : (b : Bool) → Hold (notes_settled first options (flag_row (codes "lines") b)) rows
-        → Hold (notes_settled first options (Some (last_flag_row (codes "lines") b))) (with_default rows (flag (codes "lines")))
+    settled : Option Row → Named
+    settled lines = notes_settled first options lines (flag_row (codes "each") options.asks_each)
+
+    go : (b : Bool) → Hold (settled (flag_row (codes "lines") b)) rows
+        → Hold (settled (Some (last_flag_row (codes "lines") b))) (with_default rows (flag (codes "lines")))
     go true held =
         let some : has_row (codes "lines") rows ≡ true = has_row-named (codes "lines") rows ∙ ap is_some held.1.1.1.1.1.1.1.1.1.1.1.1.1.1.0 in
         rw some held
@@ -622,7 +647,26 @@ lines_settled first options rows held = go options.shows_lines held
         let none : has_row (codes "lines") rows ≡ false = has_row-named (codes "lines") rows ∙ ap is_some held.1.1.1.1.1.1.1.1.1.1.1.1.1.1.0 in
         let row = last_flag_row (codes "lines") false in
         rw (none, at_row-end (codes "lines") (more_values DefaultValue (codes "false" ∷ [])) (row ∷ []) rows held.1.1.1.1.1.1.1.1.1.1.1.1.1.1.0)
-        (hold_given (notes_settled first options None) rows row held.1.1.1.1.1.1.1.1.1.1.1.1.1.1.0 held)
+        (hold_given (settled None) rows row held.1.1.1.1.1.1.1.1.1.1.1.1.1.1.0 held)
+
+each_settled : (first : Text) (options : GivenOptions) (rows : List Row) → Hold (three_settled first options) rows
+    → Hold (all_settled first options) (with_default rows (flag (codes "each")))
+unfolding clap_on_literals
+each_settled first options rows held = go options.asks_each held
+  where
+    settled : Option Row → Named
+    settled each = notes_settled first options (Some (last_flag_row (codes "lines") options.shows_lines)) each
+
+    go : (b : Bool) → Hold (settled (flag_row (codes "each") b)) rows
+        → Hold (settled (Some (last_flag_row (codes "each") b))) (with_default rows (flag (codes "each")))
+    go true held =
+        let some : has_row (codes "each") rows ≡ true = has_row-named (codes "each") rows ∙ ap is_some held.1.1.1.1.1.1.1.1.1.1.1.1.1.1.1.0 in
+        rw some held
+    go false held =
+        let none : has_row (codes "each") rows ≡ false = has_row-named (codes "each") rows ∙ ap is_some held.1.1.1.1.1.1.1.1.1.1.1.1.1.1.1.0 in
+        let row = last_flag_row (codes "each") false in
+        rw (none, at_row-end (codes "each") (more_values DefaultValue (codes "false" ∷ [])) (row ∷ []) rows held.1.1.1.1.1.1.1.1.1.1.1.1.1.1.1.0)
+        (hold_given (settled None) rows row held.1.1.1.1.1.1.1.1.1.1.1.1.1.1.1.0 held)
 
 -- what the parser finds in a first word that does not begin with a hyphen, and in the options after
 -- it
@@ -642,6 +686,7 @@ pub record IsFound (first : Text) (options : GivenOptions) (rows : List Row) : T
   pub drops_notes : one_of (codes "drop-notes") rows ≡ Some (flag_text options.drops_notes)
   pub ignores_notes : one_of (codes "no-notes") rows ≡ Some (flag_text options.ignores_notes)
   pub shows_lines : one_of (codes "lines") rows ≡ Some (flag_text options.shows_lines)
+  pub asks_each : one_of (codes "each") rows ≡ Some (flag_text options.asks_each)
 
 value_of_row : (argument : Rule) (value : Option Text) → option_and_then (λ (row : Row). slice_get row.values 0) (option_map (given_row argument) value) ≡ value
 value_of_row argument None = refl
@@ -673,20 +718,22 @@ found_in first options rows held = record {
   drops_notes = ap (option_and_then row_text) held.0 ∙ text_of_flag (codes "drop-notes") options.drops_notes;
   ignores_notes = ap (option_and_then row_text) held.1.0 ∙ text_of_flag (codes "no-notes") options.ignores_notes;
   shows_lines = ap (option_and_then row_text) held.1.1.1.1.1.1.1.1.1.1.1.1.1.1.0 ∙ text_of_flag (codes "lines") options.shows_lines;
+  asks_each = ap (option_and_then row_text) held.1.1.1.1.1.1.1.1.1.1.1.1.1.1.1.0 ∙ text_of_flag (codes "each") options.asks_each;
 }
 
 -- the rows if all defaults are added
 abbrev with_defaults : List Row → List Row
 with_defaults rows =
-    with_default (with_default (with_default rows (flag (codes "drop-notes"))) (flag (codes "no-notes"))) (flag (codes "lines"))
+    with_default (with_default (with_default (with_default rows (flag (codes "drop-notes"))) (flag (codes "no-notes"))) (flag (codes "lines")))
+    (flag (codes "each"))
 
-three_have_defaults : (rows : List Row) → fold with_default rows arguments ≡ with_defaults rows
+four_have_defaults : (rows : List Row) → fold with_default rows arguments ≡ with_defaults rows
 unfolding clap_on_literals
-three_have_defaults rows = three_defaults
+four_have_defaults rows = four_defaults
     (command ∷ option (codes "from") ∷ option (codes "to") ∷ option (codes "game") ∷ option (codes "seed") ∷ option (codes "hands")
     ∷ option (codes "seat") ∷ option (codes "hand") ∷ option (codes "after") ∷ option (codes "street") ∷ option (codes "with")
     ∷ option (codes "as") ∷ [])
-    (flag (codes "drop-notes")) (flag (codes "no-notes")) (flag (codes "lines")) (filled help_rule ∷ []) rows
+    (flag (codes "drop-notes")) (flag (codes "no-notes")) (flag (codes "lines")) (flag (codes "each")) (filled help_rule ∷ []) rows
     (refl, (refl, (refl, (refl, (refl, (refl, (refl, (refl, (refl, (refl, (refl, (refl, _)))))))))))) (refl, _)
 
 pub finds : (word : Text) (words : List Text) (options : GivenOptions) → strip_byte 45 word ≡ None → options_said no_options words ≡ Some options
@@ -695,8 +742,9 @@ unfolding rows_found
 finds word words options plain said =
     let at = (whole word words options plain said).at in
     let rows : rows_found (word ∷ words) ≡ with_defaults at.rows =
-    ap (λ (some : List Row). fold with_default some arguments) at.between.rows ∙ three_have_defaults at.rows in
+    ap (λ (some : List Row). fold with_default some arguments) at.between.rows ∙ four_have_defaults at.rows in
     let dropped = with_default at.rows (flag (codes "drop-notes")) in
     let ignored = with_default dropped (flag (codes "no-notes")) in
     let held = no_notes_settled word options dropped (drop_notes_settled word options at.rows at.held) in
-    rw rows (found_in word options (with_defaults at.rows) (lines_settled word options ignored held))
+    let lined = with_default ignored (flag (codes "lines")) in
+    rw rows (found_in word options (with_defaults at.rows) (each_settled word options lined (lines_settled word options ignored held)))

@@ -1,7 +1,7 @@
 -- The options of words are those of the first option and of the words after it.
 use Rattle.std.proofs.Common.{◌≡◌, ℕ, true, false, List, [], ◌∷◌, Some, None, refl}
 use Rattle.clap.specs.Lexer.{long_of}
-use Rattle.command_words.specs.Options.{GivenOptions, is_flag, options_said, with_option, with_flag}
+use Rattle.command_words.specs.GivenOptions.{GivenOptions, is_flag, options_said, with_option, with_flag}
 
 pub behind_joined : (options more : GivenOptions) (word name value : List ℕ) (words : List (List ℕ)) → long_of word ≡ Some (name, Some value)
     → with_option options name value ≡ Some more → options_said options (word ∷ words) ≡ options_said more words

@@ -1,6 +1,20 @@
 -- What the words of a command line ask for.
-pub mod Options
+pub mod GivenOptions
 pub mod Numbers
+pub mod Notations
+pub mod Request
+pub mod Check
+pub mod Replay
+pub mod Report
+pub mod Session
+pub mod Convert
+pub mod Game
+pub mod Load
+pub mod Views
+pub mod Options
+pub mod Equity
+pub mod Judge
+pub mod Compare
 pub mod Words
 pub mod Requests
 pub mod Parser

@@ -3,10 +3,10 @@ use Rattle.std.specs.Prelude.{◌≡◌, ℕ, Bool, true, false, List, Some, cod
 use Rattle.clap.specs.Words.{first_value}
 use Rattle.clap.specs.Matches.{one_text}
 use Rattle.clap.specs.declared.parser.matches.Found.{Found}
-use Rattle.command_words.specs.Options as words
-use Rattle.command_words.specs.Options.{no_options, options_said}
+use Rattle.command_words.specs.GivenOptions as words
+use Rattle.command_words.specs.GivenOptions.{no_options, options_said}
 use Rattle.command_words.specs.Words as said
-use Rattle.command_words.specs.declared.options.GivenOptions.{GivenOptions}
+use Rattle.command_words.specs.declared.given_options.GivenOptions.{GivenOptions}
 use Rattle.command_words.specs.declared.request.Request.{Request}
 use Rattle.command_words.specs.declared.request.Request.TheVariants as requests
 use Rattle.command_words.specs.declared.request.Sides.{Sides}
@@ -29,6 +29,7 @@ options_in options = record {
   drops_notes = options.drops_notes;
   ignores_notes = options.ignores_notes;
   shows_lines = options.shows_lines;
+  asks_each = options.asks_each;
 }
 
 -- the notations of two files, with the name of the game's file
@@ -39,7 +40,7 @@ sides_in (sides_are.Under game from other) = said.SidesUnder game.now from other
 -- a request, with the names of its files and its number of hands
 abbrev pub request_in : Request → said.Request
 request_in (requests.Load seed hands) = said.Load seed hands.number
-request_in (requests.Plain from task) = said.Plain from task
+request_in (requests.Plain from command) = said.Plain from command
 request_in (requests.Under game logs) = said.Under game.now logs
 request_in (requests.Compare sides file notes) = said.Compare (sides_in sides) file.now notes
 
@@ -64,6 +65,7 @@ pub record AreFound (found : Found) (options : words.GivenOptions) : Type 0 wher
   pub drops_notes : one_text found (codes "drop-notes") ≡ Some (flag_text options.drops_notes)
   pub ignores_notes : one_text found (codes "no-notes") ≡ Some (flag_text options.ignores_notes)
   pub shows_lines : one_text found (codes "lines") ≡ Some (flag_text options.shows_lines)
+  pub asks_each : one_text found (codes "each") ≡ Some (flag_text options.asks_each)
 
 -- What a command line parser found is what the words say: the word of the command, and the options.
 pub record IsSaidBy (said : List (List ℕ)) (found : Found) : Type 0 where

@@ -1,8 +1,11 @@
-//! The commands that print something about all hands, if each of them is legal.
+//! What is asked about the hands of the input: one case for each command, with what it needs.
+use chip_ledger::Seat;
+use hand_records::Keep;
 
-/// What is printed about the hands.
+/// What is asked about the hands of the input; `N` names a notation. Hands and streets are counted
+/// from 1.
 #[derive(Clone, Copy, Debug, PartialEq, Eq)]
-pub enum Command {
+pub enum Command<N> {
     /// The chips that each seat of each hand ends with.
     Check,
     /// Each hand step by step.
@@ -11,4 +14,31 @@ pub enum Command {
     Report,
     /// The stacks of each player over the hands, and how often each played and won.
     Session,
+    /// The game file that fits the first hand.
+    Game,
+    /// The legal moves after the first `events` events of a hand.
+    Options { hand: u32, events: u32 },
+    /// How often each live hand would win, from a street of a hand on.
+    Equity { hand: u32, street: u8 },
+    /// The verdict on each hand: whether it is legal, and why it is not; `lines` asks for the line
+    /// on which it begins, too.
+    Judge { lines: bool },
+    /// The messages that a seat received in the hands of a log.
+    Views { seat: Seat },
+    /// The answer to a question that hands answer each by itself.
+    Each(EachQuestion),
+    /// The same hands in another notation; `keep` says which notes are kept.
+    Convert { to: N, keep: Keep },
+}
+
+/// What is asked about hands of the input each by itself: a refused hand is answered up to its
+/// refused event, whatever the others are. Hands are counted from 1.
+#[derive(Clone, Copy, Debug, PartialEq, Eq)]
+pub enum EachQuestion {
+    /// All hands step by step, and the verdict on each refused one.
+    Replay,
+    /// The legal moves of a hand at every point, and the verdict on it if it is refused.
+    EveryPoint { hand: u32 },
+    /// The legal moves after the first `events` events of a hand.
+    Point { hand: u32, events: u32 },
 }

@@ -1,17 +1,28 @@
 //! Turns the words of a command line into a request, or says that they are no command.
 #![tactic(auto)]
 
+mod check;
 mod command;
+mod compare;
+mod convert;
+mod equity;
+mod game;
+mod given_options;
+mod judge;
+mod load;
 mod notation;
 mod numbers;
 mod options;
 mod reading;
+mod replay;
+mod report;
 mod request;
-mod task;
+mod session;
+mod views;
+mod words;
 
-pub use command::Command;
+pub use command::{Command, EachQuestion};
 pub use notation::{NotationName, PlainNotation};
 pub use numbers::HandCount;
 pub use reading::read_words;
 pub use request::{Logs, Request, Sides};
-pub use task::{NamedTask, Question};

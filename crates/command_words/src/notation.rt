@@ -1,6 +1,6 @@
 //! The notations and their names on the command line.
 ghost use Rattle.std.specs.Prelude.{◌≡◌, option_map};
-ghost use Rattle.command_words.specs.Words.{notation_named as notation_named_said, notation_of_name as notation_of_name_said};
+ghost use Rattle.command_words.specs.Notations.{notation_named as notation_named_said, notation_of_name as notation_of_name_said};
 
 /// A notation that needs no game file.
 #[derive(Clone, Copy, Debug, PartialEq, Eq)]

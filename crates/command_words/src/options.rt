@@ -1,238 +1,56 @@
-//! Reads words as options, each given at most once.
-ghost use Rattle.std.specs.Prelude.{◌≡◌, option_map, map, string_bytes};
-ghost use Rattle.clap.specs.Lexer.{long_of, name_and_value, strip_byte};
-ghost use Rattle.command_words.specs.Requests.{options_in};
-ghost use Rattle.command_words.specs.Options.{is_flag as is_flag_said, is_of_other as is_of_other_said, no_options, options_said, with_flag as with_flag_said, with_new as with_new_said, with_option as with_option_said, with_other as with_other_said, with_place as with_place_said};
+//! The words of `options`: the legal moves at a point of a hand, or at every point of it.
+ghost use Rattle.std.specs.Prelude.{◌≡◌, option_map};
+ghost use Rattle.command_words.specs.Requests.{options_in, request_in};
+ghost use Rattle.command_words.specs.Options.{options_asked, point_asked, points_asked};
 
-/// The values of the given options.
-#[derive(Clone, Copy, Debug, PartialEq, Eq)]
-pub struct GivenOptions<'a> {
-    /// The notation of the input.
-    pub from: Option<&'a str>,
-    /// The notation of the output.
-    pub to: Option<&'a str>,
-    /// The name of the game file.
-    pub game: Option<&'a str>,
-    /// The number that made hands start from.
-    pub seed: Option<&'a str>,
-    /// The number of hands to make.
-    pub hands: Option<&'a str>,
-    /// The number of a seat.
-    pub seat: Option<&'a str>,
-    /// The number of a hand.
-    pub hand: Option<&'a str>,
-    /// The number of events of that hand that come first.
-    pub after: Option<&'a str>,
-    /// The number of a street of that hand.
-    pub street: Option<&'a str>,
-    /// The name of the other file, when two files are compared.
-    pub other_file: Option<&'a str>,
-    /// The notation of the other file.
-    pub other_notation: Option<&'a str>,
-    /// Whether notes that cannot be written are dropped.
-    pub drops_notes: bool,
-    /// Whether notes are ignored.
-    pub ignores_notes: bool,
-    /// Whether the lines on which hands begin are asked for.
-    pub shows_lines: bool,
-}
+use crate::command::{Command, EachQuestion};
+use crate::given_options::{GivenOptions, are_none};
+use crate::numbers::{read_events, read_hand};
+use crate::request::{Request, asked, asked_each};
 
-/// The options that the words say, or `None` if one is unknown or repeated.
-#[tactic(auto, unfolding(crate::specs::Options::options_said))]
-pub fn read_options(words: &[String]) -> Option<GivenOptions<'_>>
-    ensures { option_map options_in result ≡ options_said no_options (map string_bytes words.now) }
+/// The legal moves at one point of a hand, or at every point.
+pub fn request<'a>(options: GivenOptions<'a>) -> Option<Request<'a>>
+    ensures { option_map request_in result ≡ options_asked (options_in options.entry) }
 {
-    let mut options = GivenOptions {
+    let others = GivenOptions {
         from: None,
-        to: None,
         game: None,
-        seed: None,
-        hands: None,
-        seat: None,
         hand: None,
         after: None,
-        street: None,
-        other_file: None,
-        other_notation: None,
-        drops_notes: false,
-        ignores_notes: false,
-        shows_lines: false,
+        asks_each: false,
+        ..options
     };
-    let mut rest = words;
-    while let Some((word, behind)) = rest.split_first() {
-        match long_word(word.as_str())? {
-            (name, Some(value)) => {
-                options = with_option(options, name, value)?;
-                rest = behind;
-            }
-            (name, None) if is_flag(name) => {
-                options = with_flag(options, name)?;
-                rest = behind;
-            }
-            (name, None) => {
-                let (value, behind) = behind.split_first()?;
-                options = with_option(options, name, value.as_str())?;
-                rest = behind;
-            }
+    if !are_none(others) {
+        return None;
+    }
+    let hand = read_hand(options.hand?)?;
+    points(options, options.after, hand)
+}
+
+// The legal moves of a hand after the number of events that is given, or at every point.
+fn points<'a>(options: GivenOptions<'a>, after: Option<&str>, hand: u32) -> Option<Request<'a>>
+    ensures { option_map request_in result
+        ≡ points_asked (options_in options.entry) (option_map (λ s. s.now) after.entry) hand }
+{
+    match after {
+        None => asked_each(options, EachQuestion::EveryPoint { hand }),
+        Some(after) => {
+            let events = read_events(after)?;
+            point(options, hand, events)
         }
     }
-    Some(options)
 }
 
-// The name and the value of `--name` or `--name=value`.
-fn long_word(word: &str) -> Option<(&str, Option<&str>)>
-    ensures { option_map (λ p. (p.0.now, option_map (λ s. s.now) p.1)) result ≡ long_of word.now }
+// The legal moves after this number of events of a hand.
+fn point<'a>(options: GivenOptions<'a>, hand: u32, events: u32) -> Option<Request<'a>>
+    ensures { option_map request_in result ≡ point_asked (options_in options.entry) hand events }
 {
-    let rest = strip_hyphen(strip_hyphen(word)?)?;
-    if rest.is_empty() {
-        return None;
+    if options.asks_each {
+        return asked_each(options, EachQuestion::Point { hand, events });
     }
-    Some(split_value(rest))
-}
-
-// What comes after a first hyphen.
-fn strip_hyphen(word: &str) -> Option<&str>
-    ensures { option_map (λ s. s.now) result ≡ strip_byte 45 word.now }
-{
-    word.strip_prefix('-')
-}
-
-// The text before the first `=`, and the text after it if there is one.
-fn split_value(text: &str) -> (&str, Option<&str>)
-    ensures { (result.0.now, option_map (λ s. s.now) result.1) ≡ name_and_value text.now }
-{
-    match text.split_once('=') {
-        Some((name, value)) => (name, Some(value)),
-        None => (text, None),
-    }
-}
-
-// The options with one more, if its value does not begin with a hyphen.
-fn with_option<'a>(
-    options: GivenOptions<'a>,
-    name: &str,
-    value: &'a str,
-) -> Option<GivenOptions<'a>>
-    ensures { option_map options_in result
-        ≡ with_option_said (options_in options.entry) name.now value.now }
-{
-    if value.starts_with('-') {
-        return None;
-    }
-    if is_of_other(name) {
-        return with_other(options, name, value);
-    }
-    with_new(options, name, value)
-}
-
-// Whether the option is about the other file.
-fn is_of_other(name: &str) -> bool
-    ensures { result ≡ is_of_other_said name.now }
-{
-    name == "with" || name == "as"
-}
-
-// The options with one more, if it is not given yet.
-fn with_new<'a>(options: GivenOptions<'a>, name: &str, value: &'a str) -> Option<GivenOptions<'a>>
-    ensures { option_map options_in result
-        ≡ with_new_said (options_in options.entry) name.now value.now }
-{
-    let given = Some(value);
-    match name {
-        "from" if options.from.is_none() => Some(GivenOptions {
-            from: given,
-            ..options
-        }),
-        "to" if options.to.is_none() => Some(GivenOptions {
-            to: given,
-            ..options
-        }),
-        "game" if options.game.is_none() => Some(GivenOptions {
-            game: given,
-            ..options
-        }),
-        "seed" if options.seed.is_none() => Some(GivenOptions {
-            seed: given,
-            ..options
-        }),
-        "hands" if options.hands.is_none() => Some(GivenOptions {
-            hands: given,
-            ..options
-        }),
-        _ => with_place(options, name, value),
-    }
-}
-
-// The options with one more about a seat or a place in a hand, if it is not given yet.
-fn with_place<'a>(options: GivenOptions<'a>, name: &str, value: &'a str) -> Option<GivenOptions<'a>>
-    ensures { option_map options_in result
-        ≡ with_place_said (options_in options.entry) name.now value.now }
-{
-    let value = Some(value);
-    match name {
-        "seat" if options.seat.is_none() => Some(GivenOptions {
-            seat: value,
-            ..options
-        }),
-        "hand" if options.hand.is_none() => Some(GivenOptions {
-            hand: value,
-            ..options
-        }),
-        "after" if options.after.is_none() => Some(GivenOptions {
-            after: value,
-            ..options
-        }),
-        "street" if options.street.is_none() => Some(GivenOptions {
-            street: value,
-            ..options
-        }),
-        _ => None,
-    }
-}
-
-// The options with one more about the other file, if it is not given yet.
-fn with_other<'a>(options: GivenOptions<'a>, name: &str, value: &'a str) -> Option<GivenOptions<'a>>
-    ensures { option_map options_in result
-        ≡ with_other_said (options_in options.entry) name.now value.now }
-{
-    let value = Some(value);
-    match name {
-        "with" if options.other_file.is_none() => Some(GivenOptions {
-            other_file: value,
-            ..options
-        }),
-        "as" if options.other_notation.is_none() => Some(GivenOptions {
-            other_notation: value,
-            ..options
-        }),
-        _ => None,
-    }
-}
-
-// Whether the option is a flag, which has no value.
-fn is_flag(name: &str) -> bool
-    ensures { result ≡ is_flag_said name.now }
-{
-    name == "drop-notes" || name == "no-notes" || name == "lines"
-}
-
-// The options with the flag of this name, if it is not given yet.
-fn with_flag<'a>(options: GivenOptions<'a>, name: &str) -> Option<GivenOptions<'a>>
-    ensures { option_map options_in result ≡ with_flag_said (options_in options.entry) name.now }
-{
-    match name {
-        "drop-notes" if !options.drops_notes => Some(GivenOptions {
-            drops_notes: true,
-            ..options
-        }),
-        "no-notes" if !options.ignores_notes => Some(GivenOptions {
-            ignores_notes: true,
-            ..options
-        }),
-        "lines" if !options.shows_lines => Some(GivenOptions {
-            shows_lines: true,
-            ..options
-        }),
-        _ => None,
-    }
+    asked(
+        options,
+        Command::Options { hand, events },
+        Command::Options { hand, events },
+    )
 }

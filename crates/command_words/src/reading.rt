@@ -5,12 +5,13 @@ ghost use Rattle.clap.specs.Words.{app_of, found_of, kind_of};
 ghost use Rattle.clap.specs.declared.builder.action.ArgAction.TheVariants.{SetTrue};
 ghost use Rattle.clap.specs.declared.error.kind.ErrorKind.TheVariants.{OutOfMemory};
 ghost use Rattle.command_words.specs.Requests.{AreFound, IsSaidBy, options_in, request_in};
-ghost use Rattle.command_words.specs.Options.{GivenOptions as OptionsSaid};
+ghost use Rattle.command_words.specs.GivenOptions.{GivenOptions as OptionsSaid};
 ghost use Rattle.command_words.specs.Parser.{IsArgument, are_taken, handref};
 ghost use Rattle.command_words.specs.Words.{request_said};
 
-use crate::options::{GivenOptions, read_options};
-use crate::request::{Request, request_of};
+use crate::given_options::{GivenOptions, read_options};
+use crate::request::Request;
+use crate::words::request_of;
 use card_set::Memory;
 use clap::{Arg, ArgAction, ArgMatches};
 use std::alloc::{AllocError, Global};
@@ -38,7 +39,7 @@ pub fn read_words<'a>(alloc: Global, words: &'a [String]) -> Result<Option<Reque
 }
 
 // What the words ask for, found without allocating memory.
-#[tactic(auto, unfolding(crate::specs::Options::options_said))]
+#[tactic(auto, unfolding(crate::specs::GivenOptions::options_said))]
 fn request_in_words(words: &[String]) -> Option<Request<'_>>
     ensures { option_map request_in result ≡ request_said (map string_bytes words.now) }
 {
@@ -87,7 +88,8 @@ fn parser<'a>(alloc: Global) -> Result<clap::Command<'a>, AllocError>
         .arg(option(alloc, "as"))?
         .arg(flag(alloc, "drop-notes"))?
         .arg(flag(alloc, "no-notes"))?
-        .arg(flag(alloc, "lines"))
+        .arg(flag(alloc, "lines"))?
+        .arg(flag(alloc, "each"))
 }
 
 // An option of this name.
@@ -125,5 +127,6 @@ fn options_found<'a>(matches: &ArgMatches<'a>) -> GivenOptions<'a>
         drops_notes: matches.get_flag("drop-notes"),
         ignores_notes: matches.get_flag("no-notes"),
         shows_lines: matches.get_flag("lines"),
+        asks_each: matches.get_flag("each"),
     }
 }

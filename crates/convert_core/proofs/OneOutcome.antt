@@ -37,7 +37,7 @@ pub turned : (a b : Record) → SayTheSame a b → SayTheSame b a
 turned a b same = record { setup = sym same.setup; rules = sym same.rules; script = sym same.script; stated = sym same.stated }
 
 -- what holds for the play of a record holds for that of another one that says the same
-moved : (P : Setup → Rules → List Event → Stated → Type 0) (a b : Record) → SayTheSame a b
+pub moved : (P : Setup → Rules → List Event → Stated → Type 0) (a b : Record) → SayTheSame a b
     → P a.setup a.rules a.script a.stated → P b.setup b.rules b.script b.stated
 moved P a b same is =
     subst (P b.setup b.rules b.script) same.stated
@@ -57,7 +57,7 @@ fault_moved : (a b : Record) (fault : ReplayFault) → SayTheSame a b
 fault_moved a b fault same is = moved (λ setup rules script stated. IsFaultOf setup rules script fault) a b same is
 
 -- a legal hand has one trace
-one_trace : (a b : Record) (trace other : Trace) → SayTheSame a b → IsTraceOfLegal a trace → IsTraceOfLegal b other → trace ≡ other
+pub one_trace : (a b : Record) (trace other : Trace) → SayTheSame a b → IsTraceOfLegal a trace → IsTraceOfLegal b other → trace ≡ other
 one_trace a b trace other same is it =
     one_past b.setup (past_at_end b.setup (said_by b.script)) trace other (legal_moved a b trace same is).whole it.whole
 
@@ -99,7 +99,7 @@ is_fault a (faults.NoShownHand pot) is = ((λ want. want), is)
 is_fault a (faults.Memory memory) is = absurd is
 
 -- a hand without a trace is not legal
-not_legal : (a b : Record) (fault : ReplayFault) (trace : Trace) → SayTheSame a b → IsReplayFaultOf a fault → IsTraceOfLegal b trace → ⊥
+pub not_legal : (a b : Record) (fault : ReplayFault) (trace : Trace) → SayTheSame a b → IsReplayFaultOf a fault → IsTraceOfLegal b trace → ⊥
 not_legal a b fault trace same is it =
     let told = is_fault a fault is in
     no_fault b.setup b.rules b.script fault told.0 it.legal (fault_moved a b fault same told.1)

@@ -1,6 +1,7 @@
 -- The answer to what a source has left, if the source shows it, and how a run ends with this
 -- answer.
-use Rattle.std.proofs.Common.{◌≡◌, ◌⊎◌, ℕ, ◌<◌, suc, true, List, [], length, Option, Some, None, IfOk, IfSome, Result, Ok, Err, refl, subst, sym, inl, inr, arith}
+use Rattle.std.proofs.Common.{◌≡◌, ◌⊎◌, ◌∙◌, ℕ, ◌<◌, suc, true, List, [], length, Option, Some, None, IfErr, IfOk, IfSome, Result, Ok, Err, Global, ap, refl, string_bytes, subst, sym, inl, inr, arith}
+use Rattle.std.specs.declared.string.String.{String}
 use Rattle.std.proofs.Math.ListN.{replicate}
 use Rattle.std.proofs.lemmas.List.{length-replicate}
 use Rattle.acpc_game.specs.declared.game.Game.{Game}
@@ -9,11 +10,15 @@ use Rattle.acpc_game.specs.declared.fault.AcpcFault.TheVariants as in_acpc
 use Rattle.card_set.specs.Refusal.{WasRefused}
 use Rattle.command_words.specs.Words.{Load, Plain, Request, Under, Compare}
 use Rattle.command_words.specs.declared.request.Logs.{Logs}
-use Rattle.poker_cli.specs.declared.task.Task.{Task}
+use Rattle.command_words.specs.declared.command.Command.{Command}
+use Rattle.command_words.specs.declared.command.EachQuestion.{EachQuestion}
 use Rattle.convert_core.specs.Conversion.{IsConversion as IsConverting, IsConverted, IsPlaysRefusal, IsReadFault, ReadAsRefused}
 use Rattle.convert_core.specs.Faults.{is_out_of_memory_in_acpc, is_out_of_memory_in_ohh, is_out_of_memory_in_phh, is_out_of_memory}
 use Rattle.convert_core.specs.declared.convert_fault.ConvertFault.{ConvertFault}
 use Rattle.convert_core.specs.declared.convert_fault.ConvertFault.TheVariants as convert_faults
+use Rattle.convert_core.specs.Judged.{IsPlaysFaultOf}
+use Rattle.convert_core.specs.declared.refusal.PlaysFault.{PlaysFault}
+use Rattle.convert_core.specs.declared.refusal.PlaysFault.TheVariants as plays_faults
 use Rattle.convert_core.specs.declared.refusal.Refusal.{Refusal}
 use Rattle.convert_core.specs.declared.format_fault.FormatFault.{FormatFault}
 use Rattle.convert_core.specs.declared.format_fault.FormatFault.TheVariants as formats
@@ -24,9 +29,10 @@ use Rattle.ohh_reading.specs.declared.fault.OhhFault.{OhhFault}
 use Rattle.ohh_reading.specs.declared.fault.OhhFault.TheVariants as in_ohh
 use Rattle.phh_reading.specs.declared.fault.PhhFault.{PhhFault}
 use Rattle.phh_reading.specs.declared.fault.PhhFault.TheVariants as in_phh
-use Rattle.poker_cli.specs.Answer.{Answer, Files, FilesByName, GivesGame, GivesNoGame, IsAnswer, IsAnswerBy, IsAnswerIn, IsAnswerTo, IsAnswerUnder, IsJudgement, IsToldOf, IsWritten, done, most_input, to_excess, to_fault, to_refusal}
+use Rattle.poker_cli.specs.Answer.{Answer, Files, FilesByName, GivesGame, GivesNoGame, IsAnswer, IsAnswerBy, IsAnswerIn, IsAnswerOfEach, IsAnswerTo, IsAnswerUnder, IsJudgement, IsToldOf, IsToldText, IsWritten, done, most_input, to_excess, to_fault, to_refusal}
 use Rattle.poker_cli.specs.Answer as answers
 use Rattle.poker_cli.specs.Lacking.{IsGameFileErrorTold, Lacks}
+use Rattle.poker_cli.specs.Texts.{IsTextOf}
 use Rattle.poker_cli.specs.Told.{answer_told}
 use Rattle.poker_cli.specs.declared.answer.Answer as made
 use Rattle.poker_cli.specs.declared.no_answer.NoAnswerError.{NoAnswerError}
@@ -40,10 +46,10 @@ use Rattle.poker_cli.specs.Ways.{job_under}
 use Rattle.poker_cli.proofs.FilesTold.{any_file, any_game_file, game_alone, of_file, of_game_file, two_files}
 
 -- the bytes that were read are those that the source had left
-pub answer_within : (task : Task) (reader : Format) (left : Option (List ℕ)) (bytes : List ℕ) (answer : Answer)
-    → IfSome left (λ l. bytes ≡ l) → IsAnswer task reader bytes answer → OfBytes left (λ l. IsAnswer task reader l answer)
-answer_within task reader (Some left) bytes answer all is = subst (λ (l : List ℕ). IsAnswer task reader l answer) all is
-answer_within task reader None bytes answer all is = (bytes, is)
+pub answer_within : (command : Command Format) (reader : Format) (left : Option (List ℕ)) (bytes : List ℕ) (answer : Answer)
+    → IfSome left (λ l. bytes ≡ l) → IsAnswer command reader bytes answer → OfBytes left (λ l. IsAnswer command reader l answer)
+answer_within command reader (Some left) bytes answer all is = subst (λ (l : List ℕ). IsAnswer command reader l answer) all is
+answer_within command reader None bytes answer all is = (bytes, is)
 
 -- a source that shows that it has more bytes than the limit, or does not show its bytes
 pub beyond : (n : ℕ) (left : Option (List ℕ)) (P : List ℕ → Type 0) → IfSome left (λ l. n < length l)
@@ -52,10 +58,10 @@ beyond n (Some left) P many each = each left many
 beyond n None P many each = let long : List ℕ = replicate (suc n) 0 in (long, each long (omega (arith, length-replicate {A = ℕ} (suc n) 0)))
 
 -- more bytes than the limit
-pub answer_beyond : (task : Task) (reader : Format) (left : Option (List ℕ)) (answer : Answer)
-    → IfSome left (λ l. most_input < length l) → answer ≡ to_excess → OfBytes left (λ l. IsAnswer task reader l answer)
-answer_beyond task reader left answer many is =
-    beyond most_input left _ many (λ bytes more. subst (λ (a : Answer). IsAnswer task reader bytes a) (sym is) (answers.TooLong more))
+pub answer_beyond : (command : Command Format) (reader : Format) (left : Option (List ℕ)) (answer : Answer)
+    → IfSome left (λ l. most_input < length l) → answer ≡ to_excess → OfBytes left (λ l. IsAnswer command reader l answer)
+answer_beyond command reader left answer many is =
+    beyond most_input left _ many (λ bytes more. subst (λ (a : Answer). IsAnswer command reader bytes a) (sym is) (answers.TooLong more))
 
 -- running out of memory is not reported as a fault
 history_memory : (fault : PhhFault) (answer : Answer) → to_fault (formats.Phh fault) ≡ Some answer → is_out_of_memory_in_phh fault ≡ true → ⊥
@@ -131,6 +137,16 @@ module _ (Say : List Record → Type 0) (HaveFault : FormatFault → Type 0) whe
   answer_wrong IsMade answer (convert_faults.Unspelled number fact) have told = absurd have
   answer_wrong IsMade answer (convert_faults.Memory memory) have told = absurd told
 
+  -- what is printed for the hands, or the first refused one
+  pub answer_printed : (printed : List Play → List ℕ) (records : List Record) → Say records → (text : Result (String Global) PlaysFault) (answer : Answer)
+      → IfOk text (λ some. IsTextOf printed records (string_bytes some)) → IfErr text (IsPlaysFaultOf records) → IsToldText text answer
+      → IsAnswerTo Say HaveFault (λ plays told. told ≡ done (printed plays)) answer
+  answer_printed printed records say (Ok text) answer is refused told =
+      answers.Played is.plays (record { records = records; say = say; are = is.are }) answer (told ∙ ap done is.said)
+  answer_printed printed records say (Err (plays_faults.Refused number why)) answer is refused told =
+      answer_refused (λ plays told. told ≡ done (printed plays)) answer number why (record { records = records; say = say; first = refused }) told
+  answer_printed printed records say (Err (plays_faults.Memory memory)) answer is refused told = absurd told
+
   -- and no verdicts
   pub not_judged : (lines : List ℕ) (answer : Answer) (fault : ConvertFault) → IsReadFault HaveFault fault → IsToldOf fault answer
       → IsJudgement Say HaveFault lines answer
@@ -138,6 +154,14 @@ module _ (Say : List Record → Type 0) (HaveFault : FormatFault → Type 0) whe
   not_judged lines answer (convert_faults.Refused number why) have told = absurd have
   not_judged lines answer (convert_faults.Unspelled number fact) have told = absurd have
   not_judged lines answer (convert_faults.Memory memory) have told = absurd told
+
+  -- and no hands that answer each by itself
+  pub not_read : (question : EachQuestion) (answer : Answer) (fault : ConvertFault) → IsReadFault HaveFault fault → IsToldOf fault answer
+      → IsAnswerOfEach Say HaveFault question answer
+  not_read question answer (convert_faults.Format fault) have told = answers.NotRead fault have answer told
+  not_read question answer (convert_faults.Refused number why) have told = absurd have
+  not_read question answer (convert_faults.Unspelled number fact) have told = absurd have
+  not_read question answer (convert_faults.Memory memory) have told = absurd told
 
   module _ (unspelled : Play → Option Unspelled) (Spell Back : List Play → List ℕ → Type 0) (answer : Answer) where
     -- bytes that cannot be converted
@@ -202,7 +226,7 @@ of_all None P each = ([], each [])
 pub where_told : (request : Request) (left : Option (List ℕ)) (told : Option FilesByName) (P Q : Files → List ℕ → Type 0)
     → ((files : Files) (bytes : List ℕ) → P files bytes → Q files bytes) → WhereTold request left told P → WhereTold request left told Q
 where_told (Load seed hands) left told P Q more is = more _ _ is
-where_told (Plain from task) left told P Q more is = bytes_told left _ _ (more _) is
+where_told (Plain from command) left told P Q more is = bytes_told left _ _ (more _) is
 where_told (Under name logs) left told P Q more is =
     of_file told name (λ game. OfBytes left (P (game_alone game))) (λ game. OfBytes left (Q (game_alone game)))
     (λ game. bytes_told left (P (game_alone game)) (Q (game_alone game)) (more (game_alone game))) is
@@ -217,7 +241,7 @@ where_told (Compare sides name notes) left told P Q more is =
 pub always_told : (request : Request) (left : Option (List ℕ)) (told : Option FilesByName) (P : Files → List ℕ → Type 0)
     → ((files : Files) (bytes : List ℕ) → P files bytes) → WhereTold request left told P
 always_told (Load seed hands) left told P each = each _ _
-always_told (Plain from task) left told P each = of_all left _ (each _)
+always_told (Plain from command) left told P each = of_all left _ (each _)
 always_told (Under name logs) left told P each =
     any_file told name (λ game. OfBytes left (P (game_alone game))) (λ game. of_all left (P (game_alone game)) (each (game_alone game)))
 always_told (Compare sides name notes) left told P each =

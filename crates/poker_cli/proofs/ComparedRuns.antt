@@ -16,11 +16,11 @@ use Rattle.hand_records.specs.SameHands.{AllPaired}
 use Rattle.hand_records.specs.declared.trace.Play.{Play}
 use Rattle.poker_cli.specs.Answer.{Answer, AsksToCompare, Files, IsAnswerIn, IsComparedWith, IsComparison, most_input}
 use Rattle.poker_cli.specs.Answer as answers
-use Rattle.poker_cli.specs.Compared.{DifferentHand, compared, compared_by, first_different, to_other_count, to_same}
+use Rattle.poker_cli.specs.Compare.{DifferentHand, compared, compared_by, first_different, to_other_count, to_same}
 use Rattle.poker_cli.specs.ComparedRuns.{AreFoundOther, AreFoundSame, AreOther, AreSame, BothRead, FindsOther, InCount, InHand, IsFirstDifferent, IsSameHand}
 use Rattle.poker_cli.specs.Inputs.{SayRecords}
 use Rattle.poker_cli.specs.Run.{Ends, RefusesNothing, Sinks}
-use Rattle.poker_cli.specs.declared.comparison.Comparison.{Comparison}
+use Rattle.poker_cli.specs.declared.compare.Comparison.{Comparison}
 use Rattle.poker_cli.specs.declared.status.Status.{Status}
 use Rattle.poker_cli.specs.declared.status.Status.TheVariants as statuses
 use Rattle.poker_cli.proofs.Comparisons.{by_request, compared_as, compared_legal, legal_compares}

@@ -28,12 +28,12 @@ use Rattle.hand_records.specs.declared.writing.Keep.{Keep}
 use Rattle.hand_records.specs.declared.writing.Keep.TheVariants as keeps
 use Rattle.poker_cli.specs.Answer.{Answer, AsksToCompare, Files, IsAnswerIn, IsComparedTo, IsComparedWith, IsComparison, comparison_under, in_file, most_input, to_refusal}
 use Rattle.poker_cli.specs.Answer as answers
-use Rattle.poker_cli.specs.Compared.{DifferentHand, compared, compared_by, first_different, to_other_count, to_same}
+use Rattle.poker_cli.specs.Compare.{DifferentHand, compared, compared_by, first_different, to_other_count, to_same}
 use Rattle.poker_cli.specs.Headline.{ConvertsInto}
 use Rattle.poker_cli.specs.Inputs.{HaveFault, SayRecords}
 use Rattle.poker_cli.specs.Outputs.{AreSameIn, first_refusal_in, kept_in, unspelled_in}
 use Rattle.poker_cli.specs.Run.{Ends, IsFileMissing, IsGameMissing, RefusesNothing, Sinks}
-use Rattle.poker_cli.specs.declared.comparison.Comparison.{Comparison}
+use Rattle.poker_cli.specs.declared.compare.Comparison.{Comparison}
 use Rattle.poker_cli.specs.declared.status.Status.{Status}
 use Rattle.poker_cli.specs.declared.status.Status.TheVariants as statuses
 use Rattle.poker_cli.specs.declared.task.Format.{Format}
@@ -157,7 +157,7 @@ to_other by file text bytes answer there short (answers.ToOther found is few _ t
 pub by_request : (request : Request) (files : Files) (by : Comparison) (text bytes : List ℕ) (answer : Answer) → AsksToCompare files request by text
     → IsAnswerIn request files bytes answer → IsComparison by text bytes answer
 by_request (Load seed hands) files by text bytes answer asks is = absurd asks
-by_request (Plain from task) files by text bytes answer asks is = absurd asks
+by_request (Plain from command) files by text bytes answer asks is = absurd asks
 by_request (Under name logs) files by text bytes answer asks is = absurd asks
 by_request (Compare (PlainSides from other) file notes) files by text bytes answer asks is =
     subst (λ (c : Comparison). IsComparison c text bytes answer) (sym asks.comparison)
@@ -173,14 +173,14 @@ by_request (Compare (SidesUnder name from other) file notes) files by text bytes
 -- no game file and no other file is missing
 no_game_missing : (request : Request) (files : Files) (by : Comparison) (text : List ℕ) → AsksToCompare files request by text → IsGameMissing request files → ⊥
 no_game_missing (Load seed hands) files by text asks missing = asks
-no_game_missing (Plain from task) files by text asks missing = asks
+no_game_missing (Plain from command) files by text asks missing = asks
 no_game_missing (Under name logs) files by text asks missing = asks
 no_game_missing (Compare (PlainSides from other) file notes) files by text asks missing = missing
 no_game_missing (Compare (SidesUnder name from other) file notes) files by text asks missing = let there = asks.comparison.gives.there in cc (there, missing)
 
 no_other_missing : (request : Request) (files : Files) (by : Comparison) (text : List ℕ) → AsksToCompare files request by text → IsFileMissing request files → ⊥
 no_other_missing (Load seed hands) files by text asks missing = asks
-no_other_missing (Plain from task) files by text asks missing = asks
+no_other_missing (Plain from command) files by text asks missing = asks
 no_other_missing (Under name logs) files by text asks missing = asks
 no_other_missing (Compare (PlainSides from other) file notes) files by text asks missing = let there = asks.there in cc (there, missing)
 no_other_missing (Compare (SidesUnder name from other) file notes) files by text asks missing = let there = asks.there in let none = missing.1 in cc (there, none)

@@ -5,7 +5,7 @@ use Rattle.acpc_game.specs.declared.fault.AcpcFault.{AcpcFault}
 use Rattle.acpc_game.specs.declared.fault.AcpcFault.TheVariants as in_acpc
 use Rattle.command_words.specs.Words.{Load, Plain, Request, Under, Compare}
 use Rattle.command_words.specs.declared.request.Logs.TheVariants as logs_are
-use Rattle.poker_cli.specs.declared.task.Task.TheVariants as tasks
+use Rattle.command_words.specs.declared.command.Command.TheVariants as commands
 use Rattle.convert_core.specs.declared.format_fault.FormatFault.{FormatFault}
 use Rattle.convert_core.specs.declared.format_fault.FormatFault.TheVariants as formats
 use Rattle.hand_records.specs.declared.record.Record.{Record}
@@ -104,7 +104,7 @@ not_unread fault answer status other told same = other (subst IsUnread same (fau
 
 module _ (from to : Format) (keep : Keep) (bytes : List ℕ) where
   -- an answer that is done
-  pub done_into : (answer : Answer) → IsAnswer (tasks.Convert to keep) from bytes answer → answer.status ≡ statuses.Done → ConvertsInto from to keep bytes answer.output
+  pub done_into : (answer : Answer) → IsAnswer (commands.Convert to keep) from bytes answer → answer.status ≡ statuses.Done → ConvertsInto from to keep bytes answer.output
   unfolding IsUnread
   done_into _ (answers.TooLong many) same = absurd (cc (same))
   done_into answer (answers.Read few _ (answers.Unread fault have _ told)) same = absurd (not_unread fault answer statuses.Done (λ un. un) told same)
@@ -115,7 +115,7 @@ module _ (from to : Format) (keep : Keep) (bytes : List ℕ) where
 
   module _ (out diag : Sinks) where
     -- a refused hand
-    refused_so : (answer : Answer) → IsAnswer (tasks.Convert to keep) from bytes answer → answer.status ≡ statuses.Refused
+    refused_so : (answer : Answer) → IsAnswer (commands.Convert to keep) from bytes answer → answer.status ≡ statuses.Refused
         → TellsAlone out diag answer.line → NamesRefused from bytes out diag
     unfolding IsUnread
     refused_so _ (answers.TooLong many) same told = absurd (cc (same))
@@ -126,7 +126,7 @@ module _ (from to : Format) (keep : Keep) (bytes : List ℕ) where
     refused_so _ (answers.Read few _ (answers.Played plays read _ (answers.Spelled none output spell back))) same told = absurd (cc (same))
 
     -- a fact that cannot be written
-    unspelled_so : (answer : Answer) → IsAnswer (tasks.Convert to keep) from bytes answer → answer.status ≡ statuses.Unspelled
+    unspelled_so : (answer : Answer) → IsAnswer (commands.Convert to keep) from bytes answer → answer.status ≡ statuses.Unspelled
         → TellsAlone out diag answer.line → NamesUnspelled from to keep bytes out diag
     unfolding IsUnread
     unspelled_so _ (answers.TooLong many) same told = absurd (cc (same))
@@ -137,7 +137,7 @@ module _ (from to : Format) (keep : Keep) (bytes : List ℕ) where
     unspelled_so _ (answers.Read few _ (answers.Played plays read _ (answers.Spelled none output spell back))) same told = absurd (cc (same))
 
     -- bytes that cannot be read
-    bad_so : (answer : Answer) → IsAnswer (tasks.Convert to keep) from bytes answer → answer.status ≡ statuses.BadInput
+    bad_so : (answer : Answer) → IsAnswer (commands.Convert to keep) from bytes answer → answer.status ≡ statuses.BadInput
         → TellsAlone out diag answer.line → NamesFault from bytes out diag statuses.BadInput
     bad_so _ (answers.TooLong many) same told = absurd (cc (same))
     bad_so answer (answers.Read few _ (answers.Unread fault have _ is)) same told =
@@ -147,7 +147,7 @@ module _ (from to : Format) (keep : Keep) (bytes : List ℕ) where
     bad_so _ (answers.Read few _ (answers.Played plays read _ (answers.Spelled none output spell back))) same told = absurd (cc (same))
 
     -- bytes over a limit
-    limit_so : (answer : Answer) → IsAnswer (tasks.Convert to keep) from bytes answer → answer.status ≡ statuses.Limit
+    limit_so : (answer : Answer) → IsAnswer (commands.Convert to keep) from bytes answer → answer.status ≡ statuses.Limit
         → TellsAlone out diag answer.line → IsTooLong bytes out diag ⊎ NamesFault from bytes out diag statuses.Limit
     limit_so _ (answers.TooLong many) same told = inl (record { beyond = many; told = told })
     limit_so answer (answers.Read few _ (answers.Unread fault have _ is)) same told =
@@ -157,7 +157,7 @@ module _ (from to : Format) (keep : Keep) (bytes : List ℕ) where
     limit_so _ (answers.Read few _ (answers.Played plays read _ (answers.Spelled none output spell back))) same told = absurd (cc (same))
 
   -- no question about one hand is asked
-  never_none : (answer : Answer) → IsAnswer (tasks.Convert to keep) from bytes answer → answer.status ≡ statuses.NoSuch → ⊥
+  never_none : (answer : Answer) → IsAnswer (commands.Convert to keep) from bytes answer → answer.status ≡ statuses.NoSuch → ⊥
   unfolding IsUnread
   never_none _ (answers.TooLong many) same = cc (same)
   never_none answer (answers.Read few _ (answers.Unread fault have _ is)) same = not_unread fault answer statuses.NoSuch (λ un. un) is same
@@ -166,7 +166,7 @@ module _ (from to : Format) (keep : Keep) (bytes : List ℕ) where
   never_none _ (answers.Read few _ (answers.Played plays read _ (answers.Spelled none output spell back))) same = cc (same)
 
   -- nothing is compared
-  never_differs : (answer : Answer) → IsAnswer (tasks.Convert to keep) from bytes answer → answer.status ≡ statuses.Differs → ⊥
+  never_differs : (answer : Answer) → IsAnswer (commands.Convert to keep) from bytes answer → answer.status ≡ statuses.Differs → ⊥
   unfolding IsUnread
   never_differs _ (answers.TooLong many) same = cc (same)
   never_differs answer (answers.Read few _ (answers.Unread fault have _ is)) same = not_unread fault answer statuses.Differs (λ un. un) is same
@@ -175,7 +175,7 @@ module _ (from to : Format) (keep : Keep) (bytes : List ℕ) where
   never_differs _ (answers.Read few _ (answers.Played plays read _ (answers.Spelled none output spell back))) same = cc (same)
 
   -- the game file has no part in it
-  never_game : (answer : Answer) → IsAnswer (tasks.Convert to keep) from bytes answer → answer.status ≡ statuses.BadGame → ⊥
+  never_game : (answer : Answer) → IsAnswer (commands.Convert to keep) from bytes answer → answer.status ≡ statuses.BadGame → ⊥
   unfolding IsUnread
   never_game _ (answers.TooLong many) same = cc (same)
   never_game answer (answers.Read few _ (answers.Unread fault have _ is)) same = not_unread fault answer statuses.BadGame (λ un. un) is same
@@ -187,16 +187,13 @@ module _ (from to : Format) (keep : Keep) (bytes : List ℕ) where
 asks_for_logs : (files : Files) (request : Request) (from to : Format) (keep : Keep) → AsksToConvert files request from to keep
     → AsksForFile request → IsOfLogs from ⊎ IsOfLogs to
 asks_for_logs files (Load seed hands) from to keep found asks = absurd found
-asks_for_logs files (Plain notation task) from to keep found asks = absurd asks
-asks_for_logs files (Under name (logs_are.Read task)) from to keep found asks =
-    let read : from ≡ readers.Acpc found.game = ap (λ (w : Job). w.reader) found.same in
-    inl (subst IsOfLogs (sym read) tt)
-asks_for_logs files (Under name (logs_are.Viewed seat)) from to keep found asks =
+asks_for_logs files (Plain notation command) from to keep found asks = absurd asks
+asks_for_logs files (Under name (logs_are.Read command)) from to keep found asks =
     let read : from ≡ readers.Acpc found.game = ap (λ (w : Job). w.reader) found.same in
     inl (subst IsOfLogs (sym read) tt)
 asks_for_logs files (Under name (logs_are.Written notation keeps)) from to keep found asks =
-    let task : tasks.Convert to keep ≡ tasks.Convert (readers.Acpc found.game) keeps = ap (λ (w : Job). w.task) found.same in
-    let written : to ≡ readers.Acpc found.game = cc (task) in
+    let command : commands.Convert to keep ≡ commands.Convert (readers.Acpc found.game) keeps = ap (λ (w : Job). w.command) found.same in
+    let written : to ≡ readers.Acpc found.game = cc (command) in
     inr (subst IsOfLogs (sym written) tt)
 asks_for_logs files (Compare sides file notes) from to keep found asks = absurd found
 
@@ -212,7 +209,7 @@ module _ (request : Request) (files : Files) (from to : Format) (keep : Keep) (b
   conversion_ends : (status : Status) → AsksToConvert files request from to keep → Ends request files bytes out diag status
       → IsLeft out diag status → ConversionEnds from to keep bytes out diag status
   conversion_ends statuses.Done found ends left =
-      let by = way (tasks.Convert to keep) from in
+      let by = way (commands.Convert to keep) from in
       record {
         output = ends.answer.output;
         converts = done_into from to keep bytes ends.answer (in_way request files bytes by ends.answer found ends.to_input) ends.ends;
@@ -220,7 +217,7 @@ module _ (request : Request) (files : Files) (from to : Format) (keep : Keep) (b
         quiet = left.quiet refl;
       }
   conversion_ends statuses.WriteFault found ends left =
-      let by = way (tasks.Convert to keep) from in
+      let by = way (commands.Convert to keep) from in
       record {
         output = ends.answer.output;
         converts = done_into from to keep bytes ends.answer (in_way request files bytes by ends.answer found ends.to_input) ends.ends.0;
@@ -229,30 +226,30 @@ module _ (request : Request) (files : Files) (from to : Format) (keep : Keep) (b
         told = left.fixed;
       }
   conversion_ends statuses.Refused found ends left =
-      refused_so from to keep bytes out diag ends.answer (in_way request files bytes (way (tasks.Convert to keep) from) ends.answer found ends.to_input) ends.ends
+      refused_so from to keep bytes out diag ends.answer (in_way request files bytes (way (commands.Convert to keep) from) ends.answer found ends.to_input) ends.ends
       (record { unwritten = left.unwritten tt; told = ends.line })
   conversion_ends statuses.Unspelled found ends left =
-      unspelled_so from to keep bytes out diag ends.answer (in_way request files bytes (way (tasks.Convert to keep) from) ends.answer found ends.to_input) ends.ends
+      unspelled_so from to keep bytes out diag ends.answer (in_way request files bytes (way (commands.Convert to keep) from) ends.answer found ends.to_input) ends.ends
       (record { unwritten = left.unwritten tt; told = ends.line })
   conversion_ends statuses.BadInput found ends left =
-      bad_so from to keep bytes out diag ends.answer (in_way request files bytes (way (tasks.Convert to keep) from) ends.answer found ends.to_input) ends.ends
+      bad_so from to keep bytes out diag ends.answer (in_way request files bytes (way (commands.Convert to keep) from) ends.answer found ends.to_input) ends.ends
       (record { unwritten = left.unwritten tt; told = ends.line })
   conversion_ends statuses.Limit found ends left =
-      limit_so from to keep bytes out diag ends.answer (in_way request files bytes (way (tasks.Convert to keep) from) ends.answer found ends.to_input) ends.ends
+      limit_so from to keep bytes out diag ends.answer (in_way request files bytes (way (commands.Convert to keep) from) ends.answer found ends.to_input) ends.ends
       (record { unwritten = left.unwritten tt; told = ends.line })
   conversion_ends statuses.ReadFault found ends left = record { unwritten = left.unwritten tt; told = left.fixed }
   conversion_ends statuses.Memory found ends left = (ends, record { unwritten = left.unwritten tt; told = left.fixed })
   conversion_ends statuses.ShelfFault found ends left =
       (asks_for_logs files request from to keep found ends, record { unwritten = left.unwritten tt; told = left.fixed })
   conversion_ends statuses.Usage found ends left = ends
-  conversion_ends statuses.GameMissing found ends left = no_missing files request (way (tasks.Convert to keep) from) found ends
+  conversion_ends statuses.GameMissing found ends left = no_missing files request (way (commands.Convert to keep) from) found ends
   conversion_ends statuses.BadGame found ends left =
-      never_game from to keep bytes ends.answer (in_way request files bytes (way (tasks.Convert to keep) from) ends.answer found ends.to_input) ends.ends
+      never_game from to keep bytes ends.answer (in_way request files bytes (way (commands.Convert to keep) from) ends.answer found ends.to_input) ends.ends
   conversion_ends statuses.NoSuch found ends left =
-      never_none from to keep bytes ends.answer (in_way request files bytes (way (tasks.Convert to keep) from) ends.answer found ends.to_input) ends.ends
+      never_none from to keep bytes ends.answer (in_way request files bytes (way (commands.Convert to keep) from) ends.answer found ends.to_input) ends.ends
   conversion_ends statuses.Differs found ends left =
-      never_differs from to keep bytes ends.answer (in_way request files bytes (way (tasks.Convert to keep) from) ends.answer found ends.to_input) ends.ends
-  conversion_ends statuses.FileMissing found ends left = no_file_missing files request (way (tasks.Convert to keep) from) found ends
+      never_differs from to keep bytes ends.answer (in_way request files bytes (way (commands.Convert to keep) from) ends.answer found ends.to_input) ends.ends
+  conversion_ends statuses.FileMissing found ends left = no_file_missing files request (way (commands.Convert to keep) from) found ends
 
   -- an input that reads as hands is not reported as bad input or as over a limit
   conversion_reads : (status : Status) → ConversionEnds from to keep bytes out diag status → length bytes ≤ most_input

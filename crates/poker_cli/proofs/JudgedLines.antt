@@ -6,7 +6,7 @@ use Rattle.convert_core.specs.declared.refusal.Refusal.{Refusal}
 use Rattle.convert_core.proofs.Taken.{legal_more, legal_same}
 use Rattle.convert_core.specs.Taking.{AreTaken}
 use Rattle.convert_core.specs.Verdicts.{Legal, Refused, Verdict, legal_plays}
-use Rattle.poker_cli.specs.Verdicts.{ArePrinted, IsJudged, each_verdict, judged_end, verdict_line}
+use Rattle.poker_cli.specs.Judge.{ArePrinted, IsJudged, each_verdict, judged_end, verdict_line}
 
 -- the line of the hand at a place
 abbrev line_at : (lines : List ℕ) → ℕ → Verdict → List ℕ

@@ -10,10 +10,11 @@ mod OneJudgement
 mod Numbered
 mod FirstDifferent
 mod SeenViews
-mod PrintedTexts
 mod GameLengths
 mod GameReplies
 mod OneReply
+mod OneEach
+mod EachHand
 mod OneAnswer
 mod Headline
 mod Comparisons

@@ -8,13 +8,10 @@ use Rattle.std.proofs.lemmas.Option.{same_Some}
 use Rattle.acpc_game.specs.declared.game.Game.{Game as AnyGame}
 use Rattle.acpc_game.specs.GameFile.{game_said}
 use Rattle.acpc_game.specs.GameView.{game_in}
-use Rattle.command_words.specs.Words.{Load, Plain, Request, Under, Compare}
 use Rattle.command_words.specs.declared.command.Command.{Command}
 use Rattle.command_words.specs.declared.command.Command.TheVariants as commands
-use Rattle.command_words.specs.declared.task.Question.{Question}
-use Rattle.command_words.specs.declared.task.Question.TheVariants as questions
-use Rattle.poker_cli.specs.declared.task.Task.{Task}
-use Rattle.poker_cli.specs.declared.task.Task.TheVariants as tasks
+use Rattle.command_words.specs.Words.{Load, Plain, Request, Under, Compare}
+use Rattle.command_words.specs.declared.command.EachQuestion.{EachQuestion}
 use Rattle.hand_records.specs.declared.record.Record.{Record}
 use Rattle.hand_records.specs.declared.writing.Keep.{Keep}
 use Rattle.hand_records.specs.declared.writing.Unspelled.{Unspelled}
@@ -23,7 +20,7 @@ use Rattle.hand_records.specs.declared.trace.Play.{Play}
 use Rattle.hand_records.specs.declared.trace.Trace.{Trace}
 use Rattle.play_event.specs.declared.event.Event.{Event}
 use Rattle.play_event.specs.declared.setup.Setup.{Setup}
-use Rattle.printed_hands.specs.Check.{check_end, check_line, each_hand}
+use Rattle.printed_hands.specs.Check.{check_end, check_line, check_said, each_hand}
 use Rattle.printed_hands.specs.Steps.{replay_lines}
 use Rattle.printed_report.specs.Report.{Hand, Seated, hand_of, report_on, seated_in}
 use Rattle.hand_canon.specs.Judged.{IsJudged}
@@ -37,9 +34,10 @@ use Rattle.convert_core.proofs.LawfulNotations.{AreReadSame, all_read_same}
 use Rattle.convert_core.proofs.OneConversion.{all_same, IsReadAlike}
 use Rattle.convert_core.specs.Conversion.{ReadAsPlays}
 use Rattle.convert_core.proofs.OneOutcome.{AllTraced, no_plays, same_refused, same_traces}
-use Rattle.poker_cli.specs.Answer.{Answer, Files, FilesByName, GivesGame, GivesNoGame, IsAnswer, IsAnswerBy, IsAnswerIn, IsAnswerOf, IsAnswerTo, IsConversion, IsJudgement, IsReply, IsWay, done, most_input, text_of, to_excess, to_fault, to_first_game, to_refusal, to_unspelled, to_wrong_acpc, to_wrong_ohh, to_wrong_phh}
+use Rattle.poker_cli.specs.Answer.{Answer, Files, FilesByName, GivesGame, GivesNoGame, IsAnswer, IsAnswerBy, IsAnswerIn, IsAnswerOf, IsAnswerOfEach, IsAnswerTo, AreMessages, IsConversion, IsJudgement, IsReply, IsWay, done, most_input, to_excess, to_fault, to_first_game, to_refusal, to_unspelled, to_wrong_acpc, to_wrong_ohh, to_wrong_phh}
 use Rattle.poker_cli.specs.Answer as answers
 use Rattle.poker_cli.specs.Inputs.{HaveFault, SayRecords, first_lines, if_asked}
+use Rattle.poker_cli.specs.LegalInputs.{PrintsAll}
 use Rattle.poker_cli.specs.OneAnswer.{AreOneAnswer}
 use Rattle.poker_cli.specs.Outputs.{AreSameIn, first_refusal_in, kept_in, unspelled_in}
 use Rattle.poker_cli.specs.Ways.{way, job_under}
@@ -55,8 +53,9 @@ use Rattle.hand_session.specs.Hands.{Hand as SessionHand}
 use Rattle.hand_session.specs.Printed.{session_printed}
 use Rattle.hand_session.specs.Sessions.{session_of}
 use Rattle.chip_ledger.specs.declared.numbers.Seat.{Seat}
-use Rattle.poker_cli.specs.Replies.{AreViews}
+use Rattle.poker_cli.specs.Views.{AreViews}
 use Rattle.poker_cli.proofs.OneReply.{as_many, one_equity, one_options, one_view, same_sessions}
+use Rattle.poker_cli.proofs.OneEach.{one_of_each, same_replay_lines}
 use Rattle.poker_cli.proofs.OneJudgement.{same_judged}
 use Rattle.card_set.proofs.NumbersOfRange.{map_agree}
 use Rattle.chip_ledger.specs.SeatsSaid.{default_name}
@@ -75,11 +74,6 @@ same_lines lines line number (p ∷ ps) (q ∷ qs) traced =
 
 same_check_line : (number : ℕ) (p q : Play) → p.trace ≡ q.trace → SayTheSame p.hand q.hand → check_line number p ≡ check_line number q
 same_check_line number p q traced same = ap (λ (trace : Trace). check_line number (record p { trace = trace })) traced
-
-same_replay_lines : (number : ℕ) (p q : Play) → p.trace ≡ q.trace → SayTheSame p.hand q.hand → replay_lines number p ≡ replay_lines number q
-same_replay_lines number p q traced same =
-    ap₂ (λ (setup : Setup) (trace : Trace). replay_lines number (record { hand = record p.hand { setup = setup }; trace = trace })) same.setup traced
-    ∙ ap (λ (script : List Event). replay_lines number (record { hand = record q.hand { script = script }; trace = q.trace })) same.script
 
 -- what a report uses of a hand
 same_seated : (p q : Play) → p.trace ≡ q.trace → AreAlike p.hand q.hand
@@ -108,15 +102,11 @@ same_hands (p ∷ ps) (q ∷ qs) judged traced alike =
     (same_hand p q traced.0.0 (All-head IsJudged p ps judged).traced.whole.same_setup alike.0)
     (same_hands ps qs (All-tail IsJudged p ps judged) traced.1 alike.1)
 
--- what a command prints
-same_text : (command : Command) (ps qs : List Play) → All IsJudged ps → AllTraced ps qs → AllAlike (hands_of ps) (hands_of qs)
-    → text_of command ps ≡ text_of command qs
-same_text commands.Check ps qs judged traced alike =
+-- what `check` prints
+same_check : (ps qs : List Play) → AllTraced ps qs → check_said ps ≡ check_said qs
+same_check ps qs traced =
     ap₂ (λ (lines : List ℕ) (count : ℕ). lines ++ check_end count)
     (same_lines check_line same_check_line 1 ps qs traced) (as_many ps qs traced)
-same_text commands.Replay ps qs judged traced alike = same_lines replay_lines same_replay_lines 1 ps qs traced
-same_text commands.Report ps qs judged traced alike = ap report_on (same_hands ps qs judged traced alike)
-same_text commands.Session ps qs judged traced alike = ap (λ (hands : List SessionHand). session_printed (session_of hands)) (same_sessions ps qs traced alike)
 
 -- the game of the first hand
 same_game : (ps qs : List Play) → AllTraced ps qs → to_first_game ps ≡ to_first_game qs
@@ -127,21 +117,22 @@ same_game (p ∷ ps) [] traced = absurd traced
 same_game (p ∷ ps) (q ∷ qs) traced = ap (λ (trace : Trace). to_first_game (record q { trace = trace } ∷ [])) traced.0.0
 
 -- the same answer counts as one
-pub one_itself : (task : Task) (answer other : Answer) → answer ≡ other → AreOneAnswer task answer other
-one_itself (tasks.Ask question) answer other same = same
-one_itself (tasks.Judge asked) answer other same = same
-one_itself (tasks.Views game seat) answer other same = same
-one_itself (tasks.Convert (readers.Ohh dialect) keep) answer other same = same
-one_itself (tasks.Convert (readers.Acpc game) keep) answer other same = same
-one_itself (tasks.Convert readers.Phh keep) answer other same =
+pub one_itself : (command : Command Format) (answer other : Answer) → answer ≡ other → AreOneAnswer command answer other
+one_itself (commands.Convert readers.Phh keep) answer other same =
     record {
       status = ap (λ (a : Answer). a.status) same;
       line = ap (λ (a : Answer). a.line) same;
       document = ap (λ (a : Answer). parse_document a.output) same;
     }
+one_itself command answer other same = same
+
+-- and has one status
+one_status : (command : Command Format) (answer other : Answer) → AreOneAnswer command answer other → answer.status ≡ other.status
+one_status (commands.Convert readers.Phh keep) answer other one = one.status
+one_status command answer other one = ap (λ (a : Answer). a.status) one
 
 -- the same output counts as one
-pub one_output : (to : Format) (keep : Keep) (bytes others : List ℕ) → AreSameIn to bytes others → AreOneAnswer (tasks.Convert to keep) (done bytes) (done others)
+pub one_output : (to : Format) (keep : Keep) (bytes others : List ℕ) → AreSameIn to bytes others → AreOneAnswer (commands.Convert to keep) (done bytes) (done others)
 one_output readers.Phh keep bytes others same = record { status = refl; line = refl; document = same.first ∙ sym same.second }
 one_output (readers.Ohh dialect) keep bytes others same = ap done same
 one_output (readers.Acpc game) keep bytes others same = ap done same
@@ -155,9 +146,9 @@ refusals_same : (number count : ℕ) (fact other : Unspelled) → refusals.Unspe
 refusals_same number count fact other same = ap₂ to_unspelled (cc) (cc)
 
 one_conversion : (to : Format) (keep : Keep) (ps qs : List Play) (answer other : Answer) → AreReadSame ps qs
-    → IsConversion to keep ps answer → IsConversion to keep qs other → AreOneAnswer (tasks.Convert to keep) answer other
+    → IsConversion to keep ps answer → IsConversion to keep qs other → AreOneAnswer (commands.Convert to keep) answer other
 one_conversion to keep ps qs _ _ alike (answers.NotSpelled number fact is) (answers.NotSpelled count more it) =
-    one_itself (tasks.Convert to keep) (to_unspelled number fact) (to_unspelled count more)
+    one_itself (commands.Convert to keep) (to_unspelled number fact) (to_unspelled count more)
     (refusals_same number count fact more
     (same_Some (refusals.Unspelled number fact) (refusals.Unspelled count more) (sym is ∙ refusal_same to keep ps qs alike ∙ it)))
 one_conversion to keep ps qs _ _ alike (answers.NotSpelled number fact is) (answers.Spelled none bytes spell back) =
@@ -167,13 +158,30 @@ one_conversion to keep ps qs _ _ alike (answers.Spelled none bytes spell back) (
 one_conversion to keep ps qs _ _ alike (answers.Spelled none bytes spell back) (answers.Spelled too others it again) =
     one_output to keep bytes others (one_spelling to ps qs bytes others alike.sound alike.others_sound spell it (all_less (kept_in to) ps qs alike.hands))
 
--- the reply to a question about hands
-one_reply : (question : Question) (ps qs : List Play) (answer other : Answer) → All IsJudged ps → AllTraced ps qs → AllAlike (hands_of ps) (hands_of qs)
-    → IsReply question ps answer → IsReply question qs other → answer ≡ other
-one_reply (questions.Show command) ps qs answer other judged traced alike is it = is ∙ ap done (same_text command ps qs judged traced alike) ∙ sym it
-one_reply questions.GameFile ps qs answer other judged traced alike is it = is.told ∙ same_game ps qs traced ∙ sym it.told
-one_reply (questions.Options hand events) ps qs answer other judged traced alike is it = one_options hand events ps qs answer other traced is it
-one_reply (questions.Equity hand street) ps qs answer other judged traced alike is it = one_equity hand street ps qs answer other traced is it
+-- what a seat received
+one_message : (reader : Format) (seat : Seat) (ps qs : List Play) (answer other : Answer) → AllTraced ps qs → AllAlike (hands_of ps) (hands_of qs)
+    → AreMessages reader seat ps answer → AreMessages reader seat qs other → answer ≡ other
+one_message (readers.Acpc game) seat ps qs answer other traced alike is it = one_view game seat ps qs answer other traced alike is it
+one_message reader seat ps qs answer other traced alike is it = is ∙ sym it
+
+-- the reply to a command about hands
+one_reply : (command : Command Format) (reader : Format) (ps qs : List Play) (answer other : Answer) → All IsJudged ps → AllTraced ps qs
+    → AllAlike (hands_of ps) (hands_of qs) → AreReadSame ps qs
+    → IsReply command reader ps answer → IsReply command reader qs other → AreOneAnswer command answer other
+one_reply commands.Check reader ps qs answer other judged traced alike same is it = is ∙ ap done (same_check ps qs traced) ∙ sym it
+one_reply commands.Replay reader ps qs answer other judged traced alike same is it =
+    is ∙ ap done (same_lines replay_lines same_replay_lines 1 ps qs traced) ∙ sym it
+one_reply commands.Report reader ps qs answer other judged traced alike same is it =
+    is ∙ ap (λ (hands : List Hand). done (report_on hands)) (same_hands ps qs judged traced alike) ∙ sym it
+one_reply commands.Session reader ps qs answer other judged traced alike same is it =
+    is ∙ ap (λ (hands : List SessionHand). done (session_printed (session_of hands))) (same_sessions ps qs traced alike) ∙ sym it
+one_reply commands.Game reader ps qs answer other judged traced alike same is it = is.told ∙ same_game ps qs traced ∙ sym it.told
+one_reply (commands.Options hand events) reader ps qs answer other judged traced alike same is it = one_options hand events ps qs answer other traced is it
+one_reply (commands.Equity hand street) reader ps qs answer other judged traced alike same is it = one_equity hand street ps qs answer other traced is it
+one_reply (commands.Judge lines) reader ps qs answer other judged traced alike same is it = absurd is
+one_reply (commands.Each question) reader ps qs answer other judged traced alike same is it = absurd is
+one_reply (commands.Views seat) reader ps qs answer other judged traced alike same is it = one_message reader seat ps qs answer other traced alike is it
+one_reply (commands.Convert to keep) reader ps qs answer other judged traced alike same is it = one_conversion to keep ps qs answer other same is it
 
 -- the hands of plays are alike if their records are
 alike_hands : (records others : List Record) (ps qs : List Play) → AllAlike records others → ArePlaysOf records ps → ArePlaysOf others qs
@@ -244,6 +252,20 @@ same_judgement Say HaveFault lines _ other alike told apart (answers.Judged reco
 same_judgement Say HaveFault lines _ _ alike told apart (answers.Judged records say verdicts are) (answers.Judged others says too is) =
     ap done (same_judged lines records others verdicts too (all_same records others (alike records others say says)) are is)
 
+-- the answers of hands, each by itself, count as one
+same_of_each : (Say : List Record → Type 0) (HaveFault : FormatFault → Type 0) (question : EachQuestion) (answer other : Answer)
+    → IsReadAlike Say → AllToldAlike HaveFault → SayOrFault Say HaveFault
+    → IsAnswerOfEach Say HaveFault question answer → IsAnswerOfEach Say HaveFault question other → answer ≡ other
+unfolding AllToldAlike SayOrFault
+same_of_each Say HaveFault question answer other alike told apart (answers.NotRead fault have _ is) (answers.NotRead found has _ it) =
+    told fault found answer other have has is it
+same_of_each Say HaveFault question answer other alike told apart (answers.NotRead fault have _ is) (answers.OfEach records say _ it) =
+    absurd (apart records fault say have)
+same_of_each Say HaveFault question answer other alike told apart (answers.OfEach records say _ is) (answers.NotRead fault have _ it) =
+    absurd (apart records fault say have)
+same_of_each Say HaveFault question answer other alike told apart (answers.OfEach records say _ is) (answers.OfEach others says _ it) =
+    one_of_each question records others answer other (all_same records others (alike records others say says)) is it
+
 -- a fault of bytes is reported in one way
 pub one_told : (reader : Format) (bytes : List ℕ) → AllToldAlike (HaveFault reader bytes)
 unfolding AllToldAlike
@@ -286,40 +308,45 @@ unfolding AllReadSame
 read_the_same reader bytes plays others is it = all_read_same (read_by reader) bytes plays others is it
 
 -- what is made of hands counts as one
-one_question : (question : Question) → IsOneMade (IsReply question) (λ answer other. answer ≡ other)
-one_question question =
-    record { itself = λ answer other same. same; made = λ ps qs answer other judged traced alike same is it. one_reply question ps qs answer other judged traced alike is it }
-
-one_written : (to : Format) (keep : Keep) → IsOneMade (IsConversion to keep) (AreOneAnswer (tasks.Convert to keep))
-one_written to keep =
+one_made : (command : Command Format) (reader : Format) → IsOneMade (IsReply command reader) (AreOneAnswer command)
+one_made command reader =
     record {
-      itself = one_itself (tasks.Convert to keep);
-      made = λ ps qs answer other judged traced alike same is it. one_conversion to keep ps qs answer other same is it;
+      itself = one_itself command;
+      made = λ ps qs answer other judged traced alike same is it. one_reply command reader ps qs answer other judged traced alike same is it;
     }
 
-one_read : (task : Task) (reader : Format) (bytes : List ℕ) (answer other : Answer)
-    → IsAnswerOf task (SayRecords reader bytes) (HaveFault reader bytes) (first_lines reader bytes) answer
-    → IsAnswerOf task (SayRecords reader bytes) (HaveFault reader bytes) (first_lines reader bytes) other → AreOneAnswer task answer other
-one_read (tasks.Ask question) reader bytes answer other is it =
-    same_answer (SayRecords reader bytes) (HaveFault reader bytes) (IsReply question) (λ one too. one ≡ too) answer other
-    (one_question question) (one_reading reader bytes) (read_the_same reader bytes) (one_told reader bytes) (say_or_fault reader bytes) is it
-one_read (tasks.Judge asked) reader bytes answer other is it =
+-- neither a verdict is asked for, nor an answer of each hand by itself
+abbrev pub IsOfPlays : Command Format → Type 0
+IsOfPlays (commands.Judge lines) = ⊥
+IsOfPlays (commands.Each question) = ⊥
+IsOfPlays command = Unit {0}
+
+-- so the answer is made of plays
+of_plays : (command : Command Format) (reader : Format) (Say : List Record → Type 0) (HaveFault : FormatFault → Type 0) (lines : List ℕ) (answer : Answer)
+    → IsOfPlays command → IsAnswerOf command reader Say HaveFault lines answer → IsAnswerTo Say HaveFault (IsReply command reader) answer
+of_plays (commands.Judge asked) reader Say HaveFault lines answer of is = absurd of
+of_plays (commands.Each question) reader Say HaveFault lines answer of is = absurd of
+of_plays command reader Say HaveFault lines answer of is = is
+
+one_read : (command : Command Format) (reader : Format) (bytes : List ℕ) (answer other : Answer)
+    → IsAnswerOf command reader (SayRecords reader bytes) (HaveFault reader bytes) (first_lines reader bytes) answer
+    → IsAnswerOf command reader (SayRecords reader bytes) (HaveFault reader bytes) (first_lines reader bytes) other → AreOneAnswer command answer other
+one_read (commands.Each question) reader bytes answer other is it =
+    same_of_each (SayRecords reader bytes) (HaveFault reader bytes) question answer other
+    (one_reading reader bytes) (one_told reader bytes) (say_or_fault reader bytes) is it
+one_read (commands.Judge asked) reader bytes answer other is it =
     same_judgement (SayRecords reader bytes) (HaveFault reader bytes) (if_asked asked (first_lines reader bytes)) answer other
     (one_reading reader bytes) (one_told reader bytes) (say_or_fault reader bytes) is it
-one_read (tasks.Views game seat) reader bytes answer other is it =
-    same_answer (SayRecords reader bytes) (HaveFault reader bytes) (AreViews game seat) (λ one too. one ≡ too) answer other
-    (record { itself = λ one too same. same; made = λ ps qs one too judged traced alike same so it_is. one_view game seat ps qs one too traced alike so it_is })
-    (one_reading reader bytes) (read_the_same reader bytes) (one_told reader bytes) (say_or_fault reader bytes) is it
-one_read (tasks.Convert to keep) reader bytes answer other is it =
-    same_answer (SayRecords reader bytes) (HaveFault reader bytes) (IsConversion to keep) (AreOneAnswer (tasks.Convert to keep)) answer other
-    (one_written to keep) (one_reading reader bytes) (read_the_same reader bytes) (one_told reader bytes) (say_or_fault reader bytes) is it
+one_read command reader bytes answer other is it =
+    same_answer (SayRecords reader bytes) (HaveFault reader bytes) (IsReply command reader) (AreOneAnswer command) answer other
+    (one_made command reader) (one_reading reader bytes) (read_the_same reader bytes) (one_told reader bytes) (say_or_fault reader bytes) is it
 
-pub one_answer : (task : Task) (reader : Format) (bytes : List ℕ) (answer other : Answer)
-    → IsAnswer task reader bytes answer → IsAnswer task reader bytes other → AreOneAnswer task answer other
-one_answer task reader bytes _ _ (answers.TooLong many) (answers.TooLong too) = one_itself task to_excess to_excess refl
-one_answer task reader bytes _ other (answers.TooLong many) (answers.Read few _ is) = absurd (omega (arith, many, few))
-one_answer task reader bytes answer _ (answers.Read few _ is) (answers.TooLong many) = absurd (omega (arith, many, few))
-one_answer task reader bytes answer other (answers.Read few _ is) (answers.Read less _ it) = one_read task reader bytes answer other is it
+pub one_answer : (command : Command Format) (reader : Format) (bytes : List ℕ) (answer other : Answer)
+    → IsAnswer command reader bytes answer → IsAnswer command reader bytes other → AreOneAnswer command answer other
+one_answer command reader bytes _ _ (answers.TooLong many) (answers.TooLong too) = one_itself command to_excess to_excess refl
+one_answer command reader bytes _ other (answers.TooLong many) (answers.Read few _ is) = absurd (omega (arith, many, few))
+one_answer command reader bytes answer _ (answers.Read few _ is) (answers.TooLong many) = absurd (omega (arith, many, few))
+one_answer command reader bytes answer other (answers.Read few _ is) (answers.Read less _ it) = one_read command reader bytes answer other is it
 
 -- what the answer is made of, if all hands of the input are legal and agree with what is stated of
 -- them
@@ -350,40 +377,42 @@ made_of Say HaveFault IsMade records plays answer alike same apart say are (answ
       made = makes;
     }
 
-pub legal_asked : (question : Question) (reader : Format) (bytes : List ℕ) (records : List Record) (plays : List Play) (answer : Answer) → length bytes ≤ most_input
-    → SayRecords reader bytes records → ArePlaysOf records plays → IsAnswer (tasks.Ask question) reader bytes answer → IsMadeAlike (IsReply question) plays answer
-legal_asked question reader bytes records plays _ few is are (answers.TooLong many) = absurd (omega (arith, many, few))
-legal_asked question reader bytes records plays answer few is are (answers.Read less _ to) =
-    made_of (SayRecords reader bytes) (HaveFault reader bytes) (IsReply question) records plays answer (one_reading reader bytes) (read_the_same reader bytes) (say_or_fault reader bytes) is are to
-
-legal_viewed : (game : AnyGame) (seat : Seat) (reader : Format) (bytes : List ℕ) (records : List Record) (plays : List Play) (answer : Answer) → length bytes ≤ most_input
-    → SayRecords reader bytes records → ArePlaysOf records plays → IsAnswer (tasks.Views game seat) reader bytes answer → IsMadeAlike (AreViews game seat) plays answer
-legal_viewed game seat reader bytes records plays _ few is are (answers.TooLong many) = absurd (omega (arith, many, few))
-legal_viewed game seat reader bytes records plays answer few is are (answers.Read less _ to) =
-    made_of (SayRecords reader bytes) (HaveFault reader bytes) (AreViews game seat) records plays answer (one_reading reader bytes) (read_the_same reader bytes) (say_or_fault reader bytes) is are to
-
-legal_written : (to : Format) (keep : Keep) (reader : Format) (bytes : List ℕ) (records : List Record) (plays : List Play) (answer : Answer) → length bytes ≤ most_input
-    → SayRecords reader bytes records → ArePlaysOf records plays → IsAnswer (tasks.Convert to keep) reader bytes answer → IsMadeAlike (IsConversion to keep) plays answer
-legal_written to keep reader bytes records plays _ few is are (answers.TooLong many) = absurd (omega (arith, many, few))
-legal_written to keep reader bytes records plays answer few is are (answers.Read less _ is_made) =
-    made_of (SayRecords reader bytes) (HaveFault reader bytes) (IsConversion to keep) records plays answer (one_reading reader bytes) (read_the_same reader bytes) (say_or_fault reader bytes) is are is_made
+pub legal_asked : (command : Command Format) (reader : Format) (bytes : List ℕ) (records : List Record) (plays : List Play) (answer : Answer) → IsOfPlays command
+    → length bytes ≤ most_input → SayRecords reader bytes records → ArePlaysOf records plays → IsAnswer command reader bytes answer
+    → IsMadeAlike (IsReply command reader) plays answer
+legal_asked command reader bytes records plays _ of few is are (answers.TooLong many) = absurd (omega (arith, many, few))
+legal_asked command reader bytes records plays answer of few is are (answers.Read less _ to) =
+    made_of (SayRecords reader bytes) (HaveFault reader bytes) (IsReply command reader) records plays answer (one_reading reader bytes) (read_the_same reader bytes)
+    (say_or_fault reader bytes) is are
+    (of_plays command reader (SayRecords reader bytes) (HaveFault reader bytes) (first_lines reader bytes) answer of to)
 
 -- so its status is known
-shown_status : (command : Command) (plays : List Play) (answer : Answer) → IsMadeAlike (IsReply (questions.Show command)) plays answer → answer.status ≡ statuses.Done
-shown_status command plays answer is = ap (λ (a : Answer). a.status) is.made
+shown_status : (command : Command Format) (reader : Format) (plays : List Play) (answer : Answer) → PrintsAll command
+    → IsMadeAlike (IsReply command reader) plays answer → answer.status ≡ statuses.Done
+shown_status commands.Check reader plays answer prints is = ap (λ (a : Answer). a.status) is.made
+shown_status commands.Replay reader plays answer prints is = ap (λ (a : Answer). a.status) is.made
+shown_status commands.Report reader plays answer prints is = ap (λ (a : Answer). a.status) is.made
+shown_status commands.Session reader plays answer prints is = ap (λ (a : Answer). a.status) is.made
+shown_status command reader plays answer prints is = absurd prints
 
-asked_status : (question : Question) (plays : List Play) (answer reply : Answer) → IsReply question plays reply
-    → IsMadeAlike (IsReply question) plays answer → answer.status ≡ reply.status
-asked_status question plays answer reply to is =
-    ap (λ (a : Answer). a.status) (sym (one_reply question plays is.others reply answer is.judged is.traced is.hands to is.made))
+shown_of_plays : (command : Command Format) → PrintsAll command → IsOfPlays command
+shown_of_plays (commands.Judge lines) prints = prints
+shown_of_plays (commands.Each question) prints = prints
+shown_of_plays command prints = tt
 
-viewed_status : (game : AnyGame) (seat : Seat) (plays : List Play) (answer reply : Answer) → AreViews game seat plays reply
-    → IsMadeAlike (AreViews game seat) plays answer → answer.status ≡ reply.status
-viewed_status game seat plays answer reply to is =
-    ap (λ (a : Answer). a.status) (sym (one_view game seat plays is.others reply answer is.traced is.hands to is.made))
+-- what is made of plays is neither a verdict nor an answer of each hand by itself
+reply_of_plays : (command : Command Format) (reader : Format) (plays : List Play) (reply : Answer) → IsReply command reader plays reply → IsOfPlays command
+reply_of_plays (commands.Judge lines) reader plays reply is = is
+reply_of_plays (commands.Each question) reader plays reply is = is
+reply_of_plays command reader plays reply is = tt
+
+asked_status : (command : Command Format) (reader : Format) (plays : List Play) (answer reply : Answer) → IsReply command reader plays reply
+    → IsMadeAlike (IsReply command reader) plays answer → answer.status ≡ reply.status
+asked_status command reader plays answer reply to is =
+    sym (one_status command reply answer (one_reply command reader plays is.others reply answer is.judged is.traced is.hands is.same to is.made))
 
 judged_status : (asked : Bool) (reader : Format) (bytes : List ℕ) (records : List Record) (answer : Answer) → length bytes ≤ most_input
-    → SayRecords reader bytes records → IsAnswer (tasks.Judge asked) reader bytes answer → answer.status ≡ statuses.Done
+    → SayRecords reader bytes records → IsAnswer (commands.Judge asked) reader bytes answer → answer.status ≡ statuses.Done
 judged_status asked reader bytes records _ few say (answers.TooLong many) = absurd (omega (arith, many, few))
 judged_status asked reader bytes records answer few say (answers.Read less _ (answers.NotJudged fault have _ is)) = absurd (no_fault reader bytes records fault say have)
 judged_status asked reader bytes records _ few say (answers.Read less _ (answers.Judged others says verdicts are)) = refl
@@ -430,7 +459,7 @@ games_same file game other gives too =
 pub in_way : (request : Request) (files : Files) (bytes : List ℕ) (by : Job) (answer : Answer) → IsWay files request by
     → IsAnswerIn request files bytes answer → IsAnswerBy by bytes answer
 in_way (Load seed hands) files bytes by answer found is = absurd found
-in_way (Plain from task) files bytes by answer found is = subst (λ (w : Job). IsAnswerBy w bytes answer) (sym found) is
+in_way (Plain from command) files bytes by answer found is = subst (λ (w : Job). IsAnswerBy w bytes answer) (sym found) is
 in_way (Under name logs) files bytes by answer found (answers.NoGameError _ lacks) = absurd (no_game files.game found.game answer found.gives lacks)
 in_way (Under name logs) files bytes by answer found (answers.OfInput game gives _ to) =
     subst (λ (w : Job). IsAnswerBy w bytes answer)
@@ -440,13 +469,13 @@ in_way (Compare sides file notes) files bytes by answer found is = absurd found
 -- a request that is read and handled in a way misses no game file and no other file
 pub no_missing : (files : Files) (request : Request) (by : Job) → IsWay files request by → IsGameMissing request files → ⊥
 no_missing files (Load seed hands) by found missing = missing
-no_missing files (Plain from task) by found missing = missing
+no_missing files (Plain from command) by found missing = missing
 no_missing files (Under name logs) by found missing = let there = found.gives.there in cc (there, missing)
 no_missing files (Compare sides file notes) by found missing = found
 
 pub no_file_missing : (files : Files) (request : Request) (by : Job) → IsWay files request by → IsFileMissing request files → ⊥
 no_file_missing files (Load seed hands) by found missing = missing
-no_file_missing files (Plain from task) by found missing = missing
+no_file_missing files (Plain from command) by found missing = missing
 no_file_missing files (Under name logs) by found missing = missing
 no_file_missing files (Compare sides file notes) by found missing = found
 
@@ -477,49 +506,37 @@ done_so status (inl is) = is
 done_so status (inr same) = subst RefusesNothing same tt
 
 -- so a run on such an input refuses nothing
-pub legal_shown : (request : Request) (command : Command) (reader : Format) (files : Files) (bytes : List ℕ) (records : List Record) (plays : List Play)
-    → (out diag : Sinks) (status : Status) → IsWay files request (way (tasks.Ask (questions.Show command)) reader)
+pub legal_shown : (request : Request) (command : Command Format) (reader : Format) (files : Files) (bytes : List ℕ) (records : List Record) (plays : List Play)
+    → (out diag : Sinks) (status : Status) → PrintsAll command → IsWay files request (way command reader)
     → length bytes ≤ most_input → SayRecords reader bytes records → ArePlaysOf records plays
     → Ends request files bytes out diag status → RefusesNothing status
-legal_shown request command reader files bytes records plays out diag status found few is are ends =
-    let by = way (tasks.Ask (questions.Show command)) reader in
+legal_shown request command reader files bytes records plays out diag status prints found few is are ends =
+    let by = way command reader in
     done_so status
     (ends_so request files bytes out diag status statuses.Done
-    (λ answer to. shown_status command plays answer
-    (legal_asked (questions.Show command) reader bytes records plays answer few is are (in_way request files bytes by answer found to)))
+    (λ answer to. shown_status command reader plays answer prints
+    (legal_asked command reader bytes records plays answer (shown_of_plays command prints) few is are (in_way request files bytes by answer found to)))
     (no_missing files request by found) (no_file_missing files request by found) ends)
 
--- a question about the hands is answered as it is about their plays
-pub legal_asks : (request : Request) (question : Question) (reader : Format) (files : Files) (bytes : List ℕ) (records : List Record) (plays : List Play) (reply : Answer)
-    → (out diag : Sinks) (status : Status) → IsWay files request (way (tasks.Ask question) reader)
-    → length bytes ≤ most_input → SayRecords reader bytes records → ArePlaysOf records plays → IsReply question plays reply
+-- a command about the hands is answered as it is about their plays
+pub legal_asks : (request : Request) (command : Command Format) (reader : Format) (files : Files) (bytes : List ℕ) (records : List Record) (plays : List Play) (reply : Answer)
+    → (out diag : Sinks) (status : Status) → IsWay files request (way command reader)
+    → length bytes ≤ most_input → SayRecords reader bytes records → ArePlaysOf records plays → IsReply command reader plays reply
     → Ends request files bytes out diag status → RefusesNothing status ⊎ (reply.status ≡ status)
-legal_asks request question reader files bytes records plays reply out diag status found few is are to ends =
-    let by = way (tasks.Ask question) reader in
+legal_asks request command reader files bytes records plays reply out diag status found few is are to ends =
+    let by = way command reader in
     ends_so request files bytes out diag status reply.status
-    (λ answer given. asked_status question plays answer reply to
-    (legal_asked question reader bytes records plays answer few is are (in_way request files bytes by answer found given)))
-    (no_missing files request by found) (no_file_missing files request by found) ends
-
--- and so is what a seat saw of them
-pub legal_views : (request : Request) (game : AnyGame) (seat : Seat) (reader : Format) (files : Files) (bytes : List ℕ) (records : List Record) (plays : List Play) (reply : Answer)
-    → (out diag : Sinks) (status : Status) → IsWay files request (way (tasks.Views game seat) reader)
-    → length bytes ≤ most_input → SayRecords reader bytes records → ArePlaysOf records plays → AreViews game seat plays reply
-    → Ends request files bytes out diag status → RefusesNothing status ⊎ (reply.status ≡ status)
-legal_views request game seat reader files bytes records plays reply out diag status found few is are to ends =
-    let by = way (tasks.Views game seat) reader in
-    ends_so request files bytes out diag status reply.status
-    (λ answer given. viewed_status game seat plays answer reply to
-    (legal_viewed game seat reader bytes records plays answer few is are (in_way request files bytes by answer found given)))
+    (λ answer given. asked_status command reader plays answer reply to
+    (legal_asked command reader bytes records plays answer (reply_of_plays command reader plays reply to) few is are (in_way request files bytes by answer found given)))
     (no_missing files request by found) (no_file_missing files request by found) ends
 
 -- hands are judged, including refused ones
 pub all_judged : (request : Request) (asked : Bool) (reader : Format) (files : Files) (bytes : List ℕ) (records : List Record)
-    → (out diag : Sinks) (status : Status) → IsWay files request (way (tasks.Judge asked) reader)
+    → (out diag : Sinks) (status : Status) → IsWay files request (way (commands.Judge asked) reader)
     → length bytes ≤ most_input → SayRecords reader bytes records
     → Ends request files bytes out diag status → RefusesNothing status
 all_judged request asked reader files bytes records out diag status found few is ends =
-    let by = way (tasks.Judge asked) reader in
+    let by = way (commands.Judge asked) reader in
     done_so status
     (ends_so request files bytes out diag status statuses.Done
     (λ answer to. judged_status asked reader bytes records answer few is (in_way request files bytes by answer found to))
@@ -527,16 +544,16 @@ all_judged request asked reader files bytes records out diag status found few is
 
 -- hands whose facts can all be written are converted
 pub legal_in_way : (request : Request) (reader target : Format) (keep : Keep) (files : Files) (bytes : List ℕ) (records : List Record) (plays : List Play)
-    → (out diag : Sinks) (status : Status) → IsWay files request (way (tasks.Convert target keep) reader)
+    → (out diag : Sinks) (status : Status) → IsWay files request (way (commands.Convert target keep) reader)
     → length bytes ≤ most_input → SayRecords reader bytes records → ArePlaysOf records plays
     → first_refusal_in target keep plays ≡ None
     → Ends request files bytes out diag status → RefusesNothing status
 legal_in_way request reader target keep files bytes records plays out diag status found few is are none ends =
-    let by = way (tasks.Convert target keep) reader in
+    let by = way (commands.Convert target keep) reader in
     done_so status
     (ends_so request files bytes out diag status statuses.Done
     (λ answer given. converted_status target keep plays answer none
-    (legal_written target keep reader bytes records plays answer few is are (in_way request files bytes by answer found given)))
+    (legal_asked (commands.Convert target keep) reader bytes records plays answer tt few is are (in_way request files bytes by answer found given)))
     (no_missing files request by found) (no_file_missing files request by found) ends)
 
 -- the answer to generated hands is done, and a run on them needs no input

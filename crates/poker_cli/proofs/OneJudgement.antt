@@ -5,7 +5,7 @@ use Rattle.convert_core.proofs.OneOutcome.{AllTheSame, not_judged, one_refusal, 
 use Rattle.convert_core.specs.Verdicts.{AreVerdictsOn, IsRight, Legal, Refused, Verdict, hand_in, legal_plays}
 use Rattle.hand_records.specs.declared.record.Record.{Record}
 use Rattle.convert_core.specs.declared.refusal.Refusal.{Refusal}
-use Rattle.poker_cli.specs.Verdicts.{each_verdict, judged_end, judged_said, verdict_line}
+use Rattle.poker_cli.specs.Judge.{each_verdict, judged_end, judged_said, verdict_line}
 
 -- verdicts on hands that say the same are printed the same, with the same number of legal hands
 record ArePrintedAlike (begun : List ℕ) (place : ℕ) (verdicts others : List Verdict) : Type 0 where

@@ -30,8 +30,13 @@ use Rattle.play_event.specs.declared.event.Event.{Event}
 use Rattle.play_event.specs.declared.setup.Rules.{Rules}
 use Rattle.play_event.specs.declared.setup.Setup.{Setup}
 use Rattle.poker_cli.specs.AnswerParts.{Answer, done}
-use Rattle.poker_cli.specs.Replies.{AreOptionsAt, AreViews, IsEquityAt, each_view, no_cards, no_event, no_hand}
-use Rattle.poker_cli.specs.Replies as replies
+use Rattle.poker_cli.specs.Equity.{IsEquityAt, no_cards}
+use Rattle.poker_cli.specs.Options.{AreOptionsAt, no_event}
+use Rattle.poker_cli.specs.Replies.{no_hand}
+use Rattle.poker_cli.specs.Views.{AreViews, each_view}
+use Rattle.poker_cli.specs.Options as in_options
+use Rattle.poker_cli.specs.Equity as in_equity
+use Rattle.poker_cli.specs.Views as in_views
 
 -- the same number of plays
 pub as_many : (ps qs : List Play) → AllTraced ps qs → length ps ≡ length qs
@@ -89,19 +94,19 @@ not_fewer p q events same few fewer =
 
 pub one_options : (number events : ℕ) (ps qs : List Play) (answer other : Answer) → AllTraced ps qs
     → AreOptionsAt number events ps answer → AreOptionsAt number events qs other → answer ≡ other
-one_options number events ps qs _ _ traced (replies.NoHand none) (replies.NoHand nothing) = ap (no_hand number) (as_many ps qs traced)
-one_options number events ps qs _ _ traced (replies.NoHand none) (replies.NoEvent q is fewer) = absurd (not_one ps qs (number - 1) q traced none is)
-one_options number events ps qs _ _ traced (replies.NoHand none) (replies.Listed q is few options are) = absurd (not_one ps qs (number - 1) q traced none is)
-one_options number events ps qs _ _ traced (replies.NoEvent p is fewer) (replies.NoHand none) = absurd (not_other ps qs (number - 1) p traced is none)
-one_options number events ps qs _ _ traced (replies.Listed p is few options are) (replies.NoHand none) = absurd (not_other ps qs (number - 1) p traced is none)
-one_options number events ps qs _ _ traced (replies.NoEvent p is fewer) (replies.NoEvent q it less) =
+one_options number events ps qs _ _ traced (in_options.NoHand none) (in_options.NoHand nothing) = ap (no_hand number) (as_many ps qs traced)
+one_options number events ps qs _ _ traced (in_options.NoHand none) (in_options.NoEvent q is fewer) = absurd (not_one ps qs (number - 1) q traced none is)
+one_options number events ps qs _ _ traced (in_options.NoHand none) (in_options.Listed q is few options are) = absurd (not_one ps qs (number - 1) q traced none is)
+one_options number events ps qs _ _ traced (in_options.NoEvent p is fewer) (in_options.NoHand none) = absurd (not_other ps qs (number - 1) p traced is none)
+one_options number events ps qs _ _ traced (in_options.Listed p is few options are) (in_options.NoHand none) = absurd (not_other ps qs (number - 1) p traced is none)
+one_options number events ps qs _ _ traced (in_options.NoEvent p is fewer) (in_options.NoEvent q it less) =
     let same = (at_place ps qs (number - 1) p q traced is it).1 in
     ap (λ (script : List Event). no_event number events (length script)) same.script
-one_options number events ps qs _ _ traced (replies.NoEvent p is fewer) (replies.Listed q it few options are) =
+one_options number events ps qs _ _ traced (in_options.NoEvent p is fewer) (in_options.Listed q it few options are) =
     absurd (fewer_or_not p q events (at_place ps qs (number - 1) p q traced is it).1 fewer few)
-one_options number events ps qs _ _ traced (replies.Listed p is few options are) (replies.NoEvent q it fewer) =
+one_options number events ps qs _ _ traced (in_options.Listed p is few options are) (in_options.NoEvent q it fewer) =
     absurd (not_fewer p q events (at_place ps qs (number - 1) p q traced is it).1 few fewer)
-one_options number events ps qs _ _ traced (replies.Listed p is few options are) (replies.Listed q it short others too) =
+one_options number events ps qs _ _ traced (in_options.Listed p is few options are) (in_options.Listed q it short others too) =
     let same = (at_place ps qs (number - 1) p q traced is it).1 in
     ap done
     (one_text number events q.hand.setup q.hand.rules (past_after q.hand.setup (script_said q.hand) events) options others
@@ -118,39 +123,39 @@ unknown_or_not trace street seat row none is = let found = none.1 in let known =
 
 pub one_equity : (number street : ℕ) (ps qs : List Play) (answer other : Answer) → AllTraced ps qs
     → IsEquityAt number street ps answer → IsEquityAt number street qs other → answer ≡ other
-one_equity number street ps qs _ _ traced (replies.NoneNumbered none) (replies.NoneNumbered nothing) = ap (no_hand number) (as_many ps qs traced)
-one_equity number street ps qs _ _ traced (replies.NoneNumbered none) (replies.NoBoard q is lacks) = absurd (not_one ps qs (number - 1) q traced none is)
-one_equity number street ps qs _ _ traced (replies.NoneNumbered none) (replies.NoCards q is seat lacks) = absurd (not_one ps qs (number - 1) q traced none is)
-one_equity number street ps qs _ _ traced (replies.NoneNumbered none) (replies.Counted q is row on) = absurd (not_one ps qs (number - 1) q traced none is)
-one_equity number street ps qs _ _ traced (replies.NoBoard p is lacks) (replies.NoneNumbered none) = absurd (not_other ps qs (number - 1) p traced is none)
-one_equity number street ps qs _ _ traced (replies.NoCards p is seat lacks) (replies.NoneNumbered none) = absurd (not_other ps qs (number - 1) p traced is none)
-one_equity number street ps qs _ _ traced (replies.Counted p is row on) (replies.NoneNumbered none) = absurd (not_other ps qs (number - 1) p traced is none)
-one_equity number street ps qs _ _ traced (replies.NoBoard p is lacks) (replies.NoBoard q it lack) = refl
-one_equity number street ps qs _ _ traced (replies.NoBoard p is lacks) (replies.NoCards q it seat lack) =
+one_equity number street ps qs _ _ traced (in_equity.NoneNumbered none) (in_equity.NoneNumbered nothing) = ap (no_hand number) (as_many ps qs traced)
+one_equity number street ps qs _ _ traced (in_equity.NoneNumbered none) (in_equity.NoBoard q is lacks) = absurd (not_one ps qs (number - 1) q traced none is)
+one_equity number street ps qs _ _ traced (in_equity.NoneNumbered none) (in_equity.NoCards q is seat lacks) = absurd (not_one ps qs (number - 1) q traced none is)
+one_equity number street ps qs _ _ traced (in_equity.NoneNumbered none) (in_equity.Counted q is row on) = absurd (not_one ps qs (number - 1) q traced none is)
+one_equity number street ps qs _ _ traced (in_equity.NoBoard p is lacks) (in_equity.NoneNumbered none) = absurd (not_other ps qs (number - 1) p traced is none)
+one_equity number street ps qs _ _ traced (in_equity.NoCards p is seat lacks) (in_equity.NoneNumbered none) = absurd (not_other ps qs (number - 1) p traced is none)
+one_equity number street ps qs _ _ traced (in_equity.Counted p is row on) (in_equity.NoneNumbered none) = absurd (not_other ps qs (number - 1) p traced is none)
+one_equity number street ps qs _ _ traced (in_equity.NoBoard p is lacks) (in_equity.NoBoard q it lack) = refl
+one_equity number street ps qs _ _ traced (in_equity.NoBoard p is lacks) (in_equity.NoCards q it seat lack) =
     let trace = (at_place ps qs (number - 1) p q traced is it).0 in
     let here = subst (λ (t : Trace). HasNoEquity t street lacking.NoStreet) trace lacks in
     absurd (false≢true (sym here ∙ lack.0))
-one_equity number street ps qs _ _ traced (replies.NoBoard p is lacks) (replies.Counted q it row on) =
+one_equity number street ps qs _ _ traced (in_equity.NoBoard p is lacks) (in_equity.Counted q it row on) =
     let trace = (at_place ps qs (number - 1) p q traced is it).0 in
     absurd (lacks_or_has q.trace street row (subst (λ (t : Trace). HasNoEquity t street lacking.NoStreet) trace lacks) on)
-one_equity number street ps qs _ _ traced (replies.NoCards p is seat lacks) (replies.NoBoard q it lack) =
+one_equity number street ps qs _ _ traced (in_equity.NoCards p is seat lacks) (in_equity.NoBoard q it lack) =
     let trace = (at_place ps qs (number - 1) p q traced is it).0 in
     let here = subst (λ (t : Trace). HasNoEquity t street (lacking.UnknownCards seat)) trace lacks in
     absurd (false≢true (sym lack ∙ here.0))
-one_equity number street ps qs _ _ traced (replies.NoCards p is seat lacks) (replies.NoCards q it other lack) =
+one_equity number street ps qs _ _ traced (in_equity.NoCards p is seat lacks) (in_equity.NoCards q it other lack) =
     let trace = (at_place ps qs (number - 1) p q traced is it).0 in
     let here = subst (λ (t : Trace). HasNoEquity t street (lacking.UnknownCards seat)) trace lacks in
     ap (no_cards number) (same_Some seat.number other.number (sym here.1 ∙ lack.1))
-one_equity number street ps qs _ _ traced (replies.NoCards p is seat lacks) (replies.Counted q it row on) =
+one_equity number street ps qs _ _ traced (in_equity.NoCards p is seat lacks) (in_equity.Counted q it row on) =
     let trace = (at_place ps qs (number - 1) p q traced is it).0 in
     absurd (unknown_or_not q.trace street seat row (subst (λ (t : Trace). HasNoEquity t street (lacking.UnknownCards seat)) trace lacks) on)
-one_equity number street ps qs _ _ traced (replies.Counted p is row on) (replies.NoBoard q it lack) =
+one_equity number street ps qs _ _ traced (in_equity.Counted p is row on) (in_equity.NoBoard q it lack) =
     let trace = (at_place ps qs (number - 1) p q traced is it).0 in
     absurd (lacks_or_has q.trace street row lack (subst (λ (t : Trace). IsEquityOn t street row) trace on))
-one_equity number street ps qs _ _ traced (replies.Counted p is row on) (replies.NoCards q it seat lack) =
+one_equity number street ps qs _ _ traced (in_equity.Counted p is row on) (in_equity.NoCards q it seat lack) =
     let trace = (at_place ps qs (number - 1) p q traced is it).0 in
     absurd (unknown_or_not q.trace street seat row lack (subst (λ (t : Trace). IsEquityOn t street row) trace on))
-one_equity number street ps qs _ _ traced (replies.Counted p is row on) (replies.Counted q it other too) =
+one_equity number street ps qs _ _ traced (in_equity.Counted p is row on) (in_equity.Counted q it other too) =
     let trace = (at_place ps qs (number - 1) p q traced is it).0 in
     let here : IsEquityOn q.trace street row = subst (λ (t : Trace). IsEquityOn t street row) trace on in
     ap done
@@ -179,17 +184,17 @@ all_views game seat place (p ∷ ps) (q ∷ qs) traced alike =
 
 pub one_view : (game : Game) (seat : Seat) (ps qs : List Play) (answer other : Answer) → AllTraced ps qs → AllAlike (hands_of ps) (hands_of qs)
     → AreViews game seat ps answer → AreViews game seat qs other → answer ≡ other
-one_view game seat ps qs _ _ traced alike (replies.NoSeat beyond) (replies.NoSeat above) = refl
-one_view game seat ps qs _ _ traced alike (replies.NoSeat beyond) (replies.TooMany there many) = absurd (omega (arith, beyond, there))
-one_view game seat ps qs _ _ traced alike (replies.NoSeat beyond) (replies.Seen there few) = absurd (omega (arith, beyond, there))
-one_view game seat ps qs _ _ traced alike (replies.TooMany there many) (replies.NoSeat beyond) = absurd (omega (arith, beyond, there))
-one_view game seat ps qs _ _ traced alike (replies.Seen there few) (replies.NoSeat beyond) = absurd (omega (arith, beyond, there))
-one_view game seat ps qs _ _ traced alike (replies.TooMany there many) (replies.TooMany here more) = refl
-one_view game seat ps qs _ _ traced alike (replies.TooMany there many) (replies.Seen here few) =
+one_view game seat ps qs _ _ traced alike (in_views.NoSeat beyond) (in_views.NoSeat above) = refl
+one_view game seat ps qs _ _ traced alike (in_views.NoSeat beyond) (in_views.TooMany there many) = absurd (omega (arith, beyond, there))
+one_view game seat ps qs _ _ traced alike (in_views.NoSeat beyond) (in_views.Seen there few) = absurd (omega (arith, beyond, there))
+one_view game seat ps qs _ _ traced alike (in_views.TooMany there many) (in_views.NoSeat beyond) = absurd (omega (arith, beyond, there))
+one_view game seat ps qs _ _ traced alike (in_views.Seen there few) (in_views.NoSeat beyond) = absurd (omega (arith, beyond, there))
+one_view game seat ps qs _ _ traced alike (in_views.TooMany there many) (in_views.TooMany here more) = refl
+one_view game seat ps qs _ _ traced alike (in_views.TooMany there many) (in_views.Seen here few) =
     let long = ap (λ (lines : List ℕ). length lines) (all_views game seat 0 ps qs traced alike) in absurd (omega (arith, many, few, long))
-one_view game seat ps qs _ _ traced alike (replies.Seen there few) (replies.TooMany here many) =
+one_view game seat ps qs _ _ traced alike (in_views.Seen there few) (in_views.TooMany here many) =
     let long = ap (λ (lines : List ℕ). length lines) (all_views game seat 0 ps qs traced alike) in absurd (omega (arith, many, few, long))
-one_view game seat ps qs _ _ traced alike (replies.Seen there few) (replies.Seen here short) = ap done (all_views game seat 0 ps qs traced alike)
+one_view game seat ps qs _ _ traced alike (in_views.Seen there few) (in_views.Seen here short) = ap done (all_views game seat 0 ps qs traced alike)
 
 -- ---- a session
 

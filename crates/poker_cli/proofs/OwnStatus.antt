@@ -8,8 +8,8 @@ use Rattle.acpc_game.specs.declared.fault.AcpcFault.{AcpcFault}
 use Rattle.acpc_game.specs.declared.fault.AcpcFault.TheVariants as in_acpc
 use Rattle.acpc_writing.specs.GameOf.{game_of}
 use Rattle.chip_ledger.specs.declared.numbers.Seat.{Seat}
-use Rattle.command_words.specs.declared.task.Question.{Question}
-use Rattle.command_words.specs.declared.task.Question.TheVariants as questions
+use Rattle.command_words.specs.declared.command.EachQuestion.{EachQuestion}
+use Rattle.command_words.specs.declared.command.EachQuestion.TheVariants as of_each
 use Rattle.convert_core.specs.declared.format_fault.FormatFault.{FormatFault}
 use Rattle.convert_core.specs.declared.format_fault.FormatFault.TheVariants as formats
 use Rattle.hand_records.specs.declared.record.Record.{Record}
@@ -19,24 +19,31 @@ use Rattle.ohh_members.specs.declared.fault.MemberFaultKind.TheVariants as in_me
 use Rattle.ohh_reading.specs.Reading as in_ohh
 use Rattle.phh_reading.specs.declared.field_fault.FieldFaultKind.TheVariants as in_field
 use Rattle.phh_reading.specs.Reading as in_phh
-use Rattle.poker_cli.specs.Answer.{Answer, IsAnswer, IsAnswerBy, IsAnswerOf, IsAnswerTo, IsComparedWith, IsComparison, IsJudgement, IsReply, IsWritten, to_fault, to_first_game, to_game, to_wrong_acpc, to_wrong_ohh, to_wrong_phh}
+use Rattle.poker_cli.specs.Answer.{Answer, AreMessages, IsAnswer, IsAnswerBy, IsAnswerOf, IsAnswerOfEach, IsAnswerTo, IsComparedWith, IsComparison, IsJudgement, IsReply, IsWritten, to_fault, to_first_game, to_game, to_wrong_acpc, to_wrong_ohh, to_wrong_phh}
 use Rattle.poker_cli.specs.Answer as answers
-use Rattle.poker_cli.specs.Compared.{DifferentHand, compared_by, first_different, to_other_count, to_same}
+use Rattle.poker_cli.specs.Compare.{DifferentHand, compared_by, first_different, to_other_count, to_same}
+use Rattle.poker_cli.specs.Each as each
+use Rattle.poker_cli.specs.Each.{AreReplayedEach, IsEveryPoint, IsPoint, IsReplyOfEach}
 use Rattle.poker_cli.specs.OhhFaults.{ohh_status}
 use Rattle.poker_cli.specs.PhhFaults.{phh_status}
-use Rattle.poker_cli.specs.Replies.{AreOptionsAt, AreViews, IsEquityAt}
-use Rattle.poker_cli.specs.Replies as replies
+use Rattle.poker_cli.specs.Equity.{IsEquityAt}
+use Rattle.poker_cli.specs.Options.{AreOptionsAt}
+use Rattle.poker_cli.specs.Views.{AreViews}
+use Rattle.poker_cli.specs.Options as in_options
+use Rattle.poker_cli.specs.Equity as in_equity
+use Rattle.poker_cli.specs.Views as in_views
 use Rattle.poker_cli.specs.Inputs.{if_asked}
 use Rattle.poker_cli.specs.Run.{IsOfInput, IsOwn, OfBytes, ReadsNothing}
 use Rattle.poker_cli.specs.Told.{answer_told}
 use Rattle.poker_cli.specs.declared.answer.Answer as made
-use Rattle.poker_cli.specs.declared.comparison.Comparison.{Comparison}
+use Rattle.poker_cli.specs.declared.compare.Comparison.{Comparison}
 use Rattle.poker_cli.specs.declared.no_answer.NoAnswerError.{NoAnswerError}
 use Rattle.poker_cli.specs.declared.status.Status.{Status}
 use Rattle.poker_cli.specs.declared.status.Status.TheVariants as statuses
 use Rattle.poker_cli.specs.declared.task.Format.{Format}
-use Rattle.poker_cli.specs.declared.task.Task.{Task}
-use Rattle.poker_cli.specs.declared.task.Task.TheVariants as tasks
+use Rattle.poker_cli.specs.declared.task.Format.TheVariants as readers
+use Rattle.command_words.specs.declared.command.Command.{Command}
+use Rattle.command_words.specs.declared.command.Command.TheVariants as commands
 use Rattle.poker_cli.specs.declared.task.Job.{Job}
 
 -- a status of an answer to what was read of the input is not that of a fault, and comes after the
@@ -100,26 +107,34 @@ first_game_own [] = tt
 first_game_own (play ∷ plays) = game_own (game_of play.trace.setup)
 
 options_own : (number events : ℕ) (plays : List Play) (answer : Answer) → AreOptionsAt number events plays answer → IsOfInput answer.status
-options_own number events plays _ (replies.NoHand none) = tt
-options_own number events plays _ (replies.NoEvent play is fewer) = tt
-options_own number events plays _ (replies.Listed play is few options are) = tt
+options_own number events plays _ (in_options.NoHand none) = tt
+options_own number events plays _ (in_options.NoEvent play is fewer) = tt
+options_own number events plays _ (in_options.Listed play is few options are) = tt
 
 equity_own : (number street : ℕ) (plays : List Play) (answer : Answer) → IsEquityAt number street plays answer → IsOfInput answer.status
-equity_own number street plays _ (replies.NoneNumbered none) = tt
-equity_own number street plays _ (replies.NoBoard play is none) = tt
-equity_own number street plays _ (replies.NoCards play is seat none) = tt
-equity_own number street plays _ (replies.Counted play is row on) = tt
+equity_own number street plays _ (in_equity.NoneNumbered none) = tt
+equity_own number street plays _ (in_equity.NoBoard play is none) = tt
+equity_own number street plays _ (in_equity.NoCards play is seat none) = tt
+equity_own number street plays _ (in_equity.Counted play is row on) = tt
 
 views_own : (game : Game) (seat : Seat) (plays : List Play) (answer : Answer) → AreViews game seat plays answer → IsOfInput answer.status
-views_own game seat plays _ (replies.NoSeat beyond) = tt
-views_own game seat plays _ (replies.TooMany there many) = tt
-views_own game seat plays _ (replies.Seen there few) = tt
+views_own game seat plays _ (in_views.NoSeat beyond) = tt
+views_own game seat plays _ (in_views.TooMany there many) = tt
+views_own game seat plays _ (in_views.Seen there few) = tt
 
-reply_own : (question : Question) (plays : List Play) (answer : Answer) → IsReply question plays answer → IsOfInput answer.status
-reply_own (questions.Show command) plays answer is = same_own answer _ is tt
-reply_own questions.GameFile plays answer is = same_own answer _ is.told (first_game_own plays)
-reply_own (questions.Options hand events) plays answer is = options_own hand events plays answer is
-reply_own (questions.Equity hand street) plays answer is = equity_own hand street plays answer is
+message_own : (reader : Format) (seat : Seat) (plays : List Play) (answer : Answer) → AreMessages reader seat plays answer → IsOfInput answer.status
+message_own (readers.Acpc game) seat plays answer is = views_own game seat plays answer is
+message_own reader seat plays answer is = same_own answer _ is tt
+
+reply_own : (command : Command Format) (reader : Format) (plays : List Play) (answer : Answer) → IsReply command reader plays answer → IsOfInput answer.status
+reply_own commands.Game reader plays answer is = same_own answer _ is.told (first_game_own plays)
+reply_own (commands.Options hand events) reader plays answer is = options_own hand events plays answer is
+reply_own (commands.Equity hand street) reader plays answer is = equity_own hand street plays answer is
+reply_own (commands.Judge lines) reader plays answer is = absurd is
+reply_own (commands.Each question) reader plays answer is = absurd is
+reply_own (commands.Views seat) reader plays answer is = message_own reader seat plays answer is
+reply_own (commands.Convert to keep) reader plays answer is = written_own _ _ _ plays answer is
+reply_own command reader plays answer is = same_own answer _ is tt
 
 -- ---- the answer to bytes
 
@@ -134,16 +149,36 @@ judged_own : (Say : List Record → Type 0) (HaveFault : FormatFault → Type 0)
 judged_own Say HaveFault lines answer (answers.NotJudged fault have _ told) = fault_own fault answer told
 judged_own Say HaveFault lines _ (answers.Judged records say verdicts are) = tt
 
-task_own : (task : Task) (Say : List Record → Type 0) (HaveFault : FormatFault → Type 0) (lines : List ℕ) (answer : Answer)
-    → IsAnswerOf task Say HaveFault lines answer → IsOfInput answer.status
-task_own (tasks.Ask question) Say HaveFault lines answer is = made_own Say HaveFault (IsReply question) (reply_own question) answer is
-task_own (tasks.Judge asked) Say HaveFault lines answer is = judged_own Say HaveFault (if_asked asked lines) answer is
-task_own (tasks.Convert to keep) Say HaveFault lines answer is = made_own Say HaveFault _ (written_own _ _ _) answer is
-task_own (tasks.Views game seat) Say HaveFault lines answer is = made_own Say HaveFault (AreViews game seat) (views_own game seat) answer is
+points_own : (number : ℕ) (records : List Record) (answer : Answer) → IsEveryPoint number records answer → IsOfInput answer.status
+points_own number records _ (each.NoSuchHand none) = tt
+points_own number records _ (each.AtPoints hand is text are) = tt
 
-answer_own : (task : Task) (reader : Format) (bytes : List ℕ) (answer : Answer) → IsAnswer task reader bytes answer → IsOfInput answer.status
-answer_own task reader bytes _ (answers.TooLong many) = tt
-answer_own task reader bytes answer (answers.Read few _ is) = task_own task _ _ _ answer is
+point_own : (number events : ℕ) (records : List Record) (answer : Answer) → IsPoint number events records answer → IsOfInput answer.status
+point_own number events records _ (each.NoHandThere none) = tt
+point_own number events records _ (each.PastLegal hand is legal beginning past) = tt
+point_own number events records _ (each.AtPoint hand is legal beginning within options are) = tt
+
+replayed_own : (records : List Record) (answer : Answer) → AreReplayedEach records answer → IsOfInput answer.status
+replayed_own records _ (each.ReplayedEach text are) = tt
+
+of_each_own : (question : EachQuestion) (records : List Record) (answer : Answer) → IsReplyOfEach question records answer → IsOfInput answer.status
+of_each_own of_each.Replay records answer is = replayed_own records answer is
+of_each_own (of_each.EveryPoint hand) records answer is = points_own hand records answer is
+of_each_own (of_each.Point hand events) records answer is = point_own hand events records answer is
+
+each_own : (Say : List Record → Type 0) (HaveFault : FormatFault → Type 0) (question : EachQuestion) (answer : Answer) → IsAnswerOfEach Say HaveFault question answer → IsOfInput answer.status
+each_own Say HaveFault question answer (answers.NotRead fault have _ told) = fault_own fault answer told
+each_own Say HaveFault question answer (answers.OfEach records say _ is) = of_each_own question records answer is
+
+command_own : (command : Command Format) (reader : Format) (Say : List Record → Type 0) (HaveFault : FormatFault → Type 0) (lines : List ℕ) (answer : Answer)
+    → IsAnswerOf command reader Say HaveFault lines answer → IsOfInput answer.status
+command_own (commands.Judge asked) reader Say HaveFault lines answer is = judged_own Say HaveFault (if_asked asked lines) answer is
+command_own (commands.Each question) reader Say HaveFault lines answer is = each_own Say HaveFault question answer is
+command_own command reader Say HaveFault lines answer is = made_own Say HaveFault (IsReply command reader) (reply_own command reader) answer is
+
+answer_own : (command : Command Format) (reader : Format) (bytes : List ℕ) (answer : Answer) → IsAnswer command reader bytes answer → IsOfInput answer.status
+answer_own command reader bytes _ (answers.TooLong many) = tt
+answer_own command reader bytes answer (answers.Read few _ is) = command_own command reader _ _ _ answer is
 
 -- ---- two files
 
@@ -169,7 +204,7 @@ some_bytes None P This each is = each is.0 is.1
 
 pub of_way : (left : Option (List ℕ)) (by : Job) (result : Result made.Answer NoAnswerError)
     → IfOk result (λ answer. OfBytes left (λ bytes. IsAnswerBy by bytes (answer_told answer))) → IfOk result (λ answer. IsOfInput answer.status)
-of_way left by (Ok answer) is = some_bytes left _ _ (λ bytes to. answer_own by.task by.reader bytes (answer_told answer) to) is
+of_way left by (Ok answer) is = some_bytes left _ _ (λ bytes to. answer_own by.command by.reader bytes (answer_told answer) to) is
 of_way left by (Err why) is = tt
 
 pub of_both : (left : Option (List ℕ)) (by : Comparison) (file : List ℕ) (result : Result made.Answer NoAnswerError)

@@ -1,17 +1,17 @@
 -- What holds after a reply, and why there is none, follow from what is read for it.
 use Rattle.std.proofs.Common.{◌≡◌, ℕ, ◌≤◌, Bool, List, Option, None, IfErr, IfOk, IfSome, IsErrOf, Result, Ok, Err, refl, arith}
 use Rattle.acpc_game.specs.declared.game.Game.{Game}
+use Rattle.command_words.specs.declared.command.Command.{Command}
 use Rattle.command_words.specs.Words.{Compare, Plain, Sides, Under}
 use Rattle.command_words.specs.declared.notation.PlainNotation.{PlainNotation}
 use Rattle.command_words.specs.declared.request.Logs.{Logs}
-use Rattle.command_words.specs.declared.task.NamedTask.{NamedTask}
 use Rattle.host_io.specs.Faults.{Rose}
 use Rattle.poker_cli.specs.Answer.{FilesByName, GivesGame, IsComparisonOf}
 use Rattle.poker_cli.specs.Lacking.{ComesFirst}
 use Rattle.poker_cli.specs.Replied.{HasNoAnswer, Keeps}
 use Rattle.poker_cli.specs.Run.{IsNotThere, IsOfInput, OfFile, OfGameFile}
 use Rattle.poker_cli.specs.declared.answer.Answer as made
-use Rattle.poker_cli.specs.declared.comparison.Comparison.{Comparison}
+use Rattle.poker_cli.specs.declared.compare.Comparison.{Comparison}
 use Rattle.poker_cli.specs.declared.no_answer.NoAnswerError.{NoAnswerError}
 use Rattle.poker_cli.specs.declared.no_answer.NoAnswerError.TheVariants as whys
 use Rattle.poker_cli.proofs.Answering.{of_all}
@@ -30,13 +30,13 @@ keeps_read input read reads asks (Err whys.ShelfFault) of rose alone = absurd (a
 keeps_read input read reads asks (Err whys.GameMissing) of rose alone = absurd (alone tt)
 keeps_read input read reads asks (Err whys.FileMissing) of rose alone = absurd (alone tt)
 
-pub none_of_plain : (from : PlainNotation) (task : NamedTask PlainNotation) (left : Option (List ℕ)) (told : Option FilesByName) (why : NoAnswerError)
-    → (ComesFirst why → ⊥) → HasNoAnswer (Plain from task) left told why
-none_of_plain from task left told whys.ReadFault alone = of_all left _ (λ bytes. (tt, λ without. without))
-none_of_plain from task left told (whys.Memory memory) alone = tt
-none_of_plain from task left told whys.ShelfFault alone = absurd (alone tt)
-none_of_plain from task left told whys.GameMissing alone = absurd (alone tt)
-none_of_plain from task left told whys.FileMissing alone = absurd (alone tt)
+pub none_of_plain : (from : PlainNotation) (command : Command PlainNotation) (left : Option (List ℕ)) (told : Option FilesByName) (why : NoAnswerError)
+    → (ComesFirst why → ⊥) → HasNoAnswer (Plain from command) left told why
+none_of_plain from command left told whys.ReadFault alone = of_all left _ (λ bytes. (tt, λ without. without))
+none_of_plain from command left told (whys.Memory memory) alone = tt
+none_of_plain from command left told whys.ShelfFault alone = absurd (alone tt)
+none_of_plain from command left told whys.GameMissing alone = absurd (alone tt)
+none_of_plain from command left told whys.FileMissing alone = absurd (alone tt)
 
 pub none_under_game : (name : List ℕ) (logs : Logs) (game : Game) (left : Option (List ℕ)) (told : Option FilesByName)
     → OfFile told name (λ file. GivesGame file game) → (why : NoAnswerError) → (ComesFirst why → ⊥) → HasNoAnswer (Under name logs) left told why

@@ -17,7 +17,7 @@ use Rattle.poker_cli.specs.Run.{Asks, GivesNone, GivesSome, IsFileMissing, IsGam
 use Rattle.poker_cli.specs.Told.{answer_told}
 use Rattle.poker_cli.specs.declared.answer.Answer as made
 use Rattle.poker_cli.specs.declared.comparing.NoFileError.TheVariants as no_files
-use Rattle.poker_cli.specs.declared.comparison.Comparison.{Comparison}
+use Rattle.poker_cli.specs.declared.compare.Comparison.{Comparison}
 use Rattle.poker_cli.specs.declared.games.GameFileError.{GameFileError}
 use Rattle.poker_cli.specs.declared.games.NoGameError.TheVariants as reasons
 use Rattle.poker_cli.specs.declared.no_answer.NoAnswerError.{NoAnswerError}

@@ -4,8 +4,7 @@ use Rattle.acpc_game.specs.declared.game.Game.{Game}
 use Rattle.acpc_view.specs.View.{views_text}
 use Rattle.chip_ledger.specs.declared.numbers.Seat.{Seat}
 use Rattle.hand_records.specs.declared.trace.Play.{Play}
-use Rattle.poker_cli.specs.Replies.{each_view, most_view_bytes}
-use Rattle.poker_cli.specs.Seen.{AreSeen}
+use Rattle.poker_cli.specs.Views.{AreSeen, each_view, most_view_bytes}
 
 module _ (game : Game) (seat : Seat) where
   -- the lines of one more hand come after the others

@@ -1,6 +1,8 @@
 -- The answer of the program, by the bytes of its input and of its game file.
 pub use Rattle.poker_cli.specs.AnswerParts.{Answer, done, refusal}
-use Rattle.std.specs.Prelude.{◌≡◌, ℕ, ◌<◌, ◌≤◌, Bool, List, [], ◌∷◌, ◌++◌, length, codes, Option, Some, None, option_map, Result, Ok, Err, IfOk}
+use Rattle.std.specs.Prelude.{◌≡◌, ℕ, ◌<◌, ◌≤◌, Bool, List, [], ◌∷◌, ◌++◌, length, codes, Option, Some, None, option_map, Result, Ok, Err, IfOk, string_bytes}
+use Rattle.std.specs.declared.alloc.Global.{Global}
+use Rattle.std.specs.declared.string.String.{String}
 use Rattle.acpc_game.specs.GameFile.{GameSaid, game_said}
 use Rattle.acpc_game.specs.GameText.{game_text}
 use Rattle.acpc_game.specs.GameView.{game_in}
@@ -8,16 +10,14 @@ use Rattle.acpc_game.specs.declared.game.Game.{Game}
 use Rattle.acpc_writing.specs.GameOf.{game_of}
 use Rattle.acpc_game.specs.declared.fault.AcpcFault.{AcpcFault}
 use Rattle.acpc_game.specs.declared.fault.AcpcFault.TheVariants as acpc_faults
+use Rattle.chip_ledger.specs.declared.numbers.Seat.{Seat}
 use Rattle.command_words.specs.Words.{Request, Load, Plain, Under, Compare, Sides, PlainSides, SidesUnder}
 use Rattle.command_words.specs.declared.notation.NotationName.{NotationName}
 use Rattle.command_words.specs.declared.notation.PlainNotation.{PlainNotation}
 use Rattle.command_words.specs.declared.command.Command.{Command}
 use Rattle.command_words.specs.declared.command.Command.TheVariants as commands
 use Rattle.command_words.specs.declared.request.Logs.{Logs}
-use Rattle.command_words.specs.declared.task.Question.{Question}
-use Rattle.command_words.specs.declared.task.Question.TheVariants as questions
-use Rattle.poker_cli.specs.declared.task.Task.{Task}
-use Rattle.poker_cli.specs.declared.task.Task.TheVariants as tasks
+use Rattle.command_words.specs.declared.command.EachQuestion.{EachQuestion}
 use Rattle.hand_gen.specs.Load.{IsLoad, summary_text}
 use Rattle.hand_gen.specs.declared.summary.Summary.{Summary}
 use Rattle.hand_records.specs.declared.record.Record.{Record}
@@ -36,24 +36,30 @@ use Rattle.convert_core.specs.Conversion.{ReadAsPlays, ReadAsRefused}
 use Rattle.convert_core.specs.Verdicts.{AreVerdictsOn, Verdict}
 use Rattle.convert_core.specs.declared.convert_fault.ConvertFault.{ConvertFault}
 use Rattle.convert_core.specs.declared.convert_fault.ConvertFault.TheVariants as convert_faults
+use Rattle.convert_core.specs.declared.refusal.PlaysFault.{PlaysFault}
+use Rattle.convert_core.specs.declared.refusal.PlaysFault.TheVariants as plays_faults
 use Rattle.convert_core.specs.declared.refusal.Refusal.{Refusal}
 use Rattle.convert_core.specs.declared.format_fault.FormatFault.{FormatFault}
 use Rattle.convert_core.specs.declared.format_fault.FormatFault.TheVariants as formats
-use Rattle.poker_cli.specs.Compared.{compared}
+use Rattle.poker_cli.specs.Compare.{compared}
 use Rattle.poker_cli.specs.Limits.{excess_line}
 use Rattle.poker_cli.specs.PhhFaults.{phh_fault_line, phh_status}
+use Rattle.poker_cli.specs.Each.{IsReplyOfEach}
 use Rattle.poker_cli.specs.Inputs.{HaveFault, SayRecords, first_lines, if_asked}
 use Rattle.poker_cli.specs.Refusals.{refused_line}
-use Rattle.poker_cli.specs.Replies.{AreOptionsAt, AreViews, IsEquityAt}
+use Rattle.poker_cli.specs.Equity.{IsEquityAt}
+use Rattle.poker_cli.specs.Options.{AreOptionsAt}
+use Rattle.poker_cli.specs.Views.{AreViews}
 use Rattle.poker_cli.specs.AcpcFaults.{acpc_fault_line, acpc_status, bad_game_line}
 use Rattle.poker_cli.specs.Outputs.{ReadsBack, SpellPlays, unspelled_in}
 use Rattle.poker_cli.specs.OhhFaults.{ohh_fault_line, ohh_status}
 use Rattle.poker_cli.specs.Unspelled.{unspelled_line}
-use Rattle.poker_cli.specs.Verdicts.{judged_said}
+use Rattle.poker_cli.specs.Judge.{judged_said}
 use Rattle.poker_cli.specs.Ways.{format_under, plain_format, plain_job, job_under}
-use Rattle.poker_cli.specs.declared.comparison.Comparison.{Comparison}
+use Rattle.poker_cli.specs.declared.compare.Comparison.{Comparison}
 use Rattle.poker_cli.specs.declared.status.Status.TheVariants as statuses
 use Rattle.poker_cli.specs.declared.task.Format.{Format}
+use Rattle.poker_cli.specs.declared.task.Format.TheVariants as readers
 use Rattle.poker_cli.specs.declared.task.Job.{Job}
 use Rattle.hand_records.specs.WriteRefusals.{first_refusal}
 
@@ -89,13 +95,6 @@ to_fault (formats.Acpc fault) = to_wrong_acpc fault
 -- the answer to a refused hand
 abbrev pub to_refusal : ℕ → Refusal → Answer
 to_refusal number why = refusal statuses.Refused (refused_line number why)
-
--- what a command prints for these plays
-abbrev pub text_of : Command → List Play → List ℕ
-text_of commands.Check plays = check_said plays
-text_of commands.Replay plays = replay_said plays
-text_of commands.Report plays = report_said plays
-text_of commands.Session plays = session_printed (session_said plays)
 
 -- the answer if this fact of the hand with this number cannot be written
 abbrev pub to_unspelled : ℕ → Unspelled → Answer
@@ -150,12 +149,27 @@ abbrev pub IsConversion : Format → Keep → List Play → Answer → Type 0
 IsConversion to keep plays answer =
     IsWritten (unspelled_in to keep) (SpellPlays to) (ReadsBack to keep) plays answer
 
--- the answer to a question about hands that are all legal and agree with what is stated of them
-abbrev pub IsReply : Question → List Play → Answer → Type 0
-IsReply (questions.Show command) plays answer = answer ≡ done (text_of command plays)
-IsReply questions.GameFile plays answer = IsGameReply plays answer
-IsReply (questions.Options hand events) plays answer = AreOptionsAt hand events plays answer
-IsReply (questions.Equity hand street) plays answer = IsEquityAt hand street plays answer
+-- what a seat received of the hands: the lines of a log under its game; hands in other notations
+-- have no messages
+abbrev pub AreMessages : (reader : Format) → Seat → List Play → Answer → Type 0
+AreMessages (readers.Acpc game) seat plays answer = AreViews game seat plays answer
+AreMessages reader seat plays answer = answer ≡ done []
+
+-- the answer to a command about hands that are all legal and agree with what is stated of them, and
+-- were read in a notation; verdicts and answers of each hand by itself are not made of plays
+abbrev pub IsReply : Command Format → (reader : Format) → List Play → Answer → Type 0
+IsReply commands.Check reader plays answer = answer ≡ done (check_said plays)
+IsReply commands.Replay reader plays answer = answer ≡ done (replay_said plays)
+IsReply commands.Report reader plays answer = answer ≡ done (report_said plays)
+IsReply commands.Session reader plays answer =
+    answer ≡ done (session_printed (session_said plays))
+IsReply commands.Game reader plays answer = IsGameReply plays answer
+IsReply (commands.Options hand events) reader plays answer = AreOptionsAt hand events plays answer
+IsReply (commands.Equity hand street) reader plays answer = IsEquityAt hand street plays answer
+IsReply (commands.Judge lines) reader plays answer = ⊥
+IsReply (commands.Each question) reader plays answer = ⊥
+IsReply (commands.Views seat) reader plays answer = AreMessages reader seat plays answer
+IsReply (commands.Convert to keep) reader plays answer = IsConversion to keep plays answer
 
 -- The answer to bytes if it is made from their plays; their notation says which records are in them
 -- and which fault they have.
@@ -185,31 +199,42 @@ pub data IsJudgement (Say : List Record → Type 0) (HaveFault : FormatFault →
       → AreVerdictsOn records verdicts
       → IsJudgement Say HaveFault lines (done (judged_said lines verdicts))
 
--- the answer to bytes whose hands begin on these lines, by what is done with their hands
-abbrev pub IsAnswerOf : Task → (List Record → Type 0) → (FormatFault → Type 0) → (lines : List ℕ)
-    → Answer → Type 0
-IsAnswerOf (tasks.Ask question) Say HaveFault lines answer =
-    IsAnswerTo Say HaveFault (IsReply question) answer
-IsAnswerOf (tasks.Judge asked) Say HaveFault lines answer =
+-- The answer to a question that hands answer each by itself; the notation of the bytes says which
+-- records are in them and which fault they have.
+pub data IsAnswerOfEach (Say : List Record → Type 0) (HaveFault : FormatFault → Type 0)
+    (question : EachQuestion) : Answer → Type 0 where
+  -- the bytes cannot be read as hands
+  NotRead : (fault : FormatFault) → HaveFault fault → (answer : Answer)
+      → to_fault fault ≡ Some answer → IsAnswerOfEach Say HaveFault question answer
+  -- the hands answer, legal or refused
+  OfEach : (records : List Record) → Say records → (answer : Answer)
+      → IsReplyOfEach question records answer → IsAnswerOfEach Say HaveFault question answer
+
+-- the answer to bytes that are read in a notation and whose hands begin on these lines, by what is
+-- asked about their hands
+abbrev pub IsAnswerOf : Command Format → (reader : Format) → (List Record → Type 0)
+    → (FormatFault → Type 0) → (lines : List ℕ) → Answer → Type 0
+IsAnswerOf (commands.Each question) reader Say HaveFault lines answer =
+    IsAnswerOfEach Say HaveFault question answer
+IsAnswerOf (commands.Judge asked) reader Say HaveFault lines answer =
     IsJudgement Say HaveFault (if_asked asked lines) answer
-IsAnswerOf (tasks.Convert to keep) Say HaveFault lines answer =
-    IsAnswerTo Say HaveFault (IsConversion to keep) answer
-IsAnswerOf (tasks.Views game seat) Say HaveFault lines answer =
-    IsAnswerTo Say HaveFault (AreViews game seat) answer
+IsAnswerOf command reader Say HaveFault lines answer =
+    IsAnswerTo Say HaveFault (IsReply command reader) answer
 
 -- The answer to the bytes of an input, by how they are read and what is done with their hands.
-pub data IsAnswer (task : Task) (reader : Format) (bytes : List ℕ) : Answer → Type 0 where
+pub data IsAnswer (command : Command Format) (reader : Format) (bytes : List ℕ) : Answer
+    → Type 0 where
   -- there are too many bytes
-  TooLong : most_input < length bytes → IsAnswer task reader bytes to_excess
+  TooLong : most_input < length bytes → IsAnswer command reader bytes to_excess
   -- the bytes are within the limit, and are read
   Read : length bytes ≤ most_input → (answer : Answer)
-      → IsAnswerOf task (SayRecords reader bytes) (HaveFault reader bytes)
+      → IsAnswerOf command reader (SayRecords reader bytes) (HaveFault reader bytes)
       (first_lines reader bytes) answer
-      → IsAnswer task reader bytes answer
+      → IsAnswer command reader bytes answer
 
 -- the answer to the bytes of an input that is read and handled this way
 abbrev pub IsAnswerBy : Job → List ℕ → Answer → Type 0
-IsAnswerBy by bytes answer = IsAnswer by.task by.reader bytes answer
+IsAnswerBy by bytes answer = IsAnswer by.command by.reader bytes answer
 
 -- the answer says why bytes cannot be converted or have no plays; none if memory ran out
 abbrev pub IsToldOf : ConvertFault → Answer → Type 0
@@ -217,6 +242,16 @@ IsToldOf (convert_faults.Format fault) answer = to_fault fault ≡ Some answer
 IsToldOf (convert_faults.Refused number why) answer = answer ≡ to_refusal number why
 IsToldOf (convert_faults.Unspelled number fact) answer = answer ≡ to_unspelled number fact
 IsToldOf (convert_faults.Memory memory) answer = ⊥
+
+-- the answer says which hand is refused; none if memory ran out
+abbrev pub IsToldPlaysFault : PlaysFault → Answer → Type 0
+IsToldPlaysFault (plays_faults.Refused number why) answer = answer ≡ to_refusal number why
+IsToldPlaysFault (plays_faults.Memory memory) answer = ⊥
+
+-- the answer has a text as its output, or says which hand is refused
+abbrev pub IsToldText : Result (String Global) PlaysFault → Answer → Type 0
+IsToldText (Ok text) answer = answer ≡ done (string_bytes text)
+IsToldText (Err fault) answer = IsToldPlaysFault fault answer
 
 -- the answer to a game file that is too long
 abbrev pub to_game_excess : Answer
@@ -255,7 +290,7 @@ pub record IsWayUnder (file : Option (List ℕ)) (logs : Logs) (way : Job) : Typ
 -- comparisons
 abbrev pub IsWay : Files → Request → Job → Type 0
 IsWay files (Load seed hands) way = ⊥
-IsWay files (Plain from task) way = way ≡ plain_job from task
+IsWay files (Plain from command) way = way ≡ plain_job from command
 IsWay files (Under name logs) way = IsWayUnder files.game logs way
 IsWay files (Compare sides file notes) way = ⊥
 
@@ -382,7 +417,8 @@ AsksToCompare files request by text = ⊥
 -- generated
 abbrev pub IsAnswerIn : Request → Files → List ℕ → Answer → Type 0
 IsAnswerIn (Load seed hands) files bytes answer = IsSummed seed hands answer
-IsAnswerIn (Plain from task) files bytes answer = IsAnswerBy (plain_job from task) bytes answer
+IsAnswerIn (Plain from command) files bytes answer =
+    IsAnswerBy (plain_job from command) bytes answer
 IsAnswerIn (Under name logs) files bytes answer = IsAnswerUnder files.game logs bytes answer
 IsAnswerIn (Compare sides file notes) files bytes answer =
     IsComparedIn files sides notes bytes answer

@@ -28,12 +28,12 @@ use Rattle.poker_cli.specs.declared.status.Status.{Status}
 use Rattle.poker_cli.specs.declared.status.Status.TheVariants as statuses
 use Rattle.poker_cli.specs.declared.task.Format.{Format}
 use Rattle.poker_cli.specs.declared.task.Format.TheVariants as readers
-use Rattle.poker_cli.specs.declared.task.Task.TheVariants as tasks
+use Rattle.command_words.specs.declared.command.Command.TheVariants as commands
 
 -- the request is a conversion: the input is read in the notation `from` and its hands are written
 -- in `to`, keeping these notes; each log is under the game in its game file
 abbrev pub AsksToConvert : Files → Request → (from to : Format) → Keep → Type 0
-AsksToConvert files request from to keep = IsWay files request (way (tasks.Convert to keep) from)
+AsksToConvert files request from to keep = IsWay files request (way (commands.Convert to keep) from)
 
 -- an input within the limit reads as hands; the replay of every hand is legal, every stated fact
 -- agrees, and these are the plays; every fact to be kept can be written in the target notation

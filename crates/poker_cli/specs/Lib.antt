@@ -1,11 +1,13 @@
 -- What the program answers, prints and writes.
 pub mod Status
 pub mod AnswerParts
-pub mod Compared
+pub mod Compare
 pub mod Replies
+pub mod Options
+pub mod Equity
+pub mod Views
 pub mod Refusals
-pub mod Verdicts
-pub mod Printed
+pub mod Judge
 pub mod Limits
 pub mod PhhFaults
 pub mod OhhFaults
@@ -14,11 +16,10 @@ pub mod Unspelled
 pub mod Inputs
 pub mod Outputs
 pub mod Ways
+pub mod Each
 pub mod Answer
-pub mod Asked
 pub mod Texts
 pub mod Played
-pub mod Seen
 pub mod OneAnswer
 pub mod Lacking
 pub mod Told

@@ -2,9 +2,10 @@
 use Rattle.std.specs.Prelude.{◌≡◌}
 use Rattle.toml.specs.Parse.{parse_document}
 use Rattle.poker_cli.specs.Answer.{Answer}
+use Rattle.poker_cli.specs.declared.task.Format.{Format}
 use Rattle.poker_cli.specs.declared.task.Format.TheVariants as readers
-use Rattle.poker_cli.specs.declared.task.Task.{Task}
-use Rattle.poker_cli.specs.declared.task.Task.TheVariants as tasks
+use Rattle.command_words.specs.declared.command.Command.{Command}
+use Rattle.command_words.specs.declared.command.Command.TheVariants as commands
 
 -- two answers have the same status and line, and TOML reads their outputs as the same
 pub record ReadAlike (answer other : Answer) : Type 0 where
@@ -14,6 +15,6 @@ pub record ReadAlike (answer other : Answer) : Type 0 where
 
 -- two answers count as one: they are the same, except for how TOML writes the document of hands in
 -- the Poker Hand History format
-abbrev pub AreOneAnswer : Task → Answer → Answer → Type 0
-AreOneAnswer (tasks.Convert readers.Phh keep) answer other = ReadAlike answer other
-AreOneAnswer task answer other = answer ≡ other
+abbrev pub AreOneAnswer : Command Format → Answer → Answer → Type 0
+AreOneAnswer (commands.Convert readers.Phh keep) answer other = ReadAlike answer other
+AreOneAnswer command answer other = answer ≡ other

@@ -6,15 +6,14 @@ use Rattle.card_set.specs.Refusal.{WasRefused}
 use Rattle.command_words.specs.Words.{Load, Plain, Request, Sides, Under, Compare, PlainSides, SidesUnder}
 use Rattle.host_io.specs.Faults.{Rose}
 use Rattle.host_io.specs.Bytes.{AppendsPart}
+use Rattle.poker_cli.specs.declared.entry.TheConstants.{USAGE}
 use Rattle.poker_cli.specs.declared.status.Status.{Status}
 use Rattle.poker_cli.specs.declared.status.Status.TheVariants as statuses
 use Rattle.poker_cli.specs.Answer.{Answer, Files, FilesByName, GivesGame, GivesNoGame, IsAnswerIn, most_input}
 
 -- the line if the words are no command
 abbrev pub usage_line : List ℕ
-usage_line =
-    codes
-    "usage: handref check|replay|report|convert|game|load|views|options|session|equity|judge|compare [options]\n"
+usage_line = USAGE.now
 
 -- A run whose answer this is may end with this status: that of the answer, or WriteFault if there
 -- is something to write.
@@ -90,7 +89,7 @@ OfGameFile told (SidesUnder name from other) P = OfFile told name P
 abbrev pub WhereTold : Request → Option (List ℕ) → Option FilesByName → (Files → List ℕ → Type 0)
     → Type 0
 WhereTold (Load seed hands) left told P = P no_files []
-WhereTold (Plain from task) left told P = OfBytes left (P no_files)
+WhereTold (Plain from command) left told P = OfBytes left (P no_files)
 WhereTold (Under name logs) left told P =
     OfFile told name (λ game. OfBytes left (P (record { game = game; other = None })))
 WhereTold (Compare sides name notes) left told P =
@@ -123,7 +122,7 @@ GivesSome told name = IfSome told (λ files. (found : Game) × GivesGame (files 
 abbrev pub Asks : {H : Type 0} → (Asked : H → H → List ℕ → Type 0) → Option FilesByName → Request
     → (shelf seen : H) → Type 0
 Asks Asked told (Load seed hands) shelf seen = seen ≡ shelf
-Asks Asked told (Plain from task) shelf seen = seen ≡ shelf
+Asks Asked told (Plain from command) shelf seen = seen ≡ shelf
 Asks Asked told (Under game logs) shelf seen = Asked shelf seen game
 Asks Asked told (Compare (PlainSides from other) file notes) shelf seen = Asked shelf seen file
 Asks {H} Asked told (Compare (SidesUnder game from other) file notes) shelf seen =

@@ -1,18 +1,16 @@
--- How the hands of a request are read and handled, under the game in its game file.
+-- How the hands of a request are read, and what is asked about them, under the game in its file.
 use Rattle.acpc_game.specs.declared.game.Game.{Game}
+use Rattle.command_words.specs.declared.command.Command.{Command}
+use Rattle.command_words.specs.declared.command.Command.TheVariants as commands
 use Rattle.command_words.specs.declared.notation.NotationName.{NotationName}
 use Rattle.command_words.specs.declared.notation.NotationName.TheVariants as notations
 use Rattle.command_words.specs.declared.notation.PlainNotation.{PlainNotation}
 use Rattle.command_words.specs.declared.notation.PlainNotation.TheVariants as plain_notations
 use Rattle.command_words.specs.declared.request.Logs.{Logs}
 use Rattle.command_words.specs.declared.request.Logs.TheVariants as logs_are
-use Rattle.command_words.specs.declared.task.NamedTask.{NamedTask}
-use Rattle.command_words.specs.declared.task.NamedTask.TheVariants as named
 use Rattle.ohh_members.specs.declared.dialect.Dialect.TheVariants as dialects
 use Rattle.poker_cli.specs.declared.task.Format.{Format}
 use Rattle.poker_cli.specs.declared.task.Format.TheVariants as readers
-use Rattle.poker_cli.specs.declared.task.Task.{Task}
-use Rattle.poker_cli.specs.declared.task.Task.TheVariants as tasks
 use Rattle.poker_cli.specs.declared.task.Job.{Job}
 
 -- the notation of this name, which needs no game
@@ -26,24 +24,32 @@ abbrev pub format_under : Game → NotationName → Format
 format_under game (notations.Plain notation) = plain_format notation
 format_under game notations.Acpc = readers.Acpc game
 
--- what is done with hands, where each name of a notation means this format
-abbrev pub task_in : {N : Type 0} → (N → Format) → NamedTask N → Task
-task_in format (named.Ask question) = tasks.Ask question
-task_in format (named.Judge lines) = tasks.Judge lines
-task_in format (named.Convert to keep) = tasks.Convert (format to) keep
+-- a command, where each name of a notation means this format
+abbrev pub with_formats : {N : Type 0} → (N → Format) → Command N → Command Format
+with_formats format commands.Check = commands.Check
+with_formats format commands.Replay = commands.Replay
+with_formats format commands.Report = commands.Report
+with_formats format commands.Session = commands.Session
+with_formats format commands.Game = commands.Game
+with_formats format (commands.Options hand events) = commands.Options hand events
+with_formats format (commands.Equity hand street) = commands.Equity hand street
+with_formats format (commands.Judge lines) = commands.Judge lines
+with_formats format (commands.Views seat) = commands.Views seat
+with_formats format (commands.Each question) = commands.Each question
+with_formats format (commands.Convert to keep) = commands.Convert (format to) keep
 
--- how hands are read, and what is done with them
-abbrev pub way : Task → Format → Job
-way task reader = record { reader = reader; task = task }
+-- how hands are read, and what is asked about them
+abbrev pub way : Command Format → Format → Job
+way command reader = record { reader = reader; command = command }
 
--- how hands without a game are read, and what is done with them
-abbrev pub plain_job : PlainNotation → NamedTask PlainNotation → Job
-plain_job from task = way (task_in plain_format task) (plain_format from)
+-- how hands without a game are read, and what is asked about them
+abbrev pub plain_job : PlainNotation → Command PlainNotation → Job
+plain_job from command = way (with_formats plain_format command) (plain_format from)
 
--- how hands are read and handled if logs are under a game: logs are read or viewed, or hands of
--- another notation are written as logs
+-- how hands are read if logs are under a game, and what is asked about them: logs are read, or
+-- hands of another notation are written as logs
 abbrev pub job_under : Game → Logs → Job
-job_under game (logs_are.Read task) = way (task_in (format_under game) task) (readers.Acpc game)
-job_under game (logs_are.Viewed seat) = way (tasks.Views game seat) (readers.Acpc game)
+job_under game (logs_are.Read command) =
+    way (with_formats (format_under game) command) (readers.Acpc game)
 job_under game (logs_are.Written from keep) =
-    way (tasks.Convert (readers.Acpc game) keep) (plain_format from)
+    way (commands.Convert (readers.Acpc game) keep) (plain_format from)

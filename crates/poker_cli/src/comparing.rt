@@ -12,7 +12,7 @@ ghost use Rattle.poker_cli.specs.Run.{Asks, IsNotThere, LacksFile, OfBytes, OfFi
 ghost use Rattle.poker_cli.specs.Told.{answer_told};
 
 use crate::answer::{self, Answer, MOST_INPUT, refusal};
-use crate::comparison::{Comparison, answer_to_comparison, comparison_under, plain_comparison};
+use crate::compare::{Comparison, answer_to_comparison, comparison_under, plain_comparison};
 use crate::games::{NoGameError, fetch_game, game_file_answer};
 use crate::limits::excess_line;
 use crate::no_answer::NoAnswerError;

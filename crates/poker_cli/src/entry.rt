@@ -17,9 +17,9 @@ ghost use Rattle.poker_cli.specs.declared.task.Format.{Format};
 use crate::answer::{self, Answer, MOST_INPUT};
 use crate::comparing::reply_to_comparison;
 use crate::games::{NoGameError, fetch_game, game_file_answer};
+use crate::load::answer_to_load;
 use crate::no_answer::NoAnswerError;
 use crate::status::Status;
-use crate::summing::answer_to_load;
 use crate::task::Job;
 use crate::ways::{job_under, plain_job};
 use card_set::Memory;
@@ -173,7 +173,7 @@ fn reply<S: Source, H: Shelf>(
             Ok(answer) => Ok(answer),
             Err(memory) => Err(NoAnswerError::Memory(memory)),
         },
-        Request::Plain { from, task } => reply_with(alloc, plain_job(from, task), input),
+        Request::Plain { from, command } => reply_with(alloc, plain_job(from, command), input),
         Request::Under { game, logs } => reply_under(alloc, game, logs, input, shelf),
         Request::Compare { sides, file, notes } => {
             reply_to_comparison(alloc, sides, file, notes, input, shelf)
@@ -221,7 +221,7 @@ fn reply_with<S: Source>(alloc: Global, way: Job, input: &mut S) -> Result<Answe
     ensures read_alone { IfErr result (λ why. ComesFirst why → ⊥) }
 {
     match read_all(alloc, input, MOST_INPUT) {
-        Ok(bytes) => match answer::answer_to(alloc, way.task, &way.reader, &bytes) {
+        Ok(bytes) => match answer::answer_to(alloc, way.command, &way.reader, &bytes) {
             Ok(answer) => Ok(answer),
             Err(memory) => Err(NoAnswerError::Memory(memory)),
         },

@@ -1,60 +1,78 @@
-//! How the hands of a request are read under the game in its file, and what is done with them.
+//! How the hands of a request are read under the game in its file, and what is asked about them.
 ghost use Rattle.std.specs.Prelude.{◌≡◌};
 ghost use Rattle.poker_cli.specs.Ways as definition;
 
-use crate::task::{Format, Job, Task};
+use crate::task::{Format, Job};
 use acpc_game::Game;
-use command_words::{Logs, NamedTask, NotationName, PlainNotation};
+use command_words::{Command, Logs, NotationName, PlainNotation};
 use ohh_members::Dialect;
 
-/// How hands without a game are read, and what is done with them.
-pub fn plain_job(from: PlainNotation, task: NamedTask<PlainNotation>) -> Job
-    ensures { result ≡ definition.plain_job from task }
+/// How hands without a game are read, and what is asked about them.
+pub fn plain_job(from: PlainNotation, command: Command<PlainNotation>) -> Job
+    ensures { result ≡ definition.plain_job from command }
 {
-    let task = match task {
-        NamedTask::Ask(question) => Task::Ask(question),
-        NamedTask::Judge { lines } => Task::Judge { lines },
-        NamedTask::Convert { to, keep } => Task::Convert {
-            to: plain_format(to),
-            keep,
-        },
-    };
     let reader = plain_format(from);
-    Job { reader, task }
+    let command = plain_command(command);
+    Job { reader, command }
 }
 
-/// How hands are read if logs are under a game, and what is done with them.
+/// How hands are read if logs are under a game, and what is asked about them.
 pub fn job_under(game: Game, logs: Logs) -> Job
     ensures { result ≡ definition.job_under game logs }
 {
     match logs {
-        Logs::Read(task) => {
+        Logs::Read(command) => {
             let reader = Format::Acpc(game);
-            let task = task_under(game, task);
-            Job { reader, task }
-        }
-        Logs::Viewed { seat } => {
-            let reader = Format::Acpc(game);
-            let task = Task::Views { game, seat };
-            Job { reader, task }
+            let command = command_under(game, command);
+            Job { reader, command }
         }
         Logs::Written { from, keep } => {
             let reader = plain_format(from);
             let to = Format::Acpc(game);
-            let task = Task::Convert { to, keep };
-            Job { reader, task }
+            let command = Command::Convert { to, keep };
+            Job { reader, command }
         }
     }
 }
 
-// What is done with the hands of logs under a game.
-fn task_under(game: Game, task: NamedTask<NotationName>) -> Task
-    ensures { result ≡ definition.task_in (definition.format_under game) task }
+// The command, in a notation that needs no game.
+fn plain_command(command: Command<PlainNotation>) -> Command<Format>
+    ensures { result ≡ definition.with_formats definition.plain_format command }
 {
-    match task {
-        NamedTask::Ask(question) => Task::Ask(question),
-        NamedTask::Judge { lines } => Task::Judge { lines },
-        NamedTask::Convert { to, keep } => Task::Convert {
+    match command {
+        Command::Check => Command::Check,
+        Command::Replay => Command::Replay,
+        Command::Report => Command::Report,
+        Command::Session => Command::Session,
+        Command::Game => Command::Game,
+        Command::Options { hand, events } => Command::Options { hand, events },
+        Command::Equity { hand, street } => Command::Equity { hand, street },
+        Command::Judge { lines } => Command::Judge { lines },
+        Command::Views { seat } => Command::Views { seat },
+        Command::Each(question) => Command::Each(question),
+        Command::Convert { to, keep } => Command::Convert {
+            to: plain_format(to),
+            keep,
+        },
+    }
+}
+
+// The command, with logs under a game.
+fn command_under(game: Game, command: Command<NotationName>) -> Command<Format>
+    ensures { result ≡ definition.with_formats (definition.format_under game) command }
+{
+    match command {
+        Command::Check => Command::Check,
+        Command::Replay => Command::Replay,
+        Command::Report => Command::Report,
+        Command::Session => Command::Session,
+        Command::Game => Command::Game,
+        Command::Options { hand, events } => Command::Options { hand, events },
+        Command::Equity { hand, street } => Command::Equity { hand, street },
+        Command::Judge { lines } => Command::Judge { lines },
+        Command::Views { seat } => Command::Views { seat },
+        Command::Each(question) => Command::Each(question),
+        Command::Convert { to, keep } => Command::Convert {
             to: format_under(game, to),
             keep,
         },

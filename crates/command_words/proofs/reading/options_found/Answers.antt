@@ -22,6 +22,7 @@ returns c options found =
       drops options.drops_notes found.drops_notes,
       ignores options.ignores_notes found.ignores_notes,
       shows options.shows_lines found.shows_lines,
+      asks options.asks_each found.asks_each,
     ) refl
   where
     drops : (b : Bool) → one_text (found_of c.args.matches.now) (codes "drop-notes") ≡ Some (flag_text b) → c.get_flag.result ≡ b
@@ -35,3 +36,7 @@ returns c options found =
     shows : (b : Bool) → one_text (found_of c.args.matches.now) (codes "lines") ≡ Some (flag_text b) → c.get_flag-3.result ≡ b
     shows true e = c.get_flag-3.ensures.value e
     shows false e = c.get_flag-3.ensures.other e
+
+    asks : (b : Bool) → one_text (found_of c.args.matches.now) (codes "each") ≡ Some (flag_text b) → c.get_flag-4.result ≡ b
+    asks true e = c.get_flag-4.ensures.value e
+    asks false e = c.get_flag-4.ensures.other e

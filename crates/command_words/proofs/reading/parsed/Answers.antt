@@ -3,7 +3,7 @@ use Rattle.std.proofs.Common.{ap, refl, sym, ◌≡◌, ◌∙◌, codes, true, 
 use Rattle.std.proofs.lemmas.Result.{IfErr-weaker, IfOk-weaker}
 use Rattle.clap.specs.Words.{App, Row, Text, app_of, first_of, found_of, is_simple, matches_of, one_of, rows_of, takes}
 use Rattle.clap.proofs.WalkLemmas.{first_value-rows, one_text-rows}
-use Rattle.command_words.specs.Options.{GivenOptions, no_options, options_said}
+use Rattle.command_words.specs.GivenOptions.{GivenOptions, no_options, options_said}
 use Rattle.command_words.specs.Parser.{are_taken, handref}
 use Rattle.command_words.specs.Words.{request_said}
 use Rattle.command_words.proofs.Asked.{is_asked}
@@ -77,5 +77,6 @@ returns-clause-said c =
         drops_notes = text (codes "drop-notes") ∙ of_words.found.drops_notes;
         ignores_notes = text (codes "no-notes") ∙ of_words.found.ignores_notes;
         shows_lines = text (codes "lines") ∙ of_words.found.shows_lines;
+        asks_each = text (codes "each") ∙ of_words.found.asks_each;
       };
     }) c.try_get_matches_from.ensures.matches

@@ -29,5 +29,6 @@ returns c =
     let twelve = c.in_ok-arg-12.ensures.shape c.option-11.ensures.local ∙ ap₂ with_rule eleven c.option-11.ensures.rule in
     let thirteen = c.in_ok-arg-13.ensures.shape c.flag.ensures.local ∙ ap₂ with_rule twelve c.flag.ensures.rule in
     let fourteen = c.in_ok-arg-14.ensures.shape c.flag-2.ensures.local ∙ ap₂ with_rule thirteen c.flag-2.ensures.rule in
-    IfOk-weaker c.arg-15.result _ _
-    (λ parser adds. adds.shape c.flag-3.ensures.local ∙ ap₂ with_rule fourteen c.flag-3.ensures.rule) c.arg-15.ensures
+    let fifteen = c.in_ok-arg-15.ensures.shape c.flag-3.ensures.local ∙ ap₂ with_rule fourteen c.flag-3.ensures.rule in
+    IfOk-weaker c.arg-16.result _ _
+    (λ parser adds. adds.shape c.flag-4.ensures.local ∙ ap₂ with_rule fifteen c.flag-4.ensures.rule) c.arg-16.ensures

@@ -1,33 +1,16 @@
--- What a command prints for the hands is the output, or the answer says which hand is refused or
--- why the bytes cannot be read.
-use Rattle.std.proofs.Common.{ap, subst, ◌∙◌}
-use Rattle.std.proofs.lemmas.Result.{IfOk-weaker}
-use Rattle.convert_core.specs.Judged.{IsPlaysFaultOf}
+-- The text is the output, or the refused hand is named.
+use Rattle.std.proofs.Common.{Global, IfOk, Result, subst, sym}
+use Rattle.std.specs.declared.string.String.{String}
 use Rattle.convert_core.specs.declared.refusal.PlaysFault.{PlaysFault}
-use Rattle.poker_cli.specs.Answer.{done}
-use Rattle.poker_cli.specs.Answer as answers
+use Rattle.poker_cli.specs.Answer.{IsToldText}
 use Rattle.poker_cli.specs.Told.{answer_told}
-use Rattle.poker_cli.proofs.Answering.{answer_refused, answer_wrong}
 use Rattle.poker_cli.proofs.answer.answer_with_text.Goals as goal
 
-pub returns-in-Ok-command_text : goal.returns-in-Ok-command_text
-returns-in-Ok-command_text g c =
-    let printed = c.in-Ok-command_text.ensures.said in
-    answers.Played printed.plays (record { records = c.in-Ok.records; say = c.in-Ok.ensures.said; are = printed.are }) (answer_told c.done_with.result)
-    (c.done_with.ensures ∙ ap done printed.said)
-
-pub returns-in-Err-Refused : goal.returns-in-Err-Refused
-returns-in-Err-Refused g c =
-    IfOk-weaker c.answer_to_refused.result _ _
-    (λ answer told. answer_refused _ _ _ (answer_told answer) c.in-Err-Refused.hand c.in-Err-Refused.why
-    (record {
-      records = c.in-Ok.records;
-      say = c.in-Ok.ensures.said;
-      first = subst (λ (fault : PlaysFault). IsPlaysFaultOf c.in-Ok.records fault) c.in-Err-Refused.field-0-is c.in-Err-Refused.ensures.refused;
-    })
-    told) c.answer_to_refused.ensures
+pub returns-in-Ok : goal.returns-in-Ok
+returns-in-Ok c =
+    subst (λ (text : Result (String Global) PlaysFault). IsToldText text (answer_told c.done_with.result)) (sym c.in-Ok.is) c.done_with.ensures
 
 pub returns-in-Err : goal.returns-in-Err
-returns-in-Err g c =
-    IfOk-weaker c.answer_to_fault.result _ _
-    (λ answer told. answer_wrong _ _ _ (answer_told answer) c.in-Err.fault c.in-Err.ensures.refused told) c.answer_to_fault.ensures
+returns-in-Err c =
+    subst (λ (text : Result (String Global) PlaysFault). IfOk c.answer_to_plays_fault.result (λ answer. IsToldText text (answer_told answer)))
+    (sym c.in-Err.is) c.answer_to_plays_fault.ensures

@@ -7,7 +7,7 @@ use Rattle.command_words.specs.declared.notation.NotationName.{NotationName}
 use Rattle.command_words.specs.declared.request.Sides.{Sides}
 use Rattle.poker_cli.specs.Answer.{FilesByName, GivesGame, IsComparisonOf, comparison_under}
 use Rattle.poker_cli.specs.Run.{OfFile, OfGameFile}
-use Rattle.poker_cli.specs.declared.comparison.Comparison.{Comparison}
+use Rattle.poker_cli.specs.declared.compare.Comparison.{Comparison}
 use Rattle.poker_cli.proofs.FilesTold.{of_file}
 use Rattle.poker_cli.proofs.comparing.comparison_of.Goals as goal
 

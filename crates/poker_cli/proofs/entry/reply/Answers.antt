@@ -28,7 +28,7 @@ pub returns-in-Plain-clause-none : goal.returns-in-Plain-clause-none
 returns-in-Plain-clause-none g c =
     subst
     (λ (request : Request). IfErr c.reply_with.result (λ why. HasNoAnswer (request_in request) (g.S.Source.left c.args.input.now) (g.H.Shelf.files c.args.shelf.now) why))
-    (sym c.in-Plain.is) (IfErr-weaker c.reply_with.result _ _ (λ why alone. none_of_plain c.in-Plain.from c.in-Plain.task (g.S.Source.left c.args.input.now) (g.H.Shelf.files c.args.shelf.now) why alone) c.reply_with.ensures.read_alone)
+    (sym c.in-Plain.is) (IfErr-weaker c.reply_with.result _ _ (λ why alone. none_of_plain c.in-Plain.from c.in-Plain.command (g.S.Source.left c.args.input.now) (g.H.Shelf.files c.args.shelf.now) why alone) c.reply_with.ensures.read_alone)
 
 pub returns-in-Compare-clause-none : goal.returns-in-Compare-clause-none
 returns-in-Compare-clause-none g c =

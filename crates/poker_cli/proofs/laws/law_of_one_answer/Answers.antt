@@ -3,4 +3,4 @@ use Rattle.poker_cli.proofs.OneAnswer.{one_answer}
 use Rattle.poker_cli.proofs.laws.law_of_one_answer.Goals as goal
 
 pub returns : goal.returns
-returns c = record { task = one_answer; comparison = one_comparison }
+returns c = record { command = one_answer; comparison = one_comparison }

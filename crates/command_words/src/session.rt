@@ -1,0 +1,15 @@
+//! The words of `session`: the stacks of each player over the hands.
+ghost use Rattle.std.specs.Prelude.{◌≡◌, option_map};
+ghost use Rattle.command_words.specs.Requests.{options_in, request_in};
+ghost use Rattle.command_words.specs.Session.{session_asked};
+
+use crate::command::Command;
+use crate::given_options::GivenOptions;
+use crate::request::{Request, asked_alone};
+
+/// The request that `session` makes with these options, which are the notation and the game.
+pub fn request<'a>(options: GivenOptions<'a>) -> Option<Request<'a>>
+    ensures { option_map request_in result ≡ session_asked (options_in options.entry) }
+{
+    asked_alone(Command::Session, Command::Session, options)
+}

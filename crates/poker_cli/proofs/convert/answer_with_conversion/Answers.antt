@@ -1,0 +1,16 @@
+-- The bytes in the other notation are the output, or the answer says why there are none.
+use Rattle.std.proofs.Common.{ℕ, Global}
+use Rattle.std.specs.Prelude.{Vec}
+use Rattle.std.proofs.lemmas.Result.{IfOk-weaker}
+use Rattle.poker_cli.specs.Told.{answer_told}
+use Rattle.poker_cli.proofs.Answering.{answer_converted, answer_unconverted}
+use Rattle.poker_cli.proofs.convert.answer_with_conversion.Goals as goal
+
+pub returns-in-Ok : goal.returns-in-Ok
+returns-in-Ok g c =
+    answer_converted _ _ _ _ _ (answer_told c.done.result) c.in-Ok.output.items c.in-Ok.ensures c.done.ensures
+
+pub returns-in-Err : goal.returns-in-Err
+returns-in-Err g c =
+    IfOk-weaker c.answer_to_fault.result _ _
+    (λ answer told. answer_unconverted _ _ _ _ _ (answer_told answer) {X = Vec ℕ Global} (λ output. output.items) c.in-Err.fault c.in-Err.ensures told) c.answer_to_fault.ensures

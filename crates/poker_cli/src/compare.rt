@@ -1,0 +1,203 @@
+//! Compares the hands of an input with those of another file, or reports what is wrong with one of
+//! the two.
+ghost use Rattle.std.specs.Prelude.{◌≡◌, ◌≤◌, ◌+◌, All, length, option_map, IfErr, IfOk};
+ghost use Rattle.std.specs.List.{AllByRecursion};
+ghost use Rattle.convert_core.specs.Conversion.{IsPlaysRefusal, ReadAsPlays};
+ghost use Rattle.hand_canon.specs.Sound.{IsSound};
+ghost use Rattle.poker_cli.specs.Answer as definition;
+ghost use Rattle.poker_cli.specs.Answer.{IsComparedWith, IsComparison, in_file as in_file_said, most_input};
+ghost use Rattle.poker_cli.specs.Compare.{compared, hand_difference_said, first_different as first_different_said, to_different as to_different_said, to_other_count as to_other_count_said, to_same as to_same_said};
+ghost use Rattle.poker_cli.specs.Inputs.{HaveFault, SayRecords};
+ghost use Rattle.poker_cli.specs.Told.{answer_told};
+
+use crate::answer::{Answer, answer_to_fault, done_with, refusal};
+use crate::status::Status;
+use crate::task::Format;
+use crate::ways::{format_under, plain_format};
+use acpc_game::Game;
+use card_set::{Memory, try_format};
+use command_words::{NotationName, PlainNotation};
+use convert_core::{Acpc, ConvertFault, Ohh, Phh, plays};
+use hand_differences::{Difference, difference_text, first_difference};
+use hand_records::Play;
+use std::alloc::Global;
+
+/// How the hands of two files are compared.
+#[derive(Clone, Copy, Debug, PartialEq, Eq)]
+pub struct Comparison {
+    /// How the input is read.
+    pub from: Format,
+    /// How the other file is read.
+    pub other: Format,
+    /// Whether notes are compared.
+    pub notes: bool,
+}
+
+/// A hand that differs from the hand with the same number in the other file.
+#[derive(Clone, Copy, Debug, PartialEq, Eq)]
+pub struct HandDifference {
+    /// Its number, from 1.
+    pub number: usize,
+    /// The first difference between the two.
+    pub difference: Difference,
+}
+
+/// How two files are compared if neither is a log.
+pub fn plain_comparison(from: PlainNotation, other: PlainNotation, notes: bool) -> Comparison
+    ensures { result ≡ definition.plain_comparison from other notes }
+{
+    Comparison {
+        from: plain_format(from),
+        other: plain_format(other),
+        notes,
+    }
+}
+
+/// How two files are compared if logs are read under a game.
+pub fn comparison_under(
+    game: Game,
+    from: NotationName,
+    other: NotationName,
+    notes: bool,
+) -> Comparison
+    ensures { result ≡ definition.comparison_under game from other notes }
+{
+    Comparison {
+        from: format_under(game, from),
+        other: format_under(game, other),
+        notes,
+    }
+}
+
+/// The answer to an input within the limit of bytes whose hands are compared with those of another
+/// file. A fault of the input is reported before a fault of the other file.
+pub fn answer_to_comparison(
+    alloc: Global,
+    by: &Comparison,
+    file: &[u8],
+    bytes: &[u8],
+) -> Result<Answer, Memory>
+    requires { length bytes.now ≤ most_input }
+    ensures { IfOk result (λ answer. IsComparison by.now file.now bytes.now (answer_told answer)) }
+{
+    match plays_in(alloc, &by.from, bytes) {
+        Ok(plays) => answer_beside(alloc, by, file, &plays),
+        Err(fault) => answer_to_fault(alloc, &fault),
+    }
+}
+
+// The answer to the plays of the input, which are compared with the hands of the other file.
+fn answer_beside(
+    alloc: Global,
+    by: &Comparison,
+    file: &[u8],
+    plays: &[Play],
+) -> Result<Answer, Memory>
+    requires sound { All IsSound plays.now }
+    ensures { IfOk result (λ answer.
+        IsComparedWith by.now.other by.now.notes file.now plays.now (answer_told answer)) }
+{
+    match plays_in(alloc, &by.other, file) {
+        Ok(others) => answer_to_both(alloc, by.notes, plays, &others),
+        Err(fault) => {
+            let answer = answer_to_fault(alloc, &fault)?;
+            in_file(alloc, answer)
+        }
+    }
+}
+
+// An answer that reports a fault inside the other file.
+fn in_file(alloc: Global, answer: Answer) -> Result<Answer, Memory>
+    ensures { IfOk result (λ named. answer_told named ≡ in_file_said (answer_told answer)) }
+{
+    let Answer {
+        status,
+        output,
+        line,
+    } = answer;
+    let line = line.as_str();
+    let line = try_format!(in alloc; "file: {line}")?;
+    Ok(Answer {
+        status,
+        output,
+        line,
+    })
+}
+
+// The plays that bytes read as, in a notation.
+fn plays_in(alloc: Global, reader: &Format, bytes: &[u8]) -> Result<Vec<Play>, ConvertFault>
+    ensures plays { IfOk result (λ plays.
+        ReadAsPlays (SayRecords reader.now bytes.now) plays.items) }
+    ensures sound { IfOk result (λ plays. AllByRecursion IsSound plays.items) }
+    ensures refused { IfErr result (IsPlaysRefusal (SayRecords reader.now bytes.now)
+        (HaveFault reader.now bytes.now)) }
+{
+    match reader {
+        Format::Phh => plays(alloc, &Phh, bytes),
+        Format::Ohh(dialect) => plays(alloc, &Ohh { dialect: *dialect }, bytes),
+        Format::Acpc(game) => plays(alloc, &Acpc { game: *game }, bytes),
+    }
+}
+
+// The answer to the plays of two files.
+fn answer_to_both(
+    alloc: Global,
+    notes: bool,
+    plays: &[Play],
+    others: &[Play],
+) -> Result<Answer, Memory>
+    requires sound { All IsSound plays.now }
+    requires others_sound { All IsSound others.now }
+    ensures { IfOk result (λ answer. answer_told answer ≡ compared notes plays.now others.now) }
+{
+    match first_different(notes, plays, others) {
+        Some(differs) => to_different(alloc, differs),
+        None if plays.len() == others.len() => to_same(alloc, plays.len()),
+        None => to_other_count(alloc, plays.len(), others.len()),
+    }
+}
+
+// The first hand that differs, among those that both files have.
+fn first_different(notes: bool, plays: &[Play], others: &[Play]) -> Option<HandDifference>
+    requires sound { All IsSound plays.now }
+    requires others_sound { All IsSound others.now }
+    ensures { option_map hand_difference_said result
+        ≡ first_different_said notes 0 plays.now others.now }
+{
+    for (place, play) in plays.iter().enumerate() {
+        let other = others.get(place)?;
+        if let Some(difference) = first_difference(notes, place, play, other) {
+            let number = place + 1;
+            return Some(HandDifference { number, difference });
+        }
+    }
+    None
+}
+
+// The answer if all hands are the same; `hands` is their number.
+fn to_same(alloc: Global, hands: usize) -> Result<Answer, Memory>
+    ensures { IfOk result (λ answer. answer_told answer ≡ to_same_said hands) }
+{
+    let text = try_format!(in alloc; "same hands: {hands}\n")?;
+    Ok(done_with(alloc, text))
+}
+
+// The answer if a hand differs.
+fn to_different(alloc: Global, differs: HandDifference) -> Result<Answer, Memory>
+    ensures { IfOk result (λ answer.
+        answer_told answer ≡ to_different_said (hand_difference_said differs)) }
+{
+    let number = differs.number;
+    let text = difference_text(alloc, differs.difference)?;
+    let text = text.as_str();
+    let line = try_format!(in alloc; "differs: hand {number}: {text}\n")?;
+    Ok(refusal(alloc, Status::Differs, line))
+}
+
+// The answer if the files have different numbers of hands.
+fn to_other_count(alloc: Global, hands: usize, others: usize) -> Result<Answer, Memory>
+    ensures { IfOk result (λ answer. answer_told answer ≡ to_other_count_said hands others) }
+{
+    let line = try_format!(in alloc; "differs: hands {hands} and {others}\n")?;
+    Ok(refusal(alloc, Status::Differs, line))
+}

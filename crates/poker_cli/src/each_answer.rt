@@ -1,0 +1,60 @@
+//! Answers questions that the hands of an input answer each by itself.
+ghost use Rattle.std.specs.Prelude.{◌≤◌, All, length, IfOk};
+ghost use Rattle.first_fault.specs.declared.limits.TheConstants.{MOST_HANDS};
+ghost use Rattle.hand_records.specs.SoundRecord.{IsSoundRecord};
+ghost use Rattle.poker_cli.specs.Answer.{IsAnswerOfEach};
+ghost use Rattle.poker_cli.specs.Each.{AreReplayedEach, IsReplyOfEach};
+ghost use Rattle.poker_cli.specs.Told.{answer_told};
+
+use crate::answer::{Answer, answer_to_fault, done_with};
+use crate::each_options::{answer_with_point, answer_with_points};
+use crate::each_replay::replay_each;
+use card_set::Memory;
+use command_words::EachQuestion;
+use convert_core::{Notation, read_records};
+use hand_records::Records;
+use std::alloc::Global;
+
+/// The answer to a question that the hands in the bytes answer each by itself, whether or not the
+/// others are legal.
+pub fn answer_with_each<N: Notation>(
+    alloc: Global,
+    question: EachQuestion,
+    from: &N,
+    bytes: &[u8],
+) -> Result<Answer, Memory>
+    ensures { IfOk result (λ answer. IsAnswerOfEach (N.Say from.now bytes.now)
+        (N.HaveFault from.now bytes.now) question (answer_told answer)) }
+{
+    match read_records(alloc, from, bytes) {
+        Ok(records) => answer_to_each(alloc, question, &records),
+        Err(fault) => answer_to_fault(alloc, &fault),
+    }
+}
+
+// The answer to a question that these hands answer each by itself.
+fn answer_to_each(
+    alloc: Global,
+    question: EachQuestion,
+    records: &Records,
+) -> Result<Answer, Memory>
+    requires sound { All IsSoundRecord records.now }
+    requires few { length records.now ≤ MOST_HANDS }
+    ensures { IfOk result (λ answer. IsReplyOfEach question records.now (answer_told answer)) }
+{
+    match question {
+        EachQuestion::Replay => answer_with_replay(alloc, records),
+        EachQuestion::EveryPoint { hand } => answer_with_points(alloc, hand, records),
+        EachQuestion::Point { hand, events } => answer_with_point(alloc, hand, events, records),
+    }
+}
+
+// The answer with these hands step by step.
+fn answer_with_replay(alloc: Global, records: &Records) -> Result<Answer, Memory>
+    requires sound { All IsSoundRecord records.now }
+    requires few { length records.now ≤ MOST_HANDS }
+    ensures { IfOk result (λ answer. AreReplayedEach records.now (answer_told answer)) }
+{
+    let text = replay_each(alloc, records)?;
+    Ok(done_with(alloc, text))
+}

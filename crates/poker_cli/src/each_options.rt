@@ -1,0 +1,73 @@
+//! Answers `options` about one hand by itself: the legal moves at every point of it, or at one,
+//! whatever the other hands are.
+ghost use Rattle.std.specs.Prelude.{All, IfOk, string_bytes};
+ghost use Rattle.hand_records.specs.SoundRecord.{IsSoundRecord};
+ghost use Rattle.poker_cli.specs.Each.{IsEveryPoint, IsPoint, IsTextOfPoints};
+ghost use Rattle.poker_cli.specs.Told.{answer_told};
+
+use crate::answer::{Answer, done, done_with};
+use crate::each_verdict::{outcome_of, push_refusal_line, verdict_on};
+use crate::options::no_event;
+use crate::replies::no_hand;
+use card_set::Memory;
+use hand_options::{options_at, options_text, push_every_point};
+use hand_records::{Record, Records};
+use replay_core::legal_part;
+use std::alloc::Global;
+
+/// The answer with the legal moves at every point of the hand with this number, up to its first
+/// illegal event, and the verdict on it if it is refused.
+pub fn answer_with_points(alloc: Global, hand: u32, records: &Records) -> Result<Answer, Memory>
+    requires sound { All IsSoundRecord records.now }
+    ensures { IfOk result (λ answer. IsEveryPoint hand records.now (answer_told answer)) }
+{
+    let place = (hand as usize).saturating_sub(1);
+    let count = records.len();
+    if count <= place {
+        return no_hand(alloc, hand, count);
+    }
+    let record = records.get(place);
+    let text = text_of_points(alloc, hand, record)?;
+    Ok(done_with(alloc, text))
+}
+
+// The legal moves at every point of the hand with this number, and the verdict on it if it is
+// refused.
+fn text_of_points(alloc: Global, number: u32, hand: &Record) -> Result<String, Memory>
+    requires sound { IsSoundRecord hand.now }
+    ensures { IfOk result (λ text. IsTextOfPoints number hand.now (string_bytes text)) }
+{
+    let outcome = outcome_of(alloc, hand);
+    let why = verdict_on(hand, &outcome)?;
+    let part = legal_part(alloc, &hand.setup, &hand.rules, &hand.script)?;
+    let mut text = String::new(alloc);
+    push_every_point(alloc, &mut text, number, hand, part.events)?;
+    push_refusal_line(alloc, &mut text, number as usize, &why)?;
+    Ok(text)
+}
+
+/// The answer with the legal moves after the first events of the hand with this number, which must
+/// come before its first illegal event.
+pub fn answer_with_point(
+    alloc: Global,
+    hand: u32,
+    events: u32,
+    records: &Records,
+) -> Result<Answer, Memory>
+    requires sound { All IsSoundRecord records.now }
+    ensures { IfOk result (λ answer. IsPoint hand events records.now (answer_told answer)) }
+{
+    let place = (hand as usize).saturating_sub(1);
+    let count = records.len();
+    if count <= place {
+        return no_hand(alloc, hand, count);
+    }
+    let record = records.get(place);
+    let part = legal_part(alloc, &record.setup, &record.rules, &record.script)?;
+    if part.events < events {
+        return no_event(alloc, hand, events, part.events as usize);
+    }
+    let options = options_at(record, events);
+    let text = options_text(alloc, hand, events, &options)?;
+    Ok(done(alloc, text))
+}

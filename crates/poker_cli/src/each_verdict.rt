@@ -1,0 +1,63 @@
+//! The verdict on one hand, and its line if the hand is refused.
+ghost use Rattle.std.specs.Prelude.{◌≡◌, ◌++◌, IfOk, OnOk, string_bytes};
+ghost use Rattle.hand_records.specs.SoundRecord.{IsSoundRecord};
+ghost use Rattle.hand_records.specs.declared.record.Record.{Record as AnyRecord};
+ghost use Rattle.poker_cli.specs.Each.{IsOutcomeOf, IsVerdictOn, refusal_line};
+
+use crate::judge::push_refused;
+use crate::refusals::refusal_text;
+use card_set::Memory;
+use convert_core::Refusal;
+use hand_canon::check_stated;
+use hand_records::{Record, Trace};
+use replay_core::{ReplayFault, replay};
+use std::alloc::Global;
+
+/// What the replay of a hand gives: its trace, or what is wrong with its script.
+pub fn outcome_of(alloc: Global, hand: &Record) -> Result<Trace, ReplayFault>
+    requires sound { IsSoundRecord hand.now }
+    ensures { IsOutcomeOf hand.now result }
+{
+    replay(alloc, &hand.setup, &hand.rules, &hand.script)
+}
+
+/// Why a hand is refused, by what its replay gave; `None` if it is legal and agrees with what is
+/// stated of it.
+///
+/// # Errors
+///
+/// Out of memory.
+pub fn verdict_on(
+    hand: &Record,
+    outcome: &Result<Trace, ReplayFault>,
+) -> Result<Option<Refusal>, Memory>
+    requires sound { IsSoundRecord hand.now }
+    requires outcome { IsOutcomeOf hand.now outcome.now }
+    ensures { IfOk result (IsVerdictOn hand.now) }
+{
+    match outcome {
+        Ok(trace) => match check_stated(trace, &hand.stated) {
+            Ok(()) => Ok(None),
+            Err(differs) => Ok(Some(Refusal::Fact(differs))),
+        },
+        Err(ReplayFault::Memory(memory)) => Err(*memory),
+        Err(fault) => Ok(Some(Refusal::Replay(*fault))),
+    }
+}
+
+/// Appends the line of the verdict on the hand with this number, if it is refused.
+pub fn push_refusal_line(
+    alloc: Global,
+    text: &mut String,
+    number: usize,
+    why: &Option<Refusal>,
+) -> Result<(), Memory>
+    ensures { (hand : AnyRecord) → OnOk result (string_bytes text.new
+        ≡ string_bytes text.old ++ refusal_line number hand why.now) }
+{
+    let Some(why) = why else {
+        return Ok(());
+    };
+    let why = refusal_text(alloc, why)?;
+    push_refused(text, number, None, &why)
+}

@@ -1,0 +1,67 @@
+//! Answers `equity`: how often each live seat of a hand would win.
+ghost use Rattle.std.specs.Prelude.{◌≡◌, ◌<◌, All, Some, IfOk};
+ghost use Rattle.hand_canon.specs.Sound.{IsSound};
+ghost use Rattle.poker_cli.specs.Equity as in_equity;
+ghost use Rattle.poker_cli.specs.Equity.{IsEquityAt};
+ghost use Rattle.poker_cli.specs.Answer.{IsAnswerTo};
+ghost use Rattle.poker_cli.specs.Told.{answer_told};
+
+use crate::answer::{Answer, answer_to_fault, done, refusal};
+use crate::replies::no_hand;
+use crate::status::Status;
+use card_set::{Memory, try_format};
+use convert_core::{Notation, plays};
+use hand_equity::{NoEquity, equity_of, equity_text};
+use hand_records::Play;
+use std::alloc::Global;
+
+/// The answer with the equity of the hand with this number from a street on.
+pub fn answer_with_equity<N: Notation>(
+    alloc: Global,
+    hand: u32,
+    street: u8,
+    from: &N,
+    bytes: &[u8],
+) -> Result<Answer, Memory>
+    ensures { IfOk result (λ answer. IsAnswerTo (N.Say from.now bytes.now)
+        (N.HaveFault from.now bytes.now) (IsEquityAt hand street) (answer_told answer)) }
+{
+    match plays(alloc, from, bytes) {
+        Ok(plays) => equity_in_plays(alloc, &plays, hand, street),
+        Err(fault) => answer_to_fault(alloc, &fault),
+    }
+}
+
+// The same, from the plays of all hands.
+fn equity_in_plays(alloc: Global, plays: &[Play], hand: u32, street: u8) -> Result<Answer, Memory>
+    requires sound { All IsSound plays.now }
+    ensures { IfOk result (λ answer. IsEquityAt hand street plays.now (answer_told answer)) }
+{
+    let Some(play) = plays.get((hand as usize).saturating_sub(1)) else {
+        return no_hand(alloc, hand, plays.len());
+    };
+    match equity_of(play, street) {
+        Ok(row) => {
+            let text = equity_text(alloc, hand, street, play, &row)?;
+            Ok(done(alloc, text))
+        }
+        Err(NoEquity::NoStreet) => no_street(alloc, hand, street),
+        Err(NoEquity::UnknownCards(seat)) => no_cards(alloc, hand, seat.number),
+    }
+}
+
+// No board is dealt on this street of the hand.
+fn no_street(alloc: Global, hand: u32, street: u8) -> Result<Answer, Memory>
+    ensures { IfOk result (λ answer. answer_told answer ≡ in_equity.no_street hand street) }
+{
+    let line = try_format!(in alloc; "no such street: hand {hand}: {street}\n")?;
+    Ok(refusal(alloc, Status::NoSuch, line))
+}
+
+// A card of this seat stayed unknown in the hand.
+fn no_cards(alloc: Global, hand: u32, seat: u8) -> Result<Answer, Memory>
+    ensures { IfOk result (λ answer. answer_told answer ≡ in_equity.no_cards hand seat) }
+{
+    let line = try_format!(in alloc; "no such cards: hand {hand}: p{seat}\n")?;
+    Ok(refusal(alloc, Status::NoSuch, line))
+}

@@ -1,0 +1,186 @@
+//! Answers `judge`: one line per hand with its verdict, and the line of the input on which it
+//! begins if that is asked for; and then a line with the number of legal hands.
+ghost use Rattle.std.specs.Prelude.{All, IfOk, OnOk, Some, codes, false, length, slice_get, string_bytes, true, ◌++◌, ◌≡◌, ◌≤◌};
+ghost use Rattle.std.specs.Fmt.{decimal};
+ghost use Rattle.first_fault.specs.declared.limits.TheConstants.{MOST_HANDS};
+ghost use Rattle.hand_records.specs.SoundRecord.{IsSoundRecord};
+ghost use Rattle.poker_cli.specs.Judge.{ArePrinted, IsJudged, begins_text, judged_end};
+ghost use Rattle.poker_cli.specs.Answer.{IsJudgement};
+ghost use Rattle.poker_cli.specs.Inputs.{first_lines, if_asked};
+ghost use Rattle.poker_cli.specs.Told.{answer_told};
+
+use crate::answer::{Answer, answer_to_fault, done_with};
+use crate::refusals::refusal_text;
+use crate::task::Format;
+use acpc_reading::hand_lines;
+use card_set::{Memory, TryWrite, try_write};
+use convert_core::{
+    Acpc, Notation, Ohh, Phh, PlaysFault, Refusal, VerdictVisitor, judge_all, read_records,
+};
+use hand_records::{Play, Records};
+use ohh_reading::block_lines;
+use std::alloc::Global;
+
+// The lines of the hands so far, and how many of these hands are legal. Each hand begins on the
+// line of the input that is at its place in `lines`; there is none if lines are not asked for.
+#[derive(Drop)]
+struct VerdictLines {
+    lines: Vec<u64>,
+    text: String,
+    legal: usize,
+}
+
+impl VerdictVisitor for VerdictLines {
+    ghost CONTINUES = { true };
+
+    ghost KEEPS = { false };
+
+    ghost Took = { λ start it verdicts.
+        ArePrinted start.lines.items it.lines.items (string_bytes it.text) it.legal verdicts };
+
+    fn continues(&self) -> bool {
+        true
+    }
+
+    fn keeps(&self) -> bool {
+        false
+    }
+
+    fn take(&mut self, _: Global, place: usize, _: &Play) -> Result<(), Memory> {
+        let number = place + 1;
+        let line = line_at(&self.lines, place);
+        push_legal(&mut self.text, number, line)?;
+        self.legal += 1;
+        Ok(())
+    }
+
+    fn pass(&mut self, alloc: Global, place: usize, why: &Refusal) -> Result<(), Memory> {
+        let number = place + 1;
+        let why = match refusal_text(alloc, why) {
+            Ok(why) => why,
+            Err(memory) => return Err(memory),
+        };
+        let line = line_at(&self.lines, place);
+        push_refused(&mut self.text, number, line, &why)?;
+        Ok(())
+    }
+}
+
+// The line of the input on which the hand at this place begins, if that is asked for.
+fn line_at(lines: &Vec<u64>, place: usize) -> Option<u64>
+    ensures { result ≡ slice_get lines.now.items place }
+{
+    lines.get(place).copied()
+}
+
+/// One line per hand with its verdict, and with the line of the input on which it begins if `lines`
+/// has these; and then the number of legal hands.
+///
+/// # Errors
+///
+/// Out of memory.
+pub fn judge_text(alloc: Global, lines: Vec<u64>, records: Records) -> Result<String, Memory>
+    requires sound { All IsSoundRecord records }
+    requires few { length records ≤ MOST_HANDS }
+    ensures { IfOk result (λ text. IsJudged lines.items records (string_bytes text)) }
+{
+    let hands = records.len();
+    let mut lines = VerdictLines {
+        lines,
+        text: String::new(alloc),
+        legal: 0,
+    };
+    match judge_all(alloc, &mut lines, records) {
+        Ok(_) => {}
+        Err(PlaysFault::Memory(memory)) => return Err(memory),
+        Err(PlaysFault::Refused { .. }) => unreachable!(),
+    }
+    let legal = lines.legal;
+    push_end(&mut lines.text, legal, hands)?;
+    Ok(lines.text)
+}
+
+// Appends the line of a legal hand.
+fn push_legal(text: &mut String, number: usize, line: Option<u64>) -> Result<(), Memory>
+    ensures { OnOk result (string_bytes text.new ≡ string_bytes text.old
+        ++ (codes "hand " ++ (decimal number ++ (begins_text line ++ codes ": legal\n")))) }
+{
+    let Some(line) = line else {
+        try_write!(text, "hand {number}: legal\n")?;
+        return Ok(());
+    };
+    try_write!(text, "hand {number}, line {line}: legal\n")?;
+    Ok(())
+}
+
+/// Appends the line of a refused hand.
+pub fn push_refused(
+    text: &mut String,
+    number: usize,
+    line: Option<u64>,
+    why: &String,
+) -> Result<(), Memory>
+    ensures { OnOk result (string_bytes text.new ≡ string_bytes text.old
+        ++ (codes "hand " ++ (decimal number ++ (begins_text line ++ (codes ": "
+        ++ (string_bytes why.now ++ codes "\n")))))) }
+{
+    let why = why.as_str();
+    let Some(line) = line else {
+        try_write!(text, "hand {number}: {why}\n")?;
+        return Ok(());
+    };
+    try_write!(text, "hand {number}, line {line}: {why}\n")?;
+    Ok(())
+}
+
+// Appends the last line.
+fn push_end(text: &mut String, legal: usize, hands: usize) -> Result<(), Memory>
+    ensures { OnOk result (string_bytes text.new
+        ≡ string_bytes text.old ++ judged_end legal hands) }
+{
+    try_write!(text, "legal hands: {legal} of {hands}\n")?;
+    Ok(())
+}
+
+/// The answer with the verdict on each hand in the bytes, and the line on which it begins if lines
+/// are asked for.
+pub fn answer_with_verdicts<N: Notation>(
+    alloc: Global,
+    asked: bool,
+    reader: &Format,
+    from: &N,
+    bytes: &[u8],
+) -> Result<Answer, Memory>
+    ensures { IfOk result (λ answer. IsJudgement (N.Say from.now bytes.now)
+        (N.HaveFault from.now bytes.now) (if_asked asked (first_lines reader.now bytes.now))
+        (answer_told answer)) }
+{
+    match read_records(alloc, from, bytes) {
+        Ok(records) => {
+            let lines = lines_if_asked(alloc, asked, reader, bytes)?;
+            let text = judge_text(alloc, lines, records)?;
+            Ok(done_with(alloc, text))
+        }
+        Err(fault) => answer_to_fault(alloc, &fault),
+    }
+}
+
+// The lines on which the hands in the bytes begin, if they are asked for.
+fn lines_if_asked(
+    alloc: Global,
+    asked: bool,
+    reader: &Format,
+    bytes: &[u8],
+) -> Result<Vec<u64>, Memory>
+    ensures { IfOk result (λ lines. lines.items
+        ≡ if_asked asked (first_lines reader.now bytes.now)) }
+{
+    if !asked {
+        return Ok(Vec::new(alloc));
+    }
+    match reader {
+        Format::Phh => Ok(Vec::new(alloc)),
+        Format::Ohh(_) => block_lines(alloc, bytes),
+        Format::Acpc(_) => hand_lines(alloc, bytes),
+    }
+}

@@ -1,0 +1,58 @@
+//! Answers `options`: what is legal at a point of a hand.
+ghost use Rattle.std.specs.Prelude.{◌≡◌, ◌<◌, All, Some, IfOk};
+ghost use Rattle.hand_canon.specs.Sound.{IsSound};
+ghost use Rattle.poker_cli.specs.Options as in_options;
+ghost use Rattle.poker_cli.specs.Options.{AreOptionsAt};
+ghost use Rattle.poker_cli.specs.Answer.{IsAnswerTo};
+ghost use Rattle.poker_cli.specs.Told.{answer_told};
+
+use crate::answer::{Answer, answer_to_fault, done, refusal};
+use crate::replies::no_hand;
+use crate::status::Status;
+use card_set::{Memory, try_format};
+use convert_core::{Notation, plays};
+use hand_options::{options, options_text};
+use hand_records::Play;
+use std::alloc::Global;
+
+/// The answer with the legal moves after the first events of the hand with this number.
+pub fn answer_with_options<N: Notation>(
+    alloc: Global,
+    hand: u32,
+    events: u32,
+    from: &N,
+    bytes: &[u8],
+) -> Result<Answer, Memory>
+    ensures { IfOk result (λ answer. IsAnswerTo (N.Say from.now bytes.now)
+        (N.HaveFault from.now bytes.now) (AreOptionsAt hand events) (answer_told answer)) }
+{
+    match plays(alloc, from, bytes) {
+        Ok(plays) => options_in_plays(alloc, &plays, hand, events),
+        Err(fault) => answer_to_fault(alloc, &fault),
+    }
+}
+
+// The same, from the plays of all hands.
+fn options_in_plays(alloc: Global, plays: &[Play], hand: u32, events: u32) -> Result<Answer, Memory>
+    requires sound { All IsSound plays.now }
+    ensures { IfOk result (λ answer. AreOptionsAt hand events plays.now (answer_told answer)) }
+{
+    let Some(play) = plays.get((hand as usize).saturating_sub(1)) else {
+        return no_hand(alloc, hand, plays.len());
+    };
+    let all = play.hand.script.len();
+    if all < events as usize {
+        return no_event(alloc, hand, events, all);
+    }
+    let options = options(play, events);
+    let text = options_text(alloc, hand, events, &options)?;
+    Ok(done(alloc, text))
+}
+
+/// Event number past the end of the hand.
+pub fn no_event(alloc: Global, hand: u32, events: u32, all: usize) -> Result<Answer, Memory>
+    ensures { IfOk result (λ answer. answer_told answer ≡ in_options.no_event hand events all) }
+{
+    let line = try_format!(in alloc; "no such event: hand {hand}: {events} of {all}\n")?;
+    Ok(refusal(alloc, Status::NoSuch, line))
+}

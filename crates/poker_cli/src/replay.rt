@@ -1,0 +1,66 @@
+//! Answers `replay`: the hands step by step.
+ghost use Rattle.std.specs.Prelude.{◌≡◌, ◌≤◌, All, length, IfErr, IfOk, string_bytes};
+ghost use Rattle.convert_core.specs.Judged.{IsPlaysFaultOf};
+ghost use Rattle.first_fault.specs.declared.limits.TheConstants.{MOST_HANDS};
+ghost use Rattle.hand_records.specs.SoundRecord.{IsSoundRecord};
+ghost use Rattle.poker_cli.specs.Answer.{IsAnswerTo, done};
+ghost use Rattle.poker_cli.specs.Texts.{IsTextOf};
+ghost use Rattle.poker_cli.specs.Told.{answer_told};
+ghost use Rattle.printed_hands.specs.Check.{each_hand};
+ghost use Rattle.printed_hands.specs.Steps.{replay_lines};
+ghost use Rattle.printed_hands.specs.Replay.{replay_said};
+
+use crate::answer::{Answer, answer_to_fault, answer_with_text};
+use crate::hand_visitor::{HandVisitor, take_plays};
+use card_set::Memory;
+use convert_core::{Notation, PlaysFault, read_records};
+use hand_records::{Play, Records};
+use printed_hands::push_replay_lines;
+use std::alloc::Global;
+
+// The lines of the hands so far.
+#[derive(Drop)]
+struct ReplayLines {
+    text: String,
+}
+
+impl HandVisitor for ReplayLines {
+    ghost TookPlays = { λ _ it plays. string_bytes it.text ≡ each_hand replay_lines 1 plays };
+
+    fn take_play(&mut self, alloc: Global, place: usize, play: &Play) -> Result<(), Memory> {
+        let number = place as u64 + 1;
+        push_replay_lines(alloc, &mut self.text, number, play)
+    }
+}
+
+/// The answer with the hands in the bytes step by step.
+pub fn answer_with_replay<N: Notation>(
+    alloc: Global,
+    from: &N,
+    bytes: &[u8],
+) -> Result<Answer, Memory>
+    ensures { IfOk result (λ answer. IsAnswerTo (N.Say from.now bytes.now)
+        (N.HaveFault from.now bytes.now) (λ plays told. told ≡ done (replay_said plays))
+        (answer_told answer)) }
+{
+    match read_records(alloc, from, bytes) {
+        Ok(records) => answer_with_text(alloc, replay_text(alloc, records)),
+        Err(fault) => answer_to_fault(alloc, &fault),
+    }
+}
+
+// The lines of each of these hands.
+fn replay_text(alloc: Global, records: Records) -> Result<String, PlaysFault>
+    requires sound { All IsSoundRecord records }
+    requires few { length records ≤ MOST_HANDS }
+    ensures said { IfOk result (λ text. IsTextOf replay_said records (string_bytes text)) }
+    ensures refused { IfErr result (IsPlaysFaultOf records) }
+{
+    let lines = ReplayLines {
+        text: String::new(alloc),
+    };
+    match take_plays(alloc, lines, records) {
+        Ok(lines) => Ok(lines.text),
+        Err(fault) => Err(fault),
+    }
+}

@@ -1,0 +1,62 @@
+//! Answers `report`: takes each hand, and keeps a tally per name and the sums per game.
+ghost use Rattle.std.specs.Prelude.{◌≡◌, ◌≤◌, All, length, IfErr, IfOk, string_bytes};
+ghost use Rattle.convert_core.specs.Judged.{IsPlaysFaultOf};
+ghost use Rattle.first_fault.specs.declared.limits.TheConstants.{MOST_HANDS};
+ghost use Rattle.hand_records.specs.SoundRecord.{IsSoundRecord};
+ghost use Rattle.poker_cli.specs.Answer.{IsAnswerTo, done};
+ghost use Rattle.poker_cli.specs.Texts.{IsTextOf};
+ghost use Rattle.poker_cli.specs.Told.{answer_told};
+ghost use Rattle.printed_report.specs.SoFar.{IsReportSoFar};
+ghost use Rattle.printed_report.specs.Report.{report_said};
+
+use crate::answer::{Answer, answer_to_fault, answer_with_text};
+use crate::hand_visitor::{HandVisitor, take_plays};
+use card_set::Memory;
+use convert_core::{Notation, PlaysFault, read_records};
+use hand_records::{Play, Records};
+use printed_report::OpenReport;
+use std::alloc::Global;
+
+impl HandVisitor for OpenReport {
+    ghost TookPlays = { λ _ it plays. IsReportSoFar it plays };
+
+    fn take_play(&mut self, alloc: Global, _: usize, play: &Play) -> Result<(), Memory> {
+        self.add_play(alloc, play)
+    }
+}
+
+/// The answer with the report on the hands in the bytes.
+pub fn answer_with_report<N: Notation>(
+    alloc: Global,
+    from: &N,
+    bytes: &[u8],
+) -> Result<Answer, Memory>
+    ensures { IfOk result (λ answer. IsAnswerTo (N.Say from.now bytes.now)
+        (N.HaveFault from.now bytes.now) (λ plays told. told ≡ done (report_said plays))
+        (answer_told answer)) }
+{
+    match read_records(alloc, from, bytes) {
+        Ok(records) => answer_with_text(alloc, report_of(alloc, records)),
+        Err(fault) => answer_to_fault(alloc, &fault),
+    }
+}
+
+// The text of the report on these hands.
+fn report_of(alloc: Global, records: Records) -> Result<String, PlaysFault>
+    requires sound { All IsSoundRecord records }
+    requires few { length records ≤ MOST_HANDS }
+    ensures said { IfOk result (λ text. IsTextOf report_said records (string_bytes text)) }
+    ensures refused { IfErr result (IsPlaysFaultOf records) }
+{
+    let report = match OpenReport::new(alloc) {
+        Ok(report) => report,
+        Err(memory) => return Err(PlaysFault::Memory(memory)),
+    };
+    match take_plays(alloc, report, records) {
+        Ok(report) => match report.text(alloc) {
+            Ok(text) => Ok(text),
+            Err(memory) => Err(PlaysFault::Memory(memory)),
+        },
+        Err(fault) => Err(fault),
+    }
+}

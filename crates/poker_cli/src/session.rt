@@ -1,0 +1,61 @@
+//! Answers `session`: takes each hand, and keeps a row per name and the steps.
+ghost use Rattle.std.specs.Prelude.{◌≡◌, ◌≤◌, All, length, IfErr, IfOk, string_bytes};
+ghost use Rattle.convert_core.specs.Judged.{IsPlaysFaultOf};
+ghost use Rattle.first_fault.specs.declared.limits.TheConstants.{MOST_HANDS};
+ghost use Rattle.hand_records.specs.SoundRecord.{IsSoundRecord};
+ghost use Rattle.hand_session.specs.SoFar.{IsSessionSoFar};
+ghost use Rattle.poker_cli.specs.Answer.{IsAnswerTo, done};
+ghost use Rattle.poker_cli.specs.Texts.{IsTextOf};
+ghost use Rattle.poker_cli.specs.Told.{answer_told};
+ghost use Rattle.hand_session.specs.Printed.{session_printed};
+ghost use Rattle.hand_session.specs.Sessions.{session_said};
+
+use crate::answer::{Answer, answer_to_fault, answer_with_text};
+use crate::hand_visitor::{HandVisitor, take_plays};
+use card_set::Memory;
+use convert_core::{Notation, PlaysFault, read_records};
+use hand_records::{Play, Records};
+use hand_session::{OpenSession, session_text};
+use std::alloc::Global;
+
+impl HandVisitor for OpenSession {
+    ghost TookPlays = { λ _ it plays. IsSessionSoFar it plays };
+
+    fn take_play(&mut self, alloc: Global, _: usize, play: &Play) -> Result<(), Memory> {
+        self.add_play(alloc, play)
+    }
+}
+
+/// The answer with the session of the hands in the bytes.
+pub fn answer_with_session<N: Notation>(
+    alloc: Global,
+    from: &N,
+    bytes: &[u8],
+) -> Result<Answer, Memory>
+    ensures { IfOk result (λ answer. IsAnswerTo (N.Say from.now bytes.now)
+        (N.HaveFault from.now bytes.now) (λ plays told. told
+        ≡ done (session_printed (session_said plays)))
+        (answer_told answer)) }
+{
+    match read_records(alloc, from, bytes) {
+        Ok(records) => answer_with_text(alloc, session_of(alloc, records)),
+        Err(fault) => answer_to_fault(alloc, &fault),
+    }
+}
+
+// The text of the session of these hands.
+fn session_of(alloc: Global, records: Records) -> Result<String, PlaysFault>
+    requires sound { All IsSoundRecord records }
+    requires few { length records ≤ MOST_HANDS }
+    ensures said { IfOk result (λ text.
+        IsTextOf (λ plays. session_printed (session_said plays)) records (string_bytes text)) }
+    ensures refused { IfErr result (IsPlaysFaultOf records) }
+{
+    match take_plays(alloc, OpenSession::new(alloc), records) {
+        Ok(session) => match session_text(alloc, &session.close()) {
+            Ok(text) => Ok(text),
+            Err(memory) => Err(PlaysFault::Memory(memory)),
+        },
+        Err(fault) => Err(fault),
+    }
+}
