@@ -123,13 +123,14 @@ def _said(error: NotDone, hands: Hands, path: str, notation: handref.Notation,
 
 
 def _data(hands: Hands) -> bytes:
-    """The bytes of hands, unpacked where they are a `.gz`."""
+    """The bytes of hands, unpacked where they are a `.gz`, and no more than a byte beyond the
+    limit."""
     path = handref.path_of(hands) or ""
     if not path.endswith(".gz"):
-        return handref.read(hands, -1)
+        return handref.read(hands)
     try:
         with gzip.open(path) as packed:
-            return packed.read()
+            return packed.read(handref.MOST_BYTES + 1)
     except (EOFError, gzip.BadGzipFile, zlib.error) as fault:
         raise OSError(f"{path}: {fault}") from fault
 
@@ -140,6 +141,8 @@ def _asked(hands: Hands, path: str, notation: handref.Notation, game: Game) -> E
     for piece in _pieces(hands, notation):
         try:
             verdicts = handref.judge(piece.data, notation, game)
+        except handref.NoProgram:
+            raise  # nothing is known of the hands
         except NotDone as error:
             return _of_piece(error, path, piece, notation, game)
         refused = [row.refused for row in verdicts if row.refused]

@@ -5,54 +5,60 @@ from dataclasses import dataclass
 from typing import Any, Optional, Sequence
 
 import handref
-from handref import Game, NotDone, Pot, Step
-from handref.before import StandIn, before, seats_of
+from handref import Game, NotDone, Step, cut, toml
+from handref.places import seats_of
 
 _WANTED = {"phh": "cbr", "acpc": "r"}  # what a raise is called, before its amount
 
 
 @dataclass
 class _Hand:
-    """A refused hand, and the legal one with the same events before what is refused."""
+    """A refused hand, with its steps before what is refused."""
     data: bytes
     notation: handref.Notation
     game: Game
     refused: NotDone
-    stand_in: StandIn
     steps: Sequence[Step]
-    pots: Sequence[Pot]
 
     @property
     def now(self) -> Step:
-        return self.steps[self.stand_in.events]
+        return self.steps[-1]
 
 
 def facts(data: bytes, notation: handref.Notation, game: Game, refused: NotDone,
           said: Any = None) -> list[str]:
     """Sentences about a refused hand, which is the only one of its file: what was said, what would
     have been legal, the chips before it. `said` is what the source says there."""
-    stand_in = before(data, notation, refused, game)
-    if stand_in is None:
-        return ["What was legal there was not found."]
-    hand = _of(data, notation, game, refused, stand_in)
+    try:
+        played = handref.replay(data, notation, game, each=True)[0]
+    except handref.NoProgram:
+        raise
+    except NotDone as error:
+        return [f"Asked now, the program says of this hand: {error.line}."]
+    if played.refused is None or _verdict(played.refused) != _verdict(refused):
+        now = _verdict(played.refused) if played.refused else "legal"
+        found = [f"Asked now, the program says of this hand: {now}."]
+        event = refused.event if refused.action is not None else None
+        if event is None or event > len(played.steps):
+            return found
+        hand = _Hand(data, notation, game, refused, played.steps[:event])
+        return [*found, _due(hand), _chips(hand)]
+    hand = _Hand(data, notation, game, refused, played.steps)
     found = _of_reason(hand, said)
     if refused.reason in ("stated", "rake too big"):
         return found
-    if not stand_in.hidden:
-        found += _due(hand)
-    return [*found, _chips(hand)]
+    return [*found, _due(hand), _chips(hand)]
+
+
+def _verdict(error: NotDone) -> str:
+    """What is wrong with a hand, without its number in the file."""
+    return re.sub(r"^refused: hand \d+: ", "", error.line)
 
 
 def reasons(data: bytes, notation: handref.Notation, game: Game, refused: NotDone,
-            stand_in: StandIn, said: Any = None) -> list[str]:
-    """The sentences about what is wrong alone, where the legal hand is found already."""
-    return _of_reason(_of(data, notation, game, refused, stand_in), said)
-
-
-def _of(data: bytes, notation: handref.Notation, game: Game, refused: NotDone,
-        stand_in: StandIn) -> _Hand:
-    replayed = handref.replay(stand_in.data, notation, game)[0]
-    return _Hand(data, notation, game, refused, stand_in, replayed.steps, replayed.pots)
+            steps: Sequence[Step], said: Any = None) -> list[str]:
+    """The sentences about what is wrong alone, where the steps before it are known already."""
+    return _of_reason(_Hand(data, notation, game, refused, steps), said)
 
 
 def _of_stated(hand: _Hand) -> list[str]:
@@ -65,20 +71,42 @@ def _of_stated(hand: _Hand) -> list[str]:
 
 def _of_rake(hand: _Hand) -> list[str]:
     number = int((hand.refused.place or "pot 1").split(" ")[1])
-    chips = hand.pots[number - 1].chips if number <= len(hand.pots) else 0
-    return [f"Pot {number} has {chips} chips before its rake."]
+    try:
+        pots = handref.replay(_without_rakes(hand), hand.notation, hand.game)[0].pots
+    except handref.NoProgram:
+        raise
+    except (NotDone, ValueError, LookupError):
+        return []
+    return [f"Pot {number} has {pots[number - 1].chips} chips before its rake."
+            if number <= len(pots) else f"There is no pot {number}."]
 
 
-def _due(hand: _Hand) -> list[str]:
-    """What was to come there, in the words of `options`."""
-    words = ["options", "--from", hand.notation, "--hand=1", f"--after={hand.stand_in.events}"]
+def _without_rakes(hand: _Hand) -> bytes:
+    """The hand without its rakes, and without what it states of its end."""
+    if hand.notation == "phh":
+        table = toml.read(hand.data.decode("utf-8-sig"))
+        return cut.document({key: table[key] for key in table
+                             if key not in ("_rakes", "finishing_stacks")})
+    source = json.loads(hand.data)["ohh"]
+    source.pop("pots", None)
+    return json.dumps({"ohh": source}).encode()
+
+
+def _due(hand: _Hand) -> str:
+    """What was to come before what is refused."""
+    words = ["options", "--from", hand.notation, "--hand=1", f"--after={hand.now.event}", "--each"]
     words += ["--game", str(hand.game)] if hand.game else []
-    lines = handref.run(words, hand.stand_in.data).decode().split("\n")[:-1]
-    due = lines[0].partition(": ")[2]
-    moves = f": {', '.join(lines[1:])}" if lines[1:] else ""
+    head, *moves = handref.run(words, hand.data).decode().split("\n")[:-1]
+    return due_there(head.partition(": ")[2], moves)
+
+
+def due_there(due: str, moves: Sequence[str]) -> str:
+    """A point of `options` as a sentence."""
     if due == "over":
-        return ["The hand is over there."]
-    return [f"Legal there: {due}{moves}"]
+        return "The hand is over there."
+    if due.endswith("?"):
+        return "No move is legal there: an unknown up-card decides whose turn it is."
+    return f"Legal there: {due}" + (f": {', '.join(moves)}" if moves else "")
 
 
 def _chips(hand: _Hand) -> str:
@@ -109,7 +137,7 @@ def _of_reason(hand: _Hand, said: Any) -> list[str]:
 # Raises, in the amounts of the notation.
 
 def _of_raise(hand: _Hand) -> list[str]:
-    found = handref.options(hand.stand_in.data, hand.notation, 1, hand.stand_in.events, hand.game)
+    found = handref.options(hand.data, hand.notation, 1, hand.now.event, hand.game, each=True)
     if found.seat is None or not found.raises:
         return ["No raise is legal there."]
     seat = found.seat - 1
@@ -140,7 +168,7 @@ def _offset(hand: _Hand, seat: int) -> int:
     """By how much an amount of the notation is above the chips of the street."""
     earlier = _antes(hand)
     moved = False
-    for step in hand.steps[1:hand.stand_in.events + 1]:
+    for step in hand.steps[1:]:
         if re.match(r"p\d+ (f|cc|cbr|pb)", step.text):
             moved = True
         elif moved:
@@ -182,7 +210,7 @@ def _of_cards(hand: _Hand, words: str) -> list[str]:
     bare = re.sub(r'"player_id":[^,}]*|p\d+ |d[hb] ', "", words)
     cards = re.findall(r"[2-9TJQKA][cdhs]|\?\?", bare)
     said: list[str] = []
-    events = hand.steps[1:hand.stand_in.events + 1]
+    events = hand.steps[1:]
     if hand.refused.reason == "CardTaken":
         for card in sorted(set(cards) - {"??"}):
             where = next((step for step in events if card in step.text.split(" ")[-1]), None)

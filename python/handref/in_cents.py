@@ -5,6 +5,7 @@ decimal arithmetic: what has more than two places is refused and never rounded. 
 lost: `currency` says it, as "USD cents", or "cents" where the file names no currency.
 """
 import json
+import os
 import re
 from decimal import Decimal
 from typing import Any, Iterator, Optional
@@ -24,18 +25,29 @@ def cents(hands: Hands, times: int = 100, notation: Optional[str] = None) -> byt
     """Hands with their amounts multiplied, as chips are whole, and with the unit in `currency`. Of
     a path the end says the notation, and bytes are OHH if nothing is said. OHH is written with one
     hand per line, without members that are null. ValueError, with file and hand: an amount is not
-    whole then, or the file does not read."""
+    whole then, or the file does not read. NotDone: a device or a pipe has no end."""
     path = handref.path_of(hands)
     notation = notation or ("phh" if re.search(r"\.phhs?(\.gz)?\Z", path or "") else "ohh")
     if notation not in ("phh", "ohh", "ohh-to"):
         raise ValueError(f"{path or 'bytes'}: cents are of PHH and OHH, and not of {notation}")
     try:
-        data = handref.read(hands, -1)
+        data = _read(hands)
         if notation == "phh":
             return b"".join(_documents(data, times))
         return b"".join(line + b"\n\n" for line in _lines(data, times))
     except (ValueError, RecursionError) as why:
         raise ValueError(f"{path or 'bytes'}: {why}") from why
+
+
+def _read(hands: Hands) -> bytes:
+    """The bytes of hands: a file of any length, and of a pipe or a device no more than an input may
+    have."""
+    path = handref.path_of(hands)
+    is_file = path is None or os.path.isfile(path)
+    data = handref.read(hands, -1 if is_file else handref.MOST_BYTES + 1)
+    if not is_file and len(data) > handref.MOST_BYTES:
+        raise handref.not_done(7, f"limit: input bytes {handref.MOST_BYTES}", path)
+    return data
 
 
 def _whole(value: Any, times: int) -> int:

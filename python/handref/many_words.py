@@ -139,9 +139,10 @@ def run_cents(given: argparse.Namespace) -> int:
     for path, out in zip(given.path, written):
         try:
             data = in_cents.cents(path, 100, given.notation or cut.notation_of(path))
-        except (ValueError, OSError) as why:
+        except (ValueError, OSError, handref.NotDone) as why:
             print(cut.shown(str(why)), file=sys.stderr, flush=True)
-            status = status or (3 if isinstance(why, ValueError) else 5)
+            status = status or (why.status if isinstance(why, handref.NotDone) else
+                                3 if isinstance(why, ValueError) else 5)
             continue
         _put(data, out, is_folder)
     return status

@@ -12,6 +12,7 @@ from typing import Any, Iterator, Optional, Sequence
 import handref
 from handref import NotDone, messages
 from handref.cut import GAMES, MOST_UNREAD, short, shown
+from handref.explain_play import due_there
 from handref.page_chart import session_part
 from handref.page_played import Hand, Page
 
@@ -146,9 +147,9 @@ def _hand_listed(hand: Hand, notation: handref.Notation) -> str:
         parts += [f'<tr><td></td><td class="words">{line}</td><td></td><td></td></tr>'
                   for line in ends(told)]
         parts.append("</tbody></table></div>")
-        if refused and told.get("o") and "f" not in told:
-            due, _, moves = max(told["o"].items())[1].partition(";")
-            parts.append(f"<p>Legal there: {due}{': ' * bool(moves)}{moves.replace(';', ', ')}</p>")
+        if refused and told.get("o") and refused.reason not in ("stated", "rake too big"):
+            due, *moves = max(told["o"].items())[1].split(";")
+            parts.append(f"<p>{due_there(due, moves)}</p>")
     return "\n".join(parts)
 
 

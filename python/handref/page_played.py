@@ -8,8 +8,8 @@ from typing import Any, Callable, Iterable, Optional, TypeVar, Union
 
 import handref
 from handref import Game, NotDone, UnclearOutput, toml
-from handref.before import StandIn
-from handref.cut import shown
+from handref.cut import shown, together
+from handref.places import seats_of
 
 MOST_ASKED = 50  # hands that are shown with their legal moves and equity, where none are chosen
 MOST_CHOSEN = 500  # and of chosen ones
@@ -22,7 +22,6 @@ class Hand:
     refused: Optional[NotDone]
     data: bytes  # a file of it, or of more hands where the file was not cut
     place: int = 1  # its number in that file
-    stand_in: Optional[StandIn] = None
     told: dict[str, Any] = field(default_factory=dict)  # for the script: see page.js
     text: str = ""  # the source's words of what is refused
     seat: Optional[int] = None  # that they name
@@ -59,18 +58,25 @@ def at_once(call: Callable[[Item], Answer], items: Iterable[Item]) -> list[Answe
 
 
 def replay(made: Page, rows: list[Hand], data: bytes) -> None:
-    """What `replay` says of these hands, and the notes that PHH has of them."""
+    """What `replay` says of these hands, which are those of the data, and the notes of them."""
     if not rows:
         return
     words = ["--from", made.notation, *(["--game", os.fspath(made.game)] if made.game else [])]
-    text = handref.run(["replay", *words], data).decode()
-    hands = re.split(r"^hand ", text, flags=re.M)[1:]
-    notes = _notes_of_log(data) if made.notation == "acpc" else _notes(
-        handref.run(["convert", *words, "--to", "phh"], data).decode(), len(rows))
+    are_legal = not any(row.refused for row in rows)
+    text = handref.run(["replay", *words, *["--each"] * (not are_legal)], data).decode()
+    hands = handref._replays(text)
+    if made.notation == "acpc":
+        notes = _notes_of_log(data)
+    elif are_legal:
+        notes = _notes(handref.run(["convert", *words, "--to", "phh"], data).decode(), len(rows))
+    else:
+        notes = _notes_of_each(made, rows, words)
     if len(hands) != len(rows) or len(notes) != len(rows) or not text.endswith("\n"):
         raise UnclearOutput(0, "the output of replay or convert is cut", file=made.file)
     for row, replayed, note in zip(rows, hands, notes):
-        row.told = _told(replayed, row.stand_in)
+        row.told = _told(replayed)
+        if ("f" in row.told) == bool(row.refused and row.refused.reason != "stated"):
+            raise UnclearOutput(0, "the output of replay is not that of judge", file=made.file)
         seats = len(row.told["s"])
         row.names = [name or f"p{seat}" for seat, name in
                      enumerate(note.get("players") or [""] * seats, 1)]
@@ -87,7 +93,7 @@ def _numbers(text: str) -> list[int]:
     return [int(word) for word in text.split()]
 
 
-def _told(text: str, stand_in: Optional[StandIn]) -> dict[str, Any]:
+def _told(text: str) -> dict[str, Any]:
     """A hand of `replay` in short: what each event adds is read back from its chips. UnclearOutput:
     the chips of an event are not those of one seat that moves."""
     lines = text.split("\n")
@@ -118,13 +124,6 @@ def _told(text: str, stand_in: Optional[StandIn]) -> dict[str, Any]:
             pots.append([int(line.split(" ")[2][:-1]), shares, int(rake[1]) if rake else 0])
         elif line.startswith("finish "):
             told.update(r=returned, t=pots, f=_numbers(line[7:]))
-    if stand_in:
-        events = events[:stand_in.events]
-        for card in stand_in.hidden:
-            events = [words.replace(card, "??") for words in events]
-        if not stand_in.is_whole:
-            for key in "rtf":
-                told.pop(key, None)
     told["e"] = ";".join(events)
     return told
 
@@ -146,6 +145,47 @@ def _notes_of_log(data: bytes) -> list[dict[str, Any]]:
             fields = line.rstrip("\r").split(":")
             found.append({"hand": fields[1], "players": fields[5].split("|")})
     return found
+
+
+def _notes_of_each(made: Page, rows: list[Hand], words: list[str]) -> list[dict[str, Any]]:
+    """The notes of hands of which some are refused: `convert` gives those of the legal ones."""
+    if any(row.place > 1 for row in rows):
+        return [{} for _ in rows]  # Python does not read the file
+    legal = [row.data for row in rows if not row.refused]
+    told = iter(_notes(handref.run(["convert", *words, "--to", "phh"], together(
+        legal, made.notation)).decode(), len(legal)) if legal else [])
+    own = _note_of_phh if made.notation == "phh" else _note_of_ohh
+    return [own(row.data) if row.refused else next(told, {}) for row in rows]
+
+
+def _note_of_phh(data: bytes) -> dict[str, Any]:
+    try:
+        return toml.read(data.decode("utf-8-sig"))
+    except ValueError:
+        return {}
+
+
+def _note_of_ohh(data: bytes) -> dict[str, Any]:
+    """What a hand of OHH says in the words of PHH."""
+    try:
+        hand = json.loads(data)["ohh"]
+        seats = seats_of(hand)
+        names = {player["id"]: player.get("name") or "" for player in hand["players"]}
+        antes = [0] * len(seats)
+        for said in hand["rounds"][0]["actions"]:
+            if said["action"] == "Post Ante":
+                antes[seats.index(said["player_id"])] = int(said["amount"])
+        found = {key: hand[name] for key, name in (
+            ("hand", "game_number"), ("table", "table_name"), ("venue", "site_name"),
+            ("currency", "currency")) if hand.get(name)}
+        moment = re.match(r"(\d+)-(\d+)-(\d+)[T ]([\d:.]+)", str(hand.get("start_date_utc")))
+        for key, part in zip(("year", "month", "day"), moment.groups() if moment else ()):
+            found[key] = int(part)
+        if moment:
+            found.update(time=moment[4], time_zone="UTC")
+        return {**found, "players": [names[seat] for seat in seats], "antes": antes}
+    except (ValueError, LookupError, TypeError, AttributeError):
+        return {}
 
 
 def _notes(text: str, count: int) -> list[dict[str, Any]]:
@@ -211,31 +251,40 @@ def ask_moves(made: Page, is_chosen: bool) -> None:
     some = some[:MOST_CHOSEN if is_chosen else MOST_ASKED]
     asked: list[tuple[Hand, str, int]] = []
     for hand in some:
-        if hand.stand_in and hand.stand_in.hidden:
-            continue
         events = hand.told["e"].split(";") if hand.told["e"] else []
-        moves = [place for place, words in enumerate(events)
-                 if re.match(r"p\d+ (f|cc|cbr|pb)", words)] + [len(events)]
-        asked += [(hand, "options", place) for place in moves]
+        asked.append((hand, "options", 0))
         board, street = 0, {3: 2, 4: 3, 5: 4}
-        for words in events if not hand.stand_in or hand.stand_in.is_whole else []:
+        for words in events if not hand.refused else []:
             if words.startswith("d db "):
                 board += len(words[5:]) // 2
                 asked += [(hand, "equity", street[board])] if board in street else []
     answers = at_once(lambda row: _answer(made, row[0], row[1], row[2]), asked)
     for (hand, command, place), answer in zip(asked, answers):
-        hand.told.setdefault("o" if command == "options" else "q", {})[place] = answer
+        if command == "options":
+            hand.told["o"] = answer
+        else:
+            hand.told.setdefault("q", {})[place] = answer
 
 
-def _answer(made: Page, hand: Hand, command: str, place: int) -> Union[str, dict[str, Any]]:
-    data = hand.stand_in.data if hand.stand_in else hand.data
+def _options(made: Page, hand: Hand) -> dict[int, str]:
+    """What `options` says of a hand at each move, and at its last point."""
+    words = ["options", "--from", made.notation, f"--hand={hand.place}"]
+    words += ["--game", os.fspath(made.game)] if made.game else []
+    points, _ = handref._points(handref.run(words, hand.data).decode())
+    events = hand.told["e"].split(";") if hand.told["e"] else []
+    if len(points) != len(events) + 1:
+        raise UnclearOutput(0, "the output of options is cut", file=made.file)
+    return {place: text.partition(": ")[2].replace("\n", ";")[:-1]
+            for place, (text, words) in enumerate(zip(points, [*events, ""]))
+            if not words or re.match(r"p\d+ (f|cc|cbr|pb)", words)}
+
+
+def _answer(made: Page, hand: Hand, command: str,
+            place: int) -> Union[str, dict[Any, Any]]:
     if command == "options":
-        words = [command, "--from", made.notation, f"--hand={hand.place}", f"--after={place}"]
-        words += ["--game", os.fspath(made.game)] if made.game else []
-        text = handref.run(words, data).decode()
-        return text.partition(": ")[2].replace("\n", ";")[:-1]
+        return _options(made, hand)
     try:
-        told = handref.equity(data, made.notation, hand.place, place, made.game)
+        told = handref.equity(hand.data, made.notation, hand.place, place, made.game)
     except NotDone as error:
         if error.status != 13:
             raise

@@ -15,7 +15,9 @@ import re
 import tempfile
 from array import array
 from contextlib import contextmanager
-from typing import IO, Iterator, Optional, Sequence, Union
+from typing import IO, BinaryIO, Iterator, Optional, Sequence, Union
+
+import handref
 
 Bytes = Union[bytes, "mmap.mmap"]
 
@@ -37,6 +39,7 @@ _SHORT = {b'"': re.compile(rb"[\"\\\n]"), b"'": re.compile(rb"['\n]")}
 _LONG = {b'"': re.compile(rb"\\|\"\"\""), b"'": re.compile(rb"'''")}
 _RUN = {b'"': re.compile(rb'"{3,5}'), b"'": re.compile(rb"'{3,5}")}
 _HAND = re.compile(rb"^[ \t]*hand[ \t]*=", re.M)
+NUMBER = re.compile(rb"\[[ \t]*[\"']?[0-9]")  # of a header, or of something else
 
 
 class NotSure(ValueError):
@@ -215,7 +218,8 @@ def has_number(block: bytes, body: int = 0) -> bool:
 
 @contextmanager
 def open_hands(path: "Union[str, os.PathLike[str]]") -> Iterator[Hands]:
-    """The hands of a file, packed or not. NotSure: it cannot be cut."""
+    """The hands of a file, packed or not. NotSure: it cannot be cut. NotDone: a packed file has no
+    hand that ends within the limit of an input."""
     with _plain_file(path) as file:
         if os.fstat(file.fileno()).st_size == 0:
             yield Hands(b"")
@@ -231,10 +235,25 @@ def _plain_file(path: "Union[str, os.PathLike[str]]") -> Iterator[IO[bytes]]:
             yield file
         return
     with tempfile.TemporaryFile() as unpacked, gzip.open(path) as packed:
-        while block := packed.read(1 << 20):
+        for block in bounded(packed, NUMBER, os.fspath(path)):
             unpacked.write(block)
         unpacked.flush()
         yield unpacked
+
+
+def bounded(file: "Union[BinaryIO, gzip.GzipFile]", ends: "re.Pattern[bytes]",
+            name: str) -> Iterator[bytes]:
+    """The blocks of a file that may be of any length. NotDone: nothing in it looks like the end of
+    a hand for longer than an input may be, so the rest need not be kept."""
+    size = begin = 0
+    before = b""
+    while block := file.read(1 << 20):
+        yield block
+        size += len(block)
+        begin = size if ends.search(before + block) else begin
+        before = block[-100:]
+        if size - begin > handref.MOST_BYTES + (1 << 20):
+            raise handref.not_done(7, f"limit: input bytes {handref.MOST_BYTES}", name)
 
 
 def blocks(text: bytes) -> Iterator[tuple[Optional[int], bytes]]:

@@ -11,7 +11,6 @@ from typing import Any, Optional, Union
 
 import handref
 from handref import NotDone, cut, toml
-from handref.before import seats_of
 
 Path = tuple[Union[str, int], ...]
 
@@ -124,6 +123,13 @@ def _path_of_phh(error: NotDone) -> Path:
 
 
 # Open Hand History.
+
+def seats_of(hand: dict[str, Any]) -> list[Any]:
+    """The ids of the players of a hand of OHH, from p1 on: the first after the button."""
+    players = sorted(hand["players"], key=lambda player: int(player["seat"]))
+    button = [player["seat"] for player in players].index(hand["dealer_seat"])
+    return [player["id"] for player in players[button + 1:] + players[:button + 1]]
+
 
 def blocks(text: str) -> list[tuple[int, str]]:
     """The hands of a file of OHH, each with the sign at which it begins."""

@@ -7,7 +7,7 @@ import sys
 import tempfile
 import zlib
 from dataclasses import dataclass, field, replace
-from typing import IO, BinaryIO, Iterator, Optional, Sequence, Union
+from typing import IO, BinaryIO, Callable, Iterator, Optional, Sequence, Union
 
 import handref
 from handref import Notation, Piece, cut, phhs
@@ -16,6 +16,7 @@ from handref import Notation, Piece, cut, phhs
 # takes 17 bytes or more, a move one. A hand of OHH or PHH that has a move takes far more.
 PIECE = 1 << 20
 _BLANK = re.compile(rb"\n[ \t\r]*\n")
+_LINE_END = re.compile(rb"\n")
 _PHH = re.compile(rb"(\A|\n)[ \t]*variant[ \t]*=[ \t]*[\"']")
 _OHH = re.compile(rb"\s*[\[{]\s*(\{\s*)?\"ohh\"\s*:")
 _LOG = re.compile(rb"(?:(?:#|SCORE:)[^\n]*\n|\r?\n)*STATE:\d*:")
@@ -89,12 +90,14 @@ def sources(paths: Sequence[str], notation: Optional[Notation] = None) -> tuple[
 
 
 def _standard_input(notation: Optional[Notation]) -> Source:
-    """What is read once, into a file that goes away with the process."""
+    """What is read once, into a file that goes away with the process. NotDone: a hand in it is
+    longer than an input."""
     if notation is None:
         raise ValueError("standard input: --from says which notation it is")
     file = tempfile.NamedTemporaryFile(prefix="handref-")
     _HELD.append(file)
-    while block := sys.stdin.buffer.read(1 << 20):
+    ends = {"phh": phhs.NUMBER, "acpc": _LINE_END}.get(notation, _BLANK)
+    for block in phhs.bounded(sys.stdin.buffer, ends, "standard input"):
         file.write(block)
     file.flush()
     return Source(file.name, notation, os.path.getsize(file.name), 0, f"stdin.{notation}",
@@ -129,27 +132,47 @@ def _inside(top: str, notation: Optional[Notation]) -> tuple[list[Source], int]:
         name = str(why.filename or top)
         found.append(_faulty(name, "phh", os.path.relpath(name, top), _why(why)))
 
-    for folder, _, names in os.walk(top, onerror=fault):
-        for name in names:
-            path = os.path.join(folder, name)
-            own = cut.notation_of(name)
-            try:
-                info = os.stat(path)
-                if not stat.S_ISREG(info.st_mode):
-                    raise OSError(0, "it is not a file")
-                own = own or notation_in(path)
-            except OSError as why:
-                if own:
-                    found.append(_faulty(path, own, os.path.relpath(path, top), _why(why)))
-                    continue
-            if own is None:
-                others += 1
+    for path in _below(top, fault):
+        own = cut.notation_of(path)
+        try:
+            info = os.stat(path)
+            if not stat.S_ISREG(info.st_mode):
+                raise OSError(0, "it is not a file")
+            own = own or notation_in(path)
+        except OSError as why:
+            if own:
+                found.append(_faulty(path, own, os.path.relpath(path, top), _why(why)))
                 continue
-            if notation and own[:3] == notation[:3]:
-                own = notation  # --from says which dialect the files of OHH are in
-            found.append(Source(path, own, info.st_size, info.st_mtime_ns,
-                                os.path.relpath(path, top)))
+        if own is None:
+            others += 1
+            continue
+        if notation and own[:3] == notation[:3]:
+            own = notation  # --from says which dialect the files of OHH are in
+        found.append(Source(path, own, info.st_size, info.st_mtime_ns,
+                            os.path.relpath(path, top)))
     return sorted(found, key=lambda source: natural(source.out)), others
+
+
+def _below(top: str, fault: Callable[[OSError], None]) -> Iterator[str]:
+    """What is not a folder in a folder and those below it, however deep they are. Links to folders
+    are not followed."""
+    left = [top]
+    while left:
+        try:
+            with os.scandir(left.pop()) as listed:
+                entries = list(listed)
+        except OSError as why:
+            fault(why)
+            continue
+        for entry in entries:
+            try:
+                is_folder = entry.is_dir()
+            except OSError:
+                is_folder = False
+            if not is_folder:
+                yield entry.path
+            elif not entry.is_symlink():
+                left.append(entry.path)
 
 
 def _faulty(path: str, notation: Notation, out: str, fault: str) -> Source:

@@ -18,7 +18,9 @@ LOG = b"STATE:%d:r300f:9s8h|KdTc:-100|100:A|B\n"
 # Names that try to be markup, to turn the text round them, or not to be seen.
 NAMES = ["<script>alert(1)</script>", "</script><!--", "\"'><img src=x onerror=alert(1)>",
          "\u202eabc\u200f", "a" * 255, "\u05d0" * 120, "\u0301" * 120, "&lt;", "\\u{202e}",
-         "\x7f\t"]
+         "\x7f\t", "\u2028alert(1)//\u2029", "\" onmouseover=\"alert(1)\" x='",
+         "'+alert(1)+'${alert(1)}`", "<svg onload=document.title='x'>", "-->]]></textarea></title>",
+         "__proto__"]
 
 
 def named(*names):

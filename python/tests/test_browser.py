@@ -6,7 +6,7 @@ import shutil
 import subprocess
 import unittest
 
-from pages import EXAMPLES, HERE, LOG, MATCH, NAMES, Case, named
+from pages import EXAMPLES, HERE, LOG, MATCH, NAMES, Case, Parsed, named
 
 import handref
 from handref import cut, page, toml
@@ -161,6 +161,11 @@ class Browser(Case):
                 self.assertEqual(len(re.findall(f"<{tag}[ >]", text)),
                                  len(re.findall(f"<{tag}[ >]", other)), tag)
             self.assertIn('class="live"', text)
+            for key, value in (pair for _, each in Parsed(text).tags for pair in each.items()):
+                self.assertFalse(key.startswith("on"), key)
+                self.assertTrue(key not in ("href", "src") or value.startswith("#"), value)
+            titles = [re.search("<title>(.*?)</title>", each, re.S)[1] for each in (text, other)]
+            self.assertEqual(*titles)  # no name has run
 
     def test_without_script(self):
         """Without JavaScript the hands are a list to read."""

@@ -1,10 +1,13 @@
 """Uses the package and `handref many` as nobody should: names that look like rows, files that are
 not what they seem, disks without room, programs that are killed or are not handref."""
 import gzip
+import io
 import json
 import os
 import re
 import resource
+import shutil
+import socket
 import subprocess
 import sys
 import tempfile
@@ -15,9 +18,10 @@ from unittest import mock
 HERE = Path(__file__).resolve().parent
 sys.path.insert(0, str(HERE.parent))
 import handref  # noqa: E402
-from handref import many, sources, tables  # noqa: E402
+from handref import many, phhs, sources, tables  # noqa: E402
 
 EXAMPLES = HERE.parent.parent / "examples"
+RECIPES = EXAMPLES / "recipes"
 MATCH = str(EXAMPLES / "match.game")
 PROGRAM = os.environ.get("HANDREF_PROGRAM") or "handref"
 ROW = "x\n" + "9000".rjust(20) + "1".rjust(8) + "  Mallory"
@@ -183,7 +187,70 @@ class NamesOfFiles(Case):
                          {b"./" + name for name in names})
 
 
+    def test_kinds(self):
+        """Links that lead nowhere or in a ring, pipes, sockets and devices are lines, and no call
+        waits for them; words after `--` are names, whatever they begin with."""
+        hand = (EXAMPLES / "folds.phh").read_bytes()
+        (self.folder / "-k.phh").write_bytes(hand)
+        os.mkfifo(self.folder / "pipe.phh")
+        for name, to in (("ring.phh", "ring.phh"), ("none.phh", "none"), ("zero.phh", "/dev/zero"),
+                         ("up", ".."), ("here", ".")):
+            os.symlink(to, self.folder / name)
+        place = os.getcwd()
+        os.chdir(self.folder)  # the name of a socket is short
+        try:
+            with socket.socket(socket.AF_UNIX) as bound:
+                bound.bind("socket.phh")
+        finally:
+            os.chdir(place)
+        status, text, _ = self.call("many", "check", "-k", ".")
+        self.assertEqual((status, text.decode().split("\n")[:7]), (5, [
+            "./none.phh: no such file or directory", "./pipe.phh: it is not a file",
+            "./ring.phh: too many levels of symbolic links", "./socket.phh: it is not a file",
+            "./zero.phh: it is not a file", "legal hands: 1 of 1", "legal files: 1 of 6"]))
+        self.assertEqual(self.call("many", "check", "--", "-k.phh")[0], 0)
+        for task in ("judge", "report", "session", "replay"):
+            self.assertEqual(self.call("many", task, "-k", "zero.phh", "pipe.phh")[0], 5)
+
+    def test_deep_folders(self):
+        """Folders as deep as they can be are searched."""
+        here = os.open(self.folder, os.O_RDONLY)
+        place = here
+        for _ in range(1500):
+            os.mkdir("d", dir_fd=place)
+            place, old = os.open("d", os.O_RDONLY, dir_fd=place), place
+            os.close(old)
+        with os.fdopen(os.open("a.phh", os.O_CREAT | os.O_WRONLY, dir_fd=place), "wb") as file:
+            file.write((EXAMPLES / "folds.phh").read_bytes())
+        os.close(place)
+        try:
+            self.assertEqual(self.call("many", "check", "."),
+                             (0, b"legal hands: 1 of 1\nlegal files: 1 of 1\n", ""))
+        finally:
+            subprocess.run(["rm", "-rf", self.folder / "d"], check=True)
+
+
 class OddInputs(Case):
+    def test_without_end(self):
+        """Of a device without an end no call keeps more than an input may have, and some."""
+        limit = [(resource.RLIMIT_AS, 1_000_000_000), (resource.RLIMIT_FSIZE, 40_000_000)]
+        for words in (("explain",), ("cents",), ("page",), ("many", "check"), ("many", "report")):
+            for notation in ("phh", "ohh", "acpc"):
+                if words[0] == "cents" and notation == "acpc":
+                    continue
+                game = ("--game", MATCH) if notation == "acpc" else ()
+                path = "-" if words[0] == "many" else "/dev/zero"
+                more = (self.folder / "out.html",) if words[0] == "page" else ()
+                with self.subTest(words=words, notation=notation), open("/dev/zero", "rb") as zero:
+                    done = subprocess.run(
+                        [sys.executable, "-m", "handref", *words, "--from", notation, *game, path,
+                         *map(str, more)], stdin=zero, capture_output=True, text=True, timeout=300,
+                        cwd=self.folder, env={**os.environ, "PYTHONPATH": str(HERE.parent)},
+                        preexec_fn=lambda: [resource.setrlimit(name, (most, most))
+                                            for name, most in limit])
+                    self.assertIn("limit: input bytes 16777216", done.stdout + done.stderr)
+                    self.assertEqual(done.returncode, 0 if words[0] == "explain" else 7)
+
     def test_exceptions(self):
         """What is no file of hands is an exception, and the program's line where it has one."""
         for hands, notation, wanted in (
@@ -204,6 +271,17 @@ class OddInputs(Case):
 
 
 class Packed(Case):
+    def test_end_between_blocks(self):
+        """An end of a hand is seen where a block ends in the middle of it."""
+        size = 1 << 20
+        for ends, text in ((phhs.NUMBER, b"1" + b"x" * (size - 2) + b"["),
+                           (sources._BLANK, b"\n" + b"x" * (size - 2) + b"\n")):
+            self.assertEqual(sum(map(len, phhs.bounded(io.BytesIO(text * 20), ends, ""))),
+                             20 * size)
+            with self.assertRaises(handref.NotDone):
+                list(phhs.bounded(io.BytesIO(text.replace(b"\n", b"x").replace(b"[", b"x") * 20),
+                                  ends, ""))
+
     def test_bomb(self):
         """A packed file of any size takes no more than an input may, and some."""
         for name, text in (("line.acpc", b"x" * 1_000_000), ("blank.ohh", b"\n" * 1_000_000),
@@ -227,9 +305,16 @@ class Packed(Case):
                 self.assertLess(most, 150_000)
         stub = self.stub("head -c 20000000 | wc -c >> sizes; "
                          "echo 'limit: input bytes 16777216' >&2; exit 7")
+        limit = [(resource.RLIMIT_AS, 1_000_000_000), (resource.RLIMIT_FSIZE, 30_000_000)]
         status, _, told = self.call("many", "check", "--game", MATCH, "-k", ".", program=stub,
-                                    limit=[(resource.RLIMIT_AS, 1_000_000_000)])
+                                    limit=limit)
         self.assertEqual(status, 7, told)
+        for name in ("line.acpc", "key.phh", "list.ohh"):
+            game = ("--game", MATCH) if name.endswith("acpc") else ()
+            status, text, told = self.call("explain", *game, f"{name}.gz", program=stub,
+                                           limit=limit)
+            self.assertEqual(status, 0 if name.endswith("phh") else 7, told)
+            self.assertIn("limit: input bytes", text.decode() + told)
         sizes = list(map(int, (self.folder / "sizes").read_text().split()))
         self.assertLessEqual(max(sizes), handref.MOST_BYTES + sources.PIECE + 1)
 
@@ -308,6 +393,21 @@ class OtherPrograms(Case):
         self.assertEqual([path.read_text() for path in children if path.exists()],
                          [""] * sum(path.exists() for path in children))
 
+    def test_killed_while_it_writes(self):
+        """Of a program that is killed in the middle of its answer nothing is taken."""
+        (self.folder / "a.phh").write_bytes((EXAMPLES / "folds.phh").read_bytes())
+        stub = self.stub(f"'{shutil.which(PROGRAM)}' \"$@\" | head -c 40; kill -9 $$")
+        before = sorted(os.listdir(self.folder))
+        for words in (("convert", "--to", "ohh", "--out", "out.ohh"), ("report",), ("session",),
+                      ("replay",), ("convert", "--to", "phh", "--join", "--out", "all.phhs")):
+            status, text, told = self.call("many", *words, "a.phh", program=stub)
+            self.assertEqual((status, text), (8, b""), told)
+            self.assertEqual(sorted(os.listdir(self.folder)), before)
+        for words in (("page", "a.phh", "out.html"), ("explain", "a.phh")):
+            status, text, told = self.call(*words, program=stub)
+            self.assertEqual((status, text, told.count("\n")), (70, b"", 1), told)
+            self.assertEqual(sorted(os.listdir(self.folder)), before)
+
     def test_many_files(self):
         """Thousands of files, in order, each with its line."""
         hands = self.folder / "hands"
@@ -319,6 +419,72 @@ class OtherPrograms(Case):
         lines = text.decode().split("\n")
         self.assertEqual((status, [line.split(":")[0] for line in lines[:3000]]),
                          (3, [f"{hands}/hand-{number}.phh" for number in range(3000)]))
+
+
+class Recipes(Case):
+    """The recipes take names of files as they are, and hands as they were judged."""
+
+    def setUp(self):
+        super().setUp()
+        own = self.folder / "own"
+        own.mkdir()
+        (own / "handref").write_text(
+            f"#!/bin/sh\nexec env PYTHONPATH='{HERE.parent}' HANDREF_PROGRAM='"
+            f"{shutil.which(PROGRAM)}' '{sys.executable}' -m handref \"$@\"\n")
+        (own / "handref").chmod(0o755)
+        self.path = {**os.environ, "PATH": f"{own}:{os.environ['PATH']}"}
+
+    def recipe(self, name, *words, **more):
+        done = subprocess.run([RECIPES / name, *words], capture_output=True, cwd=self.folder,
+                              env=self.path, **more)
+        return done.returncode, done.stdout, done.stderr.decode()
+
+    def test_legal_hands(self):
+        log = (EXAMPLES / "match.acpc").read_bytes()
+        wanted = b"".join(line for line in log.splitlines(True) if line.startswith(b"STATE"))
+        for name in ("a=b.log", "-k.log", '"q.log', "back\\nslash.log", "log"):
+            (self.folder / name).write_bytes(log)
+            self.assertEqual(self.recipe("legal-hands", name, MATCH), (0, wanted, ""))
+        (self.folder / "packed.log.gz").write_bytes(gzip.compress(log))
+        self.assertEqual(self.recipe("legal-hands", "packed.log.gz", MATCH), (0, wanted, ""))
+        self.assertEqual(self.recipe("legal-hands", "/dev/stdin", MATCH, input=log),
+                         (0, wanted, ""))
+        (self.folder / "wrong").write_bytes(log.replace(b"r300", b"r150"))
+        status, text, told = self.recipe("legal-hands", "wrong", MATCH)
+        self.assertEqual((status, text), (0, wanted.split(b"\n")[1] + b"\n"))
+        self.assertEqual(told, "wrong: refused: hand 1: event 3, action 1: RaiseTooSmall\n")
+        for words in ((".", MATCH), ("absent", MATCH), ("log", "absent")):
+            status, text, told = self.recipe("legal-hands", *words)
+            self.assertEqual((status > 0, text, told.count("\n")), (True, b"", 1), told)
+
+    def test_hands_sql(self):
+        if not shutil.which("sqlite3"):
+            self.skipTest("sqlite3 is not installed")
+        for name in ('"a.log', "b.log", 'c".log', "d\t.log"):
+            (self.folder / name).write_bytes((EXAMPLES / "match.acpc").read_bytes())
+        files = sorted(os.listdir(self.folder))[:-1]
+        for task in ("judge", "replay"):
+            done = self.call("many", task, "--tsv", "--game", MATCH, *files)
+            (self.folder / f"{task}.tsv").write_bytes(done[1])
+        done = subprocess.run(
+            ["sqlite3"], input=(RECIPES / "hands.sql").read_text() +
+            "select file, count(*) from verdicts where verdict = 'legal' group by file;"
+            "select sum(finish - start) from seats where seat = 2;",
+            capture_output=True, text=True, cwd=self.folder)
+        self.assertEqual((done.stdout.split("\n"), done.stderr), (
+            ['"a.log\t2', "b.log\t2", 'c".log\t2', "d\\t.log\t2", "400", ""], ""))
+
+    def test_with_limits(self):
+        """Where limits cannot be set nothing is run; lower ones of the caller stay."""
+        hand = (EXAMPLES / "folds.phh").read_bytes()
+        (self.folder / "own" / "handref").write_text("#!/bin/sh\nulimit -v\nulimit -t\n")
+        for bounds, wanted in (((), b"1000000\n60\n"),
+                               ((resource.RLIMIT_AS, 800_000 << 10), b"800000\n60\n"),
+                               ((resource.RLIMIT_CPU, 9), b"1000000\n9\n")):
+            done = self.recipe("with-limits", "check", "--from", "phh", input=hand,
+                               preexec_fn=lambda: bounds and resource.setrlimit(
+                                   bounds[0], (bounds[1], bounds[1])))
+            self.assertEqual(done, (0, wanted, ""))
 
 
 if __name__ == "__main__":
