@@ -557,6 +557,25 @@ static void work(uint64_t first, uint64_t count, int worker, int workers, long *
     unlink(all.other_name);
 }
 
+static volatile sig_atomic_t is_interrupted;
+
+static void interrupt(int signal) {
+    (void)signal;
+    is_interrupted = 1;
+}
+
+/* Waits for a worker, and ends all where this process is interrupted. Says whether the worker ended badly. */
+static int is_bad(pid_t worker, const pid_t *children, int workers) {
+    int how;
+    while (waitpid(worker, &how, 0) < 0) {
+        if (errno != EINTR) stop("waitpid");
+        for (int other = 0; other < workers; other++)
+            kill(children[other], SIGTERM);
+    }
+    return how != 0 && !is_interrupted;
+}
+
+/* Damages inputs in all workers, and prints how they ended. After an interrupt these are the inputs that were tried by then. */
 static int damage_all(uint64_t first, uint64_t count) {
     const char *wanted = getenv("HOSTILE_WORKERS");
     int workers = wanted != NULL ? atoi(wanted) : sysconf(_SC_NPROCESSORS_ONLN);
@@ -575,16 +594,19 @@ static int damage_all(uint64_t first, uint64_t count) {
             exit(0);
         }
     }
+    struct sigaction on_interrupt = {.sa_handler = interrupt};
+    sigaction(SIGINT, &on_interrupt, NULL);
+    sigaction(SIGTERM, &on_interrupt, NULL);
     int bad = 0;
-    for (int worker = 0; worker < workers; worker++) {
-        int how;
-        waitpid(children[worker], &how, 0);
-        bad |= how != 0;
-        for (int status = 0; status < COUNTS; status++)
-            all[status] += shared[worker * COUNTS + status];
+    for (int worker = 0; worker < workers; worker++)
+        bad |= is_bad(children[worker], children, workers);
+    uint64_t done = 0;
+    for (int place = 0; place < workers * COUNTS; place++) {
+        all[place % COUNTS] += shared[place];
+        done += shared[place];
     }
-    printf("%llu damaged inputs, seed %llu:", (unsigned long long)count,
-           (unsigned long long)first);
+    if (done != count && !is_interrupted) bad = 1;
+    printf("%llu damaged inputs, seed %llu:", (unsigned long long)done, (unsigned long long)first);
     for (int status = 0; status < STATUSES; status++)
         if (all[status] > 0) printf(" status %d %ld,", status, all[status]);
     printf(" wrong %ld\n", all[WRONG]);

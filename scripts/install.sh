@@ -131,10 +131,13 @@ write_beside() {
     chmod 755 -- "$@" || give_up "$prefix cannot be written"
 }
 
-# Takes away what was kept of files that were replaced.
+# Takes away what was kept of files that were replaced, and what somebody has put where files are
+# written: a link there would lead elsewhere.
 forget_old() {
     set --
-    for file in $list $files; do set -- "$@" "$prefix/$file.handref-old"; done
+    for file in $list $files; do
+        set -- "$@" "$prefix/$file.handref-old" "$prefix/$file.handref-new"
+    done
     rm -f -- "$@" 2>/dev/null || give_up "$prefix cannot be written"
 }
 
@@ -191,7 +194,7 @@ undo_install() {
             rm -f "$prefix/$file"
         fi
     done
-    for file in $list $files; do rm -f "$prefix/$file.handref-new"; done
+    for file in $list $files; do rm -f "$prefix/$file.handref-new" 2>/dev/null; done
     printf '%s' "$made" | while IFS= read -r folder; do rmdir -- "$folder" 2>/dev/null; done
 }
 

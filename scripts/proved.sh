@@ -73,6 +73,14 @@ look() {
     kind='' program=$kept/handref
     if [ -f "$release" ] && [ ! -f "$kept/built" ] && can_keep; then unpack_under "$kept"; fi
     begin_note
+    find_proved
+    found=$?
+    [ "$found" -ne 0 ] || [ -n "${stays-}" ] || note
+    rm -f "$kept/began.$$" 2>/dev/null
+    return "$found"
+}
+
+find_proved() {
     sum_sources || return 1
     if is_marked "$kept/handref" "$kept/built"; then
         kind=built
@@ -93,7 +101,6 @@ look() {
             why='these sources are not those of the release and have no proof here'
         return 1
     fi
-    [ -n "${stays-}" ] || note
 }
 
 # A note of what was found has the time at which the look began: what is written later is seen. Two
@@ -111,7 +118,6 @@ note() {
     printf '%s\n%s\n' "$kind" "$program_sum" >"$kept/checked.$$" &&
         touch -r "$kept/began.$$" "$kept/checked.$$" &&
         mv -f "$kept/checked.$$" "$kept/checked" || rm -f "$kept/checked.$$" "$kept/checked"
-    rm -f "$kept/began.$$"
 } 2>/dev/null
 
 # The version of this tree.

@@ -23,7 +23,7 @@ run_program() {
         ended=$?
     fi
     if [ "$ended" -eq 2 ] && [ -t 2 ] && ! wanted "$@"; then
-        printf 'handref: %s (%s)\n' "$slip" "${help_is-handref --help}" >&2
+        printf 'handref: %s (%s)\n' "$slip" "${help_is-handref --help}" | shown >&2
     fi
     [ "$ended" -le 128 ] || die_of "$ended"
     exit "$ended"

@@ -16,12 +16,13 @@ commands='check replay report convert game load views options session equity jud
 options_of() {
     needs='' may='' flags=''
     case $1 in
-    check | replay | report) needs=from may=game ;;
+    check | report) needs=from may=game ;;
+    replay) needs=from may=game flags=each ;;
     convert) needs='from to' may=game flags=drop-notes ;;
     game) needs=from ;;
     load) needs='seed hands' ;;
     judge) needs=from may=game flags=lines ;;
-    options) needs='from hand after' may=game ;;
+    options) needs='from hand' may='game after' flags=each ;;
     views) needs='from seat' may=game ;;
     session) needs=from may=game ;;
     equity) needs='from hand street' may=game ;;
@@ -38,14 +39,15 @@ handref: a converter and referee of recorded poker hands
   handref check   --from FORMAT [--game FILE] < HANDS    final stacks of each hand, or the first fault
   handref judge   --from FORMAT [--game FILE] [--lines] < HANDS
                                                          one line per hand: legal, or its first fault
-  handref replay  --from FORMAT [--game FILE] < HANDS    each hand step by step
+  handref replay  --from FORMAT [--game FILE] [--each] < HANDS
+                                                         each hand step by step
   handref report  --from FORMAT [--game FILE] < HANDS    hands and pots of each game, net chips of each player
   handref session --from FORMAT [--game FILE] < HANDS    each player's stack and counts over all hands
   handref convert --from FORMAT --to FORMAT [--game FILE] [--drop-notes] < HANDS
                                                          the same hands in another notation
   handref compare --from FORMAT --with FILE --as FORMAT [--game FILE] [--no-notes] < HANDS
                                                          whether two files have the same hands
-  handref options --from FORMAT --hand H --after E [--game FILE] < HANDS
+  handref options --from FORMAT --hand H [--after E] [--each] [--game FILE] < HANDS
                                                          the legal moves after event E of hand H (0: at the start)
   handref equity  --from FORMAT --hand H --street S [--game FILE] < HANDS
                                                          how often each live hand wins, over all boards to come
@@ -66,6 +68,7 @@ FORMAT  phh     Poker Hand History (.phh and .phhs files)
         acpc    a log of the Annual Computer Poker Competition
 
 --game FILE     the game file; needed for acpc, and only for acpc
+--each          answers for each hand by itself: a refused hand up to its refused event; without --after always so
 --lines         names the line of the file on which each hand begins; not for phh
 --drop-notes    leaves out names, dates and other notes that cannot be written in the other notation
 --with FILE     the other file for compare; --as FORMAT is its notation

@@ -1,7 +1,9 @@
 -- Tables of SQLite from the TSV that handref writes, in the folder of these files:
 --   handref many judge  --tsv PATH.. > judge.tsv
 --   handref many replay --tsv PATH.. > replay.tsv
-.mode tabs
+-- `.mode tabs` would take quotation marks in names of files for its own.
+.mode ascii
+.separator "\t" "\n"
 .import judge.tsv verdicts
 .import replay.tsv steps
 create index steps_of on steps (file, hand);
