@@ -25,6 +25,10 @@ class Answer:
     rows: list[list[Any]] = field(default_factory=list)
     is_killed: bool = False  # by a signal, which may come of an interrupt: it is tried again
 
+    def is_done(self, call: "Call") -> bool:
+        """Whether nothing was said but verdicts that are part of the answer."""
+        return all(call.is_verdict(status) for _, _, status, _ in self.told)
+
 
 @dataclass
 class Call:
@@ -35,6 +39,11 @@ class Call:
     drop_notes: bool = False
     keep_going: bool = False
     layout: str = "each"  # of convert: each file, one of all (join), or one for each hand (split)
+    each: bool = False  # of replay: a refused hand up to there, in place of a refused file
+
+    def is_verdict(self, status: int) -> bool:
+        """Whether a hand that is refused is part of the answer, and does not end the call."""
+        return status == 1 and (self.command == "judge" or self.each)
 
 
 def key(region: Region) -> str:

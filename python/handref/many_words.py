@@ -57,6 +57,9 @@ def _task(command: argparse.ArgumentParser, name: str) -> None:
         form.add_argument("--json", action="store_true", help="a line of JSON for each row")
         form.add_argument("--tsv", action="store_true",
                           help="columns with tabs between, and a first line with their names")
+    if name == "replay":
+        option("--each", action="store_true",
+               help="each hand by itself: a refused one up to there, and then its verdict")
     option("-j", "--jobs", type=int, metavar="N", help="pieces at a time; else the processors")
     option("-k", "--keep-going", action="store_true",
            help="goes on after a file that is refused")
@@ -80,7 +83,8 @@ def run_many(given: argparse.Namespace) -> int:
     form = "json" if getattr(given, "json", False) else \
         "tsv" if getattr(given, "tsv", False) else "text"
     call = Call(given.task, given.game, getattr(given, "to", None),
-                getattr(given, "drop_notes", False), given.keep_going, layout)
+                getattr(given, "drop_notes", False), given.keep_going, layout,
+                getattr(given, "each", False))
     # What is refused is a part of the answer of check where all of it is wanted.
     is_said = given.keep_going and given.task in ("check", "convert")
     told = sys.stdout if is_said else sys.stderr

@@ -27,6 +27,7 @@ class Done:
     parts: list[Part] = field(default_factory=list)
     rows: list[list[Any]] = field(default_factory=list)  # of each piece
     told: list[tuple[Optional[int], Optional[int], int, str]] = field(default_factory=list)
+    is_refused: bool = False  # for more than verdicts that are part of the answer
     hands: int = 0
 
 
@@ -102,21 +103,24 @@ def put_replays(rows: Rows, done: Done) -> None:
     """The rows of the replays of a file."""
     for part in done.parts:
         with open(part.path, encoding="utf-8", newline="\n") as file:
-            for text in _each_hand(file):
-                hand = handref._replayed(text.partition(" ")[2])
-                number = hand.hand + part.hands_before
-                for row in tables.replay_rows(hand):
-                    rows.put({"file": done.source.name or done.source.path, **row, "hand": number})
+            for text in _each_hand(file, part.hands_before):
+                for row in tables.replay_rows(handref._replayed(text.partition(" ")[2])):
+                    rows.put({"file": done.source.name or done.source.path, **row})
                 if rows.form == "text":
-                    head = re.sub(r"\Ahand \d+", f"hand {number}", text)
-                    rows.output.write(f"{done.source.shown}: {head}")
+                    for line in text.splitlines(keepends=True):
+                        is_of_hand = line.startswith("hand ")  # its first line, and its verdict
+                        rows.output.write(f"{done.source.shown}: " * is_of_hand + line)
         os.remove(part.path)
 
 
-def _each_hand(file: Any) -> Iterator[str]:
+def _each_hand(file: Any, before: int) -> Iterator[str]:
+    """The text of each hand of a replay, with the number of the hand in the whole file."""
     kept: list[str] = []
     for line in file:
-        if line.startswith("hand ") and kept:
+        said = re.match(r"hand (\d+)([ :])", line)
+        if said:
+            line = f"hand {int(said[1]) + before}{line[said.start(2):]}"
+        if said and said[2] == " " and kept:
             yield "".join(kept)
             kept = []
         kept.append(line)

@@ -57,18 +57,25 @@ def tsv_line(row: Iterable[Value]) -> str:
                      else escaped(value) for value in row) + "\n"
 
 
-def rows(command: Command, hands: Hands, notation: Notation, game: Game = None) \
-        -> list[dict[str, Value]]:
-    """What a command says of hands, a dictionary for each row. ValueError: no such command."""
+def rows(command: Command, hands: Hands, notation: Notation, game: Game = None,
+         each: bool = False) -> list[dict[str, Value]]:
+    """What a command says of hands, a dictionary for each row. With `each`, which only replay has,
+    a refused hand has the rows up to there, and one with its verdict. ValueError: no such
+    command."""
     if command not in COLUMNS:
         raise ValueError(f"{command!r} has no rows: {', '.join(COLUMNS)} have")
-    return list(_TABLES[command](hands, notation, game))
+    if each and command != "replay":
+        raise ValueError(f"{command} has no each: replay has it")
+    return list(_replay(hands, notation, game, each) if command == "replay" else
+                _TABLES[command](hands, notation, game))
 
 
-def frame(command: Command, hands: Hands, notation: Notation, game: Game = None) -> Any:
+def frame(command: Command, hands: Hands, notation: Notation, game: Game = None,
+          each: bool = False) -> Any:
     """The same as a data frame of pandas. ImportError: pandas is not installed."""
     pandas: Any = importlib.import_module("pandas")
-    found = pandas.DataFrame(rows(command, hands, notation, game), columns=list(COLUMNS[command]))
+    found = pandas.DataFrame(rows(command, hands, notation, game, each),
+                             columns=list(COLUMNS[command]))
     texts = {"verdict", "reason", "place", "said", "kind", "name", "variant", "text"}
     return found.astype({name: "string" if name in texts else "Int64" for name in found.columns})
 
@@ -134,13 +141,14 @@ def _changes(hands: Hands, notation: Notation, game: Game) -> Table:
         yield dict(vars(row))
 
 
-def _replay(hands: Hands, notation: Notation, game: Game) -> Table:
-    for hand in handref.replay(hands, notation, game):
+def _replay(hands: Hands, notation: Notation, game: Game, each: bool) -> Table:
+    for hand in handref.replay(hands, notation, game, each):
         yield from replay_rows(hand)
 
 
 def replay_rows(hand: handref.Replay) -> Table:
-    """A row for each event and seat; then what each seat gets, and what it ends with."""
+    """A row for each event and seat; then what each seat gets, and what it ends with. What is wrong
+    with a refused hand is the text of its last row, which has no seat."""
     def row(text: str, seat: Optional[int], event: Optional[int] = None, **more: int) \
             -> dict[str, Value]:
         found: dict[str, Value] = dict.fromkeys(COLUMNS["replay"])
@@ -160,7 +168,9 @@ def replay_rows(hand: handref.Replay) -> Table:
             yield row(f"rake {number}", None, chips=pot.rake)
     for seat, stack in enumerate(hand.finish, 1):
         yield row("finish", seat, stack=stack)
+    if hand.refused:
+        yield row(hand.refused.line, None)
 
 
 _TABLES = {"check": _check, "judge": _judge, "report": _report, "session": _session,
-           "changes": _changes, "replay": _replay}
+           "changes": _changes}

@@ -66,11 +66,16 @@ def judged(region: Region, call: Call) -> Answer:
         raise UnclearOutput(0, "the output of judge is cut", file=source.path)
     answer.legal, answer.hands = int(end[1]), int(end[2])
     if answer.legal < answer.hands:
-        places = tables.lines_of(data) if source.notation == "acpc" else []
-        for hand, why in re.findall(rb"^hand (\d+): (?!legal$)(.*)$", text, re.M):
-            answer.told.append((int(hand), places[int(hand) - 1] if places else None, 1,
-                                f"refused: hand {int(hand)}: {why.decode()}"))
+        _tell_refused(answer, text, data, source)
     return answer
+
+
+def _tell_refused(answer: Answer, text: bytes, data: bytes, source: Source) -> None:
+    """Notes the verdicts on the hands that are refused, with their lines in a log."""
+    places = tables.lines_of(data) if source.notation == "acpc" else []
+    for hand, why in re.findall(rb"^hand (\d+): (?!legal$)(.*)$", text, re.M):
+        answer.told.append((int(hand), places[int(hand) - 1] if places else None, 1,
+                            f"refused: hand {int(hand)}: {why.decode()}"))
 
 
 def _told_apart(data: bytes, region: Region, call: Call, error: NotDone, answer: Answer) -> Answer:
@@ -118,10 +123,14 @@ def _converted(region: Region, call: Call, data: bytes, answer: Answer, part: st
 def _replayed(region: Region, call: Call, data: bytes, answer: Answer, part: str) -> None:
     """Keeps the replay of a piece as it is."""
     source = region.source
-    text = handref.run(["replay", "--from", source.notation, *_game(source, call)], data)
-    if not (re.search(rb"\nfinish( \d+)+\n\Z", text) if text else _is_empty(region, call, data)):
+    words = ["replay", "--from", source.notation, *_game(source, call), *["--each"] * call.each]
+    text = handref.run(words, data)
+    end = rb"\n(finish( \d+)+|hand \d+: .+)\n\Z" if call.each else rb"\nfinish( \d+)+\n\Z"
+    if not (re.search(end, text) if text else _is_empty(region, call, data)):
         raise UnclearOutput(0, "the output of replay is cut", file=source.path)
-    answer.hands = answer.legal = len(re.findall(rb"^hand ", text, re.M))
+    answer.hands = len(re.findall(rb"^hand \d+ ", text, re.M))
+    _tell_refused(answer, text, data, source)
+    answer.legal = answer.hands - len(answer.told)
     _write(part, text)
 
 

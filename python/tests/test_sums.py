@@ -45,7 +45,8 @@ class Case(unittest.TestCase):
         """The result of a call, and what it writes to the standard output."""
         self.told, written = [], io.BytesIO()
         layout = more.pop("layout", "each")
-        call = Call(command, MATCH, more.pop("to", None), False, keep_going, layout)
+        call = Call(command, MATCH, more.pop("to", None), False, keep_going, layout,
+                    more.pop("each", False))
         asked = many.Asked(jobs=2, tell=self.told.append, form=form, stdout=written, **more)
         result = many.run([str(path) for path in paths], call, asked, None, str(out))
         return result, written.getvalue().decode()
@@ -125,6 +126,85 @@ class Sums(Case):
                           for row in handref.rows("replay", path, "phh")],
                          [{key: row[key] for key in (*tables.COLUMNS["replay"], "file")}
                           for row in rows])
+
+    def refused_log(self, name="match.log"):
+        """A log of some pieces, of whose 24 hands two are refused."""
+        lines = ((EXAMPLES / "match.acpc").read_text() * 12).split("\n")
+        for place in (13, 41):
+            self.assertIn("r300", lines[place])
+            lines[place] = lines[place].replace("r300", "r150")
+        log = self.folder / name
+        log.write_text("\n".join(lines))
+        return log
+
+    def test_replay_each(self):
+        """A refused hand is shown as one call of the program shows it, with its number."""
+        log = self.refused_log()
+        own = handref.run(["replay", "--each", "--from", "acpc", "--game", MATCH], log).decode()
+        with mock.patch.object(sources, "PIECE", 300):
+            self.assertGreater(len(list(sources.regions(sources.sources([str(log)])[0][0]))), 5)
+            result, text = self.run_("replay", log, each=True)
+            _, rows = self.run_("replay", log, each=True, form="json")
+        self.assertEqual(text.replace(f"{log}: hand ", "hand "), own)
+        self.assertEqual(text.count(f"{log}: hand "), 24 + 2)
+        self.assertEqual((result.status, result.hands, result.legal, self.told), (1, 24, 22, []))
+        self.assertEqual([json.loads(line) for line in rows.split("\n")[:-1]],
+                         [{"file": str(log), **row} for row in handref.rows(
+                             "replay", log, "acpc", MATCH, each=True)])
+        result, text = self.run_("replay", log)
+        self.assertEqual((result.status, text, len(self.told)), (1, "", 1))
+
+    def test_replay_each_of_what_does_not_read(self):
+        """A file that does not read has no rows, and ends the call as without --each."""
+        log, wrong = self.refused_log(), EXAMPLES / "fraction.phh"
+        for paths in ((log, wrong), (wrong, log)):
+            result, text = self.run_("replay", *paths, each=True)
+            self.assertEqual((result.status, text, len(self.told)), (3, "", 1))
+            result, text = self.run_("replay", *paths, each=True, keep_going=True)
+            self.assertEqual(text.count("RaiseTooSmall\n"), 2)
+            self.assertEqual((result.status, result.legal_files, len(self.told)), (3, 0, 1))
+        lines = log.read_text().split("\n")
+        log.write_text("\n".join(lines[:30] + ["STATE:x"] + lines[30:] + ["STATE:y"]))
+        with mock.patch.object(sources, "PIECE", 300):
+            result, text = self.run_("replay", log, each=True, keep_going=True)
+        self.assertEqual((result.status, text), (3, ""))
+        self.assertEqual(len(self.told), 1)
+        self.assertIn("line 31, byte", self.told[0])
+
+    def test_replay_each_goes_on(self):
+        """Pieces that a journal has are not replayed again, and are not mixed with others."""
+        log, journal = self.refused_log(), str(self.folder / "journal")
+        with mock.patch.object(sources, "PIECE", 300):
+            whole = self.run_("replay", log, each=True)
+            for shard in (1, 2):
+                self.run_("replay", log, each=True, journal=journal, shard=(shard, 2))
+            with mock.patch.object(handref, "run", side_effect=AssertionError):
+                again = self.run_("replay", log, each=True, journal=journal)
+            self.assertEqual(again, whole)
+            with self.assertRaisesRegex(ValueError, "the journal of another call"):
+                self.run_("replay", log, journal=journal)
+
+    def test_status_of_verdicts(self):
+        """With status 1 each hand has a verdict; else the status says why some have none."""
+        wrong = EXAMPLES / "small_raise.phh", EXAMPLES / "fraction.phh"
+        self.assertEqual(self.run_("judge", wrong[0])[0].status, 1)
+        self.assertEqual(self.run_("judge", *wrong)[0].status, 3)
+        self.assertEqual(self.run_("judge", *wrong, keep_going=True)[0].status, 3)
+        self.assertEqual(self.run_("check", *wrong, keep_going=True)[0].status, 1)
+
+    def test_rows_each(self):
+        rows = handref.rows("replay", EXAMPLES / "small_raise.phh", "phh", each=True)
+        self.assertEqual([row["event"] for row in rows if row["seat"] == 1], [0, 1, 2, 3])
+        self.assertEqual({name: value for name, value in rows[-1].items() if value is not None},
+                         {"hand": 1, "variant": "NT",
+                          "text": "refused: hand 1: event 4, action 4: RaiseTooSmall"})
+        legal = EXAMPLES / "folds.phh"
+        self.assertEqual(handref.rows("replay", legal, "phh", each=True),
+                         handref.rows("replay", legal, "phh"))
+        with self.assertRaises(handref.Refused):
+            handref.rows("replay", EXAMPLES / "small_raise.phh", "phh")
+        with self.assertRaisesRegex(ValueError, "judge has no each"):
+            handref.rows("judge", legal, "phh", each=True)
 
 
 class Documents(Case):
