@@ -282,6 +282,32 @@ class Packed(Case):
                 list(phhs.bounded(io.BytesIO(text.replace(b"\n", b"x").replace(b"[", b"x") * 20),
                                   ends, ""))
 
+    def test_no_hand_for_long(self):
+        """Where no hand ends within the limit, a long file is not read further."""
+        log, hand = (EXAMPLES / "match.acpc").read_bytes(), (EXAMPLES / "rake.ohh").read_bytes()
+        for notation, one, idle in (("acpc", log, b"# nothing\n\n"), ("ohh", hand + b"\n\n", b"\n"),
+                                    ("ohh", hand + b"\n\n", b" \r\n")):
+            with mock.patch.object(handref, "MOST_BYTES", 4000):
+                some, many = idle * (1500 // len(idle)), idle * (5000 // len(idle))
+                found = list(handref.pieces((one + some) * 9, notation))
+                self.assertEqual(b"".join(piece.data for piece in found).strip(),
+                                 ((one + some) * 9).strip())
+                with self.assertRaises(handref.NotDone) as caught:
+                    list(handref.pieces(one + many + one, notation))
+                self.assertEqual((caught.exception.status, caught.exception.line),
+                                 (7, "limit: input bytes 4000"))
+
+    def test_help_to_a_full_device(self):
+        """A help that cannot be written ends as other output does."""
+        for words in (("--help",), ("page", "--help"), ("many", "check", "--help")):
+            for unbuffered in ("", "1"):
+                with open("/dev/full", "wb") as full:
+                    done = subprocess.run(
+                        [sys.executable, "-m", "handref", *words], stdout=full,
+                        stderr=subprocess.PIPE, env={**os.environ, "PYTHONUNBUFFERED": unbuffered,
+                                                     "PYTHONPATH": str(HERE.parent)})
+                self.assertEqual((done.returncode, done.stderr), (6, b"write fault\n"))
+
     def test_bomb(self):
         """A packed file of any size takes no more than an input may, and some."""
         for name, text in (("line.acpc", b"x" * 1_000_000), ("blank.ohh", b"\n" * 1_000_000),
