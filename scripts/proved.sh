@@ -132,7 +132,10 @@ version_line() {
         echo "handref $(value_of "$release" version), proved; released program, sha256 $program_sum"
         ;;
     built) echo "handref $(version_here), proved; own build, sha256 $program_sum" ;;
-    *) echo "handref $(version_here); $why" ;;
+    *)
+        own=$(version_here)
+        echo "handref${own:+ $own}; $why"
+        ;;
     esac
 }
 
