@@ -16,7 +16,9 @@ from handref import Notation, Piece, cut, phhs
 # takes 17 bytes or more, a move one. A hand of OHH or PHH that has a move takes far more.
 PIECE = 1 << 20
 _BLANK = re.compile(rb"\n[ \t\r]*\n")
-_LINE_END = re.compile(rb"\n")
+# A hand of OHH ends here, and a line of a hand of a log begins: not an empty line or a comment.
+_HAND_END = re.compile(rb"[^ \t\r\n][ \t\r]*\n[ \t\r]*\n")
+_HAND_LINE = re.compile(rb"\n(?!#|SCORE:|\r?\n)(?=[\s\S]{6})")
 _PHH = re.compile(rb"(\A|\n)[ \t]*variant[ \t]*=[ \t]*[\"']")
 _OHH = re.compile(rb"\s*[\[{]\s*(\{\s*)?\"ohh\"\s*:")
 _LOG = re.compile(rb"(?:(?:#|SCORE:)[^\n]*\n|\r?\n)*STATE:\d*:")
@@ -96,7 +98,7 @@ def _standard_input(notation: Optional[Notation]) -> Source:
         raise ValueError("standard input: --from says which notation it is")
     file = tempfile.NamedTemporaryFile(prefix="handref-")
     _HELD.append(file)
-    ends = {"phh": phhs.NUMBER, "acpc": _LINE_END}.get(notation, _BLANK)
+    ends = {"phh": phhs.NUMBER, "acpc": _HAND_LINE}.get(notation, _HAND_END)
     for block in phhs.bounded(sys.stdin.buffer, ends, "standard input"):
         file.write(block)
     file.flush()
@@ -281,15 +283,17 @@ def _end_of_hand(file: BinaryIO, place: int, source: Source) -> int:
 
 
 def _blocks(file: gzip.GzipFile, notation: Notation) -> Iterator[bytes]:
-    """What a packed file holds, cut in the same way."""
+    """What a packed file holds, cut in the same way. Where no hand ends within the limit, it is one
+    piece that is too long, and what follows is not looked at."""
     kept = b""
     while block := file.read(PIECE):
         kept += block
-        place = kept.rfind(b"\n") + 1
         if len(kept) > handref.MOST_BYTES:
-            break  # what follows the limit is not looked at
-        if notation != "acpc":
-            place = max((match.end() for match in _BLANK.finditer(kept)), default=0)
+            break
+        if notation == "acpc":
+            place = kept.rfind(b"\n") + 1 if _HAND_LINE.search(b"\n" + kept) else 0
+        else:
+            place = max((match.end() for match in _HAND_END.finditer(kept)), default=0)
         if place:
             yield kept[:place]
             kept = kept[place:]

@@ -275,7 +275,8 @@ class Packed(Case):
         """An end of a hand is seen where a block ends in the middle of it."""
         size = 1 << 20
         for ends, text in ((phhs.NUMBER, b"1" + b"x" * (size - 2) + b"["),
-                           (sources._BLANK, b"\n" + b"x" * (size - 2) + b"\n")):
+                           (sources._HAND_END, b"\n" + b"x" * (size - 2) + b"\n"),
+                           (sources._HAND_LINE, b"\n" + b"x" * (size - 2) + b"\n")):
             self.assertEqual(sum(map(len, phhs.bounded(io.BytesIO(text * 20), ends, ""))),
                              20 * size)
             with self.assertRaises(handref.NotDone):
@@ -296,6 +297,14 @@ class Packed(Case):
                     list(handref.pieces(one + many + one, notation))
                 self.assertEqual((caught.exception.status, caught.exception.line),
                                  (7, "limit: input bytes 4000"))
+                ends = {"acpc": sources._HAND_LINE}.get(notation, sources._HAND_END)
+                with mock.patch.object(sources, "PIECE", 1000), \
+                        io.BytesIO(one + idle * 9000 + one) as file:
+                    found = list(sources._blocks(file, notation))
+                    self.assertEqual([len(data) > 4000 for data in found], [False, True])
+                    self.assertLess(file.tell(), 10_000)
+                with self.assertRaises(handref.NotDone):
+                    list(phhs.bounded(io.BytesIO(one + idle * 3_000_000), ends, ""))
 
     def test_help_to_a_full_device(self):
         """A help that cannot be written ends as other output does."""
