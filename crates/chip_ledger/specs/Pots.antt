@@ -35,15 +35,15 @@ dead_chips dead_antes antes = if dead_antes then sum antes else 0
 -- the most that any other seat put, folded seats included
 abbrev pub greatest_other : List Stake → ℕ → ℕ
 greatest_other stakes seat =
-    greatest (map (λ s. s.chips) (filter (λ s. not (s.seat == seat)) stakes))
+    greatest (map (λ stake. stake.chips) (filter (λ stake. not (stake.seat == seat)) stakes))
 
 -- what a seat gets back: the chips by which a live seat put more than every other seat
 abbrev pub returned : List Stake → Stake → ℕ
-returned stakes s = if s.live then s.chips - greatest_other stakes s.seat else 0
+returned stakes stake = if stake.live then stake.chips - greatest_other stakes stake.seat else 0
 
 -- a seat's stake without what is returned
 abbrev pub kept : List Stake → Stake → Stake
-kept stakes s = record s { chips = s.chips - returned stakes s }
+kept stakes stake = record stake { chips = stake.chips - returned stakes stake }
 
 -- the stakes after the return
 unfoldable pub after_return : List Stake → List Stake
@@ -61,19 +61,22 @@ different xs = fold with_number [] xs
 
 -- the levels: the different amounts above 0 that live seats put, ascending
 unfoldable pub levels : List Stake → List ℕ
-levels stakes = different (map (λ s. s.chips) (filter (λ s. s.live && nat_lt 0 s.chips) stakes))
+levels stakes =
+    different
+    (map (λ stake. stake.chips) (filter (λ stake. stake.live && nat_lt 0 stake.chips) stakes))
 
 -- the chips of every seat above one level and up to the next
 abbrev pub between : List Stake → ℕ → ℕ → ℕ
-between stakes below level = sum_by (λ s. min s.chips level - below) stakes
+between stakes below level = sum_by (λ stake. min stake.chips level - below) stakes
 
 -- the chips of folded seats above a level
 abbrev pub folded_above : List Stake → ℕ → ℕ
-folded_above stakes level = sum_by (λ s. if s.live then 0 else s.chips - level) stakes
+folded_above stakes level = sum_by (λ stake. if stake.live then 0 else stake.chips - level) stakes
 
 -- the live seats that reach a level
 abbrev pub reaching : List Stake → ℕ → List ℕ
-reaching stakes level = map (λ s. s.seat) (filter (λ s. s.live && nat_le level s.chips) stakes)
+reaching stakes level =
+    map (λ stake. stake.seat) (filter (λ stake. stake.live && nat_le level stake.chips) stakes)
 
 -- the chips above a level that join the pot of this level: those of folded seats, if this is the
 -- last level
@@ -97,14 +100,16 @@ with_dead dead (pot ∷ pots) = record pot { chips = pot.chips + dead } ∷ pots
 
 -- whether every live seat reaches a level
 abbrev pub is_reached_by_all : List Stake → ℕ → Bool
-is_reached_by_all stakes level = list_all (λ s. not s.live || nat_le level s.chips) stakes
+is_reached_by_all stakes level =
+    list_all (λ stake. not stake.live || nat_le level stake.chips) stakes
 
 -- the pots with the dead chips, empty pots included: the dead chips are a pot of their own for all
 -- live seats, or join the first pot if all live seats may win it; without levels all chips are in
 -- one pot
 unfoldable pub pots_at : List Stake → ℕ → List ℕ → List PlainPot
 pots_at stakes dead [] =
-    record { chips = sum_by (λ s. s.chips) stakes + dead; eligible = reaching stakes 0 } ∷ []
+    record { chips = sum_by (λ stake. stake.chips) stakes + dead; eligible = reaching stakes 0 }
+    ∷ []
 pots_at stakes dead (first ∷ rest) =
     if is_reached_by_all stakes first
     then with_dead dead (layers stakes 0 (first ∷ rest))

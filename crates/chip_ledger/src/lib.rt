@@ -3,6 +3,7 @@
 
 pub mod live_row;
 pub mod numbers;
+pub mod player_count;
 pub mod pots;
 pub mod rakes;
 pub mod seat_row;
@@ -11,6 +12,7 @@ pub mod sums;
 
 pub use live_row::LiveRow;
 pub use numbers::{Chips, MOST_CHIPS, Seat};
+pub use player_count::PlayerCount;
 pub use pots::{Pot, PotRow};
 pub use rakes::RakeRow;
 pub use seat_row::{MOST_AMOUNT, SeatRow};

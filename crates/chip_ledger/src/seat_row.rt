@@ -3,6 +3,7 @@ ghost use Rattle.std.specs.Prelude.{◌≡◌, ◌≢◌, ℕ, ◌≤◌, length
 ghost use Rattle.chip_ledger.specs.declared.seat_row.TheConstants.{MOST_AMOUNT};
 
 use crate::numbers::Seat;
+use crate::player_count::PlayerCount;
 
 /// The greatest amount of one seat in a row, in chips.
 pub const MOST_AMOUNT: u64 = 10_000_000_000_000;
@@ -20,7 +21,7 @@ pub struct SeatRow {
 }
 
 impl SeatRow {
-    ghost use Rattle.chip_ledger.specs.SeatRow.{amount_of};
+    ghost use Rattle.chip_ledger.specs.SeatRow.{amount_of, amounts_in};
 
     /// A row of `seats` seats, each with the amount 0.
     pub fn new(seats: u8) -> Self
@@ -35,11 +36,25 @@ impl SeatRow {
         }
     }
 
+    /// How many players the row has an amount for.
+    pub fn players(&self) -> PlayerCount
+        ensures { result.number ≡ self.now.seats }
+    {
+        PlayerCount { number: self.seats }
+    }
+
     /// The seat's amount; 0 after the last seat.
     pub fn get(&self, seat: Seat) -> u64
         ensures { result ≡ amount_of self.now seat.number }
     {
         self.amounts[seat.number as usize - 1]
+    }
+
+    /// The amounts of the seats, seat 1 first.
+    pub fn as_slice(&self) -> &[u64]
+        ensures { result.now ≡ amounts_in self.now }
+    {
+        &self.amounts[..self.seats as usize]
     }
 
     /// Gives the seat this amount.

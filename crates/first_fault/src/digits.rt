@@ -1,11 +1,12 @@
 //! Reads a number from decimal digits; leading zeros are allowed.
 ghost use Rattle.std.specs.Prelude.{◌≡◌, ◌≤◌, IsTrue};
-ghost use Rattle.first_fault.specs.Digits.{are_digits as are_digits_said, number_of};
+ghost use Rattle.first_fault.specs.Digits.{number_of};
+ghost use Rattle.first_fault.specs.Digits as decimal;
 
 /// Whether the text is one or more decimal digits.
 #[tactic(auto, unfolding(crate::specs::Digits::are_digits))]
 pub fn are_digits(text: &[u8]) -> bool
-    ensures { result ≡ are_digits_said text.now }
+    ensures { result ≡ decimal.are_digits text.now }
 {
     if text.is_empty() {
         return false;
@@ -22,7 +23,7 @@ pub fn are_digits(text: &[u8]) -> bool
 /// digits.
 #[tactic(auto, unfolding(crate::specs::Digits::number_of, crate::specs::Digits::are_digits))]
 pub fn read_digits(digits: &[u8], most: u64) -> Option<u64>
-    requires digits { IsTrue (are_digits_said digits.now) }
+    requires digits { IsTrue (decimal.are_digits digits.now) }
     requires small { most ≤ 1000000000000000000 }
     ensures { result ≡ number_of most digits.now }
 {

@@ -9,7 +9,7 @@ mod stop;
 mod text;
 mod words;
 
-pub use bounds::{has_count, in_range};
+pub use bounds::{has_count, in_range, saturating_u32};
 pub use digits::{are_digits, read_digits};
 pub use limits::{MOST_FILE_MOVES, MOST_HANDS, MOST_TEXT_BYTES, Quantity};
 pub use stop::ReadError;

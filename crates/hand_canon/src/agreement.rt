@@ -1,10 +1,10 @@
 //! Finds the first stated fact that differs from the trace, with both numbers.
-ghost use Rattle.std.specs.Prelude.{◌≡◌, ◌≤◌, ◌*◌, find, option_map, pos};
+ghost use Rattle.std.specs.Prelude.{◌≡◌, ◌≤◌, ◌*◌, ◌^◌, find, option_map, pos};
 ghost use Rattle.std.specs.Option.{ForSome};
 ghost use Rattle.std.specs.Result.{result_err};
 ghost use Rattle.chip_ledger.specs.SeatRow.{amount_of};
 ghost use Rattle.chip_ledger.specs.declared.seat_row.TheConstants.{MOST_AMOUNT};
-ghost use Rattle.hand_canon.specs.Agreement.{HasBoundedPots, comparison, difference_of, difference_said, finish_compared, first_difference, is_different, row_compared, total_compared, value_compared, value_of, which_said, win_compared, win_of};
+ghost use Rattle.hand_canon.specs.Agreement.{HasBoundedPots, comparison, difference_of, difference_said, finish_compared, first_difference, is_different, pot_total_of, row_compared, total_compared, value_compared, value_of, which_said, win_compared, win_of};
 ghost use Rattle.hand_records.specs.SoundRecord.{IsStatedFor};
 
 use chip_ledger::{Seat, SeatRow};
@@ -137,6 +137,18 @@ fn differing_total(trace: &Trace, total: Option<u64>) -> Option<FactDiffers>
         all += pot.chips;
     }
     compare(Which::Pots, signed(total), signed(all))
+}
+
+/// All pots of a hand together, not counting returned chips.
+pub fn pot_total(trace: &Trace) -> u128
+    ensures sum { result ≡ pot_total_of trace.now }
+    ensures few { result ≤ 11 * 2 ^ 64 }
+{
+    let mut all: u128 = 0;
+    for pot in &trace.pots.pots[..trace.pots.count as usize] {
+        all += u128::from(pot.chips);
+    }
+    all
 }
 
 // Chips as a signed number.

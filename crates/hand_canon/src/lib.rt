@@ -9,7 +9,7 @@ mod gathered;
 mod numbered;
 mod streets;
 
-pub use agreement::{FactDiffers, Which, check_stated};
+pub use agreement::{FactDiffers, Which, check_stated, pot_total};
 pub use canonical::{canon, named_move};
 pub use first_fault::{Quantity, Text};
 pub use folds::folds_before;

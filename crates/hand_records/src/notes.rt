@@ -1,8 +1,9 @@
 //! Notes are what a record says of a hand besides its play: who played it, where and when.
 ghost use Rattle.std.specs.Prelude.{◌≡◌, ◌≢◌, ◌≤◌, IfSome, option_map, take};
 ghost use Rattle.std.specs.List.{range_with_len};
-ghost use Rattle.chip_ledger.specs.SeatsSaid.{default_name as default_said};
-ghost use Rattle.hand_records.specs.AllowedNotes.{AreNoNotes, name_written, non_default_seats as unless_usual_said};
+ghost use Rattle.chip_ledger.specs.SeatsSaid as seats_said;
+ghost use Rattle.hand_records.specs.AllowedNotes.{AreNoNotes, name_written};
+ghost use Rattle.hand_records.specs.AllowedNotes as allowed_notes;
 
 use chip_ledger::Seat;
 use first_fault::Text;
@@ -117,7 +118,7 @@ pub fn name_of<'a>(notes: &'a Notes, seat: Seat) -> &'a str
 // The name of a seat if none is noted.
 #[tactic(auto, using(chip_ledger::proofs::DefaultNames::short_name, chip_ledger::proofs::DefaultNames::long_name))]
 fn default_name(seat: Seat) -> &'static str
-    ensures { result.now ≡ default_said seat.number }
+    ensures { result.now ≡ seats_said.default_name seat.number }
 {
     match seat.number {
         1 => "p1",
@@ -141,7 +142,7 @@ const USUAL: [u8; 10] = [1, 2, 3, 4, 5, 6, 7, 8, 9, 10];
 pub fn non_default_seats(numbers: [u8; 10], seats: usize) -> Option<[u8; 10]>
     requires { seats ≤ 10 }
     ensures said { option_map (take seats) result
-        ≡ unless_usual_said seats (take seats numbers) }
+        ≡ allowed_notes.non_default_seats seats (take seats numbers) }
     ensures same { IfSome result (λ noted. noted ≡ numbers) }
     ensures unusual { IfSome result (λ noted. take seats noted ≢ range_with_len 1 seats) }
 {
