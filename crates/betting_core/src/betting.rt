@@ -142,7 +142,7 @@ impl<V: Variant> Betting<V> {
             → IsTurn self.now past (TheSeat seat)
             → AreEndsFor self.now (moves_of past) seat targets)) }
     {
-        if betting_due(self.numbers.due) {
+        if self.numbers.due.is_bet() {
             let turn = self.to_act(up);
             let size = self.unit();
             self.numbers.targets_of(turn, V::LIMIT, size)
@@ -172,7 +172,7 @@ impl<V: Variant> Betting<V> {
         ensures behind { IfSome result.seat
             (λ seat. IfSome result.behind (IsFirstBehind self.now seat.number)) }
     {
-        if !betting_due(self.numbers.due) {
+        if !self.numbers.due.is_bet() {
             return ToAct {
                 seat: None,
                 behind: None,
@@ -201,15 +201,5 @@ impl<V: Variant> Betting<V> {
             Size::Big => self.numbers.setup.big_bet,
             Size::Least => self.numbers.setup.min_bet,
         }
-    }
-}
-
-// A bring-in or a move is due.
-fn betting_due(due: Due) -> bool
-    ensures { result ≡ is_bet_due due }
-{
-    match due {
-        Due::BringIn | Due::Move => true,
-        Due::Deal(_) | Due::Draw(_) | Due::Show | Due::Over => false,
     }
 }

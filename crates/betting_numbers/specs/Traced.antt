@@ -15,28 +15,29 @@ use Rattle.betting_numbers.specs.Why.{is_open_by, is_legal_seen, floor_by, targe
 
 -- a raise is legal only under rules by which a raise always reopens the betting
 abbrev pub is_closed_seen : Limit → BettingState → (seat target : ℕ) → Bool
-is_closed_seen limit b seat target =
+is_closed_seen limit betting seat target =
     not
-    (is_open_by reopen.Full limit (flag_of b.moved seat) b.full_raise (unit b.setup b.street)
-    (to_call_seen b seat))
-    || not (is_legal_seen limit b (floor_by reopen.Full 0 b) seat target)
+    (is_open_by reopen.Full limit (flag_of betting.moved seat) betting.full_raise
+    (unit betting.setup betting.street)
+    (to_call_seen betting seat))
+    || not (is_legal_seen limit betting (floor_by reopen.Full 0 betting) seat target)
 
 -- the target of a raise by the bet size, in fixed limit
 abbrev pub unit_seen : Limit → BettingState → ℕ → ℕ
-unit_seen limits.Fixed b seat = target_seen b seat spelled.Unit
-unit_seen limits.Pot b seat = 0
-unit_seen limits.No b seat = 0
+unit_seen limits.Fixed betting seat = target_seen betting seat spelled.Unit
+unit_seen limits.Pot betting seat = 0
+unit_seen limits.No betting seat = 0
 
 -- the move as the trace keeps it
 abbrev pub traced_seen : Limit → BettingState → (seat : ℕ) → Act → (target : ℕ) → TracedMove
-traced_seen limit b seat act target =
+traced_seen limit betting seat act target =
     record {
-      street = b.street;
+      street = betting.street;
       seat = seat;
       act = act;
-      from = amount_of b.bets seat;
+      from = amount_of betting.bets seat;
       to = target;
-      price = current_bet_seen b;
-      closed = is_raise act && is_closed_seen limit b seat target;
-      unit_to = unit_seen limit b seat;
+      price = current_bet_seen betting;
+      closed = is_raise act && is_closed_seen limit betting seat target;
+      unit_to = unit_seen limit betting seat;
     }

@@ -22,47 +22,49 @@ HoldsUps setup up past =
 
 -- a row has the up-cards of a past that are read: who opens is asked only until a seat has moved on
 -- the street
-pub record HoldsOpeningUps (b : BettingState) (up : UpRow) (past : Past) : Type 0 where
+pub record HoldsOpeningUps (betting : BettingState) (up : UpRow) (past : Past) : Type 0 where
   -- the row has the up-cards of the past if no seat has moved on the street yet
-  pub held : b.last ≡ None → HoldsUps b.setup up past
+  pub held : betting.last ≡ None → HoldsUps betting.setup up past
 
 -- the seat can act and has an unknown up-card
 abbrev pub has_unknown_seen : BettingState → UpRow → ℕ → Bool
-has_unknown_seen b up seat = can_act_seen b seat && list_any is_unknown (ups_of up seat)
+has_unknown_seen betting up seat = can_act_seen betting seat && list_any is_unknown (ups_of up seat)
 
 -- some seat that can act has an unknown up-card
 abbrev pub has_unknown_up_card_seen : BettingState → UpRow → Bool
-has_unknown_up_card_seen b up = list_any (has_unknown_seen b up) (all_seats b.setup)
+has_unknown_up_card_seen betting up =
+    list_any (has_unknown_seen betting up) (all_seats betting.setup)
 
 -- the other seat can act and opens before this one
 abbrev pub is_before_seen : Opener → BettingState → UpRow → (seat other : ℕ) → Bool
-is_before_seen opener b up seat other =
-    can_act_seen b other
-    && is_opener_before opener (b.street == 1) (known_cards (ups_of up other))
+is_before_seen opener betting up seat other =
+    can_act_seen betting other
+    && is_opener_before opener (betting.street == 1) (known_cards (ups_of up other))
     (known_cards (ups_of up seat))
 
 -- a seat opens before each seat before which the leader opens
 abbrev pub LeadsAsWell : Opener → BettingState → UpRow → (lead other : ℕ) → Type 0
-LeadsAsWell opener b up lead other =
-    (seat : ℕ) → is_before_seen opener b up seat lead ≡ true
-    → is_before_seen opener b up seat other ≡ true
+LeadsAsWell opener betting up lead other =
+    (seat : ℕ) → is_before_seen opener betting up seat lead ≡ true
+    → is_before_seen opener betting up seat other ≡ true
 
 -- the seat's up-cards open before all before which the other's open
 abbrev pub is_as_early_seen : Opener → BettingState → UpRow → (seat other : ℕ) → Bool
-is_as_early_seen opener b up seat other =
-    opens_no_later opener (b.street == 1) (known_cards (ups_of up seat))
+is_as_early_seen opener betting up seat other =
+    opens_no_later opener (betting.street == 1) (known_cards (ups_of up seat))
     (known_cards (ups_of up other))
 
 -- the seat can act, and no seat that can act opens before it
 abbrev pub is_opener_seen : Opener → BettingState → UpRow → ℕ → Bool
-is_opener_seen opener b up seat =
-    can_act_seen b seat && not (list_any (is_before_seen opener b up seat) (all_seats b.setup))
+is_opener_seen opener betting up seat =
+    can_act_seen betting seat
+    && not (list_any (is_before_seen opener betting up seat) (all_seats betting.setup))
 
 -- the first seat that can act and before which none opens
 abbrev pub up_opener_seen : Opener → BettingState → UpRow → Option ℕ
-up_opener_seen opener b up = find (is_opener_seen opener b up) (all_seats b.setup)
+up_opener_seen opener betting up = find (is_opener_seen opener betting up) (all_seats betting.setup)
 
 -- who opens, if no seat that can act has an unknown up-card
 abbrev pub known_opener_seen : Opener → BettingState → UpRow → Option ℕ
-known_opener_seen opener b up =
-    if has_unknown_up_card_seen b up then None else up_opener_seen opener b up
+known_opener_seen opener betting up =
+    if has_unknown_up_card_seen betting up then None else up_opener_seen opener betting up

@@ -27,15 +27,15 @@ is_another (Some seat) player_to_act = not (seat == player_to_act)
 
 -- why a fold is refused
 abbrev pub fold_reason : BettingState → Option ℕ → ℕ → Option Illegal
-fold_reason b named player_to_act =
+fold_reason betting named player_to_act =
     if is_another named player_to_act then Some reasons.WrongSeat
-    else if not b.rules.free_fold && (to_call_seen b player_to_act == 0)
+    else if not betting.rules.free_fold && (to_call_seen betting player_to_act == 0)
     then Some reasons.NothingToCall
     else None
 
 -- the target of a call: the current bet, or all-in if that is less
 abbrev pub call_seen : BettingState → ℕ → ℕ
-call_seen b seat = min (current_bet_seen b) (all_in_seen b seat)
+call_seen betting seat = min (current_bet_seen betting) (all_in_seen betting seat)
 
 -- a call states a different number of chips than it adds
 abbrev pub stated_reason : Option ℕ → ℕ → Option Illegal
@@ -45,23 +45,24 @@ stated_reason (Some stated) due =
 
 -- why a call is refused
 abbrev pub call_reason : BettingState → Option ℕ → Option ℕ → ℕ → Option Illegal
-call_reason b named stated player_to_act =
+call_reason betting named stated player_to_act =
     if is_another named player_to_act
     then Some reasons.WrongSeat
-    else stated_reason stated (call_seen b player_to_act - amount_of b.bets player_to_act)
+    else stated_reason stated
+    (call_seen betting player_to_act - amount_of betting.bets player_to_act)
 
 -- the target of a raise
 abbrev pub target_seen : BettingState → ℕ → Spelled → ℕ
-target_seen b seat (spelled.To amount) = amount
-target_seen b seat (spelled.Added amount) = amount_of b.bets seat + amount
-target_seen b seat (spelled.HandTotal amount) =
-    amount - (amount_of b.puts seat - amount_of b.bets seat)
-target_seen b seat spelled.Unit =
+target_seen betting seat (spelled.To amount) = amount
+target_seen betting seat (spelled.Added amount) = amount_of betting.bets seat + amount
+target_seen betting seat (spelled.HandTotal amount) =
+    amount - (amount_of betting.puts seat - amount_of betting.bets seat)
+target_seen betting seat spelled.Unit =
     min
-    (if nat_lt (current_bet_seen b) (unit b.setup b.street)
-    then unit b.setup b.street
-    else current_bet_seen b + unit b.setup b.street)
-    (all_in_seen b seat)
+    (if nat_lt (current_bet_seen betting) (unit betting.setup betting.street)
+    then unit betting.setup betting.street
+    else current_bet_seen betting + unit betting.setup betting.street)
+    (all_in_seen betting seat)
 
 -- the number of raises is within the cap
 abbrev pub is_within_cap_by : Option (List ℕ) → ℕ → ℕ → Bool
@@ -83,26 +84,28 @@ is_open_by reopen.Full limit moved least size owes =
 
 -- the seat may raise
 abbrev pub may_raise_seen : Limit → BettingState → ℕ → Bool
-may_raise_seen limit b seat =
-    has_opponent_seen b seat && nat_lt (current_bet_seen b) (all_in_seen b seat)
-    && is_within_cap_by b.rules.caps b.raises b.street
-    && is_open_by b.rules.reopen limit (flag_of b.moved seat) b.full_raise (unit b.setup b.street)
-    (to_call_seen b seat)
+may_raise_seen limit betting seat =
+    has_opponent_seen betting seat && nat_lt (current_bet_seen betting) (all_in_seen betting seat)
+    && is_within_cap_by betting.rules.caps betting.raises betting.street
+    && is_open_by betting.rules.reopen limit (flag_of betting.moved seat) betting.full_raise
+    (unit betting.setup betting.street)
+    (to_call_seen betting seat)
 
 -- the least no-limit raise that is not all-in, given the current bet at the start of the street
 abbrev pub floor_by : Reopen → (start : ℕ) → BettingState → ℕ
-floor_by reopen.Full start b = current_bet_seen b + b.full_raise
-floor_by reopen.Always start b = max (start + b.setup.min_bet) b.always_floor
+floor_by reopen.Full start betting = current_bet_seen betting + betting.full_raise
+floor_by reopen.Always start betting = max (start + betting.setup.min_bet) betting.always_floor
 
 -- the least no-limit raise that is not all-in, by the rules of the hand
 abbrev pub floor_seen : BettingState → ℕ
-floor_seen b = floor_by b.rules.reopen (starting_bet b.setup b.street) b
+floor_seen betting =
+    floor_by betting.rules.reopen (starting_bet betting.setup betting.street) betting
 
 -- the greatest raise in pot limit
 abbrev pub ceiling_seen : BettingState → ℕ → ℕ
-ceiling_seen b seat =
-    max (current_bet_seen b + b.full_raise)
-    (current_bet_seen b + total_of b.puts + to_call_seen b seat)
+ceiling_seen betting seat =
+    max (current_bet_seen betting + betting.full_raise)
+    (current_bet_seen betting + total_of betting.puts + to_call_seen betting seat)
 
 -- the full raises in fixed limit
 abbrev pub full_raise_targets_by : (current_bet size full_bet : ℕ) → List ℕ
@@ -113,39 +116,43 @@ full_raise_targets_by current_bet size full_bet =
 
 -- the full raises of the street
 abbrev pub full_raise_targets_seen : BettingState → List ℕ
-full_raise_targets_seen b = full_raise_targets_by (current_bet_seen b) (unit b.setup b.street)
-    b.full_bet
+full_raise_targets_seen betting =
+    full_raise_targets_by (current_bet_seen betting) (unit betting.setup betting.street)
+    betting.full_bet
 
 -- a target of a seat is legal, given the floor (the least no-limit raise that is not all-in)
 abbrev pub is_legal_seen : Limit → BettingState → (floor seat target : ℕ) → Bool
-is_legal_seen limit b floor seat target =
-    is_legal_by limit floor (current_bet_seen b + b.full_raise) (all_in_seen b seat)
-    (ceiling_seen b seat)
-    (full_raise_targets_seen b) target
+is_legal_seen limit betting floor seat target =
+    is_legal_by limit floor (current_bet_seen betting + betting.full_raise)
+    (all_in_seen betting seat)
+    (ceiling_seen betting seat)
+    (full_raise_targets_seen betting) target
 
 -- the greatest legal target of a seat
 abbrev pub greatest_seen : Limit → BettingState → ℕ → ℕ
-greatest_seen limit b seat =
-    greatest_by limit (all_in_seen b seat) (ceiling_seen b seat) (full_raise_targets_seen b)
+greatest_seen limit betting seat =
+    greatest_by limit (all_in_seen betting seat) (ceiling_seen betting seat)
+    (full_raise_targets_seen betting)
 
 -- why a raise to a target is refused
 abbrev pub raise_to_reason : Limit → BettingState → (floor player_to_act target : ℕ)
     → Option Illegal
-raise_to_reason limit b floor player_to_act target =
-    if not (may_raise_seen limit b player_to_act) then Some reasons.RaiseClosed
-    else if not (is_legal_seen limit b floor player_to_act target)
-    && nat_lt target (greatest_seen limit b player_to_act)
+raise_to_reason limit betting floor player_to_act target =
+    if not (may_raise_seen limit betting player_to_act) then Some reasons.RaiseClosed
+    else if not (is_legal_seen limit betting floor player_to_act target)
+    && nat_lt target (greatest_seen limit betting player_to_act)
     then Some reasons.RaiseTooSmall
-    else if nat_lt (greatest_seen limit b player_to_act) target then Some reasons.RaiseTooBig
+    else if nat_lt (greatest_seen limit betting player_to_act) target then Some reasons.RaiseTooBig
     else None
 
 -- why a raise is refused, in whatever form it is written
 abbrev pub raise_reason : Limit → BettingState → (floor : ℕ) → Option ℕ → Spelled → ℕ
     → Option Illegal
-raise_reason limit b floor named amount player_to_act =
+raise_reason limit betting floor named amount player_to_act =
     if is_another named player_to_act
     then Some reasons.WrongSeat
-    else raise_to_reason limit b floor player_to_act (target_seen b player_to_act amount)
+    else raise_to_reason limit betting floor player_to_act
+    (target_seen betting player_to_act amount)
 
 -- why an event may not come now: the hand is over, or something else is due; the event is possible
 -- at a move or not, and at a bring-in or not
@@ -159,29 +166,29 @@ now_reason at_move at_bring_in dues.Show = Some reasons.WrongKind
 
 -- the seat that the event names cannot act
 abbrev pub cannot_act_seen : BettingState → Option ℕ → Bool
-cannot_act_seen b None = false
-cannot_act_seen b (Some seat) = not (can_act_seen b seat)
+cannot_act_seen betting None = false
+cannot_act_seen betting (Some seat) = not (can_act_seen betting seat)
 
 -- why a move is refused if it is not known whose turn it is
 abbrev pub unknown_reason : BettingState → Option ℕ → Illegal
-unknown_reason b named = if cannot_act_seen b named then reasons.WrongSeat
+unknown_reason betting named = if cannot_act_seen betting named then reasons.WrongSeat
     else reasons.UpCardUnknown
 
 -- the seat whose turn it is, or why a move is refused if that is not known
 abbrev pub turn_or_reason : BettingState → Option ℕ → Option Seat → Result Seat Illegal
-turn_or_reason b named None = Err (unknown_reason b named)
-turn_or_reason b named (Some seat) = Ok seat
+turn_or_reason betting named None = Err (unknown_reason betting named)
+turn_or_reason betting named (Some seat) = Ok seat
 
 -- the seat that moves, or why the move is refused: it may not come now, or it is not known whose
 -- turn it is
 abbrev pub player_or_reason : BettingState → Option ℕ → Option Seat → Option Illegal
     → Result Seat Illegal
-player_or_reason b named in_turn (Some reason) = Err reason
-player_or_reason b named in_turn None = turn_or_reason b named in_turn
+player_or_reason betting named in_turn (Some reason) = Err reason
+player_or_reason betting named in_turn None = turn_or_reason betting named in_turn
 
 -- the target of a bring-in: the bring-in, or all-in if that is less
 abbrev pub bring_in_seen : BettingState → ℕ → ℕ
-bring_in_seen b seat = min b.setup.bring_in (all_in_seen b seat)
+bring_in_seen betting seat = min betting.setup.bring_in (all_in_seen betting seat)
 
 -- why a bring-in is refused
 abbrev pub bring_in_reason : Option ℕ → ℕ → Option Illegal

@@ -17,7 +17,7 @@ use Rattle.play_event.specs.Dealing.{cards_owed, board_cards_owed}
 use Rattle.play_event.specs.Due.{turn, due_on}
 use Rattle.play_event.specs.Table.{places_of}
 use Rattle.play_event.specs.Taken.{has_taken_card, has_misplaced_card}
-use Rattle.play_event.specs.Naming.{after_discard, after_show}
+use Rattle.play_event.specs.NameMatching.{after_discard, after_show}
 use Rattle.play_event.specs.CardReasons.{is_owed_nothing, is_next_to_draw, may_show, may_show_so_many, is_wrong_deal, is_wrong_count, is_not_held}
 use Rattle.play_event.specs.Reasons.{why, all_reasons, is_over, is_due_kind}
 use Rattle.play_event.specs.Scripts.{with_event}

@@ -10,7 +10,7 @@ use Rattle.card_set.specs.declared.card.Slot.TheVariants as slots
 use Rattle.play_event.specs.declared.code.Code.{Code}
 use Rattle.card_set.specs.Known.{is_unknown}
 use Rattle.play_event.specs.Places.{Place, is_held_by}
-use Rattle.play_event.specs.Naming.{other_names, blanks_in, after_names, after_discard, discarded_now, held_count}
+use Rattle.play_event.specs.NameMatching.{unmatched_names, blanks_in, after_matching, after_discard, discarded_now, held_count}
 use Rattle.play_event.specs.Taken.{newly_known, has_misplaced_card, is_misplaced}
 use Rattle.play_event.specs.CardReasons.{has_no_place}
 use Rattle.card_set.proofs.Tests.{and_not, false_true}
@@ -84,11 +84,11 @@ clean_discard code street seat taken placed sub together first =
     let mark : Place → Place = discarded_now street (length placed) in
     let matched : IsMatched covers taken mark placed = is_matched covers taken mark placed sub together first in
     let after : after_discard street seat (slots_taken taken placed) placed ≡ map (marked_if taken mark) placed =
-    ap (λ n. after_names covers mark (names_taken taken placed) (other_names (filter covers placed) (names_taken taken placed)) n placed) (blanks_same taken placed) ∙ matched.marked in
+    ap (λ n. after_matching covers mark (names_taken taken placed) (unmatched_names (filter covers placed) (names_taken taken placed)) n placed) (blanks_same taken placed) ∙ matched.marked in
     record {
       after = after;
       count = le-ltb (held_count placed seat) (length (slots_taken taken placed)) (omega (arith, fewer_taken covers taken placed sub, length-filter covers placed));
       free = ap (has_misplaced_card code placed) after ∙ ap (list_any (λ (place : Place). is_misplaced code (map (marked_if taken mark) placed) place)) (none_known taken mark placed (λ place. refl));
-      held = le-ltb (count_by (λ (place : Place). is_unknown place.slot) (filter covers placed)) (length (other_names (filter covers placed) (names_taken taken placed)) + blanks_in (slots_taken taken placed))
+      held = le-ltb (count_by (λ (place : Place). is_unknown place.slot) (filter covers placed)) (length (unmatched_names (filter covers placed) (names_taken taken placed)) + blanks_in (slots_taken taken placed))
           (omega (arith, ap (λ (l : List Card). length l) matched.none_left, blanks_same taken placed, fewer_blanks covers taken placed sub, length-filter (λ (place : Place). is_unknown place.slot) (filter covers placed)));
     }

@@ -12,7 +12,7 @@ use Rattle.play_event.specs.declared.code.Code.{Code}
 use Rattle.play_event.specs.Said as said
 use Rattle.card_set.specs.Known.{is_unknown, known_cards}
 use Rattle.play_event.specs.Places.{Place, is_held_by}
-use Rattle.play_event.specs.Naming.{other_names, is_named, after_names, after_show, held_count, is_covered, is_show_of_all}
+use Rattle.play_event.specs.NameMatching.{unmatched_names, is_named, after_matching, after_show, held_count, can_be_named, is_show_of_all}
 use Rattle.play_event.specs.Taken.{newly_known, has_misplaced_card, is_misplaced}
 use Rattle.play_event.specs.CardReasons.{has_no_place, is_show_of_others, is_left_out, is_not_held}
 use Rattle.play_event.specs.Laws.{IsAmong}
@@ -109,13 +109,13 @@ clean_show code seat placed known =
     let count = held_length seat placed known in
     let all : is_show_of_all placed seat names ≡ true = eq-eqb (length names) (held_count placed seat) count in
     let matched : IsMatched covers covers (λ place. place) placed = is_matched covers covers (λ place. place) placed (λ place is. is) (λ a b in_a in_b one two same. one ∙ sym two) (blanks_never covers placed) in
-    let C : Bool → Place → Bool = is_covered code seat in
+    let C : Bool → Place → Bool = can_be_named code seat in
     let after : after_show code seat names placed ≡ placed =
-    ap (λ b. after_names (C b) (λ (p : Place). p) names (other_names (filter (C b) placed) names) 0 placed) all
-    ∙ ap (λ n. after_names covers (λ (p : Place). p) names (other_names (filter covers placed) names) n placed) (sym (no_blank seat placed known))
-    ∙ ap (λ l. after_names covers (λ (p : Place). p) l (other_names (filter covers placed) l) (blanks_taken covers placed) placed) (sym (same_cards seat placed))
+    ap (λ b. after_matching (C b) (λ (p : Place). p) names (unmatched_names (filter (C b) placed) names) 0 placed) all
+    ∙ ap (λ n. after_matching covers (λ (p : Place). p) names (unmatched_names (filter covers placed) names) n placed) (sym (no_blank seat placed known))
+    ∙ ap (λ l. after_matching covers (λ (p : Place). p) l (unmatched_names (filter covers placed) l) (blanks_taken covers placed) placed) (sym (same_cards seat placed))
     ∙ matched.marked ∙ unmarked covers placed in
-    let none_left : other_names (filter covers placed) names ≡ [] = ap (other_names (filter covers placed)) (sym (same_cards seat placed)) ∙ matched.none_left in
+    let none_left : unmatched_names (filter covers placed) names ≡ [] = ap (unmatched_names (filter covers placed)) (sym (same_cards seat placed)) ∙ matched.none_left in
     let no_new : newly_known placed placed ≡ [] = ap (newly_known placed) (sym (unmarked covers placed)) ∙ none_known covers (λ place. place) placed (λ place. refl) in
     record {
       count = count;
@@ -123,7 +123,7 @@ clean_show code seat placed known =
       free = ap (has_misplaced_card code placed) after ∙ ap (list_any (is_misplaced code placed)) no_new;
       held = ap (λ b. is_show_of_others (filter (C b) placed) names) all
           ∙ or_from (has_no_place (filter covers placed) names 0) (list_any (λ place. is_left_out names place.slot) (filter covers placed))
-          (le-ltb (count_by (λ (place : Place). is_unknown place.slot) (filter covers placed)) (length (other_names (filter covers placed) names) + 0) (omega (arith, ap (λ (l : List Card). length l) none_left)))
+          (le-ltb (count_by (λ (place : Place). is_unknown place.slot) (filter covers placed)) (length (unmatched_names (filter covers placed) names) + 0) (omega (arith, ap (λ (l : List Card). length l) none_left)))
           (none_left_out names (filter covers placed) (λ place card among here.
           let it = passed covers placed place among in
           taken_is_named (is_held_by seat) card placed place it.among here (sym (covers_held seat place) ∙ it.passes)));

@@ -6,7 +6,7 @@ use Rattle.play_event.specs.declared.code.Code.{Code}
 use Rattle.play_event.specs.Past.{Move}
 use Rattle.card_set.specs.Known.{is_unknown}
 use Rattle.play_event.specs.Places.{Place, is_same_owner, is_held_by}
-use Rattle.play_event.specs.Naming.{after_discard, discarded_now}
+use Rattle.play_event.specs.NameMatching.{after_discard, discarded_now}
 use Rattle.play_event.specs.Laws.{IsAmong}
 use Rattle.card_set.proofs.Tests.{false_true}
 use Rattle.play_laws.specs.LegalPlaces.{has_owner_folded, UnknownsFirst}

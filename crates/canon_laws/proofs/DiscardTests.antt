@@ -13,7 +13,7 @@ use Rattle.play_event.specs.Past.{Past, Resolved, is_fold}
 use Rattle.play_event.specs.Due.{turn}
 use Rattle.card_set.specs.Known.{known_cards}
 use Rattle.play_event.specs.Places.{Place, is_in_group, is_past_deck, places_dealt, after_deal, is_held_by, folded_place, after_fold, gone_now}
-use Rattle.play_event.specs.Naming.{after_discard, after_show, other_names, blanks_in, is_covered, is_show_of_all}
+use Rattle.play_event.specs.NameMatching.{after_discard, after_show, unmatched_names, blanks_in, can_be_named, is_show_of_all}
 use Rattle.play_event.specs.Table.{places_of}
 use Rattle.play_event.specs.Scripts.{with_event, past_of}
 use Rattle.play_event.specs.Laws.{IsAmong, AreLegal}
@@ -71,11 +71,11 @@ seats_step setup before at _ (boards cards due some few free) out = deal_seats s
 seats_step setup before at _ (mucks who may) out = out
 seats_step setup before at _ (shows who cards may free) out =
     let placed = places_of setup.code before in
-    let covers : Place → Bool = is_covered setup.code who (is_show_of_all placed who cards) in
-    marked_seats is_nothing (length placed) at placed (after_show setup.code who cards placed) (λ old is none. both_ways false refl is) out (show_marks covers (length placed) at cards (other_names (filter covers placed) cards) 0 placed)
+    let covers : Place → Bool = can_be_named setup.code who (is_show_of_all placed who cards) in
+    marked_seats is_nothing (length placed) at placed (after_show setup.code who cards placed) (λ old is none. both_ways false refl is) out (show_marks covers (length placed) at cards (unmatched_names (filter covers placed) cards) 0 placed)
 seats_step setup before at _ (discards who cards no_deal draw next few free held) out =
     let placed = places_of setup.code before in
-    marked_seats (is_held_by who) (length placed) at placed (after_discard at who cards placed) (no_board who) out (discard_marks (is_held_by who) (length placed) at (known_cards cards) (other_names (filter (is_held_by who) placed) (known_cards cards)) (blanks_in cards) placed)
+    marked_seats (is_held_by who) (length placed) at placed (after_discard at who cards placed) (no_board who) out (discard_marks (is_held_by who) (length placed) at (known_cards cards) (unmatched_names (filter (is_held_by who) placed) (known_cards cards)) (blanks_in cards) placed)
 seats_step setup before at _ (moves played no_deal no_draw on) out = by_fold (is_fold played.act)
   where
     by_fold : (b : Bool) → OutSeats (if b then after_fold played.seat (places_of setup.code before) else places_of setup.code before)

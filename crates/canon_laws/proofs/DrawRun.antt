@@ -17,7 +17,7 @@ use Rattle.play_event.specs.Dealing.{is_draw_due, next_to_draw, has_drawn, repla
 use Rattle.play_event.specs.Due.{turn, due_on, is_bring_in_due, is_move_due}
 use Rattle.card_set.specs.Known.{known_cards}
 use Rattle.play_event.specs.Places.{Place, is_held_by, is_same_owner}
-use Rattle.play_event.specs.Naming.{after_discard, held_count, blanks_in}
+use Rattle.play_event.specs.NameMatching.{after_discard, held_count, blanks_in}
 use Rattle.play_event.specs.Table.{places_of}
 use Rattle.play_event.specs.Taken.{has_misplaced_card}
 use Rattle.play_event.specs.CardReasons.{has_no_place}

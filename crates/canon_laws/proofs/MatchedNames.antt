@@ -7,7 +7,7 @@ use Rattle.card_set.specs.declared.card.Slot.TheVariants as slots
 use Rattle.card_set.specs.Deck.{is_same_card}
 use Rattle.card_set.specs.Known.{is_unknown, known_cards}
 use Rattle.play_event.specs.Places.{Place}
-use Rattle.play_event.specs.Naming.{without, other_names, is_named, found_by, after_names}
+use Rattle.play_event.specs.NameMatching.{without_name, unmatched_names, is_named, matched_card, after_matching}
 use Rattle.play_event.specs.Taken.{is_one_card}
 use Rattle.play_event.specs.Laws.{IsAmong}
 use Rattle.card_set.proofs.Tests.{false_true}
@@ -43,15 +43,15 @@ NamedWhereTaken covers taken names placed = (place : Place) (card : Card) → Is
 
 marked_at : (covers taken : Place → Bool) (mark : Place → Place) (names : List Card) (place : Place) (rest : List Place) (slot : Slot) (c t : Bool) (blanks : ℕ)
     → (t ≡ true → c ≡ true) → ((card : Card) → slot ≡ slots.Known card → c ≡ true → is_named card names ≡ t) → (c ≡ true → is_unknown slot ≡ true → t ≡ false → blanks ≡ 0)
-    → after_names covers mark names [] blanks rest ≡ map (marked_if taken mark) rest
-    → (if c then (let found = found_by mark names slot [] (if t && is_unknown slot then suc blanks else blanks) place in found.place ∷ after_names covers mark names found.others found.blanks rest) else (place ∷ after_names covers mark names [] (if t && is_unknown slot then suc blanks else blanks) rest))
+    → after_matching covers mark names [] blanks rest ≡ map (marked_if taken mark) rest
+    → (if c then (let found = matched_card mark names slot [] (if t && is_unknown slot then suc blanks else blanks) place in found.place ∷ after_matching covers mark names found.others found.blanks rest) else (place ∷ after_matching covers mark names [] (if t && is_unknown slot then suc blanks else blanks) rest))
     ≡ (if t then mark place else place) ∷ map (marked_if taken mark) rest
 marked_at covers taken mark names place rest slot false true blanks sub named first later = false_true (sub refl)
 marked_at covers taken mark names place rest slot false false blanks sub named first later = ap (λ l. place ∷ l) later
 marked_at covers taken mark names place rest (slots.Known card) true true blanks sub named first later =
-    ap (λ b. (if b then mark place else place) ∷ after_names covers mark names [] blanks rest) (named card refl refl) ∙ ap (λ l. mark place ∷ l) later
+    ap (λ b. (if b then mark place else place) ∷ after_matching covers mark names [] blanks rest) (named card refl refl) ∙ ap (λ l. mark place ∷ l) later
 marked_at covers taken mark names place rest (slots.Known card) true false blanks sub named first later =
-    ap (λ b. (if b then mark place else place) ∷ after_names covers mark names [] blanks rest) (named card refl refl) ∙ ap (λ l. place ∷ l) later
+    ap (λ b. (if b then mark place else place) ∷ after_matching covers mark names [] blanks rest) (named card refl refl) ∙ ap (λ l. place ∷ l) later
 marked_at covers taken mark names place rest slots.Unknown true true blanks sub named first later = ap (λ l. mark place ∷ l) later
 marked_at covers taken mark names place rest slots.Unknown true false zero sub named first later = ap (λ l. place ∷ l) later
 marked_at covers taken mark names place rest slots.Unknown true false (suc blanks) sub named first later = absurd (no_more blanks (first refl refl refl))
@@ -60,7 +60,7 @@ marked_at covers taken mark names place rest slots.Unknown true false (suc blank
     no_more n is = omega (arith, is)
 
 -- names that are those of the taken places, with nothing left over, mark just these
-pub names_mark : (covers taken : Place → Bool) (mark : Place → Place) (names : List Card) (placed : List Place) → ((place : Place) → taken place ≡ true → covers place ≡ true) → NamedWhereTaken covers taken names placed → BlanksFirst covers taken placed → after_names covers mark names [] (blanks_taken taken placed) placed ≡ map (marked_if taken mark) placed
+pub names_mark : (covers taken : Place → Bool) (mark : Place → Place) (names : List Card) (placed : List Place) → ((place : Place) → taken place ≡ true → covers place ≡ true) → NamedWhereTaken covers taken names placed → BlanksFirst covers taken placed → after_matching covers mark names [] (blanks_taken taken placed) placed ≡ map (marked_if taken mark) placed
 names_mark covers taken mark names [] sub named first = refl
 names_mark covers taken mark names (place ∷ rest) sub named first =
     marked_at covers taken mark names place rest place.slot (covers place) (taken place) (blanks_taken taken rest) (sub place) (λ card is here. named place card (inl refl) is here) first.0
@@ -146,36 +146,36 @@ apart covers taken (place ∷ rest) sub together = (
   apart covers taken rest sub (λ a b in_a in_b. together a b (inr in_a) (inr in_b)),
 )
 
-left_at : (covers taken : Place → Bool) (place : Place) (rest : List Place) (slot : Slot) (c t : Bool) → place.slot ≡ slot → (t ≡ true → c ≡ true) → ((card : Card) → slot ≡ slots.Known card → c ≡ true → t ≡ false → is_named card (names_taken taken rest) ≡ false) → other_names (filter covers rest) (names_taken taken rest) ≡ []
-    → other_names (if c then (place ∷ filter covers rest) else filter covers rest) (known_cards (map (λ (place : Place). place.slot) (if t then (place ∷ filter taken rest) else filter taken rest))) ≡ []
+left_at : (covers taken : Place → Bool) (place : Place) (rest : List Place) (slot : Slot) (c t : Bool) → place.slot ≡ slot → (t ≡ true → c ≡ true) → ((card : Card) → slot ≡ slots.Known card → c ≡ true → t ≡ false → is_named card (names_taken taken rest) ≡ false) → unmatched_names (filter covers rest) (names_taken taken rest) ≡ []
+    → unmatched_names (if c then (place ∷ filter covers rest) else filter covers rest) (known_cards (map (λ (place : Place). place.slot) (if t then (place ∷ filter taken rest) else filter taken rest))) ≡ []
 left_at covers taken place rest slot false true here sub free later = false_true (sub refl)
 left_at covers taken place rest slot false false here sub free later = later
 left_at covers taken place rest slots.Unknown true true here sub free later =
-    ap (λ s. other_names (filter covers rest) (without s (known_cards (s ∷ slots_taken taken rest)))) here ∙ later
-left_at covers taken place rest slots.Unknown true false here sub free later = ap (λ s. other_names (filter covers rest) (without s (names_taken taken rest))) here ∙ later
+    ap (λ s. unmatched_names (filter covers rest) (without_name s (known_cards (s ∷ slots_taken taken rest)))) here ∙ later
+left_at covers taken place rest slots.Unknown true false here sub free later = ap (λ s. unmatched_names (filter covers rest) (without_name s (names_taken taken rest))) here ∙ later
 left_at covers taken place rest (slots.Known card) true true here sub free later =
-    ap (λ s. other_names (filter covers rest) (without s (known_cards (s ∷ slots_taken taken rest)))) here
-    ∙ ap (λ b. other_names (filter covers rest) (if b then names_taken taken rest else (card ∷ without (slots.Known card) (names_taken taken rest)))) (is_same_card-self card) ∙ later
+    ap (λ s. unmatched_names (filter covers rest) (without_name s (known_cards (s ∷ slots_taken taken rest)))) here
+    ∙ ap (λ b. unmatched_names (filter covers rest) (if b then names_taken taken rest else (card ∷ without_name (slots.Known card) (names_taken taken rest)))) (is_same_card-self card) ∙ later
 left_at covers taken place rest (slots.Known card) true false here sub free later =
-    ap (λ s. other_names (filter covers rest) (without s (names_taken taken rest))) here
-    ∙ ap (other_names (filter covers rest)) (keep_length card (names_taken taken rest) (free card refl refl refl)) ∙ later
+    ap (λ s. unmatched_names (filter covers rest) (without_name s (names_taken taken rest))) here
+    ∙ ap (unmatched_names (filter covers rest)) (keep_length card (names_taken taken rest) (free card refl refl refl)) ∙ later
 
-none_left : (covers taken : Place → Bool) (placed : List Place) → ((other : Place) → taken other ≡ true → covers other ≡ true) → Apart covers taken placed → other_names (filter covers placed) (names_taken taken placed) ≡ []
+none_left : (covers taken : Place → Bool) (placed : List Place) → ((other : Place) → taken other ≡ true → covers other ≡ true) → Apart covers taken placed → unmatched_names (filter covers placed) (names_taken taken placed) ≡ []
 none_left covers taken [] sub free = refl
 none_left covers taken (place ∷ rest) sub free =
     left_at covers taken place rest place.slot (covers place) (taken place) refl (sub place) free.0 (none_left covers taken rest sub free.1)
 
 -- the names of the taken places mark just these, and no name is left over
 pub record IsMatched (covers taken : Place → Bool) (mark : Place → Place) (placed : List Place) : Type 0 where
-  pub marked : after_names covers mark (names_taken taken placed) (other_names (filter covers placed) (names_taken taken placed)) (blanks_taken taken placed) placed ≡ map (marked_if taken mark) placed
-  pub none_left : other_names (filter covers placed) (names_taken taken placed) ≡ []
+  pub marked : after_matching covers mark (names_taken taken placed) (unmatched_names (filter covers placed) (names_taken taken placed)) (blanks_taken taken placed) placed ≡ map (marked_if taken mark) placed
+  pub none_left : unmatched_names (filter covers placed) (names_taken taken placed) ≡ []
 
 -- names of what is taken mark just this
 pub is_matched : (covers taken : Place → Bool) (mark : Place → Place) (placed : List Place) → ((other : Place) → taken other ≡ true → covers other ≡ true) → TakenTogether covers taken placed → BlanksFirst covers taken placed → IsMatched covers taken mark placed
 is_matched covers taken mark placed sub together first =
     let nothing = none_left covers taken placed sub (apart covers taken placed sub together) in
     record {
-      marked = ap (λ others. after_names covers mark (names_taken taken placed) others (blanks_taken taken placed) placed) nothing
+      marked = ap (λ others. after_matching covers mark (names_taken taken placed) others (blanks_taken taken placed) placed) nothing
           ∙ names_mark covers taken mark (names_taken taken placed) placed sub (named_where_taken covers taken placed sub together) first;
       none_left = nothing;
     }

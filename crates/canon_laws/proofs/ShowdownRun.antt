@@ -17,7 +17,7 @@ use Rattle.play_event.specs.Showing.{has_shown, has_mucked, has_to_show}
 use Rattle.play_event.specs.Due.{turn, due_on, first_due, showdown}
 use Rattle.card_set.specs.Known.{is_unknown}
 use Rattle.play_event.specs.Places.{Place}
-use Rattle.play_event.specs.Naming.{held_count, after_show, held_down_count}
+use Rattle.play_event.specs.NameMatching.{held_count, after_show, held_down_count}
 use Rattle.play_event.specs.Table.{places_of, up_cards}
 use Rattle.play_event.specs.CardReasons.{is_seat, may_show, may_show_so_many, is_not_held}
 use Rattle.play_event.specs.Reasons.{why}

@@ -8,7 +8,7 @@ use Rattle.card_set.specs.declared.card.Slot.TheVariants as slots
 use Rattle.card_set.specs.Known.{is_unknown, known_cards}
 use Rattle.play_event.specs.Places.{Place, is_same_owner, is_held_by, places_dealt, folded_place, gone_now, after_fold}
 use Rattle.play_event.specs.declared.code.Code.{Code}
-use Rattle.play_event.specs.Naming.{found_by, after_names, after_discard, after_show, discarded_now, is_named, other_names, blanks_in, is_covered, is_show_of_all, unknown_count}
+use Rattle.play_event.specs.NameMatching.{matched_card, after_matching, after_discard, after_show, discarded_now, is_named, unmatched_names, blanks_in, can_be_named, is_show_of_all, unknown_count}
 use Rattle.play_event.specs.CardReasons.{has_no_place}
 use Rattle.play_event.specs.Held.{is_held}
 use Rattle.card_places.proofs.NamesLeast.{names_least}
@@ -66,35 +66,35 @@ map_fewer owner change [] fewer = omega arith
 map_fewer owner change (place ∷ rest) fewer =
     omega (arith, count_by-cons (is_held owner) (change place) (map change rest), count_by-cons (is_held owner) place rest, fewer place, map_fewer owner change rest fewer)
 
-names_fewer : (owner : Option ℕ) (covers : Place → Bool) (mark : Place → Place) (names others : List Card) (blanks : ℕ) (placed : List Place) → KeepsFewer owner mark → count_by (is_held owner) (after_names covers mark names others blanks placed) ≤ count_by (is_held owner) placed
+names_fewer : (owner : Option ℕ) (covers : Place → Bool) (mark : Place → Place) (names others : List Card) (blanks : ℕ) (placed : List Place) → KeepsFewer owner mark → count_by (is_held owner) (after_matching covers mark names others blanks placed) ≤ count_by (is_held owner) placed
 names_fewer owner covers mark names others blanks [] fewer = omega arith
 names_fewer owner covers mark names others blanks (place ∷ rest) fewer = by_cover (covers place) (λ left n. names_fewer owner covers mark names left n rest fewer)
   where
-    both : (new : Place) (left : List Card) (n : ℕ) → cond (is_held owner new) 1 0 ≤ cond (is_held owner place) 1 0 → count_by (is_held owner) (after_names covers mark names left n rest) ≤ count_by (is_held owner) rest → count_by (is_held owner) (new ∷ after_names covers mark names left n rest) ≤ count_by (is_held owner) (place ∷ rest)
-    both new left n here later = omega (arith, count_by-cons (is_held owner) new (after_names covers mark names left n rest), count_by-cons (is_held owner) place rest, here, later)
+    both : (new : Place) (left : List Card) (n : ℕ) → cond (is_held owner new) 1 0 ≤ cond (is_held owner place) 1 0 → count_by (is_held owner) (after_matching covers mark names left n rest) ≤ count_by (is_held owner) rest → count_by (is_held owner) (new ∷ after_matching covers mark names left n rest) ≤ count_by (is_held owner) (place ∷ rest)
+    both new left n here later = omega (arith, count_by-cons (is_held owner) new (after_matching covers mark names left n rest), count_by-cons (is_held owner) place rest, here, later)
 
     by_name : (b : Bool) → cond (is_held owner (if b then mark place else place)) 1 0 ≤ cond (is_held owner place) 1 0
     by_name true = fewer place
     by_name false = omega arith
 
-    by_slot : (slot : Slot) (left : List Card) (n : ℕ) → ((left : List Card) (n : ℕ) → count_by (is_held owner) (after_names covers mark names left n rest) ≤ count_by (is_held owner) rest) → count_by (is_held owner) (let found = found_by mark names slot left n place in found.place ∷ after_names covers mark names found.others found.blanks rest) ≤ count_by (is_held owner) (place ∷ rest)
+    by_slot : (slot : Slot) (left : List Card) (n : ℕ) → ((left : List Card) (n : ℕ) → count_by (is_held owner) (after_matching covers mark names left n rest) ≤ count_by (is_held owner) rest) → count_by (is_held owner) (let found = matched_card mark names slot left n place in found.place ∷ after_matching covers mark names found.others found.blanks rest) ≤ count_by (is_held owner) (place ∷ rest)
     by_slot (slots.Known card) left n later = both (if is_named card names then mark place else place) left n (by_name (is_named card names)) (later left n)
     by_slot slots.Unknown (card ∷ left) n later = both (mark (record place { slot = slots.Known card })) left n (fewer (record place { slot = slots.Known card })) (later left n)
     by_slot slots.Unknown [] zero later = both place [] 0 (omega arith) (later [] 0)
     by_slot slots.Unknown [] (suc n) later = both (mark place) [] n (fewer place) (later [] n)
 
-    by_cover : (b : Bool) → ((left : List Card) (n : ℕ) → count_by (is_held owner) (after_names covers mark names left n rest) ≤ count_by (is_held owner) rest) → count_by (is_held owner) (if b then (let found = found_by mark names place.slot others blanks place in found.place ∷ after_names covers mark names found.others found.blanks rest) else (place ∷ after_names covers mark names others blanks rest)) ≤ count_by (is_held owner) (place ∷ rest)
+    by_cover : (b : Bool) → ((left : List Card) (n : ℕ) → count_by (is_held owner) (after_matching covers mark names left n rest) ≤ count_by (is_held owner) rest) → count_by (is_held owner) (if b then (let found = matched_card mark names place.slot others blanks place in found.place ∷ after_matching covers mark names found.others found.blanks rest) else (place ∷ after_matching covers mark names others blanks rest)) ≤ count_by (is_held owner) (place ∷ rest)
     by_cover true later = by_slot place.slot others blanks later
     by_cover false later = both place others blanks (omega arith) (later others blanks)
 
 pub discard_fewer : (owner : Option ℕ) (street seat : ℕ) (cards : List Slot) (placed : List Place) → count_by (is_held owner) (after_discard street seat cards placed) ≤ count_by (is_held owner) placed
 discard_fewer owner street seat cards placed =
-    names_fewer owner (is_held_by seat) (discarded_now street (length placed)) (known_cards cards) (other_names (filter (is_held_by seat) placed) (known_cards cards)) (blanks_in cards) placed (discarded_fewer owner street (length placed))
+    names_fewer owner (is_held_by seat) (discarded_now street (length placed)) (known_cards cards) (unmatched_names (filter (is_held_by seat) placed) (known_cards cards)) (blanks_in cards) placed (discarded_fewer owner street (length placed))
 
 pub show_fewer : (owner : Option ℕ) (code : Code) (seat : ℕ) (cards : List Card) (placed : List Place) → count_by (is_held owner) (after_show code seat cards placed) ≤ count_by (is_held owner) placed
 show_fewer owner code seat cards placed =
-    let covers : Place → Bool = is_covered code seat (is_show_of_all placed seat cards) in
-    names_fewer owner covers (λ place. place) cards (other_names (filter covers placed) cards) 0 placed (same_fewer owner)
+    let covers : Place → Bool = can_be_named code seat (is_show_of_all placed seat cards) in
+    names_fewer owner covers (λ place. place) cards (unmatched_names (filter covers placed) cards) 0 placed (same_fewer owner)
 
 pub fold_fewer : (owner : Option ℕ) (seat : ℕ) (placed : List Place) → count_by (is_held owner) (after_fold seat placed) ≤ count_by (is_held owner) placed
 fold_fewer owner seat placed = map_fewer owner (folded_place seat (length placed)) placed (folded_fewer owner seat (length placed))
@@ -117,7 +117,7 @@ pub discard_takes : (street seat : ℕ) (cards : List Slot) (placed : List Place
 discard_takes street seat cards placed found =
     let held : List Place = filter (is_held_by seat) placed in
     let names : List Card = known_cards cards in
-    let others : List Card = other_names held names in
+    let others : List Card = unmatched_names held names in
     let blanks : ℕ = blanks_in cards in
     let fits : length others + blanks ≤ count_by (λ (p : Place). is_unknown p.slot) held = ltb-false (count_by (λ (p : Place). is_unknown p.slot) held) (length others + blanks) found in
     let taken = marks_least seat street (length placed) names others blanks placed (omega (arith, fits, unknown_is held)) in

@@ -7,7 +7,7 @@ use Rattle.chip_ledger.specs.LiveRow.{flag_of}
 use Rattle.play_event.specs.declared.reason.Illegal.TheVariants as reasons
 use Rattle.card_set.specs.Known.{known_cards}
 use Rattle.play_event.specs.Places.{is_held_by}
-use Rattle.play_event.specs.Naming.{after_discard, blanks_in}
+use Rattle.play_event.specs.NameMatching.{after_discard, blanks_in}
 use Rattle.play_event.specs.CardReasons.{has_no_place}
 use Rattle.card_places.specs.declared.card_state.CardState.{CardState}
 use Rattle.card_places.specs.Drawn.{has_drawn_at}

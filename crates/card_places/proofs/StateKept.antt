@@ -6,7 +6,7 @@ use Rattle.card_set.specs.declared.card.Slot.{Slot}
 use Rattle.play_event.specs.declared.code.Code.{Code}
 use Rattle.play_event.specs.Games.{game_of}
 use Rattle.play_event.specs.Places.{Place, after_fold}
-use Rattle.play_event.specs.Naming.{after_discard, after_show}
+use Rattle.play_event.specs.NameMatching.{after_discard, after_show}
 use Rattle.card_places.specs.declared.draws.Draws.{Draws}
 use Rattle.card_places.specs.Drawn.{named_at}
 use Rattle.play_event.specs.Held.{is_held}

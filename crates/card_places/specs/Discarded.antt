@@ -4,7 +4,7 @@ use Rattle.card_set.specs.declared.card.Slot.{Slot}
 use Rattle.card_set.specs.Known.{known_cards}
 use Rattle.play_event.specs.declared.code.Code.{Code}
 use Rattle.play_event.specs.CardReasons.{has_no_place}
-use Rattle.play_event.specs.Naming.{after_discard, blanks_in}
+use Rattle.play_event.specs.NameMatching.{after_discard, blanks_in}
 use Rattle.play_event.specs.Places.{Place, is_held_by}
 use Rattle.card_places.specs.declared.card_state.CardState.{CardState}
 use Rattle.card_places.specs.declared.search.NamedCards.{NamedCards}

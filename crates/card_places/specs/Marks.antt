@@ -6,8 +6,8 @@ use Rattle.play_event.specs.Games.{hole_cards_on, board_cards_on}
 use Rattle.play_event.specs.Streets.{down_cards_on, up_cards_on, has_draw}
 use Rattle.play_event.specs.declared.street.Street.{Street}
 use Rattle.play_event.specs.Places.{Place}
-use Rattle.play_event.specs.Naming as naming
-use Rattle.play_event.specs.Naming.{discarded_now}
+use Rattle.play_event.specs.NameMatching as naming
+use Rattle.play_event.specs.NameMatching.{discarded_now}
 use Rattle.card_places.specs.declared.finding.FoundPlace.{FoundPlace}
 use Rattle.card_places.specs.Plain.{place_of}
 
@@ -18,7 +18,8 @@ mark_by (Some street) count place = discarded_now street count place
 mark_by None count place = place
 
 -- the code found what the definitions find
-pub record IsFound (code : FoundPlace) (found : naming.Found) (others : List Card) : Type 0 where
+pub record IsFound (code : FoundPlace) (found : naming.MatchedCard) (others : List Card)
+    : Type 0 where
   pub place : place_of code.card ≡ found.place
   pub others_left : drop code.taken others ≡ found.others
   pub blanks : code.blanks ≡ found.blanks

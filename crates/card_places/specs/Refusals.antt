@@ -4,7 +4,7 @@ use Rattle.std.specs.Option.{option_map_or}
 use Rattle.chip_ledger.specs.Seat.{seats_of}
 use Rattle.card_set.specs.Known.{is_unknown, known_cards}
 use Rattle.std.specs.List.{list_any}
-use Rattle.play_event.specs.Naming.{after_discard, after_show, blanks_in, held_count, held_down_count, is_covered, is_show_of_all}
+use Rattle.play_event.specs.NameMatching.{after_discard, after_show, blanks_in, can_be_named, held_count, held_down_count, is_show_of_all}
 use Rattle.card_set.specs.declared.card.Card.{Card}
 use Rattle.card_set.specs.declared.card.Slot.{Slot}
 use Rattle.chip_ledger.specs.declared.live_row.LiveRow.{LiveRow}
@@ -31,23 +31,27 @@ owed_of draws live hole named dealt =
 
 -- the number of cards of the street that a seat is owed
 abbrev pub owed_in : CardState → LiveRow → ℕ → ℕ → ℕ
-owed_in t live on seat =
-    owed_of (has_draw t.table.code on) (flag_of live seat) (hole_cards_on t.table.code on)
-    (named_at t.draws on seat) (count_by (is_in_group (Some seat) on) (placed t.places))
+owed_in state live street seat =
+    owed_of (has_draw state.table.code street) (flag_of live seat)
+    (hole_cards_on state.table.code street)
+    (named_at state.draws street seat)
+    (count_by (is_in_group (Some seat) street) (placed state.places))
 
 -- the number of cards of the street that the board is owed
 abbrev pub board_owed_in : CardState → ℕ → ℕ
-board_owed_in t on =
-    board_cards_on t.table.code on - count_by (is_in_group None on) (placed t.places)
+board_owed_in state street =
+    board_cards_on state.table.code street
+    - count_by (is_in_group None street) (placed state.places)
 
 -- the first seat that is owed cards of the street, if there is one
 abbrev pub first_owed_in : CardState → LiveRow → ℕ → Option ℕ
-first_owed_in t live on = find (λ seat. nat_lt 0 (owed_in t live on seat)) (seats_of t.seats)
+first_owed_in state live street =
+    find (λ seat. nat_lt 0 (owed_in state live street seat)) (seats_of state.seats)
 
 -- the number of cards of the street that an owner is owed
 abbrev pub owed_to_in : CardState → LiveRow → ℕ → Option ℕ → ℕ
-owed_to_in t live on (Some seat) = owed_in t live on seat
-owed_to_in t live on None = board_owed_in t on
+owed_to_in state live street (Some seat) = owed_in state live street seat
+owed_to_in state live street None = board_owed_in state street
 
 -- the reasons against a deal, in their order
 abbrev pub deal_chain : (wrong_seat : Bool) (owed count : ℕ) (taken : Bool) → Option Illegal
@@ -59,54 +63,57 @@ deal_chain wrong_seat owed count taken =
 
 -- why hole cards of the street may not be dealt to a seat
 abbrev pub illegal_hole_deal_on : CardState → LiveRow → ℕ → ℕ → List Slot → Option Illegal
-illegal_hole_deal_on t live on seat cards =
-    let owed = owed_in t live on seat in
-    deal_chain (not (is_seat_of t.seats seat) || (owed == 0)) owed (length cards)
-    (has_taken_card t.table.code (placed t.places) on cards)
+illegal_hole_deal_on state live street seat cards =
+    let owed = owed_in state live street seat in
+    deal_chain (not (is_seat_of state.seats seat) || (owed == 0)) owed (length cards)
+    (has_taken_card state.table.code (placed state.places) street cards)
 
 -- why cards of the street may not be dealt to the board
 abbrev pub illegal_board_deal_on : CardState → ℕ → List Slot → Option Illegal
-illegal_board_deal_on t on cards =
-    let owed = board_owed_in t on in
+illegal_board_deal_on state street cards =
+    let owed = board_owed_in state street in
     if is_wrong_deal owed (length cards) then Some reasons.WrongCount
-    else if has_taken_card t.table.code (placed t.places) on cards then Some reasons.CardTaken
+    else if has_taken_card state.table.code (placed state.places) street cards
+    then Some reasons.CardTaken
     else None
 
 -- why hole cards may not be dealt now
 abbrev pub illegal_hole_deal : CardState → LiveRow → Due → ℕ → List Slot → Option Illegal
-illegal_hole_deal t live dues.Over seat cards = Some reasons.HandOver
-illegal_hole_deal t live (dues.Deal on) seat cards =
-    if nat_lt 0 (hole_cards_on t.table.code on)
-    then illegal_hole_deal_on t live on seat cards
+illegal_hole_deal state live dues.Over seat cards = Some reasons.HandOver
+illegal_hole_deal state live (dues.Deal street) seat cards =
+    if nat_lt 0 (hole_cards_on state.table.code street)
+    then illegal_hole_deal_on state live street seat cards
     else Some reasons.WrongKind
-illegal_hole_deal t live (dues.Draw on) seat cards = illegal_hole_deal_on t live on seat cards
-illegal_hole_deal t live dues.BringIn seat cards = Some reasons.WrongKind
-illegal_hole_deal t live dues.Move seat cards = Some reasons.WrongKind
-illegal_hole_deal t live dues.Show seat cards = Some reasons.WrongKind
+illegal_hole_deal state live (dues.Draw street) seat cards =
+    illegal_hole_deal_on state live street seat cards
+illegal_hole_deal state live dues.BringIn seat cards = Some reasons.WrongKind
+illegal_hole_deal state live dues.Move seat cards = Some reasons.WrongKind
+illegal_hole_deal state live dues.Show seat cards = Some reasons.WrongKind
 
 -- why board cards may not be dealt now
 abbrev pub illegal_board_deal : CardState → Due → List Slot → Option Illegal
-illegal_board_deal t dues.Over cards = Some reasons.HandOver
-illegal_board_deal t (dues.Deal on) cards =
-    if nat_lt 0 (board_cards_on t.table.code on)
-    then illegal_board_deal_on t on cards
+illegal_board_deal state dues.Over cards = Some reasons.HandOver
+illegal_board_deal state (dues.Deal street) cards =
+    if nat_lt 0 (board_cards_on state.table.code street)
+    then illegal_board_deal_on state street cards
     else Some reasons.WrongKind
-illegal_board_deal t (dues.Draw on) cards = Some reasons.WrongKind
-illegal_board_deal t dues.BringIn cards = Some reasons.WrongKind
-illegal_board_deal t dues.Move cards = Some reasons.WrongKind
-illegal_board_deal t dues.Show cards = Some reasons.WrongKind
+illegal_board_deal state (dues.Draw street) cards = Some reasons.WrongKind
+illegal_board_deal state dues.BringIn cards = Some reasons.WrongKind
+illegal_board_deal state dues.Move cards = Some reasons.WrongKind
+illegal_board_deal state dues.Show cards = Some reasons.WrongKind
 
 -- a live seat has not drawn on the street
 abbrev pub has_to_draw : CardState → LiveRow → ℕ → ℕ → Bool
-has_to_draw t live on seat = flag_of live seat && not (has_drawn_at t.draws on seat)
+has_to_draw state live street seat = flag_of live seat && not (has_drawn_at state.draws street seat)
 
 -- the next seat to draw on the street, if there is one
 abbrev pub next_to_draw_in : CardState → LiveRow → ℕ → Option ℕ
-next_to_draw_in t live on = find (has_to_draw t live on) (seats_of t.seats)
+next_to_draw_in state live street = find (has_to_draw state live street) (seats_of state.seats)
 
 -- a seat draws next on the street
 abbrev pub is_next_in : CardState → LiveRow → ℕ → ℕ → Bool
-is_next_in t live on seat = option_map_or (λ next. next == seat) (next_to_draw_in t live on) false
+is_next_in state live street seat =
+    option_map_or (λ next. next == seat) (next_to_draw_in state live street) false
 
 -- the reasons against a discard, in their order
 abbrev pub discard_chain : (next : Bool) (held count : ℕ) (taken lacking : Bool) → Option Illegal
@@ -119,27 +126,29 @@ discard_chain next held count taken lacking =
 
 -- why a seat may not discard these cards on the street
 abbrev pub illegal_discard_on : CardState → LiveRow → ℕ → ℕ → List Slot → Option Illegal
-illegal_discard_on t live on seat cards =
-    discard_chain (is_next_in t live on seat) (held_count (placed t.places) seat) (length cards)
-    (has_misplaced_card t.table.code (placed t.places)
-    (after_discard on seat cards (placed t.places)))
-    (has_no_place (filter (is_held_by seat) (placed t.places)) (known_cards cards)
+illegal_discard_on state live street seat cards =
+    discard_chain (is_next_in state live street seat) (held_count (placed state.places) seat)
+    (length cards)
+    (has_misplaced_card state.table.code (placed state.places)
+    (after_discard street seat cards (placed state.places)))
+    (has_no_place (filter (is_held_by seat) (placed state.places)) (known_cards cards)
     (blanks_in cards))
 
 -- why a seat may not discard these cards now
 abbrev pub illegal_discard : CardState → LiveRow → Due → ℕ → List Slot → Option Illegal
-illegal_discard t live dues.Over seat cards = Some reasons.HandOver
-illegal_discard t live (dues.Draw on) seat cards = illegal_discard_on t live on seat cards
-illegal_discard t live (dues.Deal on) seat cards = Some reasons.WrongKind
-illegal_discard t live dues.BringIn seat cards = Some reasons.WrongKind
-illegal_discard t live dues.Move seat cards = Some reasons.WrongKind
-illegal_discard t live dues.Show seat cards = Some reasons.WrongKind
+illegal_discard state live dues.Over seat cards = Some reasons.HandOver
+illegal_discard state live (dues.Draw street) seat cards =
+    illegal_discard_on state live street seat cards
+illegal_discard state live (dues.Deal street) seat cards = Some reasons.WrongKind
+illegal_discard state live dues.BringIn seat cards = Some reasons.WrongKind
+illegal_discard state live dues.Move seat cards = Some reasons.WrongKind
+illegal_discard state live dues.Show seat cards = Some reasons.WrongKind
 
 -- a seat may show or muck: it is live, and has done neither
 abbrev pub may_show_in : CardState → LiveRow → ℕ → Bool
-may_show_in t live seat =
-    is_seat_of t.seats seat
-    && (flag_of live seat && not (flag_of t.shown seat || flag_of t.mucked seat))
+may_show_in state live seat =
+    is_seat_of state.seats seat
+    && (flag_of live seat && not (flag_of state.shown seat || flag_of state.mucked seat))
 
 -- a show may have `count` cards: all that the seat holds, or only its down-cards if its up-cards
 -- are known
@@ -160,73 +169,78 @@ show_chain may many taken others =
 
 -- why a seat may not show these cards, when a show is due
 abbrev pub illegal_show_on : CardState → LiveRow → ℕ → List Card → Option Illegal
-illegal_show_on t live seat cards =
-    show_chain (may_show_in t live seat)
-    (may_show_many t.table.code (placed t.places) seat (length cards))
-    (has_misplaced_card t.table.code (placed t.places)
-    (after_show t.table.code seat cards (placed t.places)))
+illegal_show_on state live seat cards =
+    show_chain (may_show_in state live seat)
+    (may_show_many state.table.code (placed state.places) seat (length cards))
+    (has_misplaced_card state.table.code (placed state.places)
+    (after_show state.table.code seat cards (placed state.places)))
     (is_show_of_others
-    (filter (is_covered t.table.code seat (is_show_of_all (placed t.places) seat cards))
-    (placed t.places))
+    (filter (can_be_named state.table.code seat (is_show_of_all (placed state.places) seat cards))
+    (placed state.places))
     cards)
 
 -- why a seat may not show these cards now; `settled` says whether no more betting is possible
 abbrev pub illegal_show : CardState → LiveRow → Due → Bool → ℕ → List Card → Option Illegal
-illegal_show t live dues.Over settled seat cards =
-    if may_show_in t live seat then illegal_show_on t live seat cards else Some reasons.HandOver
-illegal_show t live dues.Show settled seat cards = illegal_show_on t live seat cards
-illegal_show t live (dues.Deal on) settled seat cards =
-    if settled then illegal_show_on t live seat cards else Some reasons.WrongKind
-illegal_show t live (dues.Draw on) settled seat cards =
-    if settled then illegal_show_on t live seat cards else Some reasons.WrongKind
-illegal_show t live dues.BringIn settled seat cards =
-    if settled then illegal_show_on t live seat cards else Some reasons.WrongKind
-illegal_show t live dues.Move settled seat cards =
-    if settled then illegal_show_on t live seat cards else Some reasons.WrongKind
+illegal_show state live dues.Over settled seat cards =
+    if may_show_in state live seat then illegal_show_on state live seat cards
+    else Some reasons.HandOver
+illegal_show state live dues.Show settled seat cards = illegal_show_on state live seat cards
+illegal_show state live (dues.Deal street) settled seat cards =
+    if settled then illegal_show_on state live seat cards else Some reasons.WrongKind
+illegal_show state live (dues.Draw street) settled seat cards =
+    if settled then illegal_show_on state live seat cards else Some reasons.WrongKind
+illegal_show state live dues.BringIn settled seat cards =
+    if settled then illegal_show_on state live seat cards else Some reasons.WrongKind
+illegal_show state live dues.Move settled seat cards =
+    if settled then illegal_show_on state live seat cards else Some reasons.WrongKind
 
 -- why a seat may not muck now
 abbrev pub illegal_muck : CardState → LiveRow → Due → ℕ → Option Illegal
-illegal_muck t live dues.Over seat = if may_show_in t live seat then None else Some reasons.HandOver
-illegal_muck t live dues.Show seat = if may_show_in t live seat then None
+illegal_muck state live dues.Over seat =
+    if may_show_in state live seat then None else Some reasons.HandOver
+illegal_muck state live dues.Show seat = if may_show_in state live seat then None
     else Some reasons.WrongSeat
-illegal_muck t live (dues.Deal on) seat = Some reasons.WrongKind
-illegal_muck t live (dues.Draw on) seat = Some reasons.WrongKind
-illegal_muck t live dues.BringIn seat = Some reasons.WrongKind
-illegal_muck t live dues.Move seat = Some reasons.WrongKind
+illegal_muck state live (dues.Deal street) seat = Some reasons.WrongKind
+illegal_muck state live (dues.Draw street) seat = Some reasons.WrongKind
+illegal_muck state live dues.BringIn seat = Some reasons.WrongKind
+illegal_muck state live dues.Move seat = Some reasons.WrongKind
 
 -- a live seat is owed hole cards of the street
 abbrev pub is_owed_deal_in : CardState → LiveRow → ℕ → ℕ → Bool
-is_owed_deal_in t live on seat =
+is_owed_deal_in state live street seat =
     nat_lt 0
     (if flag_of live seat
-    then hole_cards_on t.table.code on
-    - count_by (is_in_group (Some seat) on) (placed t.places)
+    then hole_cards_on state.table.code street
+    - count_by (is_in_group (Some seat) street) (placed state.places)
     else 0)
 
 -- a seat is owed cards for those that it discarded in the draw of the street
 abbrev pub is_owed_draw_in : CardState → ℕ → ℕ → Bool
-is_owed_draw_in t on seat =
-    nat_lt 0 (named_at t.draws on seat - count_by (is_in_group (Some seat) on) (placed t.places))
+is_owed_draw_in state street seat =
+    nat_lt 0
+    (named_at state.draws street seat
+    - count_by (is_in_group (Some seat) street) (placed state.places))
 
 -- a live seat has not shown or mucked
 abbrev pub has_to_show_in : CardState → LiveRow → ℕ → Bool
-has_to_show_in t live seat =
-    flag_of live seat && not (flag_of t.shown seat || flag_of t.mucked seat)
+has_to_show_in state live seat =
+    flag_of live seat && not (flag_of state.shown seat || flag_of state.mucked seat)
 
 -- the board is owed cards of the street
 abbrev pub is_board_owed_in : CardState → ℕ → Bool
-is_board_owed_in t on = nat_lt 0 (board_owed_in t on)
+is_board_owed_in state street = nat_lt 0 (board_owed_in state street)
 
 -- what is due is complete
 abbrev pub is_done_in : CardState → LiveRow → Due → Bool
-is_done_in t live (dues.Deal on) =
-    not (list_any (is_owed_deal_in t live on) (seats_of t.seats) || nat_lt 0 (board_owed_in t on))
-is_done_in t live (dues.Draw on) =
+is_done_in state live (dues.Deal street) =
+    not (list_any (is_owed_deal_in state live street) (seats_of state.seats)
+    || nat_lt 0 (board_owed_in state street))
+is_done_in state live (dues.Draw street) =
     not
-    (has_draw t.table.code on
-    && (is_some (next_to_draw_in t live on)
-    || list_any (is_owed_draw_in t on) (seats_of t.seats)))
-is_done_in t live dues.Show = not (list_any (has_to_show_in t live) (seats_of t.seats))
-is_done_in t live dues.BringIn = false
-is_done_in t live dues.Move = false
-is_done_in t live dues.Over = false
+    (has_draw state.table.code street
+    && (is_some (next_to_draw_in state live street)
+    || list_any (is_owed_draw_in state street) (seats_of state.seats)))
+is_done_in state live dues.Show = not (list_any (has_to_show_in state live) (seats_of state.seats))
+is_done_in state live dues.BringIn = false
+is_done_in state live dues.Move = false
+is_done_in state live dues.Over = false

@@ -6,7 +6,7 @@ use Rattle.card_set.specs.Row.{cards_of}
 use Rattle.play_event.specs.declared.code.Code.{Code}
 use Rattle.play_event.specs.CardReasons.{is_left_out}
 use Rattle.play_event.specs.Places.{Place}
-use Rattle.play_event.specs.Naming.{after_names, is_covered}
+use Rattle.play_event.specs.NameMatching.{after_matching, can_be_named}
 use Rattle.card_places.specs.declared.search.NamedCards.{NamedCards}
 use Rattle.card_places.specs.Covered.{covered}
 use Rattle.card_places.specs.Marks.{mark_by}
@@ -15,8 +15,8 @@ use Rattle.card_places.specs.Marks.{mark_by}
 -- blanks are left
 abbrev pub search_from : Code → NamedCards → ℕ → ℕ → List Place → List Place
 search_from code s taken blanks places =
-    after_names (is_covered code s.seat.number s.all) (mark_by s.street s.count) (cards_of s.names)
-    (drop taken (cards_of s.others)) blanks places
+    after_matching (can_be_named code s.seat.number s.all) (mark_by s.street s.count)
+    (cards_of s.names) (drop taken (cards_of s.others)) blanks places
 
 -- the places after all names were matched
 abbrev pub searched : Code → NamedCards → List Place → List Place

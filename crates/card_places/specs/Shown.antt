@@ -4,7 +4,7 @@ use Rattle.card_set.specs.declared.card.Card.{Card}
 use Rattle.chip_ledger.specs.LiveRow.{flag_of}
 use Rattle.play_event.specs.declared.code.Code.{Code}
 use Rattle.play_event.specs.CardReasons.{is_show_of_others}
-use Rattle.play_event.specs.Naming.{after_show, is_show_of_all}
+use Rattle.play_event.specs.NameMatching.{after_show, is_show_of_all}
 use Rattle.play_event.specs.Places.{Place}
 use Rattle.card_places.specs.Covered.{covered}
 use Rattle.card_places.specs.declared.card_state.CardState.{CardState}

@@ -1,7 +1,7 @@
 //! Matches a place with the names.
 ghost use Rattle.std.specs.Prelude.{◌≡◌, drop};
 ghost use Rattle.card_set.specs.Row.{cards_of};
-ghost use Rattle.play_event.specs.Naming.{found_by};
+ghost use Rattle.play_event.specs.NameMatching.{matched_card};
 ghost use Rattle.card_places.specs.Plain.{place_of};
 ghost use Rattle.card_places.specs.Marks.{mark_by, IsFound};
 
@@ -31,7 +31,7 @@ pub fn match_name(
     taken: u8,
     blanks: u8,
 ) -> FoundPlace
-    ensures { IsFound result (found_by (mark_by street count) (cards_of names.now) card.slot
+    ensures { IsFound result (matched_card (mark_by street count) (cards_of names.now) card.slot
         (drop taken (cards_of others.now)) blanks (place_of card)) (cards_of others.now) }
 {
     let same = FoundPlace {

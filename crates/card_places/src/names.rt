@@ -4,7 +4,7 @@ ghost use Rattle.std.specs.List.{list_any};
 ghost use Rattle.card_set.specs.Deck as decks;
 ghost use Rattle.card_set.specs.declared.card.Slot.TheVariants.{Known};
 ghost use Rattle.card_set.specs.Row.{cards_of, slots_of};
-ghost use Rattle.play_event.specs.Naming as naming;
+ghost use Rattle.play_event.specs.NameMatching as naming;
 ghost use Rattle.card_set.specs.Known as known;
 ghost use Rattle.play_event.specs.Taken as taken;
 ghost use Rattle.play_event.specs.CardReasons as reasons;
@@ -97,7 +97,7 @@ pub fn blanks(slots: &[Slot]) -> usize
 
 /// The names without the first that is this card.
 pub fn without(slot: Slot, names: &CardRow) -> CardRow
-    ensures { cards_of result ≡ naming.without slot (cards_of names.now) }
+    ensures { cards_of result ≡ naming.without_name slot (cards_of names.now) }
 {
     match slot {
         Slot::Unknown => *names,
@@ -107,7 +107,7 @@ pub fn without(slot: Slot, names: &CardRow) -> CardRow
 
 // The names without the first that is this card.
 fn without_card(card: Card, names: &CardRow) -> CardRow
-    ensures { cards_of result ≡ naming.without (Known card) (cards_of names.now) }
+    ensures { cards_of result ≡ naming.without_name (Known card) (cards_of names.now) }
 {
     let mut left = CardRow::new();
     let mut found = false;

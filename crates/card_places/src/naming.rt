@@ -1,6 +1,6 @@
 //! Finds names without a place, and known cards that a show leaves out.
 ghost use Rattle.std.specs.Prelude.{◌≡◌, ◌≤◌, map, length, count_by, ◌&&◌};
-ghost use Rattle.play_event.specs.Naming as naming;
+ghost use Rattle.play_event.specs.NameMatching as naming;
 ghost use Rattle.card_set.specs.Known as known;
 ghost use Rattle.card_places.specs.Covered.{covered};
 ghost use Rattle.card_places.specs.Plain.{place_of};
@@ -52,7 +52,7 @@ fn free_count(table: &DealTable, rows: &[DealtCard], search: &NamedCards) -> usi
 
 // The event applies to the place, and its card is unknown.
 fn is_free(table: &DealTable, card: &DealtCard, search: &NamedCards) -> bool
-    ensures { result ≡ (naming.is_covered table.now.code search.now.seat.number search.now.all
+    ensures { result ≡ (naming.can_be_named table.now.code search.now.seat.number search.now.all
         (place_of card.now) && known.is_unknown card.now.slot) }
 {
     covers(table, card, search.seat, search.all) && card.slot.is_unknown()

@@ -4,7 +4,7 @@ ghost use Rattle.std.specs.List.{list_any};
 ghost use Rattle.card_set.specs.Row.{cards_of};
 ghost use Rattle.play_event.specs.CardReasons as reasons;
 ghost use Rattle.play_event.specs.Places.{Place};
-ghost use Rattle.play_event.specs.Naming as naming;
+ghost use Rattle.play_event.specs.NameMatching as naming;
 ghost use Rattle.card_places.specs.Covered.{after_named, covered};
 ghost use Rattle.card_places.specs.Marks.{mark_by};
 ghost use Rattle.card_places.specs.Placed.{placed};
@@ -76,7 +76,7 @@ fn other_names(
     all: bool,
     names: &CardRow,
 ) -> CardRow
-    ensures { cards_of result ≡ naming.other_names
+    ensures { cards_of result ≡ naming.unmatched_names
         (covered table.now.code seat.number all (map place_of rows.now)) (cards_of names.now) }
 {
     let mut others = *names;
@@ -138,7 +138,7 @@ pub fn peek(
 /// Whether a discard or a show of the seat applies to the card: to all its cards, or those face
 /// down.
 pub fn covers(table: &DealTable, card: &DealtCard, seat: Seat, all: bool) -> bool
-    ensures { result ≡ naming.is_covered table.now.code seat.number all (place_of card.now) }
+    ensures { result ≡ naming.can_be_named table.now.code seat.number all (place_of card.now) }
 {
     card.held_by(Some(seat)) && (all || !table.is_up(card))
 }

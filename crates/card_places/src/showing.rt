@@ -3,7 +3,7 @@ ghost use Rattle.std.specs.Prelude.{◌≡◌, ◌≤◌, ◌&&◌, map, length,
 ghost use Rattle.card_set.specs.declared.card.Card.{Card};
 ghost use Rattle.std.specs.List.{list_any};
 ghost use Rattle.card_set.specs.Row.{cards_of};
-ghost use Rattle.play_event.specs.Naming as naming;
+ghost use Rattle.play_event.specs.NameMatching as naming;
 ghost use Rattle.card_set.specs.Known as known;
 ghost use Rattle.play_event.specs.Places as plain;
 ghost use Rattle.card_places.specs.Placed.{placed};

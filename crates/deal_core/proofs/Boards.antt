@@ -9,7 +9,7 @@ use Rattle.card_set.specs.declared.card.Slot.{Slot}
 use Rattle.card_set.specs.declared.card.Slot.TheVariants as slots
 use Rattle.card_set.proofs.Tests.{false_true}
 use Rattle.play_event.specs.declared.code.Code.{Code}
-use Rattle.play_event.specs.Naming.{found_by, after_names, discarded_now, is_named, other_names, blanks_in, is_covered, is_show_of_all}
+use Rattle.play_event.specs.NameMatching.{matched_card, after_matching, discarded_now, is_named, unmatched_names, blanks_in, can_be_named, is_show_of_all}
 use Rattle.play_event.specs.Past.{Past, Dealt, Boarded, Moved, Discarded, Shown, Mucked, is_fold}
 use Rattle.play_event.specs.Places.{Place, is_same_owner, is_in_group, is_held_by, is_past_deck, is_up, places_dealt, after_fold, folded_place, gone_now}
 use Rattle.play_event.specs.Table.{places_of}
@@ -38,27 +38,27 @@ CoversSeats covers = (place : Place) → covers place ≡ true → is_same_owner
 abbrev KeepsOwner : (Place → Place) → Type 0
 KeepsOwner mark = (place : Place) → (mark place).owner ≡ place.owner
 
-names_board : (covers : Place → Bool) (mark : Place → Place) (names others : List Card) (blanks : ℕ) (placed : List Place) → CoversSeats covers → KeepsOwner mark → held_slots None (after_names covers mark names others blanks placed) ≡ held_slots None placed
+names_board : (covers : Place → Bool) (mark : Place → Place) (names others : List Card) (blanks : ℕ) (placed : List Place) → CoversSeats covers → KeepsOwner mark → held_slots None (after_matching covers mark names others blanks placed) ≡ held_slots None placed
 names_board covers mark names others blanks [] seats owner = refl
 names_board covers mark names others blanks (place ∷ rest) seats owner = by_cover (covers place) refl (λ left n. names_board covers mark names left n rest seats owner)
   where
-    both : (new : Place) (left : List Card) (n : ℕ) → is_same_owner place.owner None ≡ false → new.owner ≡ place.owner → held_slots None (after_names covers mark names left n rest) ≡ held_slots None rest → held_slots None (new ∷ after_names covers mark names left n rest) ≡ held_slots None (place ∷ rest)
+    both : (new : Place) (left : List Card) (n : ℕ) → is_same_owner place.owner None ≡ false → new.owner ≡ place.owner → held_slots None (after_matching covers mark names left n rest) ≡ held_slots None rest → held_slots None (new ∷ after_matching covers mark names left n rest) ≡ held_slots None (place ∷ rest)
     both new left n seat same later =
-        skip new (after_names covers mark names left n rest) (ap (λ (o : Option ℕ). is_same_owner o None) same ∙ seat) ∙ later ∙ sym (skip place rest seat)
+        skip new (after_matching covers mark names left n rest) (ap (λ (o : Option ℕ). is_same_owner o None) same ∙ seat) ∙ later ∙ sym (skip place rest seat)
 
     by_name : (b : Bool) → (if b then mark place else place).owner ≡ place.owner
     by_name true = owner place
     by_name false = refl
 
-    by_slot : (slot : Slot) (left : List Card) (n : ℕ) → is_same_owner place.owner None ≡ false → ((left : List Card) (n : ℕ) → held_slots None (after_names covers mark names left n rest) ≡ held_slots None rest) → held_slots None (let found = found_by mark names slot left n place in found.place ∷ after_names covers mark names found.others found.blanks rest) ≡ held_slots None (place ∷ rest)
+    by_slot : (slot : Slot) (left : List Card) (n : ℕ) → is_same_owner place.owner None ≡ false → ((left : List Card) (n : ℕ) → held_slots None (after_matching covers mark names left n rest) ≡ held_slots None rest) → held_slots None (let found = matched_card mark names slot left n place in found.place ∷ after_matching covers mark names found.others found.blanks rest) ≡ held_slots None (place ∷ rest)
     by_slot (slots.Known card) left n seat later = both (if is_named card names then mark place else place) left n seat (by_name (is_named card names)) (later left n)
     by_slot slots.Unknown (card ∷ left) n seat later = both (mark (record place { slot = slots.Known card })) left n seat (owner (record place { slot = slots.Known card })) (later left n)
     by_slot slots.Unknown [] zero seat later = both place [] 0 seat refl (later [] 0)
     by_slot slots.Unknown [] (suc n) seat later = both (mark place) [] n seat (owner place) (later [] n)
 
-    by_cover : (b : Bool) → covers place ≡ b → ((left : List Card) (n : ℕ) → held_slots None (after_names covers mark names left n rest) ≡ held_slots None rest) → held_slots None (if b then (let found = found_by mark names place.slot others blanks place in found.place ∷ after_names covers mark names found.others found.blanks rest) else (place ∷ after_names covers mark names others blanks rest)) ≡ held_slots None (place ∷ rest)
+    by_cover : (b : Bool) → covers place ≡ b → ((left : List Card) (n : ℕ) → held_slots None (after_matching covers mark names left n rest) ≡ held_slots None rest) → held_slots None (if b then (let found = matched_card mark names place.slot others blanks place in found.place ∷ after_matching covers mark names found.others found.blanks rest) else (place ∷ after_matching covers mark names others blanks rest)) ≡ held_slots None (place ∷ rest)
     by_cover true is later = by_slot place.slot others blanks (seats place is) later
-    by_cover false is later = keep place (after_names covers mark names others blanks rest) rest (later others blanks)
+    by_cover false is later = keep place (after_matching covers mark names others blanks rest) rest (later others blanks)
 
 held_seats : (seat : ℕ) → CoversSeats (is_held_by seat)
 held_seats seat place is = seat_not_board place.owner seat (and_parts (is_same_owner place.owner (Some seat)) (is_none place.gone_after) is).0
@@ -104,13 +104,13 @@ board_held code (Moved move ∷ before) = by_fold (is_fold move.act) (board_held
     by_fold false later = later
 board_held code (Discarded on seat cards ∷ before) =
     let placed = places_of code before in
-    names_board (is_held_by seat) (discarded_now on (length placed)) (known_cards cards) (other_names (filter (is_held_by seat) placed) (known_cards cards)) (blanks_in cards) placed (held_seats seat) (λ place. refl)
+    names_board (is_held_by seat) (discarded_now on (length placed)) (known_cards cards) (unmatched_names (filter (is_held_by seat) placed) (known_cards cards)) (blanks_in cards) placed (held_seats seat) (λ place. refl)
     ∙ board_held code before
 board_held code (Shown on seat cards ∷ before) =
     let placed = places_of code before in
     let all : Bool = is_show_of_all placed seat cards in
-    let covers : Place → Bool = is_covered code seat all in
-    names_board covers (λ place. place) cards (other_names (filter covers placed) cards) 0 placed
+    let covers : Place → Bool = can_be_named code seat all in
+    names_board covers (λ place. place) cards (unmatched_names (filter covers placed) cards) 0 placed
     (λ place is. held_seats seat place (and_parts (is_held_by seat place) (all || not (is_up code place)) is).0) (λ place. refl)
     ∙ board_held code before
 board_held code (Mucked on seat ∷ before) = board_held code before

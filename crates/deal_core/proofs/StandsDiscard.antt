@@ -9,7 +9,7 @@ use Rattle.play_event.specs.Said as said
 use Rattle.play_event.specs.Past.{Past, Discarded}
 use Rattle.play_event.specs.Dealing.{has_drawn, cards_discarded}
 use Rattle.play_event.specs.Due.{turn}
-use Rattle.play_event.specs.Naming.{after_discard}
+use Rattle.play_event.specs.NameMatching.{after_discard}
 use Rattle.play_event.specs.Scripts.{with_event}
 use Rattle.card_places.specs.declared.card_state.CardState.{CardState}
 use Rattle.card_places.specs.Drawn.{has_drawn_at, named_at}

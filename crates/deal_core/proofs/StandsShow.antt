@@ -9,7 +9,7 @@ use Rattle.play_event.specs.Said as said
 use Rattle.play_event.specs.Past.{Past, Shown}
 use Rattle.play_event.specs.Showing.{has_shown, has_mucked}
 use Rattle.play_event.specs.Due.{turn}
-use Rattle.play_event.specs.Naming.{after_show}
+use Rattle.play_event.specs.NameMatching.{after_show}
 use Rattle.play_event.specs.Scripts.{with_event}
 use Rattle.card_places.specs.declared.card_state.CardState.{CardState}
 use Rattle.card_places.specs.declared.draws.Draws.{Draws}

@@ -17,7 +17,7 @@ use Rattle.play_event.specs.Dealing.{has_drawn, next_to_draw}
 use Rattle.play_event.specs.Due.{turn}
 use Rattle.card_set.specs.Known.{known_cards}
 use Rattle.play_event.specs.Places.{Place, is_held_by}
-use Rattle.play_event.specs.Naming.{after_discard, blanks_in, held_count}
+use Rattle.play_event.specs.NameMatching.{after_discard, blanks_in, held_count}
 use Rattle.play_event.specs.Table.{places_of}
 use Rattle.play_event.specs.Taken.{has_misplaced_card}
 use Rattle.play_event.specs.CardReasons.{is_next_to_draw, has_no_place}

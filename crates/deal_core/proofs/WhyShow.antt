@@ -15,7 +15,7 @@ use Rattle.play_event.specs.Past.{Past, moves_of}
 use Rattle.play_event.specs.Showing.{has_shown, has_mucked, has_to_show}
 use Rattle.play_event.specs.Due.{turn, is_settled}
 use Rattle.play_event.specs.Places.{Place}
-use Rattle.play_event.specs.Naming.{after_show, is_covered, is_show_of_all}
+use Rattle.play_event.specs.NameMatching.{after_show, can_be_named, is_show_of_all}
 use Rattle.play_event.specs.Table.{places_of}
 use Rattle.play_event.specs.Taken.{has_misplaced_card}
 use Rattle.play_event.specs.CardReasons.{may_show, is_show_of_others}
@@ -58,14 +58,14 @@ module _ (t : CardState) (due : Due) (live : LiveRow) (setup : Setup) (past : Pa
   chain : (seat : ℕ) (cards : List Card) → Option Illegal
   chain seat cards =
       let ps = places_of setup.code past in
-      show_chain (may_show setup past seat) (may_show_many setup.code ps seat (length cards)) (has_misplaced_card setup.code ps (after_show setup.code seat cards ps)) (is_show_of_others (filter (is_covered setup.code seat (is_show_of_all ps seat cards)) ps) cards)
+      show_chain (may_show setup past seat) (may_show_many setup.code ps seat (length cards)) (has_misplaced_card setup.code ps (after_show setup.code seat cards ps)) (is_show_of_others (filter (can_be_named setup.code seat (is_show_of_all ps seat cards)) ps) cards)
 
   chain_is : (seat : ℕ) (cards : List Card) → chain seat cards ≡ illegal_show_on t live seat cards
   unfolding chain
   chain_is seat cards =
-      ap (λ (c : Code). show_chain (may_show setup past seat) (may_show_many c (places_of c past) seat (length cards)) (has_misplaced_card c (places_of c past) (after_show c seat cards (places_of c past))) (is_show_of_others (filter (is_covered c seat (is_show_of_all (places_of c past) seat cards)) (places_of c past)) cards)) now.code_is
-      ∙ ap (λ (ps : List Place). show_chain (may_show setup past seat) (may_show_many t.table.code ps seat (length cards)) (has_misplaced_card t.table.code ps (after_show t.table.code seat cards ps)) (is_show_of_others (filter (is_covered t.table.code seat (is_show_of_all ps seat cards)) ps) cards)) (sym now.stands.places)
-      ∙ ap (λ (m : Bool). show_chain m (may_show_many t.table.code (placed t.places) seat (length cards)) (has_misplaced_card t.table.code (placed t.places) (after_show t.table.code seat cards (placed t.places))) (is_show_of_others (filter (is_covered t.table.code seat (is_show_of_all (placed t.places) seat cards)) (placed t.places)) cards)) (may_is seat)
+      ap (λ (c : Code). show_chain (may_show setup past seat) (may_show_many c (places_of c past) seat (length cards)) (has_misplaced_card c (places_of c past) (after_show c seat cards (places_of c past))) (is_show_of_others (filter (can_be_named c seat (is_show_of_all (places_of c past) seat cards)) (places_of c past)) cards)) now.code_is
+      ∙ ap (λ (ps : List Place). show_chain (may_show setup past seat) (may_show_many t.table.code ps seat (length cards)) (has_misplaced_card t.table.code ps (after_show t.table.code seat cards ps)) (is_show_of_others (filter (can_be_named t.table.code seat (is_show_of_all ps seat cards)) ps) cards)) (sym now.stands.places)
+      ∙ ap (λ (m : Bool). show_chain m (may_show_many t.table.code (placed t.places) seat (length cards)) (has_misplaced_card t.table.code (placed t.places) (after_show t.table.code seat cards (placed t.places))) (is_show_of_others (filter (can_be_named t.table.code seat (is_show_of_all (placed t.places) seat cards)) (placed t.places)) cards)) (may_is seat)
 
 settled_is : (setup : Setup) (past : Past) (due : Due) (settled : Bool) → (turn setup past).1 ≡ due → is_settled setup (moves_of past) (turn setup past) ≡ settled → is_settled setup (moves_of past) ((turn setup past).0, due) ≡ settled
 settled_is setup past due settled due_is is = ap (λ (d : Due). is_settled setup (moves_of past) ((turn setup past).0, d)) (sym due_is) ∙ is

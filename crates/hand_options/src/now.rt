@@ -6,7 +6,6 @@ ghost use Rattle.replay_core.specs.Told.{WhereTogether};
 
 use crate::choices::Options;
 use crate::seat_choices::{no_options, options_of};
-use play_event::Due;
 use replay_core::HandInPlay;
 use variant_table::Variant;
 
@@ -20,22 +19,12 @@ pub fn options_now<V: Variant>(hand: &HandInPlay<V>) -> Options
         → IsUndecided hand.now.betting.setup past)) }
 {
     let due = hand.betting.due();
-    if !is_bet(due) {
+    if !due.is_bet() {
         return no_options(due);
     }
     let up = hand.opening_up_cards();
     match hand.betting.to_act(&up) {
         Some(seat) => options_of(&hand.betting, &up, seat),
         None => no_options(due),
-    }
-}
-
-// A bring-in or a move is due.
-fn is_bet(due: Due) -> bool
-    ensures { result ≡ is_bet_due due }
-{
-    match due {
-        Due::BringIn | Due::Move => true,
-        Due::Deal(_) | Due::Draw(_) | Due::Show | Due::Over => false,
     }
 }

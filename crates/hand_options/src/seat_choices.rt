@@ -2,10 +2,10 @@
 ghost use Rattle.std.specs.Prelude.{◌≡◌, ◌≤◌, true, Some};
 ghost use Rattle.betting_numbers.specs.LegalMoves.{IsTurn, WhereUps};
 ghost use Rattle.hand_options.specs.Legal.{AreOptions};
-ghost use Rattle.hand_options.specs.Sets.{no_options as no_options_said};
+ghost use Rattle.hand_options.specs.Sets as sets;
 ghost use Rattle.play_event.specs.Openers.{TheSeat};
 ghost use Rattle.play_event.specs.TurnTargets.{is_bet_due};
-ghost use Rattle.play_laws.specs.Dues.{is_move as is_move_said};
+ghost use Rattle.play_laws.specs.Dues as dues;
 
 use crate::choices::{Options, RaiseSet};
 use crate::targets::raise_set;
@@ -49,7 +49,7 @@ pub fn options_of<V: Variant>(betting: &Betting<V>, up: &UpRow, seat: Seat) -> O
 
 /// The options when no player is to act: there are none.
 pub fn no_options(due: Due) -> Options
-    ensures { result ≡ no_options_said due }
+    ensures { result ≡ sets.no_options due }
 {
     Options {
         due,
@@ -63,7 +63,7 @@ pub fn no_options(due: Due) -> Options
 
 // A move is due.
 fn is_move(due: Due) -> bool
-    ensures { result ≡ is_move_said due }
+    ensures { result ≡ dues.is_move due }
 {
     match due {
         Due::Move => true,

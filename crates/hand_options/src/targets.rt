@@ -1,7 +1,8 @@
 //! The set of legal targets, from the lowest and the highest of them and the game's limit.
 ghost use Rattle.std.specs.Prelude.{◌≡◌};
 ghost use Rattle.play_event.specs.declared.limit.Limit.TheVariants as limits;
-ghost use Rattle.hand_options.specs.Sets.{set_between as set_said, set_of};
+ghost use Rattle.hand_options.specs.Sets.{set_of};
+ghost use Rattle.hand_options.specs.Sets as sets;
 
 use crate::choices::RaiseSet;
 use betting_core::Targets;
@@ -19,7 +20,7 @@ pub fn raise_set(limit: Limit, ends: Option<Targets>) -> RaiseSet
 
 // The set of legal targets from `least` to `greatest`. In fixed limit there are no others.
 fn set_between(limit: Limit, least: u64, greatest: u64) -> RaiseSet
-    ensures { result ≡ set_said limit least greatest }
+    ensures { result ≡ sets.set_between limit least greatest }
 {
     match limit {
         Limit::No | Limit::Pot => RaiseSet::Range { least, greatest },
@@ -29,7 +30,7 @@ fn set_between(limit: Limit, least: u64, greatest: u64) -> RaiseSet
 
 // One target or two.
 fn listed(least: u64, greatest: u64) -> RaiseSet
-    ensures { result ≡ set_said limits.Fixed least greatest }
+    ensures { result ≡ sets.set_between limits.Fixed least greatest }
 {
     if least == greatest {
         RaiseSet::List {

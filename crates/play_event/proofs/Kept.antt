@@ -9,7 +9,7 @@ use Rattle.card_set.specs.declared.card.Slot.{Slot}
 use Rattle.card_set.specs.declared.card.Slot.TheVariants as slots
 use Rattle.card_set.specs.Known.{is_unknown}
 use Rattle.play_event.specs.Places.{Place, is_held_by, gone_now, folded_place, is_same_owner}
-use Rattle.play_event.specs.Naming.{found_by, after_names, is_named}
+use Rattle.play_event.specs.NameMatching.{matched_card, after_matching, is_named}
 use Rattle.play_event.specs.Taken.{is_clash, may_repeat, is_gone_before, is_one_card, newly_known}
 use Rattle.play_event.specs.Laws.{IsAmong}
 
@@ -142,24 +142,24 @@ maybe_marked : (count : ℕ) (mark : Place → Place) → IsMark count mark → 
 maybe_marked count mark is place true there = marked_kept count mark is place there
 maybe_marked count mark is place false there = kept_same count place
 
-found_kept : (count : ℕ) (mark : Place → Place) → IsMark count mark → (names : List Card) (slot : Slot) (others : List Card) (blanks : ℕ) (place : Place) → place.slot ≡ slot → place.gone_after ≡ None → IsKept count place (found_by mark names slot others blanks place).place
+found_kept : (count : ℕ) (mark : Place → Place) → IsMark count mark → (names : List Card) (slot : Slot) (others : List Card) (blanks : ℕ) (place : Place) → place.slot ≡ slot → place.gone_after ≡ None → IsKept count place (matched_card mark names slot others blanks place).place
 found_kept count mark is names (slots.Known card) others blanks place here there = maybe_marked count mark is place (is_named card names) there
 found_kept count mark is names slots.Unknown (card ∷ others) blanks place here there = known_kept count mark is place card there (ap is_unknown here)
 found_kept count mark is names slots.Unknown [] zero place here there = kept_same count place
 found_kept count mark is names slots.Unknown [] (suc blanks) place here there = marked_kept count mark is place there
 
-names_step : (count : ℕ) (covers : Place → Bool) (mark : Place → Place) (names others : List Card) (blanks : ℕ) (place : Place) (rest : List Place) (b : Bool) → IsKept count place (found_by mark names place.slot others blanks place).place ⊎ (b ≡ false) → ((os : List Card) (n : ℕ) → AreKept count rest (after_names covers mark names os n rest)) → AreKept count (place ∷ rest) (if b then (let found = found_by mark names place.slot others blanks place in found.place ∷ after_names covers mark names found.others found.blanks rest) else (place ∷ after_names covers mark names others blanks rest))
+names_step : (count : ℕ) (covers : Place → Bool) (mark : Place → Place) (names others : List Card) (blanks : ℕ) (place : Place) (rest : List Place) (b : Bool) → IsKept count place (matched_card mark names place.slot others blanks place).place ⊎ (b ≡ false) → ((os : List Card) (n : ℕ) → AreKept count rest (after_matching covers mark names os n rest)) → AreKept count (place ∷ rest) (if b then (let found = matched_card mark names place.slot others blanks place in found.place ∷ after_matching covers mark names found.others found.blanks rest) else (place ∷ after_matching covers mark names others blanks rest))
 names_step count covers mark names others blanks place rest true (inl kept) later =
-    (kept, later (found_by mark names place.slot others blanks place).others (found_by mark names place.slot others blanks place).blanks)
+    (kept, later (matched_card mark names place.slot others blanks place).others (matched_card mark names place.slot others blanks place).blanks)
 names_step count covers mark names others blanks place rest true (inr is) later = false_true (sym is)
 names_step count covers mark names others blanks place rest false kept later = (kept_same count place, later others blanks)
 
-names_covered : (count : ℕ) (mark : Place → Place) (names others : List Card) (blanks : ℕ) (place : Place) (b : Bool) → IsMark count mark → (b ≡ true → place.gone_after ≡ None) → IsKept count place (found_by mark names place.slot others blanks place).place ⊎ (b ≡ false)
+names_covered : (count : ℕ) (mark : Place → Place) (names others : List Card) (blanks : ℕ) (place : Place) (b : Bool) → IsMark count mark → (b ≡ true → place.gone_after ≡ None) → IsKept count place (matched_card mark names place.slot others blanks place).place ⊎ (b ≡ false)
 names_covered count mark names others blanks place true is there = inl (found_kept count mark is names place.slot others blanks place refl (there refl))
 names_covered count mark names others blanks place false is there = inr refl
 
 -- names keep each dealt card, if they are matched only with cards that are not gone
-pub names_keep : (count : ℕ) (covers : Place → Bool) (mark : Place → Place) → IsMark count mark → ((place : Place) → covers place ≡ true → place.gone_after ≡ None) → (names others : List Card) (blanks : ℕ) (placed : List Place) → AreKept count placed (after_names covers mark names others blanks placed)
+pub names_keep : (count : ℕ) (covers : Place → Bool) (mark : Place → Place) → IsMark count mark → ((place : Place) → covers place ≡ true → place.gone_after ≡ None) → (names others : List Card) (blanks : ℕ) (placed : List Place) → AreKept count placed (after_matching covers mark names others blanks placed)
 names_keep count covers mark is there names others blanks [] = tt
 names_keep count covers mark is there names others blanks (place ∷ rest) =
     names_step count covers mark names others blanks place rest (covers place) (names_covered count mark names others blanks place (covers place) is (there place))

@@ -19,7 +19,7 @@ use Rattle.play_event.specs.Openers.{InTurn}
 use Rattle.card_set.specs.Known.{is_unknown, known_cards}
 use Rattle.play_event.specs.PlayerToAct.{player_to_act}
 use Rattle.play_event.specs.Places.{Place, is_held_by, is_up, places_dealt, after_deal, after_fold, is_past_deck, is_in_group, folded_place, gone_now}
-use Rattle.play_event.specs.Naming.{after_discard, after_show, discarded_now, other_names, blanks_in, is_covered, is_show_of_all}
+use Rattle.play_event.specs.NameMatching.{after_discard, after_show, discarded_now, unmatched_names, blanks_in, can_be_named, is_show_of_all}
 use Rattle.play_event.specs.Table.{places_of, up_cards}
 use Rattle.play_event.specs.Taken.{has_taken_card, has_misplaced_card, is_misplaced, newly_known}
 use Rattle.play_event.specs.CardReasons.{is_card_taken}
@@ -100,17 +100,17 @@ show_mark count = record { slot = λ place. refl; number = λ place. refl; past_
 discard_safe : (code : Code) (street seat : ℕ) (names : List Slot) (placed : List Place) → has_misplaced_card code placed (after_discard street seat names placed) ≡ false → Safe placed → Safe (after_discard street seat names placed)
 discard_safe code street seat names placed fits safe =
     kept_safe code placed (after_discard street seat names placed)
-    (names_keep (length placed) (is_held_by seat) (discarded_now street (length placed)) (discard_mark street (length placed)) (held_is_there seat) (known_cards names) (other_names (filter (is_held_by seat) placed) (known_cards names)) (blanks_in names) placed)
+    (names_keep (length placed) (is_held_by seat) (discarded_now street (length placed)) (discard_mark street (length placed)) (held_is_there seat) (known_cards names) (unmatched_names (filter (is_held_by seat) placed) (known_cards names)) (blanks_in names) placed)
     fits safe
 
-covered_is_there : (code : Code) (seat : ℕ) (all : Bool) (place : Place) → is_covered code seat all place ≡ true → place.gone_after ≡ None
+covered_is_there : (code : Code) (seat : ℕ) (all : Bool) (place : Place) → can_be_named code seat all place ≡ true → place.gone_after ≡ None
 covered_is_there code seat all place covered = held_is_there seat place (and_parts (is_held_by seat place) (all || not (is_up code place)) covered).0
 
 show_safe : (code : Code) (seat : ℕ) (names : List Card) (placed : List Place) → has_misplaced_card code placed (after_show code seat names placed) ≡ false → Safe placed → Safe (after_show code seat names placed)
 show_safe code seat names placed fits safe =
-    let covers : Place → Bool = is_covered code seat (is_show_of_all placed seat names) in
+    let covers : Place → Bool = can_be_named code seat (is_show_of_all placed seat names) in
     kept_safe code placed (after_show code seat names placed)
-    (names_keep (length placed) covers (λ place. place) (show_mark (length placed)) (covered_is_there code seat (is_show_of_all placed seat names)) names (other_names (filter covers placed) names) 0 placed)
+    (names_keep (length placed) covers (λ place. place) (show_mark (length placed)) (covered_is_there code seat (is_show_of_all placed seat names)) names (unmatched_names (filter covers placed) names) 0 placed)
     fits safe
 
 -- each legal event

@@ -14,7 +14,7 @@ use Rattle.play_event.specs.Dealing.{cards_owed, board_cards_owed, next_to_draw}
 use Rattle.play_event.specs.Showing.{has_to_show}
 use Rattle.card_set.specs.Known.{is_unknown, known_cards, known_slots}
 use Rattle.play_event.specs.Places.{Place, is_held_by}
-use Rattle.play_event.specs.Naming.{other_names, is_named, blanks_in, held_count, held_down_count, is_covered, is_show_of_all, after_discard, after_show}
+use Rattle.play_event.specs.NameMatching.{unmatched_names, is_named, blanks_in, held_count, held_down_count, can_be_named, is_show_of_all, after_discard, after_show}
 use Rattle.play_event.specs.Table.{up_cards}
 use Rattle.play_event.specs.Taken.{has_taken_card, has_misplaced_card}
 
@@ -77,7 +77,7 @@ is_card_taken code placed street _ = false
 abbrev pub has_no_place : List Place → List Card → ℕ → Bool
 has_no_place covered names blanks =
     nat_lt (count_by (λ place. is_unknown place.slot) covered)
-    (length (other_names covered names) + blanks)
+    (length (unmatched_names covered names) + blanks)
 
 -- a known card is not named
 abbrev pub is_left_out : List Card → Slot → Bool
@@ -94,6 +94,6 @@ abbrev pub is_not_held : Code → List Place → Said → Bool
 is_not_held code placed (said.Discard seat cards) =
     has_no_place (filter (is_held_by seat) placed) (known_cards cards) (blanks_in cards)
 is_not_held code placed (said.Show seat cards) =
-    is_show_of_others (filter (is_covered code seat (is_show_of_all placed seat cards)) placed)
+    is_show_of_others (filter (can_be_named code seat (is_show_of_all placed seat cards)) placed)
     cards
 is_not_held code placed _ = false

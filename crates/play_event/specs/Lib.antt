@@ -25,7 +25,7 @@ pub mod Raising
 pub mod TurnTargets
 pub mod Places
 pub mod Held
-pub mod Naming
+pub mod NameMatching
 pub mod Table
 pub mod Taken
 pub mod CardReasons

@@ -74,28 +74,29 @@ is_lower (height ∷ rest) (other ∷ others) =
 -- up-cards are weaker, with the ace high: their class is weaker, or it is the same and the first
 -- rank that differs is lower
 abbrev pub is_weaker_up_high : List Card → List Card → Bool
-is_weaker_up_high a b =
-    nat_lt (up_high_class b) (up_high_class a)
-    || ((up_high_class a == up_high_class b)
-    && is_lower (ranks_of high_ace a) (ranks_of high_ace b))
+is_weaker_up_high cards others =
+    nat_lt (up_high_class others) (up_high_class cards)
+    || ((up_high_class cards == up_high_class others)
+    && is_lower (ranks_of high_ace cards) (ranks_of high_ace others))
 
 -- up-cards are weaker in razz: their class is weaker, or it is the same and the first rank that
 -- differs is higher
 abbrev pub is_weaker_low : List Card → List Card → Bool
-is_weaker_low a b =
-    nat_lt (low_class b) (low_class a)
-    || ((low_class a == low_class b) && is_lower (ranks_of low_ace b) (ranks_of low_ace a))
+is_weaker_low cards others =
+    nat_lt (low_class others) (low_class cards)
+    || ((low_class cards == low_class others)
+    && is_lower (ranks_of low_ace others) (ranks_of low_ace cards))
 
 -- The up-cards of one seat act before those of another. On the first street the lowest card acts
 -- first, in razz the highest; on a later street the best cards act first, in razz the lowest.
 abbrev pub is_opener_before : Opener → Bool → List Card → List Card → Bool
-is_opener_before openers.LowUp true a b =
-    nat_lt (card_stands deck_place a) (card_stands deck_place b)
-is_opener_before openers.HighUp true a b =
-    nat_lt (card_stands razz_place b) (card_stands razz_place a)
-is_opener_before openers.LowUp false a b = is_weaker_up_high b a
-is_opener_before openers.HighUp false a b = is_weaker_low b a
-is_opener_before openers.Blinds first a b = false
+is_opener_before openers.LowUp true cards others =
+    nat_lt (card_stands deck_place cards) (card_stands deck_place others)
+is_opener_before openers.HighUp true cards others =
+    nat_lt (card_stands razz_place others) (card_stands razz_place cards)
+is_opener_before openers.LowUp false cards others = is_weaker_up_high others cards
+is_opener_before openers.HighUp false cards others = is_weaker_low others cards
+is_opener_before openers.Blinds first cards others = false
 
 -- the seats that are live with chips left
 abbrev pub able_seats : Setup → List Move → List ℕ

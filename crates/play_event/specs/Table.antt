@@ -6,7 +6,7 @@ use Rattle.play_event.specs.declared.code.Code.{Code}
 use Rattle.play_event.specs.Past.{Past, Resolved, Dealt, Boarded, Moved, Discarded, Shown, Mucked, is_fold}
 use Rattle.play_event.specs.Openers.{UpCards}
 use Rattle.play_event.specs.Places.{Place, after_deal, after_fold, up_slots}
-use Rattle.play_event.specs.Naming.{after_discard, after_show}
+use Rattle.play_event.specs.NameMatching.{after_discard, after_show}
 
 -- the dealt cards after one more event
 abbrev pub places_after : Code → Resolved → List Place → List Place

@@ -1,4 +1,6 @@
 //! What may come next in a hand, and why an event may not.
+ghost use Rattle.std.specs.Prelude.{◌≡◌};
+ghost use Rattle.play_event.specs.TurnTargets.{is_bet_due};
 
 /// What is due. Streets count from 1.
 #[derive(Clone, Copy, Debug, PartialEq, Eq)]
@@ -14,6 +16,18 @@ pub enum Due {
     Show,
     /// Nothing: the hand is over.
     Over,
+}
+
+impl Due {
+    /// Whether a bring-in or a move is due.
+    pub fn is_bet(self) -> bool
+        ensures { result ≡ is_bet_due self }
+    {
+        match self {
+            Due::BringIn | Due::Move => true,
+            Due::Deal(_) | Due::Draw(_) | Due::Show | Due::Over => false,
+        }
+    }
 }
 
 /// Why an event is illegal. If several reasons hold, the first in this order is reported.

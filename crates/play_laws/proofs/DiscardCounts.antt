@@ -14,7 +14,7 @@ use Rattle.card_set.specs.Known.{known_cards}
 use Rattle.play_event.specs.Dealing.{cards_discarded}
 use Rattle.play_event.specs.Due.{turn}
 use Rattle.play_event.specs.Places.{Place, is_same_owner, is_in_group, is_past_deck, places_dealt, after_deal, is_held_by, folded_place, after_fold, gone_now}
-use Rattle.play_event.specs.Naming.{after_discard, after_show, discarded_now, other_names, blanks_in, is_covered, is_show_of_all}
+use Rattle.play_event.specs.NameMatching.{after_discard, after_show, discarded_now, unmatched_names, blanks_in, can_be_named, is_show_of_all}
 use Rattle.play_event.specs.Table.{places_of}
 use Rattle.play_event.specs.Taken.{may_repeat, is_gone_before, is_one_card}
 use Rattle.play_event.specs.Scripts.{with_event, past_of}
@@ -122,9 +122,9 @@ out_step setup before at _ past law come (moves move no_deal no_draw on) apart u
     by_fold false = counts street seat some
 out_step setup before at _ past law come (shows who cards may free) apart up counts street seat some =
     let placed = places_of setup.code before in
-    let covers : Place → Bool = is_covered setup.code who (is_show_of_all placed who cards) in
+    let covers : Place → Bool = can_be_named setup.code who (is_show_of_all placed who cards) in
     marked_alike (is_out_of street seat) is_nothing (length placed) at placed (after_show setup.code who cards placed) (λ old new among is. shown_out (length placed) at street seat old new is)
-    (show_marks covers (length placed) at cards (other_names (filter covers placed) cards) 0 placed) ∙ counts street seat some
+    (show_marks covers (length placed) at cards (unmatched_names (filter covers placed) cards) 0 placed) ∙ counts street seat some
 out_step setup before at _ past law come (discards who cards no_deal draw next few free held) apart up counts street seat some =
     let placed = places_of setup.code before in
     let hand = covers_hand setup before at who past law come (is_next_to_draw setup before at who next) in
@@ -134,7 +134,7 @@ out_step setup before at _ past law come (discards who cards no_deal draw next f
         counts street seat some,
         ap (λ b. if b then length cards else 0) other,
         marked_alike (is_out_of street seat) (is_held_by who) (length placed) at placed (after_discard at who cards placed) (λ old new among is. other_out at who street seat (length placed) old new some other (λ covered. hand.held old among covered) is)
-            (discard_marks (is_held_by who) (length placed) at (known_cards cards) (other_names (filter (is_held_by who) placed) (known_cards cards)) (blanks_in cards) placed),
+            (discard_marks (is_held_by who) (length placed) at (known_cards cards) (unmatched_names (filter (is_held_by who) placed) (known_cards cards)) (blanks_in cards) placed),
       )
       | inl here ↦
           let parts = and_parts (at == street) (who == seat) here in

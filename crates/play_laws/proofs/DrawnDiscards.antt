@@ -10,7 +10,7 @@ use Rattle.play_event.specs.Seats.{is_live}
 use Rattle.card_set.specs.Known.{known_cards}
 use Rattle.play_event.specs.Dealing.{has_drawn}
 use Rattle.play_event.specs.Places.{Place, is_same_owner, is_in_group, is_past_deck, places_dealt, after_deal, is_held_by, after_fold, folded_place, gone_now}
-use Rattle.play_event.specs.Naming.{after_discard, after_show, other_names, blanks_in, is_covered, is_show_of_all}
+use Rattle.play_event.specs.NameMatching.{after_discard, after_show, unmatched_names, blanks_in, can_be_named, is_show_of_all}
 use Rattle.play_event.specs.Table.{places_of}
 use Rattle.play_event.specs.Laws.{IsAmong}
 use Rattle.card_set.proofs.Tests.{false_true}
@@ -77,12 +77,12 @@ out_drawn code (Moved move ∷ before) street seat place among is = by_fold (is_
 out_drawn code (Discarded on owner cards ∷ before) street seat place among is =
     let placed = places_of code before in
     old_out (length placed) on owner street seat placed (after_discard on owner cards placed) place (has_drawn before street seat)
-    (marked_changed (is_held_by owner) (length placed) on owner placed (after_discard on owner cards placed) (held_parts owner) (discard_marks (is_held_by owner) (length placed) on (known_cards cards) (other_names (filter (is_held_by owner) placed) (known_cards cards)) (blanks_in cards) placed))
+    (marked_changed (is_held_by owner) (length placed) on owner placed (after_discard on owner cards placed) (held_parts owner) (discard_marks (is_held_by owner) (length placed) on (known_cards cards) (unmatched_names (filter (is_held_by owner) placed) (known_cards cards)) (blanks_in cards) placed))
     among is (λ old in_it was. out_drawn code before street seat old in_it was)
 out_drawn code (Shown on owner cards ∷ before) street seat place among is =
     let placed = places_of code before in
-    let covers : Place → Bool = is_covered code owner (is_show_of_all placed owner cards) in
-    let marks = show_marks covers (length placed) 0 cards (other_names (filter covers placed) cards) 0 placed in
+    let covers : Place → Bool = can_be_named code owner (is_show_of_all placed owner cards) in
+    let marks = show_marks covers (length placed) 0 cards (unmatched_names (filter covers placed) cards) 0 placed in
     elim (or_cases ((0 == street) && (owner == seat)) (has_drawn before street seat) (old_out (length placed) 0 owner street seat placed (after_show code owner cards placed) place (has_drawn before street seat)
     (marked_changed is_nothing (length placed) 0 owner placed (after_show code owner cards placed) (λ old it. false_true it) marks) among is (λ old in_it was. out_drawn code before street seat old in_it was))) [
       | inl zero_street ↦ absurd (omega (arith, is.1.1, eqb-true 0 street (and_parts (0 == street) (owner == seat) zero_street).0))

@@ -9,7 +9,7 @@ use Rattle.card_set.specs.declared.card.Card.{Card}
 use Rattle.card_set.specs.declared.card.Slot.TheVariants as slots
 use Rattle.card_set.specs.declared.card.Slot.{Slot}
 use Rattle.play_event.specs.Dealing.{hole_cards_dealt, board_cards_dealt}
-use Rattle.play_event.specs.Naming.{found_by, after_names, after_discard, after_show, discarded_now, is_named, other_names, blanks_in, is_covered, is_show_of_all}
+use Rattle.play_event.specs.NameMatching.{matched_card, after_matching, after_discard, after_show, discarded_now, is_named, unmatched_names, blanks_in, can_be_named, is_show_of_all}
 use Rattle.play_event.specs.Past.{Past, Dealt, Boarded, Moved, Discarded, Shown, Mucked, is_fold}
 use Rattle.play_event.specs.Places.{Place, is_same_owner, is_in_group, is_held_by, is_past_deck, places_dealt, after_fold, folded_place}
 use Rattle.play_event.specs.Table.{places_of}
@@ -29,11 +29,11 @@ pub fold_still : (seat count : ℕ) (placed : List Place) → AreStill placed (m
 fold_still seat count [] = tt
 fold_still seat count (place ∷ rest) = (still_if (is_held_by seat place) place (record place { gone_after = Some count }) (record { owner = refl; street = refl }), fold_still seat count rest)
 
-pub names_still : (covers : Place → Bool) (mark : Place → Place) (names others : List Card) (blanks : ℕ) (placed : List Place) → ((place : Place) → IsStill place (mark place)) → AreStill placed (after_names covers mark names others blanks placed)
+pub names_still : (covers : Place → Bool) (mark : Place → Place) (names others : List Card) (blanks : ℕ) (placed : List Place) → ((place : Place) → IsStill place (mark place)) → AreStill placed (after_matching covers mark names others blanks placed)
 names_still covers mark names others blanks [] marks = tt
 names_still covers mark names others blanks (place ∷ rest) marks = by_cover (covers place) (λ left n. names_still covers mark names left n rest marks)
   where
-    by_slot : (slot : Slot) (left : List Card) (n : ℕ) → ((left : List Card) (n : ℕ) → AreStill rest (after_names covers mark names left n rest)) → AreStill (place ∷ rest) (let found = found_by mark names slot left n place in found.place ∷ after_names covers mark names found.others found.blanks rest)
+    by_slot : (slot : Slot) (left : List Card) (n : ℕ) → ((left : List Card) (n : ℕ) → AreStill rest (after_matching covers mark names left n rest)) → AreStill (place ∷ rest) (let found = matched_card mark names slot left n place in found.place ∷ after_matching covers mark names found.others found.blanks rest)
     by_slot (slots.Known card) left n later = (still_if (is_named card names) place (mark place) (marks place), later left n)
     by_slot slots.Unknown (card ∷ left) n later =
         let marked = marks (record place { slot = slots.Known card }) in
@@ -41,7 +41,7 @@ names_still covers mark names others blanks (place ∷ rest) marks = by_cover (c
     by_slot slots.Unknown [] zero later = (still place, later [] 0)
     by_slot slots.Unknown [] (suc n) later = (marks place, later [] n)
 
-    by_cover : (b : Bool) → ((left : List Card) (n : ℕ) → AreStill rest (after_names covers mark names left n rest)) → AreStill (place ∷ rest) (if b then (let found = found_by mark names place.slot others blanks place in found.place ∷ after_names covers mark names found.others found.blanks rest) else (place ∷ after_names covers mark names others blanks rest))
+    by_cover : (b : Bool) → ((left : List Card) (n : ℕ) → AreStill rest (after_matching covers mark names left n rest)) → AreStill (place ∷ rest) (if b then (let found = matched_card mark names place.slot others blanks place in found.place ∷ after_matching covers mark names found.others found.blanks rest) else (place ∷ after_matching covers mark names others blanks rest))
     by_cover true later = by_slot place.slot others blanks later
     by_cover false later = (still place, later others blanks)
 
@@ -98,21 +98,21 @@ group_length code owner (Discarded on seat cards ∷ before) street = by_owner o
     by_owner : (o : Option ℕ) → length (filter (is_in_group o street) (places_of code before)) ≡ cards_dealt before street o → length (filter (is_in_group o street) (after_discard on seat cards (places_of code before))) ≡ cards_dealt (Discarded on seat cards ∷ before) street o
     by_owner (Some other) later =
         let placed = places_of code before in
-        still_group (Some other) street placed (after_discard on seat cards placed) (names_still (is_held_by seat) (discarded_now on (length placed)) (known_cards cards) (other_names (filter (is_held_by seat) placed) (known_cards cards)) (blanks_in cards) placed (λ place. record { owner = refl; street = refl })) ∙ later
+        still_group (Some other) street placed (after_discard on seat cards placed) (names_still (is_held_by seat) (discarded_now on (length placed)) (known_cards cards) (unmatched_names (filter (is_held_by seat) placed) (known_cards cards)) (blanks_in cards) placed (λ place. record { owner = refl; street = refl })) ∙ later
     by_owner None later =
         let placed = places_of code before in
-        still_group None street placed (after_discard on seat cards placed) (names_still (is_held_by seat) (discarded_now on (length placed)) (known_cards cards) (other_names (filter (is_held_by seat) placed) (known_cards cards)) (blanks_in cards) placed (λ place. record { owner = refl; street = refl })) ∙ later
+        still_group None street placed (after_discard on seat cards placed) (names_still (is_held_by seat) (discarded_now on (length placed)) (known_cards cards) (unmatched_names (filter (is_held_by seat) placed) (known_cards cards)) (blanks_in cards) placed (λ place. record { owner = refl; street = refl })) ∙ later
 group_length code owner (Shown on seat cards ∷ before) street = by_owner owner (group_length code owner before street)
   where
     by_owner : (o : Option ℕ) → length (filter (is_in_group o street) (places_of code before)) ≡ cards_dealt before street o → length (filter (is_in_group o street) (after_show code seat cards (places_of code before))) ≡ cards_dealt (Shown on seat cards ∷ before) street o
     by_owner (Some other) later =
         let placed = places_of code before in
-        let covers : Place → Bool = is_covered code seat (is_show_of_all placed seat cards) in
-        still_group (Some other) street placed (after_show code seat cards placed) (names_still covers (λ place. place) cards (other_names (filter covers placed) cards) 0 placed still) ∙ later
+        let covers : Place → Bool = can_be_named code seat (is_show_of_all placed seat cards) in
+        still_group (Some other) street placed (after_show code seat cards placed) (names_still covers (λ place. place) cards (unmatched_names (filter covers placed) cards) 0 placed still) ∙ later
     by_owner None later =
         let placed = places_of code before in
-        let covers : Place → Bool = is_covered code seat (is_show_of_all placed seat cards) in
-        still_group None street placed (after_show code seat cards placed) (names_still covers (λ place. place) cards (other_names (filter covers placed) cards) 0 placed still) ∙ later
+        let covers : Place → Bool = can_be_named code seat (is_show_of_all placed seat cards) in
+        still_group None street placed (after_show code seat cards placed) (names_still covers (λ place. place) cards (unmatched_names (filter covers placed) cards) 0 placed still) ∙ later
 group_length code (Some other) (Mucked on seat ∷ before) street = group_length code (Some other) before street
 group_length code None (Mucked on seat ∷ before) street = group_length code None before street
 

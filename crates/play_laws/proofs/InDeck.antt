@@ -12,7 +12,7 @@ use Rattle.play_event.specs.Past.{Past, Resolved, Move, moves_of, newest_street,
 use Rattle.card_set.specs.Known.{known_cards}
 use Rattle.play_event.specs.Due.{turn}
 use Rattle.play_event.specs.Places.{Place, is_in_group, is_past_deck, places_dealt, after_deal, is_held_by, folded_place, after_fold, gone_now}
-use Rattle.play_event.specs.Naming.{after_discard, after_show, discarded_now, other_names, blanks_in, is_covered, is_show_of_all}
+use Rattle.play_event.specs.NameMatching.{after_discard, after_show, discarded_now, unmatched_names, blanks_in, can_be_named, is_show_of_all}
 use Rattle.play_event.specs.Table.{places_of}
 use Rattle.play_event.specs.Taken.{is_not_in_deck, is_in_deck, has_taken_card, is_taken, has_misplaced_card, is_misplaced, newly_known, has_repeat, is_clash, slot_is_card}
 use Rattle.play_event.specs.Scripts.{with_event, past_of}
@@ -75,13 +75,13 @@ deck_law setup before at _ (boards cards due some few free) deck = deal_deck set
 deck_law setup before at _ (mucks seat may) deck = deck
 deck_law setup before at _ (shows seat cards may free) deck =
     let placed = places_of setup.code before in
-    let covers : Place → Bool = is_covered setup.code seat (is_show_of_all placed seat cards) in
+    let covers : Place → Bool = can_be_named setup.code seat (is_show_of_all placed seat cards) in
     kept_deck setup.code (length placed) placed (after_show setup.code seat cards placed)
-    (names_keep (length placed) covers (λ (p : Place). p) (show_mark (length placed)) (λ place covered. held_is_there seat place (and_parts (is_held_by seat place) _ covered).0) cards (other_names (filter covers placed) cards) 0 placed) free deck
+    (names_keep (length placed) covers (λ (p : Place). p) (show_mark (length placed)) (λ place covered. held_is_there seat place (and_parts (is_held_by seat place) _ covered).0) cards (unmatched_names (filter covers placed) cards) 0 placed) free deck
 deck_law setup before at _ (discards seat cards no_deal draw next few free held) deck =
     let placed = places_of setup.code before in
     kept_deck setup.code (length placed) placed (after_discard at seat cards placed)
-    (names_keep (length placed) (is_held_by seat) (discarded_now at (length placed)) (discard_mark at (length placed)) (held_is_there seat) (known_cards cards) (other_names (filter (is_held_by seat) placed) (known_cards cards)) (blanks_in cards) placed) free deck
+    (names_keep (length placed) (is_held_by seat) (discarded_now at (length placed)) (discard_mark at (length placed)) (held_is_there seat) (known_cards cards) (unmatched_names (filter (is_held_by seat) placed) (known_cards cards)) (blanks_in cards) placed) free deck
 deck_law setup before at _ (moves move no_deal no_draw on) deck = by_fold (is_fold move.act)
   where
     by_fold : (b : Bool) → AreInDeck setup.code (if b then after_fold move.seat (places_of setup.code before) else places_of setup.code before)

@@ -9,7 +9,7 @@ use Rattle.play_event.specs.Past.{Past, Resolved, is_fold}
 use Rattle.play_event.specs.Due.{turn}
 use Rattle.card_set.specs.Known.{is_unknown}
 use Rattle.play_event.specs.Places.{Place, after_fold, places_dealt, is_past_deck, is_in_group}
-use Rattle.play_event.specs.Naming.{after_discard, after_show}
+use Rattle.play_event.specs.NameMatching.{after_discard, after_show}
 use Rattle.play_event.specs.Table.{places_of}
 use Rattle.play_event.specs.Scripts.{past_of, with_event}
 use Rattle.play_event.specs.Laws.{AreLegal, IsAmong}

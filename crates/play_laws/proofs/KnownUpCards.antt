@@ -13,7 +13,7 @@ use Rattle.play_event.specs.declared.setup.Rules.{Rules}
 use Rattle.play_event.specs.Past.{Move}
 use Rattle.card_set.specs.Known.{is_unknown, known_cards}
 use Rattle.play_event.specs.Places.{Place, is_same_owner, is_in_group, is_up, is_past_deck, places_dealt, after_deal, is_held_by, folded_place, gone_now}
-use Rattle.play_event.specs.Naming.{after_names, after_discard, after_show, discarded_now, other_names, blanks_in, is_covered, is_show_of_all, found_by, is_named}
+use Rattle.play_event.specs.NameMatching.{after_matching, after_discard, after_show, discarded_now, unmatched_names, blanks_in, can_be_named, is_show_of_all, matched_card, is_named}
 use Rattle.play_event.specs.Laws.{IsAmong}
 use Rattle.card_set.proofs.Tests.{false_true}
 use Rattle.play_laws.proofs.PlayerToActUps.{player_to_act_same}
@@ -52,7 +52,7 @@ record IsPlain (mark : Place → Place) : Type 0 where
 sure_mark : (mark : Place → Place) → IsPlain mark → (place : Place) → IsSureOf place (mark place)
 sure_mark mark plain place = record { owner = plain.owner place; street = plain.street place; index = plain.index place; slot = λ known. plain.slot place }
 
-sure_found : (mark : Place → Place) → IsPlain mark → (names : List Card) (slot : Slot) (others : List Card) (blanks : ℕ) (place : Place) → place.slot ≡ slot → IsSureOf place (found_by mark names slot others blanks place).place
+sure_found : (mark : Place → Place) → IsPlain mark → (names : List Card) (slot : Slot) (others : List Card) (blanks : ℕ) (place : Place) → place.slot ≡ slot → IsSureOf place (matched_card mark names slot others blanks place).place
 sure_found mark plain names (slots.Known card) others blanks place here = sure_maybe place (mark place) (is_named card names) (sure_mark mark plain place)
 sure_found mark plain names slots.Unknown (card ∷ others) blanks place here =
     let named : Place = record place { slot = slots.Known card } in
@@ -60,21 +60,21 @@ sure_found mark plain names slots.Unknown (card ∷ others) blanks place here =
 sure_found mark plain names slots.Unknown [] zero place here = sure_same place
 sure_found mark plain names slots.Unknown [] (suc blanks) place here = sure_mark mark plain place
 
-sure_step : (covers : Place → Bool) (mark : Place → Place) (names others : List Card) (blanks : ℕ) (place : Place) (rest : List Place) (c : Bool) → IsPlain mark → ((os : List Card) (n : ℕ) → AreSureOf rest (after_names covers mark names os n rest)) → AreSureOf (place ∷ rest) (if c then (let found = found_by mark names place.slot others blanks place in found.place ∷ after_names covers mark names found.others found.blanks rest) else (place ∷ after_names covers mark names others blanks rest))
-sure_step covers mark names others blanks place rest true plain later = (sure_found mark plain names place.slot others blanks place refl, later (found_by mark names place.slot others blanks place).others (found_by mark names place.slot others blanks place).blanks)
+sure_step : (covers : Place → Bool) (mark : Place → Place) (names others : List Card) (blanks : ℕ) (place : Place) (rest : List Place) (c : Bool) → IsPlain mark → ((os : List Card) (n : ℕ) → AreSureOf rest (after_matching covers mark names os n rest)) → AreSureOf (place ∷ rest) (if c then (let found = matched_card mark names place.slot others blanks place in found.place ∷ after_matching covers mark names found.others found.blanks rest) else (place ∷ after_matching covers mark names others blanks rest))
+sure_step covers mark names others blanks place rest true plain later = (sure_found mark plain names place.slot others blanks place refl, later (matched_card mark names place.slot others blanks place).others (matched_card mark names place.slot others blanks place).blanks)
 sure_step covers mark names others blanks place rest false plain later = (sure_same place, later others blanks)
 
-names_sure : (covers : Place → Bool) (mark : Place → Place) → IsPlain mark → (names others : List Card) (blanks : ℕ) (placed : List Place) → AreSureOf placed (after_names covers mark names others blanks placed)
+names_sure : (covers : Place → Bool) (mark : Place → Place) → IsPlain mark → (names others : List Card) (blanks : ℕ) (placed : List Place) → AreSureOf placed (after_matching covers mark names others blanks placed)
 names_sure covers mark plain names others blanks [] = tt
 names_sure covers mark plain names others blanks (place ∷ rest) = sure_step covers mark names others blanks place rest (covers place) plain (λ os n. names_sure covers mark plain names os n rest)
 
 -- a discard keeps what was known
 pub discard_sure : (street seat : ℕ) (cards : List Slot) (placed : List Place) → AreSureOf placed (after_discard street seat cards placed)
-discard_sure street seat cards placed = names_sure (is_held_by seat) (discarded_now street (length placed)) (record { owner = λ place. refl; street = λ place. refl; index = λ place. refl; slot = λ place. refl }) (known_cards cards) (other_names (filter (is_held_by seat) placed) (known_cards cards)) (blanks_in cards) placed
+discard_sure street seat cards placed = names_sure (is_held_by seat) (discarded_now street (length placed)) (record { owner = λ place. refl; street = λ place. refl; index = λ place. refl; slot = λ place. refl }) (known_cards cards) (unmatched_names (filter (is_held_by seat) placed) (known_cards cards)) (blanks_in cards) placed
 
 -- so does a show
 pub show_sure : (code : Code) (seat : ℕ) (cards : List Card) (placed : List Place) → AreSureOf placed (after_show code seat cards placed)
-show_sure code seat cards placed = names_sure (is_covered code seat (is_show_of_all placed seat cards)) (λ place. place) (record { owner = λ place. refl; street = λ place. refl; index = λ place. refl; slot = λ place. refl }) cards (other_names (filter (is_covered code seat (is_show_of_all placed seat cards)) placed) cards) 0 placed
+show_sure code seat cards placed = names_sure (can_be_named code seat (is_show_of_all placed seat cards)) (λ place. place) (record { owner = λ place. refl; street = λ place. refl; index = λ place. refl; slot = λ place. refl }) cards (unmatched_names (filter (can_be_named code seat (is_show_of_all placed seat cards)) placed) cards) 0 placed
 
 -- and a fold
 pub fold_sure : (seat count : ℕ) (placed : List Place) → AreSureOf placed (map (folded_place seat count) placed)

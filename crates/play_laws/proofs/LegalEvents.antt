@@ -14,7 +14,7 @@ use Rattle.play_event.specs.Said.{Said}
 use Rattle.play_event.specs.Past.{Past, Resolved, Move, Dealt, Boarded, Moved, Discarded, Shown, Mucked}
 use Rattle.play_event.specs.Dealing.{is_deal_due, is_draw_due, cards_owed, board_cards_owed, next_to_draw}
 use Rattle.play_event.specs.Due.{turn}
-use Rattle.play_event.specs.Naming.{after_discard, after_show, held_count}
+use Rattle.play_event.specs.NameMatching.{after_discard, after_show, held_count}
 use Rattle.play_event.specs.Table.{places_of}
 use Rattle.play_event.specs.Taken.{has_taken_card, has_misplaced_card}
 use Rattle.play_event.specs.CardReasons.{is_seat, is_wrong_deal, may_show, is_not_held}

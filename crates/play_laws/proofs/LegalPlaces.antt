@@ -17,7 +17,7 @@ use Rattle.card_set.specs.Known.{known_cards}
 use Rattle.play_event.specs.Dealing.{hole_cards_dealt, hole_cards_owed, cards_owed}
 use Rattle.play_event.specs.Due.{turn}
 use Rattle.play_event.specs.Places.{Place, is_same_owner, is_in_group, is_past_deck, places_dealt, after_deal, is_held_by, after_fold}
-use Rattle.play_event.specs.Naming.{after_discard, after_show, other_names, blanks_in, is_covered, is_show_of_all}
+use Rattle.play_event.specs.NameMatching.{after_discard, after_show, unmatched_names, blanks_in, can_be_named, is_show_of_all}
 use Rattle.play_event.specs.Table.{places_of}
 use Rattle.play_event.specs.CardReasons.{is_seat}
 use Rattle.play_event.specs.Scripts.{with_event, past_of}
@@ -75,13 +75,13 @@ group_count code (Moved move ∷ before) street seat = by_fold (is_fold move.act
 group_count code (Discarded on owner cards ∷ before) street seat =
     let placed = places_of code before in
     changed_group (Some seat) street (length placed) on owner placed (after_discard on owner cards placed)
-    (marked_changed (is_held_by owner) (length placed) on owner placed (after_discard on owner cards placed) (held_parts owner) (discard_marks (is_held_by owner) (length placed) on (known_cards cards) (other_names (filter (is_held_by owner) placed) (known_cards cards)) (blanks_in cards) placed))
+    (marked_changed (is_held_by owner) (length placed) on owner placed (after_discard on owner cards placed) (held_parts owner) (discard_marks (is_held_by owner) (length placed) on (known_cards cards) (unmatched_names (filter (is_held_by owner) placed) (known_cards cards)) (blanks_in cards) placed))
     ∙ group_count code before street seat
 group_count code (Shown on owner cards ∷ before) street seat =
     let placed = places_of code before in
-    let covers : Place → Bool = is_covered code owner (is_show_of_all placed owner cards) in
+    let covers : Place → Bool = can_be_named code owner (is_show_of_all placed owner cards) in
     changed_group (Some seat) street (length placed) on owner placed (after_show code owner cards placed)
-    (marked_changed is_nothing (length placed) on owner placed (after_show code owner cards placed) (λ old is. false_true is) (show_marks covers (length placed) on cards (other_names (filter covers placed) cards) 0 placed))
+    (marked_changed is_nothing (length placed) on owner placed (after_show code owner cards placed) (λ old is. false_true is) (show_marks covers (length placed) on cards (unmatched_names (filter covers placed) cards) 0 placed))
     ∙ group_count code before street seat
 group_count code (Mucked on owner ∷ before) street seat = group_count code before street seat
 
@@ -159,16 +159,16 @@ places_law setup before at _ past law come (boards cards due some few free) =
     (all_before (newest_street before) at (moves_of before) past.moved come.on (unmoved_deal setup before at past (inl due)))
 places_law setup before at _ past law come (shows seat cards may free) =
     let placed = places_of setup.code before in
-    let covers : Place → Bool = is_covered setup.code seat (is_show_of_all placed seat cards) in
+    let covers : Place → Bool = can_be_named setup.code seat (is_show_of_all placed seat cards) in
     marks_law setup.code (moves_of before) (newest_street before) at seat is_nothing placed (after_show setup.code seat cards placed) law come.on (omega (arith, past.since, come.on)) (λ old is. false_true is) (λ old among is. false_true is)
-    (show_marks covers (length placed) at cards (other_names (filter covers placed) cards) 0 placed)
+    (show_marks covers (length placed) at cards (unmatched_names (filter covers placed) cards) 0 placed)
 places_law setup before at _ past law come (mucks seat may) = later_law setup.code (moves_of before) (newest_street before) at (places_of setup.code before) law come.on
 places_law setup before at _ past law come (discards seat cards no_deal draw next few free held) =
     let placed = places_of setup.code before in
     let who = is_next_to_draw setup before at seat next in
     marks_law setup.code (moves_of before) (newest_street before) at seat (is_held_by seat) placed (after_discard at seat cards placed) law come.on (omega (arith, past.since, come.on)) (held_parts seat)
     (λ old among is. early old among (held_parts seat old is).1 who)
-    (discard_marks (is_held_by seat) (length placed) at (known_cards cards) (other_names (filter (is_held_by seat) placed) (known_cards cards)) (blanks_in cards) placed)
+    (discard_marks (is_held_by seat) (length placed) at (known_cards cards) (unmatched_names (filter (is_held_by seat) placed) (known_cards cards)) (blanks_in cards) placed)
   where
     early : (old : Place) → IsAmong (places_of setup.code before) old → old.owner ≡ Some seat → DrawsNext setup before at seat → old.street < at
     early old among mine who = elim (cases_lt old.street at) [

@@ -8,7 +8,7 @@ use Rattle.card_set.specs.declared.card.Slot.TheVariants as slots
 use Rattle.card_set.specs.Deck.{is_same_card, deck_place}
 use Rattle.card_set.specs.Known.{is_unknown, known_cards}
 use Rattle.play_event.specs.Places.{Place, is_held_by}
-use Rattle.play_event.specs.Naming.{without, other_names, is_named, found_by, after_names, after_discard, discarded_now, blanks_in, is_named_slot, named_count, unknown_count}
+use Rattle.play_event.specs.NameMatching.{without_name, unmatched_names, is_named, matched_card, after_matching, after_discard, discarded_now, blanks_in, is_known_and_named, named_count, unknown_count}
 use Rattle.play_event.specs.Taken.{is_one_card}
 use Rattle.play_event.specs.CardReasons.{has_no_place}
 use Rattle.play_event.specs.Laws.{IsAmong}
@@ -20,59 +20,59 @@ AllApart [] = Unit {0}
 AllApart (first ∷ rest) = ((later : Place) → IsAmong rest later → is_one_card first.slot later.slot ≡ false) × AllApart rest
 
 -- a card that is taken out of the names is one of them
-drop_length : (card : Card) (names : List Card) → is_named card names ≡ true → length names ≡ suc (length (without (slots.Known card) names))
+drop_length : (card : Card) (names : List Card) → is_named card names ≡ true → length names ≡ suc (length (without_name (slots.Known card) names))
 drop_length card [] named = false_true named
 drop_length card (name ∷ rest) named = by_first (is_same_card card name) refl named (drop_length card rest)
   where
-    by_first : (b : Bool) → is_same_card card name ≡ b → (b || is_named card rest) ≡ true → (is_named card rest ≡ true → length rest ≡ suc (length (without (slots.Known card) rest))) → length (name ∷ rest) ≡ suc (length (if b then rest else (name ∷ without (slots.Known card) rest)))
+    by_first : (b : Bool) → is_same_card card name ≡ b → (b || is_named card rest) ≡ true → (is_named card rest ≡ true → length rest ≡ suc (length (without_name (slots.Known card) rest))) → length (name ∷ rest) ≡ suc (length (if b then rest else (name ∷ without_name (slots.Known card) rest)))
     by_first true same it later = refl
     by_first false same it later = ap suc (later it)
 
 -- removing a card that is not named removes no name
-pub keep_length : (card : Card) (names : List Card) → is_named card names ≡ false → without (slots.Known card) names ≡ names
+pub keep_length : (card : Card) (names : List Card) → is_named card names ≡ false → without_name (slots.Known card) names ≡ names
 keep_length card [] named = refl
 keep_length card (name ∷ rest) named = by_first (is_same_card card name) named (keep_length card rest)
   where
-    by_first : (b : Bool) → (b || is_named card rest) ≡ false → (is_named card rest ≡ false → without (slots.Known card) rest ≡ rest) → (if b then rest else (name ∷ without (slots.Known card) rest)) ≡ name ∷ rest
+    by_first : (b : Bool) → (b || is_named card rest) ≡ false → (is_named card rest ≡ false → without_name (slots.Known card) rest ≡ rest) → (if b then rest else (name ∷ without_name (slots.Known card) rest)) ≡ name ∷ rest
     by_first true it later = false_true (sym it)
     by_first false it later = ap (λ l. name ∷ l) (later it)
 
 -- another card is named as before
-other_named : (card other : Card) (names : List Card) → is_same_card card other ≡ false → is_named other (without (slots.Known card) names) ≡ is_named other names
+other_named : (card other : Card) (names : List Card) → is_same_card card other ≡ false → is_named other (without_name (slots.Known card) names) ≡ is_named other names
 other_named card other [] differ = refl
 other_named card other (name ∷ rest) differ = by_first (is_same_card card name) refl (other_named card other rest differ)
   where
-    by_first : (b : Bool) → is_same_card card name ≡ b → is_named other (without (slots.Known card) rest) ≡ is_named other rest → is_named other (if b then rest else (name ∷ without (slots.Known card) rest)) ≡ (is_same_card other name || is_named other rest)
+    by_first : (b : Bool) → is_same_card card name ≡ b → is_named other (without_name (slots.Known card) rest) ≡ is_named other rest → is_named other (if b then rest else (name ∷ without_name (slots.Known card) rest)) ≡ (is_same_card other name || is_named other rest)
     by_first false same later = ap (λ b. is_same_card other name || b) later
     by_first true same later =
         let not_it : is_same_card other name ≡ false = false_from_ne_true (is_same_card other name) (λ now.
         both_ways (is_same_card card other) differ (eq-eqb (deck_place card) (deck_place other) (eqb-true (deck_place card) (deck_place name) same ∙ sym (eqb-true (deck_place other) (deck_place name) now)))) in
         sym (ap (λ b. b || is_named other rest) not_it)
 
-one_same : (card : Card) (names : List Card) (slot : Slot) → is_one_card (slots.Known card) slot ≡ false → ◌≡◌ {A = ℕ} (if is_named_slot (without (slots.Known card) names) slot then 1 else 0) (if is_named_slot names slot then 1 else 0)
+one_same : (card : Card) (names : List Card) (slot : Slot) → is_one_card (slots.Known card) slot ≡ false → ◌≡◌ {A = ℕ} (if is_known_and_named (without_name (slots.Known card) names) slot then 1 else 0) (if is_known_and_named names slot then 1 else 0)
 one_same card names slots.Unknown apart = refl
 one_same card names (slots.Known other) apart = ap one_if (other_named card other names apart)
 
-count_same : (card : Card) (names : List Card) (places : List Place) → ((later : Place) → IsAmong places later → is_one_card (slots.Known card) later.slot ≡ false) → named_count (without (slots.Known card) names) places ≡ named_count names places
+count_same : (card : Card) (names : List Card) (places : List Place) → ((later : Place) → IsAmong places later → is_one_card (slots.Known card) later.slot ≡ false) → named_count (without_name (slots.Known card) names) places ≡ named_count names places
 count_same card names [] apart = refl
 count_same card names (place ∷ rest) apart = omega (arith, one_same card names place.slot (apart place (inl refl)), count_same card names rest (λ other among. apart other (inr among)))
 
 -- the names are those of known places, and the others
-pub names_split : (places : List Place) (names : List Card) → AllApart places → length names ≡ named_count names places + length (other_names places names)
+pub names_split : (places : List Place) (names : List Card) → AllApart places → length names ≡ named_count names places + length (unmatched_names places names)
 names_split [] names apart = omega arith
 names_split (place ∷ rest) names apart = by_slot place.slot refl (λ more. names_split rest more apart.1)
   where
-    by_named : (card : Card) → place.slot ≡ slots.Known card → (b : Bool) → is_named card names ≡ b → ((more : List Card) → length more ≡ named_count more rest + length (other_names rest more)) → length names ≡ ((if b then 1 else 0) + named_count names rest) + length (other_names rest (without (slots.Known card) names))
+    by_named : (card : Card) → place.slot ≡ slots.Known card → (b : Bool) → is_named card names ≡ b → ((more : List Card) → length more ≡ named_count more rest + length (unmatched_names rest more)) → length names ≡ ((if b then 1 else 0) + named_count names rest) + length (unmatched_names rest (without_name (slots.Known card) names))
     by_named card here true named later =
-        let same : named_count (without (slots.Known card) names) rest ≡ named_count names rest = count_same card names rest (λ other among. sym (ap (λ s. is_one_card s other.slot) here) ∙ apart.0 other among) in
-        omega (arith, drop_length card names named, later (without (slots.Known card) names), same)
-    by_named card here false named later = omega (arith, later names, ap (λ l. length (other_names rest l)) (keep_length card names named))
+        let same : named_count (without_name (slots.Known card) names) rest ≡ named_count names rest = count_same card names rest (λ other among. sym (ap (λ s. is_one_card s other.slot) here) ∙ apart.0 other among) in
+        omega (arith, drop_length card names named, later (without_name (slots.Known card) names), same)
+    by_named card here false named later = omega (arith, later names, ap (λ l. length (unmatched_names rest l)) (keep_length card names named))
 
-    by_slot : (slot : Slot) → place.slot ≡ slot → ((more : List Card) → length more ≡ named_count more rest + length (other_names rest more)) → length names ≡ ((if is_named_slot names place.slot then 1 else 0) + named_count names rest) + length (other_names rest (without place.slot names))
+    by_slot : (slot : Slot) → place.slot ≡ slot → ((more : List Card) → length more ≡ named_count more rest + length (unmatched_names rest more)) → length names ≡ ((if is_known_and_named names place.slot then 1 else 0) + named_count names rest) + length (unmatched_names rest (without_name place.slot names))
     by_slot slots.Unknown here later =
-        omega (arith, later names, ap {B = ℕ} (λ s. if is_named_slot names s then 1 else 0) here, ap (λ s. length (other_names rest (without s names))) here)
+        omega (arith, later names, ap {B = ℕ} (λ s. if is_known_and_named names s then 1 else 0) here, ap (λ s. length (unmatched_names rest (without_name s names))) here)
     by_slot (slots.Known card) here later =
-        omega (arith, by_named card here (is_named card names) refl later, ap {B = ℕ} (λ s. if is_named_slot names s then 1 else 0) here, ap (λ s. length (other_names rest (without s names))) here)
+        omega (arith, by_named card here (is_named card names) refl later, ap {B = ℕ} (λ s. if is_known_and_named names s then 1 else 0) here, ap (λ s. length (unmatched_names rest (without_name s names))) here)
 
 -- the marked places
 pub record IsMarking (covers out : Place → Bool) (mark : Place → Place) (placed : List Place) : Type 0 where
@@ -94,15 +94,15 @@ same_more out place olds news n later = by_out (out place)
     by_out false = later
 
 count_step : (covers out : Place → Bool) (mark : Place → Place) (names : List Card) (place : Place) (rest : List Place) (slot : Slot) (others : List Card) (blanks : ℕ) (c : Bool) → place.slot ≡ slot → covers place ≡ c → IsMarking covers out mark (place ∷ rest)
-    → ((os : List Card) (n : ℕ) → length os + n ≤ unknown_count (filter covers rest) → length (filter out (after_names covers mark names os n rest)) ≡ length (filter out rest) + (named_count names (filter covers rest) + (length os + n)))
+    → ((os : List Card) (n : ℕ) → length os + n ≤ unknown_count (filter covers rest) → length (filter out (after_matching covers mark names os n rest)) ≡ length (filter out rest) + (named_count names (filter covers rest) + (length os + n)))
     → length others + blanks ≤ unknown_count (if c then (place ∷ filter covers rest) else filter covers rest)
-    → length (filter out (if c then (let found = found_by mark names slot others blanks place in found.place ∷ after_names covers mark names found.others found.blanks rest) else (place ∷ after_names covers mark names others blanks rest))) ≡ length (if out place then (place ∷ filter out rest) else filter out rest) + (named_count names (if c then (place ∷ filter covers rest) else filter covers rest) + (length others + blanks))
+    → length (filter out (if c then (let found = matched_card mark names slot others blanks place in found.place ∷ after_matching covers mark names found.others found.blanks rest) else (place ∷ after_matching covers mark names others blanks rest))) ≡ length (if out place then (place ∷ filter out rest) else filter out rest) + (named_count names (if c then (place ∷ filter covers rest) else filter covers rest) + (length others + blanks))
 count_step covers out mark names place rest slot others blanks false here covered is later few =
-    same_more out place rest (after_names covers mark names others blanks rest) (named_count names (filter covers rest) + (length others + blanks)) (later others blanks few)
+    same_more out place rest (after_matching covers mark names others blanks rest) (named_count names (filter covers rest) + (length others + blanks)) (later others blanks few)
 count_step covers out mark names place rest slots.Unknown (card ∷ others) blanks true here covered is later few =
     omega (
       arith,
-      marked_more out place (mark (record place { slot = slots.Known card })) rest (after_names covers mark names others blanks rest) (named_count names (filter covers rest) + (length others + blanks)) (is.before place (inl refl) covered) (is.after place (slots.Known card) (inl refl) covered)
+      marked_more out place (mark (record place { slot = slots.Known card })) rest (after_matching covers mark names others blanks rest) (named_count names (filter covers rest) + (length others + blanks)) (is.before place (inl refl) covered) (is.after place (slots.Known card) (inl refl) covered)
           (later others blanks (omega (arith, few, ap unknown_one here))),
       ap (named_one names) here,
     )
@@ -111,16 +111,16 @@ count_step covers out mark names place rest slots.Unknown (card ∷ others) blan
     unknown_one s = if is_unknown s then 1 else 0
 
     named_one : List Card → Slot → ℕ
-    named_one l s = if is_named_slot l s then 1 else 0
+    named_one l s = if is_known_and_named l s then 1 else 0
 count_step covers out mark names place rest slots.Unknown [] zero true here covered is later few =
-    omega (arith, same_more out place rest (after_names covers mark names [] 0 rest) (named_count names (filter covers rest) + 0) (later [] 0 (omega arith)), ap (named_one names) here)
+    omega (arith, same_more out place rest (after_matching covers mark names [] 0 rest) (named_count names (filter covers rest) + 0) (later [] 0 (omega arith)), ap (named_one names) here)
   where
     named_one : List Card → Slot → ℕ
-    named_one l s = if is_named_slot l s then 1 else 0
+    named_one l s = if is_known_and_named l s then 1 else 0
 count_step covers out mark names place rest slots.Unknown [] (suc blanks) true here covered is later few =
     omega (
       arith,
-      marked_more out place (mark place) rest (after_names covers mark names [] blanks rest) (named_count names (filter covers rest) + (0 + blanks)) (is.before place (inl refl) covered) (is.after place place.slot (inl refl) covered)
+      marked_more out place (mark place) rest (after_matching covers mark names [] blanks rest) (named_count names (filter covers rest) + (0 + blanks)) (is.before place (inl refl) covered) (is.after place place.slot (inl refl) covered)
           (later [] blanks (omega (arith, few, ap unknown_one here))),
       ap (named_one names) here,
     )
@@ -129,29 +129,29 @@ count_step covers out mark names place rest slots.Unknown [] (suc blanks) true h
     unknown_one s = if is_unknown s then 1 else 0
 
     named_one : List Card → Slot → ℕ
-    named_one l s = if is_named_slot l s then 1 else 0
+    named_one l s = if is_known_and_named l s then 1 else 0
 count_step covers out mark names place rest (slots.Known card) others blanks true here covered is later few = by_named (is_named card names) refl
   where
     unknown_one : Slot → ℕ
     unknown_one s = if is_unknown s then 1 else 0
 
     named_one : List Card → Slot → ℕ
-    named_one l s = if is_named_slot l s then 1 else 0
+    named_one l s = if is_known_and_named l s then 1 else 0
 
-    by_named : (b : Bool) → is_named card names ≡ b → length (if out (if b then mark place else place) then ((if b then mark place else place) ∷ filter out (after_names covers mark names others blanks rest)) else filter out (after_names covers mark names others blanks rest)) ≡ length (if out place then (place ∷ filter out rest) else filter out rest) + (named_count names (place ∷ filter covers rest) + (length others + blanks))
+    by_named : (b : Bool) → is_named card names ≡ b → length (if out (if b then mark place else place) then ((if b then mark place else place) ∷ filter out (after_matching covers mark names others blanks rest)) else filter out (after_matching covers mark names others blanks rest)) ≡ length (if out place then (place ∷ filter out rest) else filter out rest) + (named_count names (place ∷ filter covers rest) + (length others + blanks))
     by_named true named =
         omega (
           arith,
-          marked_more out place (mark place) rest (after_names covers mark names others blanks rest) (named_count names (filter covers rest) + (length others + blanks)) (is.before place (inl refl) covered) (is.after place place.slot (inl refl) covered)
+          marked_more out place (mark place) rest (after_matching covers mark names others blanks rest) (named_count names (filter covers rest) + (length others + blanks)) (is.before place (inl refl) covered) (is.after place place.slot (inl refl) covered)
               (later others blanks (omega (arith, few, ap unknown_one here))),
           ap (named_one names) here,
           ap {B = ℕ} (λ b. if b then 1 else 0) named,
         )
     by_named false named =
-        omega (arith, same_more out place rest (after_names covers mark names others blanks rest) (named_count names (filter covers rest) + (length others + blanks)) (later others blanks (omega (arith, few, ap unknown_one here))), ap (named_one names) here, ap {B = ℕ} (λ b. if b then 1 else 0) named)
+        omega (arith, same_more out place rest (after_matching covers mark names others blanks rest) (named_count names (filter covers rest) + (length others + blanks)) (later others blanks (omega (arith, few, ap unknown_one here))), ap (named_one names) here, ap {B = ℕ} (λ b. if b then 1 else 0) named)
 
 -- as many places are marked as there are names and blanks
-pub names_marked : (covers out : Place → Bool) (mark : Place → Place) (names others : List Card) (blanks : ℕ) (placed : List Place) → IsMarking covers out mark placed → length others + blanks ≤ unknown_count (filter covers placed) → length (filter out (after_names covers mark names others blanks placed)) ≡ length (filter out placed) + (named_count names (filter covers placed) + (length others + blanks))
+pub names_marked : (covers out : Place → Bool) (mark : Place → Place) (names others : List Card) (blanks : ℕ) (placed : List Place) → IsMarking covers out mark placed → length others + blanks ≤ unknown_count (filter covers placed) → length (filter out (after_matching covers mark names others blanks placed)) ≡ length (filter out placed) + (named_count names (filter covers placed) + (length others + blanks))
 names_marked covers out mark names others blanks [] is few = omega (arith, few)
 names_marked covers out mark names others blanks (place ∷ rest) is few =
     count_step covers out mark names place rest place.slot others blanks (covers place) refl refl is (λ os n fits. names_marked covers out mark names os n rest (marking_rest covers out mark place rest is) fits) few
@@ -175,7 +175,7 @@ pub discard_count : (out : Place → Bool) (street seat : ℕ) (cards : List Slo
 discard_count out street seat cards placed is apart held =
     let covered : List Place = filter (is_held_by seat) placed in
     let names : List Card = known_cards cards in
-    let others : List Card = other_names covered names in
+    let others : List Card = unmatched_names covered names in
     let few : length others + blanks_in cards ≤ count_by (λ (place : Place). is_unknown place.slot) covered = ltb-false (count_by (λ (place : Place). is_unknown place.slot) covered) (length others + blanks_in cards) held in
     omega (
       arith,

@@ -12,7 +12,7 @@ use Rattle.play_event.specs.declared.setup.Setup.{Setup}
 use Rattle.play_event.specs.Past.{Past, Resolved, is_fold}
 use Rattle.card_set.specs.Known.{is_unknown, known_cards}
 use Rattle.play_event.specs.Places.{Place, is_same_owner, is_in_group, is_past_deck, places_dealt, after_deal, is_held_by, folded_place, after_fold, gone_now, group_of}
-use Rattle.play_event.specs.Naming.{after_names, after_discard, after_show, other_names, blanks_in, is_covered, is_show_of_all, found_by, is_named}
+use Rattle.play_event.specs.NameMatching.{after_matching, after_discard, after_show, unmatched_names, blanks_in, can_be_named, is_show_of_all, matched_card, is_named}
 use Rattle.play_event.specs.Table.{places_of}
 use Rattle.play_event.specs.Laws.{IsAmong}
 use Rattle.card_set.proofs.Tests.{false_true}
@@ -219,18 +219,18 @@ finer_maybe : (place : Place) (b : Bool) → IsFiner place (if b then place else
 finer_maybe place true = finer_same place
 finer_maybe place false = finer_same place
 
-finer_found : (names : List Card) (slot : Slot) (others : List Card) (blanks : ℕ) (place : Place) → IsFiner place (found_by (λ (p : Place). p) names slot others blanks place).place
+finer_found : (names : List Card) (slot : Slot) (others : List Card) (blanks : ℕ) (place : Place) → IsFiner place (matched_card (λ (p : Place). p) names slot others blanks place).place
 finer_found names (slots.Known card) others blanks place = finer_maybe place (is_named card names)
 finer_found names slots.Unknown (card ∷ others) blanks place = record { owner = refl; street = refl; discarded = refl; unknown = λ is. false_true is }
 finer_found names slots.Unknown [] zero place = finer_same place
 finer_found names slots.Unknown [] (suc blanks) place = finer_same place
 
-finer_step : (covers : Place → Bool) (names others : List Card) (blanks : ℕ) (place : Place) (rest : List Place) (c : Bool) → ((os : List Card) (n : ℕ) → AreFiner rest (after_names covers (λ (p : Place). p) names os n rest)) → AreFiner (place ∷ rest) (if c then (let found = found_by (λ (p : Place). p) names place.slot others blanks place in found.place ∷ after_names covers (λ (p : Place). p) names found.others found.blanks rest) else (place ∷ after_names covers (λ (p : Place). p) names others blanks rest))
+finer_step : (covers : Place → Bool) (names others : List Card) (blanks : ℕ) (place : Place) (rest : List Place) (c : Bool) → ((os : List Card) (n : ℕ) → AreFiner rest (after_matching covers (λ (p : Place). p) names os n rest)) → AreFiner (place ∷ rest) (if c then (let found = matched_card (λ (p : Place). p) names place.slot others blanks place in found.place ∷ after_matching covers (λ (p : Place). p) names found.others found.blanks rest) else (place ∷ after_matching covers (λ (p : Place). p) names others blanks rest))
 unfolding AreFiner
-finer_step covers names others blanks place rest true later = (finer_found names place.slot others blanks place, later (found_by (λ (p : Place). p) names place.slot others blanks place).others (found_by (λ (p : Place). p) names place.slot others blanks place).blanks)
+finer_step covers names others blanks place rest true later = (finer_found names place.slot others blanks place, later (matched_card (λ (p : Place). p) names place.slot others blanks place).others (matched_card (λ (p : Place). p) names place.slot others blanks place).blanks)
 finer_step covers names others blanks place rest false later = (finer_same place, later others blanks)
 
-show_finer : (covers : Place → Bool) (names others : List Card) (blanks : ℕ) (placed : List Place) → AreFiner placed (after_names covers (λ (p : Place). p) names others blanks placed)
+show_finer : (covers : Place → Bool) (names others : List Card) (blanks : ℕ) (placed : List Place) → AreFiner placed (after_matching covers (λ (p : Place). p) names others blanks placed)
 unfolding AreFiner
 show_finer covers names others blanks [] = tt
 show_finer covers names others blanks (place ∷ rest) = finer_step covers names others blanks place rest (covers place) (λ os n. show_finer covers names os n rest)
@@ -272,20 +272,20 @@ list_law setup before at _ past law come (boards cards due some few free) list =
 list_law setup before at _ past law come (mucks seat may) list = list
 list_law setup before at _ past law come (shows seat cards may free) list =
     let placed = places_of setup.code before in
-    let covers : Place → Bool = is_covered setup.code seat (is_show_of_all placed seat cards) in
-    let alike = marked_alike is_nothing (length placed) at placed (after_show setup.code seat cards placed) (show_marks covers (length placed) at cards (other_names (filter covers placed) cards) 0 placed) in
+    let covers : Place → Bool = can_be_named setup.code seat (is_show_of_all placed seat cards) in
+    let alike = marked_alike is_nothing (length placed) at placed (after_show setup.code seat cards placed) (show_marks covers (length placed) at cards (unmatched_names (filter covers placed) cards) 0 placed) in
     record {
       numbered = alike_numbered 0 placed (after_show setup.code seat cards placed) alike list.numbered;
       indexed = λ owner street. alike_indexed owner street 0 placed (after_show setup.code seat cards placed) alike (list.indexed owner street);
-      unknowns = unknowns_finer placed (after_show setup.code seat cards placed) (show_finer covers cards (other_names (filter covers placed) cards) 0 placed) list.unknowns;
+      unknowns = unknowns_finer placed (after_show setup.code seat cards placed) (show_finer covers cards (unmatched_names (filter covers placed) cards) 0 placed) list.unknowns;
     }
 list_law setup before at _ past law come (discards seat cards no_deal draw next few free held) list =
     let placed = places_of setup.code before in
-    let alike = marked_alike (is_held_by seat) (length placed) at placed (after_discard at seat cards placed) (discard_marks (is_held_by seat) (length placed) at (known_cards cards) (other_names (filter (is_held_by seat) placed) (known_cards cards)) (blanks_in cards) placed) in
+    let alike = marked_alike (is_held_by seat) (length placed) at placed (after_discard at seat cards placed) (discard_marks (is_held_by seat) (length placed) at (known_cards cards) (unmatched_names (filter (is_held_by seat) placed) (known_cards cards)) (blanks_in cards) placed) in
     record {
       numbered = alike_numbered 0 placed (after_discard at seat cards placed) alike list.numbered;
       indexed = λ owner street. alike_indexed owner street 0 placed (after_discard at seat cards placed) alike (list.indexed owner street);
-      unknowns = discard_unknowns (is_held_by seat) seat at (length placed) (known_cards cards) (other_names (filter (is_held_by seat) placed) (known_cards cards)) (blanks_in cards) placed (covers_hand setup before at seat past law come (is_next_to_draw setup before at seat next)) list.unknowns;
+      unknowns = discard_unknowns (is_held_by seat) seat at (length placed) (known_cards cards) (unmatched_names (filter (is_held_by seat) placed) (known_cards cards)) (blanks_in cards) placed (covers_hand setup before at seat past law come (is_next_to_draw setup before at seat next)) list.unknowns;
     }
 list_law setup before at _ past law come (moves move no_deal no_draw on) list = by_fold (is_fold move.act)
   where

@@ -16,7 +16,7 @@ use Rattle.play_event.specs.Dealing.{is_deal_due, is_draw_due, board_cards_dealt
 use Rattle.play_event.specs.Due.{turn, due_on, first_due, is_bring_in_due, is_move_due, is_unfinished}
 use Rattle.card_set.specs.Known.{known_cards}
 use Rattle.play_event.specs.Places.{Place, is_in_group, is_same_owner, after_fold, is_held_by, group_of}
-use Rattle.play_event.specs.Naming.{after_discard, after_show, other_names, blanks_in, is_covered, is_show_of_all}
+use Rattle.play_event.specs.NameMatching.{after_discard, after_show, unmatched_names, blanks_in, can_be_named, is_show_of_all}
 use Rattle.play_event.specs.Table.{places_of}
 use Rattle.play_event.specs.Laws.{IsAmong}
 use Rattle.card_set.proofs.Tests.{false_true}
@@ -123,13 +123,13 @@ board_count code (Moved played ∷ before) street = by_fold (is_fold played.act)
 board_count code (Discarded on owner cards ∷ before) street =
     let placed = places_of code before in
     changed_group None street (length placed) on owner placed (after_discard on owner cards placed)
-    (marked_changed (is_held_by owner) (length placed) on owner placed (after_discard on owner cards placed) (held_parts owner) (discard_marks (is_held_by owner) (length placed) on (known_cards cards) (other_names (filter (is_held_by owner) placed) (known_cards cards)) (blanks_in cards) placed))
+    (marked_changed (is_held_by owner) (length placed) on owner placed (after_discard on owner cards placed) (held_parts owner) (discard_marks (is_held_by owner) (length placed) on (known_cards cards) (unmatched_names (filter (is_held_by owner) placed) (known_cards cards)) (blanks_in cards) placed))
     ∙ board_count code before street
 board_count code (Shown on owner cards ∷ before) street =
     let placed = places_of code before in
-    let covers : Place → Bool = is_covered code owner (is_show_of_all placed owner cards) in
+    let covers : Place → Bool = can_be_named code owner (is_show_of_all placed owner cards) in
     changed_group None street (length placed) on owner placed (after_show code owner cards placed)
-    (marked_changed is_nothing (length placed) on owner placed (after_show code owner cards placed) (λ old is. false_true is) (show_marks covers (length placed) on cards (other_names (filter covers placed) cards) 0 placed))
+    (marked_changed is_nothing (length placed) on owner placed (after_show code owner cards placed) (λ old is. false_true is) (show_marks covers (length placed) on cards (unmatched_names (filter covers placed) cards) 0 placed))
     ∙ board_count code before street
 board_count code (Mucked on owner ∷ before) street = board_count code before street
 

@@ -9,7 +9,7 @@ use Rattle.play_event.specs.declared.code.Code.{Code}
 use Rattle.play_event.specs.Past.{Move, is_fold, moves_before}
 use Rattle.play_event.specs.Seats.{is_live, is_fold_of}
 use Rattle.play_event.specs.Places.{Place, is_same_owner, is_held_by, folded_place, gone_now, after_fold}
-use Rattle.play_event.specs.Naming.{found_by, after_names, discarded_now, is_named}
+use Rattle.play_event.specs.NameMatching.{matched_card, after_matching, discarded_now, is_named}
 use Rattle.play_event.specs.Laws.{IsAmong}
 use Rattle.card_set.proofs.Tests.{false_true}
 use Rattle.play_event.proofs.Kept.{held_is_there}
@@ -89,19 +89,19 @@ out_maybe : (covers : Place → Bool) (count draw : ℕ) (place : Place) (b : Bo
 out_maybe covers count draw place true covered = record { owner = refl; street = refl; index = refl; number = refl; past_deck = refl; how = marked covered refl refl }
 out_maybe covers count draw place false covered = marked_same covers count draw place
 
-out_found : (covers : Place → Bool) (count draw : ℕ) (names : List Card) (slot : Slot) (others : List Card) (blanks : ℕ) (place : Place) → covers place ≡ true → IsMarked covers count draw place (found_by (discarded_now draw count) names slot others blanks place).place
+out_found : (covers : Place → Bool) (count draw : ℕ) (names : List Card) (slot : Slot) (others : List Card) (blanks : ℕ) (place : Place) → covers place ≡ true → IsMarked covers count draw place (matched_card (discarded_now draw count) names slot others blanks place).place
 out_found covers count draw names (slots.Known card) others blanks place covered = out_maybe covers count draw place (is_named card names) covered
 out_found covers count draw names slots.Unknown (card ∷ others) blanks place covered = out_marks covers count draw place (slots.Known card) covered
 out_found covers count draw names slots.Unknown [] zero place covered = marked_same covers count draw place
 out_found covers count draw names slots.Unknown [] (suc blanks) place covered = record { owner = refl; street = refl; index = refl; number = refl; past_deck = refl; how = marked covered refl refl }
 
-out_step : (covers : Place → Bool) (count draw : ℕ) (names others : List Card) (blanks : ℕ) (place : Place) (rest : List Place) (c : Bool) → covers place ≡ c → ((os : List Card) (n : ℕ) → AreMarked covers count draw rest (after_names covers (discarded_now draw count) names os n rest)) → AreMarked covers count draw (place ∷ rest) (if c then (let found = found_by (discarded_now draw count) names place.slot others blanks place in found.place ∷ after_names covers (discarded_now draw count) names found.others found.blanks rest) else (place ∷ after_names covers (discarded_now draw count) names others blanks rest))
+out_step : (covers : Place → Bool) (count draw : ℕ) (names others : List Card) (blanks : ℕ) (place : Place) (rest : List Place) (c : Bool) → covers place ≡ c → ((os : List Card) (n : ℕ) → AreMarked covers count draw rest (after_matching covers (discarded_now draw count) names os n rest)) → AreMarked covers count draw (place ∷ rest) (if c then (let found = matched_card (discarded_now draw count) names place.slot others blanks place in found.place ∷ after_matching covers (discarded_now draw count) names found.others found.blanks rest) else (place ∷ after_matching covers (discarded_now draw count) names others blanks rest))
 out_step covers count draw names others blanks place rest true covered later =
-    (out_found covers count draw names place.slot others blanks place covered, later (found_by (discarded_now draw count) names place.slot others blanks place).others (found_by (discarded_now draw count) names place.slot others blanks place).blanks)
+    (out_found covers count draw names place.slot others blanks place covered, later (matched_card (discarded_now draw count) names place.slot others blanks place).others (matched_card (discarded_now draw count) names place.slot others blanks place).blanks)
 out_step covers count draw names others blanks place rest false covered later = (marked_same covers count draw place, later others blanks)
 
 -- a discard marks places of its hand
-pub discard_marks : (covers : Place → Bool) (count draw : ℕ) (names others : List Card) (blanks : ℕ) (placed : List Place) → AreMarked covers count draw placed (after_names covers (discarded_now draw count) names others blanks placed)
+pub discard_marks : (covers : Place → Bool) (count draw : ℕ) (names others : List Card) (blanks : ℕ) (placed : List Place) → AreMarked covers count draw placed (after_matching covers (discarded_now draw count) names others blanks placed)
 discard_marks covers count draw names others blanks [] = tt
 discard_marks covers count draw names others blanks (place ∷ rest) =
     out_step covers count draw names others blanks place rest (covers place) refl (λ os n. discard_marks covers count draw names os n rest)
@@ -111,15 +111,15 @@ show_maybe : (covers : Place → Bool) (count draw : ℕ) (place : Place) (b : B
 show_maybe covers count draw place true = marked_same covers count draw place
 show_maybe covers count draw place false = marked_same covers count draw place
 
-show_found : (covers : Place → Bool) (count draw : ℕ) (names : List Card) (slot : Slot) (others : List Card) (blanks : ℕ) (place : Place) → IsMarked covers count draw place (found_by (λ (p : Place). p) names slot others blanks place).place
+show_found : (covers : Place → Bool) (count draw : ℕ) (names : List Card) (slot : Slot) (others : List Card) (blanks : ℕ) (place : Place) → IsMarked covers count draw place (matched_card (λ (p : Place). p) names slot others blanks place).place
 show_found covers count draw names (slots.Known card) others blanks place = show_maybe covers count draw place (is_named card names)
 show_found covers count draw names slots.Unknown (card ∷ others) blanks place = record { owner = refl; street = refl; index = refl; number = refl; past_deck = refl; how = kept refl refl }
 show_found covers count draw names slots.Unknown [] zero place = marked_same covers count draw place
 show_found covers count draw names slots.Unknown [] (suc blanks) place = marked_same covers count draw place
 
-show_step : (covers other : Place → Bool) (count draw : ℕ) (names others : List Card) (blanks : ℕ) (place : Place) (rest : List Place) (c : Bool) → ((os : List Card) (n : ℕ) → AreMarked other count draw rest (after_names covers (λ (p : Place). p) names os n rest)) → AreMarked other count draw (place ∷ rest) (if c then (let found = found_by (λ (p : Place). p) names place.slot others blanks place in found.place ∷ after_names covers (λ (p : Place). p) names found.others found.blanks rest) else (place ∷ after_names covers (λ (p : Place). p) names others blanks rest))
+show_step : (covers other : Place → Bool) (count draw : ℕ) (names others : List Card) (blanks : ℕ) (place : Place) (rest : List Place) (c : Bool) → ((os : List Card) (n : ℕ) → AreMarked other count draw rest (after_matching covers (λ (p : Place). p) names os n rest)) → AreMarked other count draw (place ∷ rest) (if c then (let found = matched_card (λ (p : Place). p) names place.slot others blanks place in found.place ∷ after_matching covers (λ (p : Place). p) names found.others found.blanks rest) else (place ∷ after_matching covers (λ (p : Place). p) names others blanks rest))
 show_step covers other count draw names others blanks place rest true later =
-    (show_found other count draw names place.slot others blanks place, later (found_by (λ (p : Place). p) names place.slot others blanks place).others (found_by (λ (p : Place). p) names place.slot others blanks place).blanks)
+    (show_found other count draw names place.slot others blanks place, later (matched_card (λ (p : Place). p) names place.slot others blanks place).others (matched_card (λ (p : Place). p) names place.slot others blanks place).blanks)
 show_step covers other count draw names others blanks place rest false later = (marked_same other count draw place, later others blanks)
 
 -- for a cover without places
@@ -127,7 +127,7 @@ abbrev pub is_nothing : Place → Bool
 is_nothing place = false
 
 -- a show discards nothing
-pub show_marks : (covers : Place → Bool) (count draw : ℕ) (names others : List Card) (blanks : ℕ) (placed : List Place) → AreMarked is_nothing count draw placed (after_names covers (λ (p : Place). p) names others blanks placed)
+pub show_marks : (covers : Place → Bool) (count draw : ℕ) (names others : List Card) (blanks : ℕ) (placed : List Place) → AreMarked is_nothing count draw placed (after_matching covers (λ (p : Place). p) names others blanks placed)
 show_marks covers count draw names others blanks [] = tt
 show_marks covers count draw names others blanks (place ∷ rest) =
     show_step covers is_nothing count draw names others blanks place rest (covers place) (λ os n. show_marks covers count draw names os n rest)

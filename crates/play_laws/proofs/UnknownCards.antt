@@ -5,7 +5,7 @@ use Rattle.card_set.specs.declared.card.Slot.{Slot}
 use Rattle.card_set.specs.declared.card.Slot.TheVariants as slots
 use Rattle.card_set.specs.Known.{is_unknown}
 use Rattle.play_event.specs.Places.{Place}
-use Rattle.play_event.specs.Naming.{found_by, after_names, discarded_now, is_named}
+use Rattle.play_event.specs.NameMatching.{matched_card, after_matching, discarded_now, is_named}
 use Rattle.play_event.specs.Laws.{IsAmong}
 use Rattle.card_set.proofs.Tests.{false_true}
 use Rattle.play_laws.specs.LegalPlaces.{OutFirst, UnknownsFirst}
@@ -20,7 +20,7 @@ became_known : (covers : Place → Bool) (street count : ℕ) (names : List Card
 became_known covers street count names card place true here = now_known (ap is_unknown here)
 became_known covers street count names card place false here = as_it_was refl
 
-became : (covers : Place → Bool) (street count : ℕ) (names : List Card) (slot : Slot) (others : List Card) (blanks : ℕ) (place : Place) → place.slot ≡ slot → covers place ≡ true → Became covers street count place (found_by (discarded_now street count) names slot others blanks place).place
+became : (covers : Place → Bool) (street count : ℕ) (names : List Card) (slot : Slot) (others : List Card) (blanks : ℕ) (place : Place) → place.slot ≡ slot → covers place ≡ true → Became covers street count place (matched_card (discarded_now street count) names slot others blanks place).place
 became covers street count names (slots.Known card) others blanks place here covered = became_known covers street count names card place (is_named card names) here
 became covers street count names slots.Unknown (card ∷ others) blanks place here covered = now_known refl
 became covers street count names slots.Unknown [] zero place here covered = as_it_was refl
@@ -40,21 +40,21 @@ first_from covers street count first rest new place how is =
     let P : Place → Type 0 = CameFrom covers street count (first ∷ rest) in
     subst P is (record { old = first; among = inl refl; how = how })
 
-from_step : (covers : Place → Bool) (street count : ℕ) (names others : List Card) (blanks : ℕ) (first : Place) (rest : List Place) (new : Place) (c : Bool) → covers first ≡ c → ((os : List Card) (n : ℕ) → IsAmong (after_names covers (discarded_now street count) names os n rest) new → CameFrom covers street count rest new) → IsAmong (if c then (let found = found_by (discarded_now street count) names first.slot others blanks first in found.place ∷ after_names covers (discarded_now street count) names found.others found.blanks rest) else (first ∷ after_names covers (discarded_now street count) names others blanks rest)) new → CameFrom covers street count (first ∷ rest) new
+from_step : (covers : Place → Bool) (street count : ℕ) (names others : List Card) (blanks : ℕ) (first : Place) (rest : List Place) (new : Place) (c : Bool) → covers first ≡ c → ((os : List Card) (n : ℕ) → IsAmong (after_matching covers (discarded_now street count) names os n rest) new → CameFrom covers street count rest new) → IsAmong (if c then (let found = matched_card (discarded_now street count) names first.slot others blanks first in found.place ∷ after_matching covers (discarded_now street count) names found.others found.blanks rest) else (first ∷ after_matching covers (discarded_now street count) names others blanks rest)) new → CameFrom covers street count (first ∷ rest) new
 from_step covers street count names others blanks first rest new true covered later (inl is) =
-    first_from covers street count first rest new (found_by (discarded_now street count) names first.slot others blanks first).place (became covers street count names first.slot others blanks first refl covered) is
+    first_from covers street count first rest new (matched_card (discarded_now street count) names first.slot others blanks first).place (became covers street count names first.slot others blanks first refl covered) is
 from_step covers street count names others blanks first rest new true covered later (inr among) =
-    later_from covers street count first rest new (later (found_by (discarded_now street count) names first.slot others blanks first).others (found_by (discarded_now street count) names first.slot others blanks first).blanks among)
+    later_from covers street count first rest new (later (matched_card (discarded_now street count) names first.slot others blanks first).others (matched_card (discarded_now street count) names first.slot others blanks first).blanks among)
 from_step covers street count names others blanks first rest new false covered later (inl is) = first_from covers street count first rest new first (as_it_was refl) is
 from_step covers street count names others blanks first rest new false covered later (inr among) = later_from covers street count first rest new (later others blanks among)
 
-came_from : (covers : Place → Bool) (street count : ℕ) (names others : List Card) (blanks : ℕ) (placed : List Place) (new : Place) → IsAmong (after_names covers (discarded_now street count) names others blanks placed) new → CameFrom covers street count placed new
+came_from : (covers : Place → Bool) (street count : ℕ) (names others : List Card) (blanks : ℕ) (placed : List Place) (new : Place) → IsAmong (after_matching covers (discarded_now street count) names others blanks placed) new → CameFrom covers street count placed new
 came_from covers street count names others blanks [] new among = absurd among
 came_from covers street count names others blanks (first ∷ rest) new among =
     from_step covers street count names others blanks first rest new (covers first) refl (λ os n. came_from covers street count names os n rest new) among
 
 -- if no name and no blank is left, what is unknown is unchanged
-left_step : (covers : Place → Bool) (street count : ℕ) (names : List Card) (first : Place) (rest : List Place) (new : Place) (slot : Slot) (c : Bool) → first.slot ≡ slot → is_unknown new.slot ≡ true → (IsAmong (after_names covers (discarded_now street count) names [] 0 rest) new → IsAmong rest new) → IsAmong (if c then (let found = found_by (discarded_now street count) names slot [] 0 first in found.place ∷ after_names covers (discarded_now street count) names found.others found.blanks rest) else (first ∷ after_names covers (discarded_now street count) names [] 0 rest)) new → IsAmong (first ∷ rest) new
+left_step : (covers : Place → Bool) (street count : ℕ) (names : List Card) (first : Place) (rest : List Place) (new : Place) (slot : Slot) (c : Bool) → first.slot ≡ slot → is_unknown new.slot ≡ true → (IsAmong (after_matching covers (discarded_now street count) names [] 0 rest) new → IsAmong rest new) → IsAmong (if c then (let found = matched_card (discarded_now street count) names slot [] 0 first in found.place ∷ after_matching covers (discarded_now street count) names found.others found.blanks rest) else (first ∷ after_matching covers (discarded_now street count) names [] 0 rest)) new → IsAmong (first ∷ rest) new
 left_step covers street count names first rest new slot false here unknown later (inl is) = inl is
 left_step covers street count names first rest new slot false here unknown later (inr among) = inr (later among)
 left_step covers street count names first rest new slots.Unknown true here unknown later (inl is) = inl is
@@ -66,7 +66,7 @@ left_step covers street count names first rest new (slots.Known card) true here 
     known_stays false same = inl same
 left_step covers street count names first rest new (slots.Known card) true here unknown later (inr among) = inr (later among)
 
-left_alone : (covers : Place → Bool) (street count : ℕ) (names : List Card) (placed : List Place) (new : Place) → is_unknown new.slot ≡ true → IsAmong (after_names covers (discarded_now street count) names [] 0 placed) new → IsAmong placed new
+left_alone : (covers : Place → Bool) (street count : ℕ) (names : List Card) (placed : List Place) (new : Place) → is_unknown new.slot ≡ true → IsAmong (after_matching covers (discarded_now street count) names [] 0 placed) new → IsAmong placed new
 left_alone covers street count names [] new unknown among = absurd among
 left_alone covers street count names (first ∷ rest) new unknown among =
     left_step covers street count names first rest new first.slot (covers first) refl unknown (left_alone covers street count names rest new unknown) among
@@ -105,7 +105,7 @@ first_out covers seat street count first rest here before second from = by_how f
         absurd (omega (arith, same, here, some))
 
 -- the places after a discard
-unknowns_step : (covers : Place → Bool) (seat street count : ℕ) (names : List Card) (slot : Slot) (others : List Card) (blanks : ℕ) (first : Place) (rest : List Place) (c : Bool) → first.slot ≡ slot → covers first ≡ c → CoversHand covers seat street (first ∷ rest) → ((second : Place) → IsAmong rest second → OutFirst first second) → ((os : List Card) (n : ℕ) → UnknownsFirst (after_names covers (discarded_now street count) names os n rest)) → UnknownsFirst (if c then (let found = found_by (discarded_now street count) names slot others blanks first in found.place ∷ after_names covers (discarded_now street count) names found.others found.blanks rest) else (first ∷ after_names covers (discarded_now street count) names others blanks rest))
+unknowns_step : (covers : Place → Bool) (seat street count : ℕ) (names : List Card) (slot : Slot) (others : List Card) (blanks : ℕ) (first : Place) (rest : List Place) (c : Bool) → first.slot ≡ slot → covers first ≡ c → CoversHand covers seat street (first ∷ rest) → ((second : Place) → IsAmong rest second → OutFirst first second) → ((os : List Card) (n : ℕ) → UnknownsFirst (after_matching covers (discarded_now street count) names os n rest)) → UnknownsFirst (if c then (let found = matched_card (discarded_now street count) names slot others blanks first in found.place ∷ after_matching covers (discarded_now street count) names found.others found.blanks rest) else (first ∷ after_matching covers (discarded_now street count) names others blanks rest))
 unknowns_step covers seat street count names slot others blanks first rest false here covered hand before later =
     (λ second among. first_same covers seat street count first rest covered hand before second (came_from covers street count names others blanks rest second among), later others blanks)
 unknowns_step covers seat street count names (slots.Known card) others blanks first rest true here covered hand before later =
@@ -122,7 +122,7 @@ unknowns_step covers seat street count names slots.Unknown [] (suc blanks) first
     (λ second among. first_out covers seat street count first rest (hand.held first (inl refl) covered).1 before second (came_from covers street count names [] blanks rest second among), later [] blanks)
 
 -- a discard keeps the unknown cards of a seat in the order of dealing
-pub discard_unknowns : (covers : Place → Bool) (seat street count : ℕ) (names others : List Card) (blanks : ℕ) (placed : List Place) → CoversHand covers seat street placed → UnknownsFirst placed → UnknownsFirst (after_names covers (discarded_now street count) names others blanks placed)
+pub discard_unknowns : (covers : Place → Bool) (seat street count : ℕ) (names others : List Card) (blanks : ℕ) (placed : List Place) → CoversHand covers seat street placed → UnknownsFirst placed → UnknownsFirst (after_matching covers (discarded_now street count) names others blanks placed)
 discard_unknowns covers seat street count names others blanks [] hand before = tt
 discard_unknowns covers seat street count names others blanks (first ∷ rest) hand before =
     unknowns_step covers seat street count names first.slot others blanks first rest (covers first) refl refl hand before.0

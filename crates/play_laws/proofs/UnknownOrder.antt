@@ -11,7 +11,7 @@ use Rattle.play_event.specs.Said.{Said}
 use Rattle.play_event.specs.Past.{Past, Resolved, is_fold}
 use Rattle.play_event.specs.Due.{turn}
 use Rattle.play_event.specs.Places.{Place, is_in_group, is_past_deck, places_dealt, after_deal, after_fold}
-use Rattle.play_event.specs.Naming.{after_discard, after_show}
+use Rattle.play_event.specs.NameMatching.{after_discard, after_show}
 use Rattle.play_event.specs.Table.{places_of}
 use Rattle.play_event.specs.Scripts.{with_event, past_of}
 use Rattle.play_event.specs.Laws.{IsAmong, AreLegal}

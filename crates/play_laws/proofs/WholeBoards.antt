@@ -16,7 +16,7 @@ use Rattle.play_event.specs.Dealing.{board_cards_owed, hole_cards_owed}
 use Rattle.play_event.specs.Games.{game_of, street_count}
 use Rattle.play_event.specs.declared.street.Street.{Street}
 use Rattle.play_event.specs.Laws.{AreLegal, IsAmong}
-use Rattle.play_event.specs.Naming.{after_discard, after_show, blanks_in, is_covered, is_show_of_all, other_names}
+use Rattle.play_event.specs.NameMatching.{after_discard, after_show, blanks_in, can_be_named, is_show_of_all, unmatched_names}
 use Rattle.play_event.specs.Past.{Past, Dealt, Boarded, Moved, Discarded, Shown, Mucked, is_fold}
 use Rattle.play_event.specs.Places.{Place, after_fold, is_held_by, is_in_group, is_past_deck, is_same_owner, places_dealt}
 use Rattle.play_event.specs.Said.{Said}
@@ -104,13 +104,13 @@ board_stays code (Moved move ∷ before) = by_fold (is_fold move.act) (board_sta
 board_stays code (Discarded on owner cards ∷ before) =
     let placed = places_of code before in
     changed_stays (length placed) on owner placed (after_discard on owner cards placed)
-    (marked_changed (is_held_by owner) (length placed) on owner placed (after_discard on owner cards placed) (held_parts owner) (discard_marks (is_held_by owner) (length placed) on (known_cards cards) (other_names (filter (is_held_by owner) placed) (known_cards cards)) (blanks_in cards) placed))
+    (marked_changed (is_held_by owner) (length placed) on owner placed (after_discard on owner cards placed) (held_parts owner) (discard_marks (is_held_by owner) (length placed) on (known_cards cards) (unmatched_names (filter (is_held_by owner) placed) (known_cards cards)) (blanks_in cards) placed))
     (board_stays code before)
 board_stays code (Shown on owner cards ∷ before) =
     let placed = places_of code before in
-    let covers : Place → Bool = is_covered code owner (is_show_of_all placed owner cards) in
+    let covers : Place → Bool = can_be_named code owner (is_show_of_all placed owner cards) in
     changed_stays (length placed) on owner placed (after_show code owner cards placed)
-    (marked_changed is_nothing (length placed) on owner placed (after_show code owner cards placed) (λ old is. false_true is) (show_marks covers (length placed) on cards (other_names (filter covers placed) cards) 0 placed))
+    (marked_changed is_nothing (length placed) on owner placed (after_show code owner cards placed) (λ old is. false_true is) (show_marks covers (length placed) on cards (unmatched_names (filter covers placed) cards) 0 placed))
     (board_stays code before)
 board_stays code (Mucked on owner ∷ before) = board_stays code before
 

@@ -1,5 +1,5 @@
 use Rattle.std.proofs.Common.{◌≡◌, ◌≤◌, map, take, count_by}
-use Rattle.play_event.specs.Naming as naming
+use Rattle.play_event.specs.NameMatching as naming
 use Rattle.card_places.specs.Plain.{place_of}
 use Rattle.card_places.proofs.showing.held_down.Given as goal
 
