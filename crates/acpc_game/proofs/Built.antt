@@ -6,7 +6,8 @@ use Rattle.std.proofs.lemmas.Bool.Decides.{nat_tests}
 use Rattle.std.proofs.lemmas.List.{length-replicate}
 use Rattle.chip_ledger.specs.Greatest.{greatest}
 use Rattle.acpc_game.specs.declared.key.GameKey.TheVariants as keys
-use Rattle.acpc_game.specs.GameFile.{EntrySaid, needed, is_whole, is_for_all, has_no_limit, has_key, stacks_at, numbers_at, number_at, size_at, are_sizes}
+use Rattle.acpc_game.specs.GameFile.{required_keys, is_complete, has_one_for_each_player, stacks_at, raise_size_at, are_sizes}
+use Rattle.acpc_game.specs.GameEntries.{EntrySaid, has_no_limit, has_key, numbers_at, number_at}
 use Rattle.acpc_game.specs.Games.{are_chips, has_fitting_sizes}
 use Rattle.acpc_game.proofs.Bounds.{chips_within}
 use Rattle.acpc_game.specs.Playable.{IsPlayable}
@@ -15,24 +16,24 @@ use Rattle.card_set.proofs.Numbers.{equal_by_test}
 use Rattle.chip_ledger.specs.Sizes.{is_size}
 
 -- there are as many blinds as players
-blinds_counted : (entries : List EntrySaid) → is_whole entries ≡ true → length (numbers_at keys.Blind entries) ≡ number_at keys.NumPlayers entries
-unfolding is_whole
+blinds_counted : (entries : List EntrySaid) → is_complete entries ≡ true → length (numbers_at keys.Blind entries) ≡ number_at keys.NumPlayers entries
+unfolding is_complete
 blinds_counted entries whole =
-    let first = and_parts (list_all (λ key. has_key key entries) needed) _ whole in
+    let first = and_parts (list_all (λ key. has_key key entries) required_keys) _ whole in
     let second = and_parts (has_key (if has_no_limit entries then keys.Stack else keys.RaiseSize) entries) _ first.1 in
-    let third = and_parts (is_for_all keys.Blind entries) (not (has_key keys.Stack entries) || is_for_all keys.Stack entries) second.1 in
+    let third = and_parts (has_one_for_each_player keys.Blind entries) (not (has_key keys.Stack entries) || has_one_for_each_player keys.Stack entries) second.1 in
     equal_by_test (length (numbers_at keys.Blind entries)) (number_at keys.NumPlayers entries) third.0
 
 stacks_by : (stand : Bool) (stacks blinds : List ℕ) (stack players : ℕ) → (not stand || eqb (length stacks) players) ≡ true → length blinds ≡ players → length (if stand then stacks else replicate (length blinds) stack) ≡ players
 stacks_by true stacks blinds stack players same is = equal_by_test (length stacks) players same
 stacks_by false stacks blinds stack players same is = length-replicate (length blinds) stack ∙ is
 
-stacks_counted : (entries : List EntrySaid) → is_whole entries ≡ true → length (stacks_at entries) ≡ number_at keys.NumPlayers entries
-unfolding is_whole
+stacks_counted : (entries : List EntrySaid) → is_complete entries ≡ true → length (stacks_at entries) ≡ number_at keys.NumPlayers entries
+unfolding is_complete
 stacks_counted entries whole =
-    let first = and_parts (list_all (λ key. has_key key entries) needed) _ whole in
+    let first = and_parts (list_all (λ key. has_key key entries) required_keys) _ whole in
     let second = and_parts (has_key (if has_no_limit entries then keys.Stack else keys.RaiseSize) entries) _ first.1 in
-    let third = and_parts (is_for_all keys.Blind entries) (not (has_key keys.Stack entries) || is_for_all keys.Stack entries) second.1 in
+    let third = and_parts (has_one_for_each_player keys.Blind entries) (not (has_key keys.Stack entries) || has_one_for_each_player keys.Stack entries) second.1 in
     stacks_by (has_key keys.Stack entries) (numbers_at keys.Stack entries) (numbers_at keys.Blind entries) 2147483647 (number_at keys.NumPlayers entries) third.1 (blinds_counted entries whole)
 
 -- the number of rows of a game with seats
@@ -41,7 +42,7 @@ pub record IsCounted (entries : List EntrySaid) : Type 0 where
   pub most : length (numbers_at keys.Blind entries) ≤ 10
   pub same : length (stacks_at entries) ≡ length (numbers_at keys.Blind entries)
 
-pub counted : (entries : List EntrySaid) → is_whole entries ≡ true → IsPlayable entries → IsCounted entries
+pub counted : (entries : List EntrySaid) → is_complete entries ≡ true → IsPlayable entries → IsCounted entries
 counted entries whole playable =
     let players = and_parts (nat_le 2 (number_at keys.NumPlayers entries)) (nat_le (number_at keys.NumPlayers entries) 10) playable.players in
     record {
@@ -69,6 +70,6 @@ fitting false blind (s ∷ t ∷ b ∷ []) some are first few few_big = absurd (
 fitting false blind (s ∷ t ∷ b ∷ c ∷ d ∷ more) some are first few few_big = absurd (cc (are))
 
 pub sizes_fit : (entries : List EntrySaid) → IsPlayable entries → are_chips (numbers_at keys.RaiseSize entries) ≡ true
-    → has_fitting_sizes (has_no_limit entries) (greatest (numbers_at keys.Blind entries)) (size_at 0 entries) (size_at 2 entries) ≡ true
+    → has_fitting_sizes (has_no_limit entries) (greatest (numbers_at keys.Blind entries)) (raise_size_at 0 entries) (raise_size_at 2 entries) ≡ true
 sizes_fit entries playable few = fitting (has_no_limit entries) (greatest (numbers_at keys.Blind entries)) (numbers_at keys.RaiseSize entries) playable.blind playable.sizes playable.first_size
     (chips_within (numbers_at keys.RaiseSize entries) 0 few) (chips_within (numbers_at keys.RaiseSize entries) 2 few)

@@ -7,7 +7,8 @@ use Rattle.chip_ledger.specs.declared.numbers.TheConstants.{MOST_CHIPS}
 use Rattle.first_fault.specs.Reading.{◌>>=◌}
 use Rattle.acpc_game.specs.Parts.{lines_of}
 use Rattle.acpc_game.specs.declared.fault.AcpcFault.{AcpcFault}
-use Rattle.acpc_game.specs.GameFile.{EntrySaid, GameSaid, entries_in, first_player, first_unsupported, game_at_end, game_by, game_said, has_short_stack, is_reversed, is_whole, says_no_limit}
+use Rattle.acpc_game.specs.GameFile.{GameSaid, first_player, first_unsupported, game_or_fault, game_of_entries, game_said, has_short_stack, is_reversed, is_complete}
+use Rattle.acpc_game.specs.GameEntries.{EntrySaid, entries_in, says_no_limit}
 use Rattle.acpc_game.specs.GameText.{game_text}
 use Rattle.acpc_game.specs.Games.{has_fitting_sizes}
 use Rattle.acpc_game.specs.Keys.{is_word}
@@ -44,8 +45,8 @@ said no_limit stacks blinds small big caps = entries_from 1 (game_lines (game_of
 
 -- nothing is missing
 whole : (no_limit : Bool) (stacks blinds : List ℕ) (small big : ℕ) (caps : Option (List ℕ)) → eqb (length blinds) (length stacks) ≡ true → eqb (length stacks) (length stacks) ≡ true
-    → is_whole (said no_limit stacks blinds small big caps) ≡ true
-unfolding is_whole
+    → is_complete (said no_limit stacks blinds small big caps) ≡ true
+unfolding is_complete
 whole true stacks blinds small big None same self = rw (same, self) refl
 whole true stacks blinds small big (Some caps) same self = rw (same, self) refl
 whole false stacks blinds small big None same self = rw (same, self) refl
@@ -91,7 +92,7 @@ sized_by false blind small big fits =
 
 -- the entries say the game
 same_game : (no_limit : Bool) (stacks blinds : List ℕ) (small big : ℕ) (caps : Option (List ℕ)) → has_fitting_sizes no_limit (greatest blinds) small big ≡ true
-    → game_by (said no_limit stacks blinds small big caps) ≡ game_of_parts no_limit stacks blinds small big caps
+    → game_of_entries (said no_limit stacks blinds small big caps) ≡ game_of_parts no_limit stacks blinds small big caps
 same_game false stacks blinds small big None fits = refl
 same_game false stacks blinds small big (Some caps) fits = refl
 same_game true stacks blinds small big caps fits =
@@ -99,17 +100,17 @@ same_game true stacks blinds small big caps fits =
     let each = and_parts (small == 0) (big == 0) none.1 in
     rw (eqb-true small 0 each.0, eqb-true big 0 each.1) (unlimited caps)
   where
-    unlimited : (caps : Option (List ℕ)) → game_by (said true stacks blinds 0 0 caps) ≡ game_of_parts true stacks blinds 0 0 caps
+    unlimited : (caps : Option (List ℕ)) → game_of_entries (said true stacks blinds 0 0 caps) ≡ game_of_parts true stacks blinds 0 0 caps
     unlimited None = refl
     unlimited (Some caps) = refl
 
-at_end : (count : ℕ) (entries : List EntrySaid) → is_whole entries ≡ true → first_unsupported entries ≡ None → game_at_end count entries ≡ Ok (game_by entries)
-unfolding game_at_end
+at_end : (count : ℕ) (entries : List EntrySaid) → is_complete entries ≡ true → first_unsupported entries ≡ None → game_or_fault count entries ≡ Ok (game_of_entries entries)
+unfolding game_or_fault
 at_end count entries is none = rw (is, none) refl
 
 -- the outcome of the lines of a limit or no-limit game
 abbrev outcome : Bool → List (List ℕ) → Result GameSaid AcpcFault
-outcome no_limit texts = entries_in no_limit texts >>= λ found. game_at_end found.1 found.0
+outcome no_limit texts = entries_in no_limit texts >>= λ found. game_or_fault found.1 found.0
 
 lines_said : (no_limit : Bool) (texts : List (List ℕ)) (bytes : List ℕ) → lines_of bytes ≡ texts → says_no_limit texts ≡ no_limit → game_said bytes ≡ outcome no_limit texts
 unfolding game_said
@@ -133,7 +134,7 @@ parts_again no_limit stacks blinds small big caps is =
     let is_played = played no_limit stacks blinds small big caps rows (sized_by no_limit (greatest blinds) small big is.sizes) in
     ap game_said (game_is game)
     ∙ lines_said no_limit (texts_of lines) (text_of lines) (lines_again no_limit lines each) (kind_again no_limit stacks blinds small big caps)
-    ∙ ap (λ (read : Result (List EntrySaid) AcpcFault). (read >>= λ entries. Ok (entries, length (texts_of lines))) >>= λ (found : List EntrySaid × ℕ). game_at_end found.1 found.0)
+    ∙ ap (λ (read : Result (List EntrySaid) AcpcFault). (read >>= λ entries. Ok (entries, length (texts_of lines))) >>= λ (found : List EntrySaid × ℕ). game_or_fault found.1 found.0)
     (entries_again no_limit [] 1 lines each (follow no_limit stacks blinds small big caps))
     ∙ at_end (length (texts_of lines)) entries is_whole_said is_played
     ∙ ap Ok (same_game no_limit stacks blinds small big caps is.sizes)

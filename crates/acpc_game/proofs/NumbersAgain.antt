@@ -14,7 +14,7 @@ use Rattle.first_fault.proofs.DecimalDigits.{decimal_digits}
 use Rattle.card_set.proofs.Digits.{digit_least, digit_most, number_said as digits_say, of_digits}
 use Rattle.card_set.proofs.Entries.{never_at}
 use Rattle.card_set.proofs.Tests.{both_true}
-use Rattle.acpc_game.specs.GameFile.{number_said, numbers_after}
+use Rattle.acpc_game.specs.GameEntries.{number_said, numbers_after}
 
 -- a sign is a decimal digit
 abbrev is_decimal : ℕ → Bool

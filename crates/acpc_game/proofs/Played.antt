@@ -4,7 +4,8 @@ use Rattle.std.specs.List.{AllByRecursion}
 use Rattle.acpc_game.specs.declared.key.GameKey.{GameKey}
 use Rattle.acpc_game.specs.declared.key.GameKey.TheVariants as keys
 use Rattle.acpc_game.specs.Keys.{or_else}
-use Rattle.acpc_game.specs.GameFile.{EntrySaid, first_unsupported, other_cards, other_chips, number_at}
+use Rattle.acpc_game.specs.GameFile.{first_unsupported, unsupported_counts, unsupported_chips}
+use Rattle.acpc_game.specs.GameEntries.{EntrySaid, number_at}
 use Rattle.acpc_game.specs.Playable.{IsPlayable}
 use Rattle.std.proofs.lemmas.Bool.{not-false}
 use Rattle.first_fault.specs.Conditions.{first_where}
@@ -21,9 +22,9 @@ none_both None second none = (refl, none)
 pub playable : (entries : List EntrySaid) → first_unsupported entries ≡ None → IsPlayable entries
 unfolding first_unsupported
 playable entries none =
-    let both = none_both (first_where (other_cards entries)) (first_where (other_chips entries)) none in
-    let cards = none_of (other_cards entries) both.0 in
-    let stacked = none_of (other_chips entries) both.1 in
+    let both = none_both (first_where (unsupported_counts entries)) (first_where (unsupported_chips entries)) none in
+    let cards = none_of (unsupported_counts entries) both.0 in
+    let stacked = none_of (unsupported_chips entries) both.1 in
     let in_order = stacked.1 in
     let opener = in_order.1 in
     let blind = opener.1 in

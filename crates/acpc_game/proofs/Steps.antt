@@ -8,7 +8,7 @@ use Rattle.first_fault.specs.declared.stop.ReadError.TheVariants as stops
 use Rattle.first_fault.specs.Digits.{number_of}
 use Rattle.first_fault.specs.Reading.{◌>>=◌, Fails}
 use Rattle.acpc_game.specs.declared.fault.AcpcFault.{AcpcFault}
-use Rattle.acpc_game.specs.GameFile.{EntrySaid, number_said, numbers_after, entries_after, entries_after_line}
+use Rattle.acpc_game.specs.GameEntries.{EntrySaid, number_said, numbers_after, entries_after, entries_after_line}
 
 -- what fails first fails as a whole
 pub fails_first : {A B F : Type 0} (stop : ReadError F) (first : Result A F) (next : A → Result B F) → Fails stop first → Fails stop (first >>= next)

@@ -12,7 +12,7 @@ use Rattle.acpc_game.proofs.LineLaws.{line_and_more}
 use Rattle.acpc_game.specs.Parts.{lines_of, parts_of, without_return}
 use Rattle.acpc_game.specs.declared.key.GameKey.{GameKey}
 use Rattle.acpc_game.specs.Forms.{form_of, form_with, is_passed_over, is_unused, key_and_numbers, key_before, numbers_behind}
-use Rattle.acpc_game.specs.GameFile.{EntrySaid, entries_after, entries_after_line, entries_with, may_stand}
+use Rattle.acpc_game.specs.GameEntries.{EntrySaid, entries_after, entries_after_line, entries_with, may_come_next}
 use Rattle.acpc_game.specs.GameText.{ended}
 use Rattle.acpc_game.specs.Keys.{has_count, most_of}
 use Rattle.acpc_game.proofs.Bounds.{most_few}
@@ -135,9 +135,9 @@ entries_from number (line ∷ lines) = entry_of number line ∷ entries_from (nu
 -- the key of each line is allowed after the entries before it
 abbrev pub may_follow : List EntrySaid → ℕ → List WrittenLine → Bool
 may_follow entries number [] = true
-may_follow entries number (line ∷ lines) = may_stand line.key entries && may_follow (entries ++ entry_of number line ∷ []) (number + 1) lines
+may_follow entries number (line ∷ lines) = may_come_next line.key entries && may_follow (entries ++ entry_of number line ∷ []) (number + 1) lines
 
-one_more : (no_limit : Bool) (entries : List EntrySaid) (number : ℕ) (line : WrittenLine) → Reads no_limit line → may_stand line.key entries ≡ true
+one_more : (no_limit : Bool) (entries : List EntrySaid) (number : ℕ) (line : WrittenLine) → Reads no_limit line → may_come_next line.key entries ≡ true
     → entries_after_line no_limit entries number line.text ≡ Ok (entries ++ entry_of number line ∷ [])
 unfolding entries_after_line entries_with
 one_more no_limit entries number line reads stands =
@@ -149,7 +149,7 @@ pub entries_again : (no_limit : Bool) (entries : List EntrySaid) (number : ℕ) 
 unfolding entries_after
 entries_again no_limit entries number [] each follow = ap Ok (sym (append-nil entries))
 entries_again no_limit entries number (line ∷ lines) each follow =
-    let parts = and_parts (may_stand line.key entries) (may_follow (entries ++ entry_of number line ∷ []) (number + 1) lines) follow in
+    let parts = and_parts (may_come_next line.key entries) (may_follow (entries ++ entry_of number line ∷ []) (number + 1) lines) follow in
     rw (one_more no_limit entries number line each.0 parts.0)
     (entries_again no_limit (entries ++ entry_of number line ∷ []) (number + 1) lines each.1 parts.1
     ∙ ap Ok (append_assoc entries (entry_of number line ∷ []) (entries_from (number + 1) lines)))

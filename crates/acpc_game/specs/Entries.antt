@@ -2,7 +2,7 @@
 use Rattle.acpc_game.specs.declared.entry.Entry.{Entry}
 use Rattle.acpc_game.specs.declared.key_line.KeyLine.{KeyLine}
 use Rattle.acpc_game.specs.Forms.{Form}
-use Rattle.acpc_game.specs.GameFile.{EntrySaid}
+use Rattle.acpc_game.specs.GameEntries.{EntrySaid}
 use Rattle.first_fault.specs.Words.{words_of}
 
 -- what an entry says

@@ -5,6 +5,7 @@ pub mod Letters
 -- Game files: keys, line forms, and the game that a file says.
 pub mod Keys
 pub mod Forms
+pub mod GameEntries
 pub mod GameFile
 pub mod Entries
 pub mod Games

@@ -2,7 +2,8 @@
 use Rattle.std.specs.Prelude.{◌≡◌, ◌==◌, true, false, not, nat_lt, nat_le, ◌&&◌, List, slice_index}
 use Rattle.chip_ledger.specs.Greatest.{greatest}
 use Rattle.acpc_game.specs.declared.key.GameKey.TheVariants as keys
-use Rattle.acpc_game.specs.GameFile.{EntrySaid, number_at, numbers_at, stacks_at, has_no_limit, has_short_stack, is_reversed, are_sizes}
+use Rattle.acpc_game.specs.GameFile.{stacks_at, has_short_stack, is_reversed, are_sizes}
+use Rattle.acpc_game.specs.GameEntries.{EntrySaid, number_at, numbers_at, has_no_limit}
 
 -- the players, stacks, blinds, raises and raise sizes are those of a hand that can be played
 pub record IsPlayable (entries : List EntrySaid) : Type 0 where

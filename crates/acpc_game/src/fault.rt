@@ -1,10 +1,9 @@
 //! The faults of a log or a game file, each with its line and the byte that shows it.
 ghost use Rattle.std.specs.Prelude.{◌≡◌};
-ghost use Rattle.acpc_game.specs.Faults.{fault_in_line as fault_in_line_said};
-ghost use Rattle.first_fault.specs.Numbers.{kept_number as kept_said};
+ghost use Rattle.acpc_game.specs.Faults as faults;
 
 use card_set::Memory;
-use first_fault::Quantity;
+use first_fault::{Quantity, saturating_u32};
 
 /// What is wrong with a line.
 #[derive(Clone, Copy, Debug, PartialEq, Eq)]
@@ -79,7 +78,7 @@ pub enum AcpcFault {
 
 /// The fault of a line with this number.
 pub fn fault_in_line(line: u64, fault: LineFault) -> AcpcFault
-    ensures { result ≡ fault_in_line_said line fault }
+    ensures { result ≡ faults.fault_in_line line fault }
 {
     let byte = saturating_u32(fault.byte);
     let line = saturating_u32(line);
@@ -97,16 +96,5 @@ pub fn fault_in_line(line: u64, fault: LineFault) -> AcpcFault
             line,
             byte,
         },
-    }
-}
-
-/// The number, or the greatest that a fault reports.
-pub fn saturating_u32(number: u64) -> u32
-    ensures { result ≡ kept_said number }
-{
-    if number > 4_294_967_295 {
-        4_294_967_295
-    } else {
-        number as u32
     }
 }

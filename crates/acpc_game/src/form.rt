@@ -3,10 +3,11 @@ ghost use Rattle.std.specs.Prelude.{◌≡◌, [], ◌∷◌, ◌-◌, length, s
 ghost use Rattle.std.specs.List.{list_all};
 ghost use Rattle.acpc_game.specs.Parts.{parts_of};
 ghost use Rattle.first_fault.specs.Words.{is_space, words_of};
-ghost use Rattle.first_fault.specs.Digits.{are_digits as are_digits_said};
+ghost use Rattle.first_fault.specs.Digits as digits;
 ghost use Rattle.acpc_game.specs.Entries.{form_said};
 ghost use Rattle.acpc_game.specs.Keys.{has_count};
-ghost use Rattle.acpc_game.specs.Forms.{form_of, form_with as form_with_said, is_passed_over as is_passed_over_said, is_unused as is_unused_said, key_and_numbers, key_before as key_before_said, numbers_behind};
+ghost use Rattle.acpc_game.specs.Forms.{form_of, key_and_numbers, numbers_behind};
+ghost use Rattle.acpc_game.specs.Forms as forms;
 
 use crate::key::{GameKey, is_word, key_named};
 use crate::key_line::KeyLine;
@@ -15,7 +16,7 @@ use first_fault::{are_digits, next_word};
 
 /// Whether a line of a game file is ignored: it is empty or begins with `#`.
 pub fn is_passed_over(line: &[u8]) -> bool
-    ensures { result ≡ is_passed_over_said line.now }
+    ensures { result ≡ forms.is_passed_over line.now }
 {
     line.is_empty() || line[0] == b'#'
 }
@@ -78,7 +79,7 @@ fn read_behind<'a>(no_limit: bool, front: &[u8], rest: &'a [u8]) -> Option<KeyLi
 // The key before the `=`.
 #[tactic(auto, unfolding(crate::specs::Forms::key_before))]
 fn key_before(front: &[u8]) -> Option<GameKey>
-    ensures { result ≡ key_before_said front.now }
+    ensures { result ≡ forms.key_before front.now }
 {
     if begins_with_space(front) {
         return None;
@@ -114,10 +115,10 @@ fn numbers_of(no_limit: bool, key: GameKey, behind: &[u8]) -> Option<KeyLine<'_>
 // are ignored.
 #[tactic(auto, unfolding(crate::specs::Forms::form_with))]
 fn form_with(no_limit: bool, key: GameKey, count: usize, behind: &[u8]) -> Option<KeyLine<'_>>
-    requires digits { list_all are_digits_said (words_of behind.now) ≡ true }
+    requires digits { list_all digits.are_digits (words_of behind.now) ≡ true }
     requires count { count ≡ length (words_of behind.now) }
     ensures { option_map form_said result
-        ≡ form_with_said no_limit key (words_of behind.now) }
+        ≡ forms.form_with no_limit key (words_of behind.now) }
 {
     if is_unused(no_limit, key) {
         return if count > 0 {
@@ -138,7 +139,7 @@ fn form_with(no_limit: bool, key: GameKey, count: usize, behind: &[u8]) -> Optio
 
 // Whether the key gives raise sizes in a no-limit game.
 fn is_unused(no_limit: bool, key: GameKey) -> bool
-    ensures { result ≡ is_unused_said no_limit key }
+    ensures { result ≡ forms.is_unused no_limit key }
 {
     match key {
         GameKey::RaiseSize => no_limit,
@@ -155,9 +156,10 @@ fn ends_with_space(text: &[u8]) -> bool
 
 // The number of words, if all of them are digits.
 fn count_numbers(text: &[u8]) -> Option<usize>
-    ensures digits { IfSome result (λ count. list_all are_digits_said (words_of text.now) ≡ true) }
+    ensures digits { IfSome result
+        (λ count. list_all digits.are_digits (words_of text.now) ≡ true) }
     ensures words { IfSome result (λ count. count ≡ length (words_of text.now)) }
-    ensures count { result ≡ (if list_all are_digits_said (words_of text.now)
+    ensures count { result ≡ (if list_all digits.are_digits (words_of text.now)
         then Some (length (words_of text.now)) else None) }
 {
     let mut count = 0;

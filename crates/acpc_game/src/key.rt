@@ -1,6 +1,7 @@
 //! The keys of a game file: words in capitals or small letters.
 ghost use Rattle.std.specs.Prelude.{◌≡◌};
-ghost use Rattle.acpc_game.specs.Keys.{card_key_named as card_key_named_said, chip_key_named as chip_key_named_said, has_count as has_count_said, is_word as is_word_said, key_named as key_named_said, key_place, most_of};
+ghost use Rattle.acpc_game.specs.Keys.{key_place, most_of};
+ghost use Rattle.acpc_game.specs.Keys as keys;
 
 use chip_ledger::MOST_CHIPS;
 
@@ -30,7 +31,7 @@ pub enum GameKey {
 
 /// The key that a word names, if it takes numbers.
 pub fn key_named(word: &[u8]) -> Option<GameKey>
-    ensures { result ≡ key_named_said word.now }
+    ensures { result ≡ keys.key_named word.now }
 {
     match card_key_named(word) {
         Some(key) => Some(key),
@@ -41,7 +42,7 @@ pub fn key_named(word: &[u8]) -> Option<GameKey>
 // The key that a word names, if it takes one number or is that of the board cards.
 #[tactic(auto, unfolding(crate::specs::Keys::card_key_named))]
 fn card_key_named(word: &[u8]) -> Option<GameKey>
-    ensures { result ≡ card_key_named_said word.now }
+    ensures { result ≡ keys.card_key_named word.now }
 {
     if is_word("numPlayers", word) {
         Some(GameKey::NumPlayers)
@@ -63,7 +64,7 @@ fn card_key_named(word: &[u8]) -> Option<GameKey>
 // The key that a word names, if it is one of chips or of turns.
 #[tactic(auto, unfolding(crate::specs::Keys::chip_key_named))]
 fn chip_key_named(word: &[u8]) -> Option<GameKey>
-    ensures { result ≡ chip_key_named_said word.now }
+    ensures { result ≡ keys.chip_key_named word.now }
 {
     if is_word("stack", word) {
         Some(GameKey::Stack)
@@ -83,7 +84,7 @@ fn chip_key_named(word: &[u8]) -> Option<GameKey>
 /// Whether the text is this word, in capitals or small letters.
 #[tactic(auto, unfolding(crate::specs::Keys::is_word), using(card_set::proofs::Bytes::equal_by_test))]
 pub fn is_word(name: &str, text: &[u8]) -> bool
-    ensures { result ≡ is_word_said name.now text.now }
+    ensures { result ≡ keys.is_word name.now text.now }
 {
     text.eq_ignore_ascii_case(name.as_bytes())
 }
@@ -126,7 +127,7 @@ impl GameKey {
 
     /// Whether the key takes `count` numbers.
     pub fn has_count(self, count: usize) -> bool
-        ensures { result ≡ has_count_said self count }
+        ensures { result ≡ keys.has_count self count }
     {
         match self {
             GameKey::Begin

@@ -17,7 +17,7 @@ mod reading;
 mod supported;
 mod writing;
 
-pub use fault::{AcpcFault, LineFault, LineFaultKind, fault_in_line, saturating_u32};
+pub use fault::{AcpcFault, LineFault, LineFaultKind, fault_in_line};
 pub use game::Game;
 pub use laws::{law_of_reading_again, law_of_spellings};
 pub use letters::{cut_digits, cut_first};

@@ -3,11 +3,12 @@ ghost use Rattle.std.specs.Prelude.{◌≡◌, ◌≤◌, [], true, nat_le, leng
 ghost use Rattle.std.specs.List.{list_all};
 ghost use Rattle.first_fault.specs.Digits.{are_digits};
 ghost use Rattle.first_fault.specs.Reading.{Gives, Fails};
-ghost use Rattle.acpc_game.specs.Faults.{fault_in_line as fault_in_line_said};
+ghost use Rattle.acpc_game.specs.Faults as faults;
 ghost use Rattle.acpc_game.specs.Parts.{lines_of};
 ghost use Rattle.first_fault.specs.Words.{words_of};
 ghost use Rattle.acpc_game.specs.Entries.{entry_said};
-ghost use Rattle.acpc_game.specs.GameFile.{entries_after_line, entries_in, entries_said, may_stand as may_stand_said, number_said, numbers_after, says_no_limit as says_no_limit_said};
+ghost use Rattle.acpc_game.specs.GameEntries.{entries_after_line, entries_in, entries_said, number_said, numbers_after};
+ghost use Rattle.acpc_game.specs.GameEntries as game_entries;
 ghost use Rattle.acpc_game.specs.Keys.{most_of};
 
 use crate::entry::Entry;
@@ -50,7 +51,7 @@ fn read_lines(
 
 // Whether some line says that the game is no-limit.
 fn says_no_limit(bytes: &[u8]) -> bool
-    ensures { result ≡ says_no_limit_said (lines_of bytes.now) }
+    ensures { result ≡ game_entries.says_no_limit (lines_of bytes.now) }
 {
     let mut rest = bytes;
     while let Some((line, behind)) = next_line(rest) {
@@ -63,7 +64,7 @@ fn says_no_limit(bytes: &[u8]) -> bool
 }
 
 // One more line of a limit or no-limit game.
-#[tactic(auto, unfolding(crate::specs::GameFile::entries_after_line, crate::specs::GameFile::entries_with))]
+#[tactic(auto, unfolding(crate::specs::GameEntries::entries_after_line, crate::specs::GameEntries::entries_with))]
 fn take_line(
     alloc: Global,
     no_limit: bool,
@@ -83,7 +84,7 @@ fn take_line(
     let Some(form) = read_form(no_limit, text) else {
         return Err(fault_at(LineFaultKind::GameShape, line));
     };
-    if !may_stand(entries.as_slice(), form.key) {
+    if !may_come_next(entries.as_slice(), form.key) {
         return Err(fault_at(LineFaultKind::GameShape, line));
     }
     let numbers = read_numbers(alloc, line, form.key, form.numbers)?;
@@ -96,8 +97,8 @@ fn take_line(
 }
 
 // Whether a key is allowed after these entries.
-fn may_stand(entries: &[Entry], key: GameKey) -> bool
-    ensures { result ≡ may_stand_said key (map entry_said entries.now) }
+fn may_come_next(entries: &[Entry], key: GameKey) -> bool
+    ensures { result ≡ game_entries.may_come_next key (map entry_said entries.now) }
 {
     match key {
         GameKey::Begin => entries.is_empty(),
@@ -130,7 +131,7 @@ fn read_numbers(
 }
 
 // The number that a word says, or a fault if it is too great for its key.
-#[tactic(auto, unfolding(crate::specs::GameFile::number_said))]
+#[tactic(auto, unfolding(crate::specs::GameEntries::number_said))]
 fn read_number(line: u64, key: GameKey, word: &[u8]) -> Result<u64, ReadError<AcpcFault>>
     requires { IsTrue (are_digits word.now) }
     ensures said { Gives (λ number. number) result (number_said line (most_of key) word.now) }
@@ -145,7 +146,7 @@ fn read_number(line: u64, key: GameKey, word: &[u8]) -> Result<u64, ReadError<Ac
 /// A fault of this kind at a line.
 pub fn fault_at(what: LineFaultKind, line: u64) -> ReadError<AcpcFault>
     ensures { result ≡ ReadError.Fault
-        (fault_in_line_said line (record { what = what; byte = 1 })) }
+        (faults.fault_in_line line (record { what = what; byte = 1 })) }
 {
     ReadError::Fault(fault_in_line(line, LineFault { what, byte: 1 }))
 }

@@ -1,7 +1,8 @@
 //! Cuts a text at a sign: a file at newlines, a line at colons, a field at bars and strokes.
 ghost use Rattle.std.specs.Prelude.{◌≡◌, ◌+◌, ◌<◌, ◌≤◌, [], ◌∷◌, length, IfSome};
 ghost use Rattle.std.specs.Option.{option_map_or};
-ghost use Rattle.acpc_game.specs.Parts.{has_front, lines_of, parts_of, without_return as without_return_said};
+ghost use Rattle.acpc_game.specs.Parts.{has_front, lines_of, parts_of};
+ghost use Rattle.acpc_game.specs.Parts as parts;
 
 use first_fault::place_of;
 use memchr::memchr;
@@ -36,7 +37,7 @@ pub fn next_line(text: &[u8]) -> Option<(&[u8], &[u8])>
 // The line without the carriage return at its end, if there is one.
 fn without_return(line: &[u8]) -> &[u8]
     ensures within { length result.now ≤ length line.now }
-    ensures line { result.now ≡ without_return_said line.now }
+    ensures line { result.now ≡ parts.without_return line.now }
 {
     if line.is_empty() {
         return line;

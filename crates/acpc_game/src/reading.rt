@@ -5,7 +5,9 @@ ghost use Rattle.first_fault.specs.Reading.{Gives, IsOutOfMemory};
 ghost use Rattle.acpc_game.specs.Faults.{Answers};
 ghost use Rattle.acpc_game.specs.declared.key.GameKey.TheVariants as keys;
 ghost use Rattle.acpc_game.specs.Entries.{entry_said};
-ghost use Rattle.acpc_game.specs.GameFile.{found, game_at_end, game_by, game_said, is_whole as is_whole_said, stacks_at};
+ghost use Rattle.acpc_game.specs.GameFile.{game_or_fault, game_of_entries, game_said, stacks_at};
+ghost use Rattle.acpc_game.specs.GameEntries.{entry_under};
+ghost use Rattle.acpc_game.specs.GameFile as game_file;
 ghost use Rattle.acpc_game.specs.GameView.{game_in};
 ghost use Rattle.acpc_game.specs.Games.{are_chips};
 ghost use Rattle.chip_ledger.specs.SeatRow.{amounts_in};
@@ -17,7 +19,7 @@ use crate::found::{find_entry, has_key, line_at, numbers_at};
 use crate::game::Game;
 use crate::key::GameKey;
 use crate::lines::{fault_at, read_entries};
-use crate::supported::{end_line, first_unsupported, has_no_limit, is_whole};
+use crate::supported::{first_unsupported, has_no_limit, is_complete, line_of_end};
 use card_set::{repeated_for, vec_from};
 use chip_ledger::SeatRow;
 use first_fault::ReadError;
@@ -49,12 +51,12 @@ fn read(alloc: Global, bytes: &[u8]) -> Result<Game, ReadError<AcpcFault>>
 }
 
 // The game that the entries of a file of `count` lines make.
-#[tactic(auto, unfolding(crate::specs::GameFile::game_at_end))]
+#[tactic(auto, unfolding(crate::specs::GameFile::game_or_fault))]
 fn game_by_end(alloc: Global, entries: &[Entry], count: u64) -> Result<Game, ReadError<AcpcFault>>
-    ensures { Gives game_in result (game_at_end count (map entry_said entries.now)) }
+    ensures { Gives game_in result (game_or_fault count (map entry_said entries.now)) }
 {
-    if !is_whole(entries) {
-        return Err(fault_at(LineFaultKind::GameShape, end_line(entries, count)));
+    if !is_complete(entries) {
+        return Err(fault_at(LineFaultKind::GameShape, line_of_end(entries, count)));
     }
     let stacks = stacks_of(alloc, entries)?;
     match first_unsupported(entries, stacks.as_slice()) {
@@ -81,17 +83,17 @@ fn stacks_of(alloc: Global, entries: &[Entry]) -> Result<Vec<u64>, ReadError<Acp
 // The game of entries that are complete and that handref supports.
 #[tactic(auto, using(crate::proofs::Built::counted, crate::proofs::Built::sizes_fit))]
 fn build(entries: &[Entry], stacks: &[u64]) -> Game
-    requires whole { is_whole_said (map entry_said entries.now) ≡ true }
+    requires whole { game_file.is_complete (map entry_said entries.now) ≡ true }
     requires playable { IsPlayable (map entry_said entries.now) }
     requires stacks { stacks.now ≡ stacks_at (map entry_said entries.now) }
     requires few { are_chips stacks.now ≡ true }
-    ensures { game_in result ≡ game_by (map entry_said entries.now) }
+    ensures { game_in result ≡ game_of_entries (map entry_said entries.now) }
 {
     let blinds = numbers_at(entries, GameKey::Blind);
     let sizes = numbers_at(entries, GameKey::RaiseSize);
     let no_limit = has_no_limit(entries);
-    let small_raise = size_at(no_limit, sizes, 0);
-    let big_raise = size_at(no_limit, sizes, 2);
+    let small_raise = raise_size_at(no_limit, sizes, 0);
+    let big_raise = raise_size_at(no_limit, sizes, 2);
     let caps = caps_of(entries);
     Game {
         no_limit,
@@ -104,7 +106,7 @@ fn build(entries: &[Entry], stacks: &[u64]) -> Game
 }
 
 // The raise size at a place of the four (from 0) in a limit game; 0 in no-limit.
-fn size_at(no_limit: bool, sizes: &[u64], place: usize) -> u64
+fn raise_size_at(no_limit: bool, sizes: &[u64], place: usize) -> u64
     ensures { result ≡ (if no_limit then 0 else slice_index sizes.now place) }
 {
     if no_limit || place >= sizes.len() {
@@ -118,7 +120,8 @@ fn size_at(no_limit: bool, sizes: &[u64], place: usize) -> u64
 #[tactic(auto, using(crate::proofs::Bounds::caps_small, crate::proofs::Bounds::caps_four))]
 fn caps_of(entries: &[Entry]) -> Option<[u32; 4]>
     ensures { result
-        ≡ option_map (λ entry. entry.numbers) (found keys.MaxRaises (map entry_said entries.now)) }
+        ≡ option_map (λ entry. entry.numbers)
+        (entry_under keys.MaxRaises (map entry_said entries.now)) }
 {
     match find_entry(entries, GameKey::MaxRaises) {
         None => None,

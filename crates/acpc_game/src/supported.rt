@@ -2,19 +2,21 @@
 //! support its game.
 ghost use Rattle.std.specs.Prelude.{◌≡◌, ◌≤◌, ◌&&◌, nat_lt, length, map, slice_index};
 ghost use Rattle.std.specs.List.{list_all};
-ghost use Rattle.chip_ledger.specs.Greatest.{greatest as greatest_said};
+ghost use Rattle.chip_ledger.specs.Greatest as amounts;
 ghost use Rattle.acpc_game.specs.Entries.{entry_said};
-ghost use Rattle.acpc_game.specs.GameFile.{are_four as are_four_said, are_sizes as are_sizes_said, end_line as end_line_said, first_unsupported as first_unsupported_said, has_no_limit as has_no_limit_said, has_short_stack as has_short_stack_said, is_reversed as is_reversed_said, is_whole as is_whole_said, last_place as last_place_said, needed, first_player, other_cards as other_cards_said, other_blinds as other_blinds_said, stacks_at, has_key as has_key_said};
+ghost use Rattle.acpc_game.specs.GameFile.{required_keys, first_player, stacks_at};
+ghost use Rattle.acpc_game.specs.GameEntries as game_entries;
+ghost use Rattle.acpc_game.specs.GameFile as game_file;
 ghost use Rattle.first_fault.specs.Conditions.{first_where};
 
 use crate::entry::Entry;
-use crate::found::{find_entry, has_key, is_for_all, number_at, numbers_at};
+use crate::found::{find_entry, has_key, has_one_for_each_player, number_at, numbers_at};
 use crate::key::GameKey;
 
 /// Whether nothing is missing.
-#[tactic(auto, unfolding(crate::specs::GameFile::is_whole))]
-pub fn is_whole(entries: &[Entry]) -> bool
-    ensures { result ≡ is_whole_said (map entry_said entries.now) }
+#[tactic(auto, unfolding(crate::specs::GameFile::is_complete))]
+pub fn is_complete(entries: &[Entry]) -> bool
+    ensures { result ≡ game_file.is_complete (map entry_said entries.now) }
 {
     if !has_needed(entries) {
         return false;
@@ -27,13 +29,14 @@ pub fn is_whole(entries: &[Entry]) -> bool
     if !has_key(entries, sizes) {
         return false;
     }
-    is_for_all(entries, GameKey::Blind)
-        && (!has_key(entries, GameKey::Stack) || is_for_all(entries, GameKey::Stack))
+    has_one_for_each_player(entries, GameKey::Blind)
+        && (!has_key(entries, GameKey::Stack) || has_one_for_each_player(entries, GameKey::Stack))
 }
 
 // Whether each key that every game file needs is there.
 fn has_needed(entries: &[Entry]) -> bool
-    ensures { result ≡ list_all (λ key. has_key_said key (map entry_said entries.now)) needed }
+    ensures { result
+        ≡ list_all (λ key. game_entries.has_key key (map entry_said entries.now)) required_keys }
 {
     has_key(entries, GameKey::Begin)
         && has_key(entries, GameKey::Limit)
@@ -49,8 +52,8 @@ fn has_needed(entries: &[Entry]) -> bool
 }
 
 /// The line that a fault of the whole file names.
-pub fn end_line(entries: &[Entry], count: u64) -> u64
-    ensures { result ≡ end_line_said count (map entry_said entries.now) }
+pub fn line_of_end(entries: &[Entry], count: u64) -> u64
+    ensures { result ≡ game_file.line_of_end count (map entry_said entries.now) }
 {
     match find_entry(entries, GameKey::End) {
         Some(entry) => entry.line,
@@ -62,9 +65,9 @@ pub fn end_line(entries: &[Entry], count: u64) -> u64
 #[tactic(auto, unfolding(crate::specs::GameFile::first_unsupported))]
 pub fn first_unsupported(entries: &[Entry], stacks: &[u64]) -> Option<GameKey>
     requires { stacks.now ≡ stacks_at (map entry_said entries.now) }
-    ensures { result ≡ first_unsupported_said (map entry_said entries.now) }
+    ensures { result ≡ game_file.first_unsupported (map entry_said entries.now) }
 {
-    if let Some(key) = other_cards(entries) {
+    if let Some(key) = unsupported_counts(entries) {
         return Some(key);
     }
     if has_short_stack(stacks, numbers_at(entries, GameKey::Blind)) {
@@ -74,12 +77,12 @@ pub fn first_unsupported(entries: &[Entry], stacks: &[u64]) -> Option<GameKey>
             GameKey::Blind
         });
     }
-    other_blinds(entries)
+    unsupported_bets(entries)
 }
 
 // The first number of players, rounds or cards that handref does not support.
-fn other_cards(entries: &[Entry]) -> Option<GameKey>
-    ensures { result ≡ first_where (other_cards_said (map entry_said entries.now)) }
+fn unsupported_counts(entries: &[Entry]) -> Option<GameKey>
+    ensures { result ≡ first_where (game_file.unsupported_counts (map entry_said entries.now)) }
 {
     let players = number_at(entries, GameKey::NumPlayers);
     if !(2 <= players && players <= 10) {
@@ -104,8 +107,8 @@ fn other_cards(entries: &[Entry]) -> Option<GameKey>
 }
 
 // The first blinds, first player or raise sizes that handref does not support.
-fn other_blinds(entries: &[Entry]) -> Option<GameKey>
-    ensures { result ≡ first_where (other_blinds_said (map entry_said entries.now)) }
+fn unsupported_bets(entries: &[Entry]) -> Option<GameKey>
+    ensures { result ≡ first_where (game_file.unsupported_bets (map entry_said entries.now)) }
 {
     let blinds = numbers_at(entries, GameKey::Blind);
     let sizes = numbers_at(entries, GameKey::RaiseSize);
@@ -134,7 +137,7 @@ fn other_blinds(entries: &[Entry]) -> Option<GameKey>
 
 /// Whether the game is no-limit.
 pub fn has_no_limit(entries: &[Entry]) -> bool
-    ensures { result ≡ has_no_limit_said (map entry_said entries.now) }
+    ensures { result ≡ game_entries.has_no_limit (map entry_said entries.now) }
 {
     match find_entry(entries, GameKey::Limit) {
         Some(entry) => match entry.key {
@@ -147,7 +150,7 @@ pub fn has_no_limit(entries: &[Entry]) -> bool
 
 /// Whether some stack is 0, or below its blind.
 pub fn has_short_stack(stacks: &[u64], blinds: &[u64]) -> bool
-    ensures { result ≡ has_short_stack_said stacks.now blinds.now }
+    ensures { result ≡ game_file.has_short_stack stacks.now blinds.now }
 {
     match stacks {
         [] => false,
@@ -162,7 +165,7 @@ pub fn has_short_stack(stacks: &[u64], blinds: &[u64]) -> bool
 
 // Whether there are two players, and the second blind is greater than the first.
 fn is_reversed(blinds: &[u64]) -> bool
-    ensures { result ≡ is_reversed_said blinds.now }
+    ensures { result ≡ game_file.is_reversed blinds.now }
 {
     match blinds {
         [first, second] => *first < *second,
@@ -173,7 +176,7 @@ fn is_reversed(blinds: &[u64]) -> bool
 // Whether the numbers are these four.
 fn are_four(numbers: &[u64], four: [u64; 4]) -> bool
     ensures { result
-        ≡ are_four_said (slice_index four 0) (slice_index four 1) (slice_index four 2)
+        ≡ game_file.are_four (slice_index four 0) (slice_index four 1) (slice_index four 2)
         (slice_index four 3) numbers.now }
 {
     match numbers {
@@ -199,7 +202,7 @@ pub fn opener_of(blinds: &[u64]) -> u64
 
 // The last place (from 1) of a number, or 0.
 fn last_place(number: u64, numbers: &[u64]) -> usize
-    ensures place { result ≡ last_place_said number numbers.now }
+    ensures place { result ≡ game_file.last_place number numbers.now }
     ensures within { result ≤ length numbers.now }
 {
     match numbers {
@@ -219,7 +222,7 @@ fn last_place(number: u64, numbers: &[u64]) -> usize
 
 /// The greatest of some numbers.
 pub fn greatest(numbers: &[u64]) -> u64
-    ensures { result ≡ greatest_said numbers.now }
+    ensures { result ≡ amounts.greatest numbers.now }
 {
     match numbers {
         [] => 0,
@@ -232,7 +235,7 @@ pub fn greatest(numbers: &[u64]) -> u64
 
 // Whether the raise sizes are two equal ones and two more equal ones, each at least 1.
 fn are_sizes(sizes: &[u64]) -> bool
-    ensures { result ≡ are_sizes_said sizes.now }
+    ensures { result ≡ game_file.are_sizes sizes.now }
 {
     match sizes {
         [s, t, b, c] => *s >= 1 && *s == *t && (*b >= 1 && *b == *c),

@@ -2,13 +2,11 @@
 ghost use Rattle.std.specs.Prelude.{◌≡◌, ◌++◌, IfOk, OnOk};
 ghost use Rattle.acpc_game.specs.GameText.{caps_text, chips_text, counts_text, first_text, game_text, key_line, kind_text, rows_text, sizes_text, turns_text};
 ghost use Rattle.acpc_game.specs.GameView.{game_in};
-ghost use Rattle.chip_ledger.specs.SeatRow.{amounts_in};
 ghost use Rattle.chip_ledger.specs.AmountTexts.{spaced};
 
 use crate::game::Game;
 use crate::supported::opener_of;
 use card_set::{Memory, TryExtend, displayed};
-use chip_ledger::SeatRow;
 use std::alloc::Global;
 
 /// The game file of a game.
@@ -33,10 +31,10 @@ pub fn write_game(alloc: Global, game: &Game) -> Result<Vec<u8>, Memory>
 fn push_chips(alloc: Global, out: &mut Vec<u8>, game: &Game) -> Result<(), Memory>
     ensures { OnOk result (out.new.items ≡ out.old.items ++ chips_text (game_in game.now)) }
 {
-    let stacks = amounts_of(&game.stacks);
+    let stacks = game.stacks.as_slice();
     push_kind(out, game.no_limit)?;
     push_counts(alloc, out, stacks.len() as u64)?;
-    push_rows(alloc, out, stacks, amounts_of(&game.blinds))
+    push_rows(alloc, out, stacks, game.blinds.as_slice())
 }
 
 // The line that says whether the game has a limit.
@@ -92,7 +90,7 @@ fn push_sizes(alloc: Global, out: &mut Vec<u8>, game: &Game) -> Result<(), Memor
 fn push_turns(alloc: Global, out: &mut Vec<u8>, game: &Game) -> Result<(), Memory>
     ensures { OnOk result (out.new.items ≡ out.old.items ++ turns_text (game_in game.now)) }
 {
-    push_first(alloc, out, amounts_of(&game.blinds))?;
+    push_first(alloc, out, game.blinds.as_slice())?;
     push_caps(alloc, out, game.caps)
 }
 
@@ -102,13 +100,6 @@ fn push_first(alloc: Global, out: &mut Vec<u8>, blinds: &[u64]) -> Result<(), Me
     ensures { OnOk result (out.new.items ≡ out.old.items ++ first_text blinds.now) }
 {
     push_line(alloc, out, "firstPlayer", &[opener_of(blinds), 1, 1, 1])
-}
-
-// The amounts of the seats of a row.
-fn amounts_of(row: &SeatRow) -> &[u64]
-    ensures { result.now ≡ amounts_in row.now }
-{
-    &row.amounts[..row.seats as usize]
 }
 
 // The line with the most raises of each round, if they are capped.

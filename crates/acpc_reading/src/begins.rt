@@ -1,6 +1,7 @@
 //! The lines of a log on which its hands begin.
 ghost use Rattle.std.specs.Prelude.{◌≡◌, ◌+◌, ◌∷◌, ◌++◌, List, ℕ, IfOk, OnOk};
-ghost use Rattle.acpc_reading.specs.Begins.{hand_lines as hand_lines_said, hand_lines_from};
+ghost use Rattle.acpc_reading.specs.Begins.{hand_lines_from};
+ghost use Rattle.acpc_reading.specs.Begins as begins;
 
 use crate::log::is_passed_over;
 use acpc_game::next_line;
@@ -13,7 +14,7 @@ use std::alloc::Global;
 ///
 /// Out of memory.
 pub fn hand_lines(alloc: Global, bytes: &[u8]) -> Result<Vec<u64>, Memory>
-    ensures { IfOk result (λ lines. lines.items ≡ hand_lines_said bytes.now) }
+    ensures { IfOk result (λ lines. lines.items ≡ begins.hand_lines bytes.now) }
 {
     let mut lines = Vec::new(alloc);
     let mut count = 0;

@@ -4,7 +4,8 @@ ghost use Rattle.std.specs.List.{AllByRecursion};
 ghost use Rattle.first_fault.specs.declared.limits.TheConstants.{MOST_FILE_MOVES, MOST_HANDS};
 ghost use Rattle.first_fault.specs.Reading.{Fails, Gives};
 ghost use Rattle.acpc_game.specs.Faults.{Answers};
-ghost use Rattle.acpc_reading.specs.Logs.{hands_after_line, is_passed_over as is_passed_over_said, line_said, reading, with_hand};
+ghost use Rattle.acpc_reading.specs.Logs.{hands_after_line, line_said, reading, with_hand};
+ghost use Rattle.acpc_reading.specs.Logs as logs;
 ghost use Rattle.acpc_reading.specs.RecordView.{AreOfGame, IsOfGame, record_said};
 ghost use Rattle.hand_records.specs.Moves.{moves_of};
 
@@ -96,7 +97,7 @@ fn take_line(
 
 /// Whether a line is ignored.
 pub fn is_passed_over(line: &[u8]) -> bool
-    ensures { result ≡ is_passed_over_said line.now }
+    ensures { result ≡ logs.is_passed_over line.now }
 {
     line.is_empty() || line[0] == b'#' || has_prefix(line, b"SCORE:")
 }

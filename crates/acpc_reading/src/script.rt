@@ -12,9 +12,9 @@ use crate::letters::fault_at;
 use crate::parts::next_part;
 use crate::pending::Pending;
 use crate::step::BettingStep;
-use acpc_game::{Game, LineFault, LineFaultKind, count_parts, cut_at, saturating_u32};
+use acpc_game::{Game, LineFault, LineFaultKind, count_parts, cut_at};
 use chip_ledger::Seat;
-use first_fault::ReadError;
+use first_fault::{ReadError, saturating_u32};
 use play_event::{Event, Kind, Script, Spelled};
 use std::alloc::Global;
 

@@ -1,6 +1,7 @@
 //! The setup and the rules of a hand, taken from its game.
 ghost use Rattle.std.specs.Prelude.{◌≡◌};
-ghost use Rattle.acpc_reading.specs.RecordView.{IsSetupOf, code_of as code_of_said, least_bet as least_bet_said, rules_of as rules_of_said};
+ghost use Rattle.acpc_reading.specs.RecordView.{IsSetupOf};
+ghost use Rattle.acpc_reading.specs.RecordView as record_view;
 
 use acpc_game::{Game, greatest};
 use chip_ledger::{RakeRow, SeatRow};
@@ -27,14 +28,14 @@ pub fn setup_of(game: &Game) -> Setup
 
 // The variant code of the game.
 fn code_of(game: &Game) -> Code
-    ensures { result ≡ code_of_said game.now.no_limit }
+    ensures { result ≡ record_view.code_of game.now.no_limit }
 {
     if game.no_limit { Code::NT } else { Code::FT }
 }
 
 // The least bet of the game, in chips.
 fn least_bet(game: &Game) -> u64
-    ensures { result ≡ least_bet_said game.now }
+    ensures { result ≡ record_view.least_bet game.now }
 {
     if game.no_limit {
         greatest(&game.blinds.amounts[..game.blinds.seats as usize])
@@ -45,7 +46,7 @@ fn least_bet(game: &Game) -> u64
 
 /// The rules of each hand of the game.
 pub fn rules_of(game: &Game) -> Rules
-    ensures { result ≡ rules_of_said game.now }
+    ensures { result ≡ record_view.rules_of game.now }
 {
     Rules {
         reopen: Reopen::Always,

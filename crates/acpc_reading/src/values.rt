@@ -3,7 +3,8 @@ ghost use Rattle.std.specs.Prelude.{◌≡◌, ◌≤◌, ◌<◌, ◌+◌, ◌-
 ghost use Rattle.chip_ledger.specs.declared.seat_row.TheConstants.{MOST_AMOUNT};
 ghost use Rattle.first_fault.specs.Reading.{Gives};
 ghost use Rattle.acpc_game.specs.Parts.{parts_of};
-ghost use Rattle.acpc_reading.specs.Values.{are_zeros as are_zeros_said, signed as signed_said, unsigned_said, value_said, values_said, whole_said};
+ghost use Rattle.acpc_reading.specs.Values.{unsigned_said, value_said, values_said, whole_said};
+ghost use Rattle.acpc_reading.specs.Values as values;
 ghost use Rattle.acpc_reading.specs.Views.{nets_in};
 
 use crate::letters::fault_at;
@@ -91,7 +92,7 @@ fn read_fraction(
 
 // Whether these are one or more zeros.
 fn are_zeros(text: &[u8]) -> bool
-    ensures { result ≡ are_zeros_said text.now }
+    ensures { result ≡ values.are_zeros text.now }
 {
     if text.is_empty() {
         return false;
@@ -121,7 +122,7 @@ fn read_whole(is_negative: bool, at: u64, digits: &[u8]) -> Result<i64, ReadErro
 // A number with its sign.
 fn signed(is_negative: bool, number: u64) -> i64
     requires { number ≤ MOST_AMOUNT }
-    ensures { result ≡ signed_said is_negative number }
+    ensures { result ≡ values.signed is_negative number }
 {
     if is_negative {
         0 - number as i64

@@ -3,7 +3,7 @@ ghost use Rattle.std.specs.Prelude.{◌≡◌, ◌≤◌, ◌*◌, ◌++◌, Som
 ghost use Rattle.acpc_writing.specs.Betting.{betting_text, letter, letter_on, letters_on, round_text};
 ghost use Rattle.acpc_writing.specs.Cards.{board_text, cards_text, hole_text, holes_text};
 ghost use Rattle.acpc_writing.specs.Names.{hand_text};
-ghost use Rattle.acpc_writing.specs.Rounds.{has_board as has_board_said};
+ghost use Rattle.acpc_writing.specs.Rounds as rounds;
 ghost use Rattle.acpc_writing.specs.Seats.{bar_before};
 ghost use Rattle.acpc_writing.specs.Puts.{HaveFewChips};
 ghost use Rattle.acpc_view.specs.Lengths.{IsLengthWithin, IsShort, hole_of, seen_by};
@@ -119,7 +119,7 @@ impl Seen<'_> {
 
     // The board of a street is dealt, and its round has begun.
     fn is_board_seen(&self, street: u8) -> bool
-        ensures { result ≡ has_board_said
+        ensures { result ≡ rounds.has_board
             (seen_by self.now.trace.now self.now.viewer.number self.now.count) street }
     {
         has_begun(self.trace.moves.as_slice(), self.count, street)

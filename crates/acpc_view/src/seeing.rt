@@ -2,7 +2,8 @@
 //! cards.
 ghost use Rattle.std.specs.Prelude.{◌≡◌, ◌==◌, ◌++◌, ◌∷◌, [], if◌then◌else◌, map, IfOk, OnOk};
 ghost use Rattle.std.specs.List.{list_any};
-ghost use Rattle.acpc_view.specs.View.{has_begun as has_begun_said, is_seen_by, seen_places as seen_places_said, sees_seat};
+ghost use Rattle.acpc_view.specs.View.{is_seen_by, sees_seat};
+ghost use Rattle.acpc_view.specs.View as view;
 ghost use Rattle.chip_ledger.specs.LiveRow.{flagged};
 ghost use Rattle.hand_records.specs.TraceRows.{core_said, place_said};
 ghost use Rattle.play_event.specs.Played.{move_said};
@@ -22,7 +23,7 @@ pub fn seen_places(
     count: usize,
 ) -> Result<Vec<Place>, Memory>
     ensures { IfOk result (λ seen. map place_said seen.items
-        ≡ seen_places_said (core_said trace.now) viewer.number count) }
+        ≡ view.seen_places (core_said trace.now) viewer.number count) }
 {
     let mut seen = Vec::new(alloc);
     for place in trace.places.as_slice() {
@@ -56,7 +57,7 @@ fn is_seen(trace: &Trace, viewer: Seat, count: usize, place: Place) -> bool
 
 /// The round of a street has begun before the move at an index, or there is no such move.
 pub fn has_begun(moves: &[Move], index: usize, street: u8) -> bool
-    ensures { result ≡ has_begun_said (map move_said moves.now) index street }
+    ensures { result ≡ view.has_begun (map move_said moves.now) index street }
 {
     match moves.get(index) {
         Some(played) => street <= played.street,

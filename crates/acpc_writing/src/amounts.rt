@@ -1,16 +1,6 @@
 //! Compares the amounts of a row with others.
 ghost use Rattle.std.specs.Prelude.{◌≡◌, nat_lt, bytes_eq};
 ghost use Rattle.std.specs.List.{list_any};
-ghost use Rattle.chip_ledger.specs.SeatRow.{amounts_in};
-
-use chip_ledger::SeatRow;
-
-/// The amounts of the seats of a row.
-pub fn amounts_of(row: &SeatRow) -> &[u64]
-    ensures { result.now ≡ amounts_in row.now }
-{
-    &row.amounts[..row.seats as usize]
-}
 
 /// Whether the amounts are the same.
 #[tactic(auto, using(card_set::proofs::Bytes::equal_by_test))]

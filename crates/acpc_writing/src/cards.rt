@@ -4,11 +4,11 @@ ghost use Rattle.std.specs.List.{list_any};
 ghost use Rattle.card_set.specs.Known.{is_unknown};
 ghost use Rattle.card_set.specs.Spelling.{slot_spelling, spelling};
 ghost use Rattle.play_event.specs.CanonScript.{dealt_slots, is_dealt_to};
-ghost use Rattle.play_event.specs.Places.{is_same_owner as is_same_owner_said};
+ghost use Rattle.play_event.specs.Places as dealt;
 ghost use Rattle.play_event.specs.Said.{seat_named};
 ghost use Rattle.hand_records.specs.TraceRows.{place_said};
 ghost use Rattle.acpc_writing.specs.Cards.{board_text, boards_text, cards_text, hole_text};
-ghost use Rattle.acpc_writing.specs.Rounds.{has_board as has_board_said};
+ghost use Rattle.acpc_writing.specs.Rounds as rounds;
 ghost use Rattle.acpc_writing.specs.Seats.{bar_before};
 
 use card_set::{Memory, TryExtend, slot_text};
@@ -103,7 +103,7 @@ fn push_board(out: &mut Vec<u8>, places: &[Place], street: u8) -> Result<(), Mem
 
 /// Whether cards of the board were dealt on a street.
 pub fn has_board(places: &[Place], street: u8) -> bool
-    ensures { result ≡ has_board_said (map place_said places.now) street }
+    ensures { result ≡ rounds.has_board (map place_said places.now) street }
 {
     for place in places {
         if is_dealt(*place, None, street) {
@@ -151,7 +151,7 @@ pub fn is_dealt(place: Place, owner: Option<Seat>, street: u8) -> bool
 
 // Whether two owners are the same.
 fn is_same_owner(owner: Option<Seat>, other: Option<Seat>) -> bool
-    ensures { result ≡ is_same_owner_said (seat_named owner) (seat_named other) }
+    ensures { result ≡ dealt.is_same_owner (seat_named owner) (seat_named other) }
 {
     match (owner, other) {
         (Some(seat), Some(other)) => seat.number == other.number,

@@ -2,13 +2,14 @@
 ghost use Rattle.std.specs.Prelude.{◌≡◌, ◌&&◌, ◌==◌, Ok, Err, IfErr, IfOk};
 ghost use Rattle.acpc_game.specs.GameView.{game_in};
 ghost use Rattle.play_event.specs.ValidSetup.{IsValid};
-ghost use Rattle.acpc_writing.specs.GameOf.{MakesGame, game_of as game_of_said, game_with, is_sized_by_blind as is_sized_by_blind_said, no_limit_of};
+ghost use Rattle.acpc_writing.specs.GameOf.{MakesGame, game_with, no_limit_of};
+ghost use Rattle.acpc_writing.specs.GameOf as games;
 ghost use Rattle.acpc_writing.specs.SetupFacts.{has_sizes_of, is_code_of, setup_conditions};
 ghost use Rattle.first_fault.specs.Conditions.{first_where};
-ghost use Rattle.chip_ledger.specs.Greatest.{greatest as greatest_said};
+ghost use Rattle.chip_ledger.specs.Greatest as amounts;
 ghost use Rattle.chip_ledger.specs.SeatRow.{amounts_in};
 
-use crate::amounts::{amounts_of, are_same, has_some};
+use crate::amounts::{are_same, has_some};
 use acpc_game::{Game, greatest, has_short_stack};
 use hand_records::{Play, Unspelled};
 use play_event::{Code, Setup};
@@ -23,16 +24,16 @@ pub fn find_other_setup(game: &Game, setup: &Setup) -> Option<Unspelled>
     if setup.stacks.seats != game.stacks.seats {
         return Some(Unspelled::SeatCount);
     }
-    if !are_same(amounts_of(&setup.stacks), amounts_of(&game.stacks)) {
+    if !are_same(setup.stacks.as_slice(), game.stacks.as_slice()) {
         return Some(Unspelled::Stacks);
     }
     if !has_game_sizes(game, setup) {
         return Some(Unspelled::BetSizes);
     }
-    if has_some(amounts_of(&setup.antes)) {
+    if has_some(setup.antes.as_slice()) {
         return Some(Unspelled::Antes);
     }
-    if !are_same(amounts_of(&setup.blinds), amounts_of(&game.blinds)) {
+    if !are_same(setup.blinds.as_slice(), game.blinds.as_slice()) {
         return Some(Unspelled::Blinds);
     }
     if has_some(setup.rakes.rakes.as_slice()) {
@@ -70,20 +71,20 @@ fn has_game_sizes(game: &Game, setup: &Setup) -> bool
 #[tactic(auto, unfolding(crate::specs::GameOf::game_of))]
 pub fn game_of(play: &Play) -> Result<Game, Unspelled>
     requires { IsValid play.now.trace.setup }
-    ensures game { IfOk result (λ game. game_of_said play.now.trace.setup ≡ Ok (game_in game)) }
-    ensures refused { IfErr result (λ fact. game_of_said play.now.trace.setup ≡ Err fact) }
+    ensures game { IfOk result (λ game. games.game_of play.now.trace.setup ≡ Ok (game_in game)) }
+    ensures refused { IfErr result (λ fact. games.game_of play.now.trace.setup ≡ Err fact) }
 {
     let setup = &play.trace.setup;
     let Some(no_limit) = limit_of(setup.code) else {
         return Err(Unspelled::Variant);
     };
-    if has_short_stack(amounts_of(&setup.stacks), amounts_of(&setup.blinds)) {
+    if has_short_stack(setup.stacks.as_slice(), setup.blinds.as_slice()) {
         return Err(Unspelled::Stacks);
     }
     if !is_sized_by_blind(no_limit, setup) {
         return Err(Unspelled::BetSizes);
     }
-    if has_some(amounts_of(&setup.antes)) {
+    if has_some(setup.antes.as_slice()) {
         return Err(Unspelled::Antes);
     }
     Ok(make_game(no_limit, setup))
@@ -102,7 +103,7 @@ fn limit_of(code: Code) -> Option<bool>
 
 // Whether the bet sizes fit the greatest blind.
 fn is_sized_by_blind(no_limit: bool, setup: &Setup) -> bool
-    ensures { result ≡ is_sized_by_blind_said no_limit setup.now }
+    ensures { result ≡ games.is_sized_by_blind no_limit setup.now }
 {
     let blind = greatest_blind(setup);
     if no_limit {
@@ -113,9 +114,9 @@ fn is_sized_by_blind(no_limit: bool, setup: &Setup) -> bool
 
 // The greatest blind.
 fn greatest_blind(setup: &Setup) -> u64
-    ensures { result ≡ greatest_said (amounts_in setup.now.blinds) }
+    ensures { result ≡ amounts.greatest (amounts_in setup.now.blinds) }
 {
-    greatest(amounts_of(&setup.blinds))
+    greatest(setup.blinds.as_slice())
 }
 
 // The game with the stacks, blinds and bet sizes of a setup.

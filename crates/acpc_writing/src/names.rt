@@ -1,6 +1,7 @@
 //! Writes the names of a line: those of the players, and the number of the hand.
 ghost use Rattle.std.specs.Prelude.{◌≡◌, ◌≤◌, ◌-◌, ◌++◌, None, IfSome, IsUtf8, OnOk, slice_index_or};
-ghost use Rattle.acpc_writing.specs.Names.{hand_text, is_spelled_hand as is_spelled_hand_said, is_spelled_name as is_spelled_name_said, may_stand as may_stand_said, name_or_default, names_text};
+ghost use Rattle.acpc_writing.specs.Names.{hand_text, name_or_default, names_text};
+ghost use Rattle.acpc_writing.specs.Names as names;
 ghost use Rattle.acpc_writing.specs.Texts.{AreTexts};
 ghost use Rattle.chip_ledger.specs.SeatsSaid.{default_name};
 
@@ -59,7 +60,7 @@ fn push_default(alloc: Global, out: &mut Vec<u8>, seat: Seat) -> Result<(), Memo
 /// Whether a line can write a name: it has no colon, no bar and no end of a line.
 #[tactic(auto, unfolding(crate::specs::Names::is_spelled_name))]
 pub fn is_spelled_name(name: &[u8]) -> bool
-    ensures { result ≡ is_spelled_name_said name.now }
+    ensures { result ≡ names.is_spelled_name name.now }
 {
     for sign in name {
         if !may_stand(*sign) {
@@ -71,7 +72,7 @@ pub fn is_spelled_name(name: &[u8]) -> bool
 
 // Whether a sign is allowed in a name.
 fn may_stand(sign: u8) -> bool
-    ensures { result ≡ may_stand_said sign }
+    ensures { result ≡ names.may_stand sign }
 {
     sign != b':' && sign != b'|' && sign != b'\r' && sign != b'\n'
 }
@@ -117,7 +118,7 @@ fn push_place(alloc: Global, out: &mut Vec<u8>, place: usize) -> Result<(), Memo
 /// digits.
 #[tactic(auto, unfolding(crate::specs::Names::is_spelled_hand))]
 pub fn is_spelled_hand(text: &[u8]) -> bool
-    ensures { result ≡ is_spelled_hand_said text.now }
+    ensures { result ≡ names.is_spelled_hand text.now }
 {
     if !are_digits(text) || text.first() == Some(&b'0') && text.len() != 1 {
         return false;

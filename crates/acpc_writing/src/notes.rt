@@ -2,7 +2,8 @@
 ghost use Rattle.std.specs.Prelude.{◌≡◌};
 ghost use Rattle.std.specs.List.{list_any};
 ghost use Rattle.hand_records.specs.declared.writing.Keep.TheVariants as keeps;
-ghost use Rattle.acpc_writing.specs.NoteFacts.{is_unspelled_hand as is_unspelled_hand_said, is_unspelled_name as is_unspelled_name_said, text_conditions, time_conditions};
+ghost use Rattle.acpc_writing.specs.NoteFacts.{text_conditions, time_conditions};
+ghost use Rattle.acpc_writing.specs.NoteFacts as note_facts;
 ghost use Rattle.acpc_writing.specs.Spelled.{unspelled_note};
 ghost use Rattle.first_fault.specs.Conditions.{first_where};
 
@@ -62,7 +63,7 @@ fn find_text(notes: &Notes) -> Option<Unspelled>
 
 // Whether a line cannot write one of the names.
 fn has_unspelled_name(names: &[Option<Text>]) -> bool
-    ensures { result ≡ list_any is_unspelled_name_said names.now }
+    ensures { result ≡ list_any note_facts.is_unspelled_name names.now }
 {
     for name in names {
         if is_unspelled_name(name) {
@@ -74,7 +75,7 @@ fn has_unspelled_name(names: &[Option<Text>]) -> bool
 
 // Whether there is a name that a line cannot write.
 fn is_unspelled_name(name: &Option<Text>) -> bool
-    ensures { result ≡ is_unspelled_name_said name.now }
+    ensures { result ≡ note_facts.is_unspelled_name name.now }
 {
     match name {
         Some(name) => !is_spelled_name(name.as_str().as_bytes()),
@@ -84,7 +85,7 @@ fn is_unspelled_name(name: &Option<Text>) -> bool
 
 // Whether there is a hand number that a line cannot write.
 fn is_unspelled_hand(text: &Option<Text>) -> bool
-    ensures { result ≡ is_unspelled_hand_said text.now }
+    ensures { result ≡ note_facts.is_unspelled_hand text.now }
 {
     match text {
         Some(text) => !is_spelled_hand(text.as_str().as_bytes()),

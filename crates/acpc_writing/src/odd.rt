@@ -2,15 +2,14 @@
 ghost use Rattle.std.specs.Prelude.{◌≡◌, ◌&&◌, nat_lt};
 ghost use Rattle.std.specs.List.{list_any};
 ghost use Rattle.chip_ledger.specs.PotRow.{shares_in};
-ghost use Rattle.acpc_writing.specs.PlayFacts.{is_uneven as is_uneven_said};
+ghost use Rattle.acpc_writing.specs.PlayFacts as play_facts;
 
-use crate::amounts::amounts_of;
 use acpc_game::greatest;
 use chip_ledger::{SeatRow, ShareRow};
 
 /// Whether one of the pots has an odd chip.
 pub fn has_odd_chip(shares: &ShareRow) -> bool
-    ensures { result ≡ list_any is_uneven_said (shares_in shares.now) }
+    ensures { result ≡ list_any play_facts.is_uneven (shares_in shares.now) }
 {
     for share in &shares.shares[..shares.count as usize] {
         if is_uneven(share) {
@@ -22,9 +21,9 @@ pub fn has_odd_chip(shares: &ShareRow) -> bool
 
 // Whether one winner of a pot gets less than another.
 fn is_uneven(share: &SeatRow) -> bool
-    ensures { result ≡ is_uneven_said share.now }
+    ensures { result ≡ play_facts.is_uneven share.now }
 {
-    let amounts = amounts_of(share);
+    let amounts = share.as_slice();
     has_between(amounts, greatest(amounts))
 }
 

@@ -3,7 +3,8 @@ ghost use Rattle.std.specs.Prelude.{◌≡◌, ◌≤◌, ◌-◌, ◌&&◌, Som
 ghost use Rattle.std.specs.List.{list_any};
 ghost use Rattle.chip_ledger.specs.Seat.{seats_of};
 ghost use Rattle.hand_records.specs.TraceRows.{core_said, place_said};
-ghost use Rattle.acpc_writing.specs.PlayFacts.{is_above_cap as is_above_cap_said, is_above_caps as is_above_caps_said, is_free_fold as is_free_fold_said, is_off_unit as is_off_unit_said, is_open_muck as is_open_muck_said, is_part_known as is_part_known_said, is_raise_on as is_raise_on_said, play_conditions};
+ghost use Rattle.acpc_writing.specs.PlayFacts.{play_conditions};
+ghost use Rattle.acpc_writing.specs.PlayFacts as play_facts;
 ghost use Rattle.first_fault.specs.Conditions.{first_where};
 
 use crate::cards::{has_known, has_unknown};
@@ -41,7 +42,7 @@ pub fn find_other_play(game: &Game, trace: &Trace) -> Option<Unspelled>
 
 // Whether a seat folds when it owes nothing.
 fn has_free_fold(moves: &[Move]) -> bool
-    ensures { result ≡ list_any is_free_fold_said moves.now }
+    ensures { result ≡ list_any play_facts.is_free_fold moves.now }
 {
     for played in moves {
         if is_free_fold(*played) {
@@ -53,14 +54,14 @@ fn has_free_fold(moves: &[Move]) -> bool
 
 // Whether the move is a fold of a seat that owes nothing.
 fn is_free_fold(played: Move) -> bool
-    ensures { result ≡ is_free_fold_said played }
+    ensures { result ≡ play_facts.is_free_fold played }
 {
     played.act.is_fold() && played.price <= played.from
 }
 
 // Whether one of the four streets has more raises than its cap, if there are caps.
 fn is_above_caps(caps: Option<[u32; 4]>, moves: &[Move]) -> bool
-    ensures { result ≡ is_above_caps_said caps moves.now }
+    ensures { result ≡ play_facts.is_above_caps caps moves.now }
 {
     let Some(caps) = caps else {
         return false;
@@ -75,7 +76,7 @@ fn is_above_caps(caps: Option<[u32; 4]>, moves: &[Move]) -> bool
 fn is_above_cap(caps: [u32; 4], moves: &[Move], street: u8) -> bool
     requires low { 1 ≤ street }
     requires high { street ≤ 4 }
-    ensures { result ≡ is_above_cap_said caps moves.now street }
+    ensures { result ≡ play_facts.is_above_cap caps moves.now street }
 {
     let cap = u64::from(caps[street as usize - 1]);
     cap < count_raises(moves, street) as u64
@@ -83,7 +84,7 @@ fn is_above_cap(caps: [u32; 4], moves: &[Move], street: u8) -> bool
 
 // The number of raises of a street.
 fn count_raises(moves: &[Move], street: u8) -> usize
-    ensures count { result ≡ count_by (is_raise_on_said street) moves.now }
+    ensures count { result ≡ count_by (play_facts.is_raise_on street) moves.now }
 {
     let mut count = 0;
     for played in moves {
@@ -96,14 +97,14 @@ fn count_raises(moves: &[Move], street: u8) -> usize
 
 // Whether the move is a raise on a street.
 fn is_raise_on(played: Move, street: u8) -> bool
-    ensures { result ≡ is_raise_on_said street played }
+    ensures { result ≡ play_facts.is_raise_on street played }
 {
     played.act.is_raise() && played.street == street
 }
 
 // Whether a raise is not by the unit of the limit game.
 fn has_off_unit(moves: &[Move]) -> bool
-    ensures { result ≡ list_any is_off_unit_said moves.now }
+    ensures { result ≡ list_any play_facts.is_off_unit moves.now }
 {
     for played in moves {
         if is_off_unit(*played) {
@@ -115,14 +116,14 @@ fn has_off_unit(moves: &[Move]) -> bool
 
 // Whether the move is a raise that is not by the unit of the limit game.
 fn is_off_unit(played: Move) -> bool
-    ensures { result ≡ is_off_unit_said played }
+    ensures { result ≡ play_facts.is_off_unit played }
 {
     played.act.is_raise() && played.to != played.unit_to
 }
 
 // Whether a seat has one hole card that is known and another that is not.
 fn has_part_known(trace: &Trace) -> bool
-    ensures { result ≡ list_any (is_part_known_said (core_said trace.now).places)
+    ensures { result ≡ list_any (play_facts.is_part_known (core_said trace.now).places)
         (seats_of trace.now.setup.stacks.seats) }
 {
     for index in 0..trace.setup.stacks.seats {
@@ -135,7 +136,7 @@ fn has_part_known(trace: &Trace) -> bool
 
 // Whether one hole card of the seat is known and another is not.
 fn is_part_known(places: &[Place], seat: Seat) -> bool
-    ensures { result ≡ is_part_known_said (map place_said places.now) seat.number }
+    ensures { result ≡ play_facts.is_part_known (map place_said places.now) seat.number }
 {
     has_unknown(places, Some(seat), 1) && has_known(places, Some(seat), 1)
 }
@@ -143,7 +144,7 @@ fn is_part_known(places: &[Place], seat: Seat) -> bool
 // Whether a seat mucked although its hole cards are known.
 fn has_open_muck(trace: &Trace) -> bool
     ensures { result
-        ≡ list_any (is_open_muck_said (core_said trace.now).places trace.now.mucked)
+        ≡ list_any (play_facts.is_open_muck (core_said trace.now).places trace.now.mucked)
         (seats_of trace.now.setup.stacks.seats) }
 {
     for index in 0..trace.setup.stacks.seats {
@@ -157,7 +158,7 @@ fn has_open_muck(trace: &Trace) -> bool
 
 // Whether the seat mucked although its hole cards are known.
 fn is_open_muck(places: &[Place], mucked: &LiveRow, seat: Seat) -> bool
-    ensures { result ≡ is_open_muck_said (map place_said places.now) mucked.now seat.number }
+    ensures { result ≡ play_facts.is_open_muck (map place_said places.now) mucked.now seat.number }
 {
     mucked.flags[seat.number as usize - 1] && !has_unknown(places, Some(seat), 1)
 }

@@ -2,7 +2,7 @@
 ghost use Rattle.std.specs.Prelude.{◌≡◌, ◌≤◌, ◌<◌, ◌+◌, ◌-◌, [], ◌∷◌, List, slice_index};
 ghost use Rattle.chip_ledger.specs.declared.seat_row.TheConstants.{MOST_AMOUNT};
 ghost use Rattle.play_event.specs.CanonScript.{plain_move};
-ghost use Rattle.play_event.specs.Chips.{posted as posted_said};
+ghost use Rattle.play_event.specs.Chips as chips;
 ghost use Rattle.play_event.specs.Past.{Move as PlainMove};
 ghost use Rattle.play_event.specs.Played.{move_said};
 ghost use Rattle.play_event.specs.declared.setup.Setup.{Setup as AnySetup};
@@ -25,7 +25,7 @@ pub fn posted_chips(setup: &Setup) -> [u64; 10]
 // stack goes.
 fn posted(setup: &Setup, index: usize) -> u64
     requires { index < 10 }
-    ensures { result ≡ posted_said setup.now (index + 1) }
+    ensures { result ≡ chips.posted setup.now (index + 1) }
 {
     let ante = setup.antes.amounts[index];
     let rest = setup.stacks.amounts[index].saturating_sub(ante);

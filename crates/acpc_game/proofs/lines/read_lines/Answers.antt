@@ -2,7 +2,7 @@ use Rattle.std.proofs.Common.{◌≡◌, ◌+◌, [], Ok, map, ap, refl, arith, 
 use Rattle.std.proofs.lemmas.Result.{err_from_is_err_and}
 use Rattle.acpc_game.specs.Parts.{lines_of}
 use Rattle.acpc_game.specs.Entries.{entry_said}
-use Rattle.acpc_game.specs.GameFile.{entries_after}
+use Rattle.acpc_game.specs.GameEntries.{entries_after}
 use Rattle.acpc_game.proofs.Steps.{fails_first, line_read, line_fails, lines_done}
 use Rattle.acpc_game.proofs.lines.read_lines.Goals as goal
 

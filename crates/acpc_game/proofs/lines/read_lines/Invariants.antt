@@ -1,7 +1,7 @@
 use Rattle.std.proofs.Common.{◌≡◌, ◌+◌, ◌≤◌, [], length, map}
 use Rattle.acpc_game.specs.Parts.{lines_of}
 use Rattle.acpc_game.specs.Entries.{entry_said}
-use Rattle.acpc_game.specs.GameFile.{entries_after}
+use Rattle.acpc_game.specs.GameEntries.{entries_after}
 use Rattle.acpc_game.proofs.lines.read_lines.Given as goal
 
 -- the entries so far and those of the lines that are left are all of them

@@ -5,7 +5,7 @@ use Rattle.std.proofs.lemmas.List.{length-append}
 use Rattle.std.proofs.lemmas.List.Folds.{list_all-append}
 use Rattle.std.proofs.lemmas.Result.{err_from_is_err_and}
 use Rattle.first_fault.specs.Digits.{are_digits}
-use Rattle.acpc_game.specs.GameFile.{numbers_after}
+use Rattle.acpc_game.specs.GameEntries.{numbers_after}
 use Rattle.acpc_game.specs.Keys.{most_of}
 use Rattle.acpc_game.proofs.Steps.{word_read, word_fails, words_done}
 use Rattle.acpc_game.proofs.lines.read_numbers.Goals as goal

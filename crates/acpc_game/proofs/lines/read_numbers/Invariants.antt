@@ -1,7 +1,7 @@
 use Rattle.std.proofs.Common.{◌≡◌, ◌+◌, true, [], nat_le, length}
 use Rattle.std.specs.List.{list_all}
 use Rattle.first_fault.specs.Digits.{are_digits}
-use Rattle.acpc_game.specs.GameFile.{numbers_after}
+use Rattle.acpc_game.specs.GameEntries.{numbers_after}
 use Rattle.acpc_game.specs.Keys.{most_of}
 use Rattle.acpc_game.proofs.lines.read_numbers.Given as goal
 use Rattle.first_fault.specs.Words.{words_of}

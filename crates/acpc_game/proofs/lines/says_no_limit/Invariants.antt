@@ -1,6 +1,6 @@
 use Rattle.std.proofs.Common.{◌≡◌, length}
 use Rattle.acpc_game.specs.Parts.{lines_of}
-use Rattle.acpc_game.specs.GameFile.{says_no_limit}
+use Rattle.acpc_game.specs.GameEntries.{says_no_limit}
 use Rattle.acpc_game.proofs.lines.says_no_limit.Given as goal
 
 -- no line so far says it
