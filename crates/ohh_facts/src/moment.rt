@@ -4,7 +4,8 @@ ghost use Rattle.serde_json.specs.View.{view};
 ghost use Rattle.hand_records.specs.AllowedNotes.{IsTime, IsWithin};
 ghost use Rattle.first_fault.specs.Reading.{Gives};
 ghost use Rattle.ohh_facts.specs.MomentRanges.{IsDay, IsMoment};
-ghost use Rattle.ohh_facts.specs.Moments.{clock_said, day_said, digits_in_front as digits_in_front_said, digits_said, fraction_said, has_point as has_point_said, has_signs as has_signs_said, is_universal as is_universal_said, moment_said, nine_of, part as part_said, zoned};
+ghost use Rattle.ohh_facts.specs.Moments.{clock_said, day_said, digits_said, fraction_said, moment_said, nine_of, zoned};
+ghost use Rattle.ohh_facts.specs.Moments as moments;
 
 use first_fault::{ReadError, are_digits, read_digits};
 use hand_records::{CivilDate, Clock, Moment, has_day};
@@ -31,7 +32,7 @@ pub fn read_moment(value: &Value) -> Result<Moment, ReadError<MemberFault>>
 
 // Whether the characters between the numbers are those of a moment.
 fn has_signs(text: &[u8]) -> bool
-    ensures { result ≡ has_signs_said text.now }
+    ensures { result ≡ moments.has_signs text.now }
 {
     text.len() >= 19
         && ((text[4] == b'-' && text[7] == b'-')
@@ -77,7 +78,7 @@ fn read_fraction(text: &[u8]) -> Result<u32, ReadError<MemberFault>>
 
 // Whether the text begins with a point.
 fn has_point(text: &[u8]) -> bool
-    ensures { result ≡ has_point_said text.now }
+    ensures { result ≡ moments.has_point text.now }
 {
     !text.is_empty() && text[0] == b'.'
 }
@@ -109,14 +110,14 @@ fn read_zone(nano: u32, zone: &[u8]) -> Result<u32, ReadError<MemberFault>>
 
 // Whether the zone is universal time.
 fn is_universal(zone: &[u8]) -> bool
-    ensures { result ≡ is_universal_said zone.now }
+    ensures { result ≡ moments.is_universal zone.now }
 {
     zone.is_empty() || (zone == b"Z".as_slice() || zone == b"+00:00".as_slice())
 }
 
 // How many digits the text begins with.
 fn digits_in_front(text: &[u8]) -> usize
-    ensures { result ≡ digits_in_front_said text.now }
+    ensures { result ≡ moments.digits_in_front text.now }
 {
     for (index, sign) in text.iter().enumerate() {
         if !sign.is_ascii_digit() {
@@ -176,7 +177,7 @@ fn no_moment() -> ReadError<MemberFault>
 
 // `count` bytes of a text from this place on, or fewer if the text ends.
 fn part(text: &[u8], from: usize, count: usize) -> &[u8]
-    ensures { result.now ≡ part_said from count text.now }
+    ensures { result.now ≡ moments.part from count text.now }
 {
     let (_before, rest) = text.split_at(from.min(text.len()));
     let (part, _behind) = rest.split_at(count.min(rest.len()));

@@ -1,7 +1,8 @@
 //! Reads the notes of a hand from its players and its labels, and checks that they are allowed.
 ghost use Rattle.std.specs.Prelude.{◌≡◌, ◌≤◌, ◌<◌, ◌-◌, ◌+◌, ℕ, None, length, map, take, slice_index, slice_index_or, codes, option_and_then, option_map, IfOk, IfSome};
 ghost use Rattle.serde_json.specs.View.{view};
-ghost use Rattle.hand_records.specs.AllowedNotes.{AreAllowed, AreSeatNumbers, IsName, IsNoteText, IsWithin, non_default_seats as unless_usual_said, noted};
+ghost use Rattle.hand_records.specs.AllowedNotes.{AreAllowed, AreSeatNumbers, IsName, IsNoteText, IsWithin, noted};
+ghost use Rattle.hand_records.specs.AllowedNotes as allowed_notes;
 ghost use Rattle.first_fault.specs.Reading.{Gives};
 ghost use Rattle.ohh_facts.specs.Notes.{names_from, notes_said};
 ghost use Rattle.hand_records.specs.SaidNotes.{plain_notes};
@@ -107,7 +108,7 @@ fn zone_of(alloc: Global, moment: Option<Moment>) -> Result<Option<Text>, Memory
 // The seats of players at the table, unless they are 1, 2 and so on.
 fn unusual_seats(seated: &Seated) -> Option<[u8; 10]>
     ensures said { option_map (take (length seated.now.players.now)) result
-        ≡ unless_usual_said (length (map plain_player seated.now.players.now))
+        ≡ allowed_notes.non_default_seats (length (map plain_player seated.now.players.now))
         (map (λ player. player.seat) (map plain_player seated.now.players.now)) }
     ensures allowed { IfSome result (AreSeatNumbers (length seated.now.players.now)) }
 {

@@ -8,7 +8,8 @@ ghost use Rattle.first_fault.specs.Reading.{Gives, added_from, read_if};
 ghost use Rattle.ohh_facts.specs.PotSums.{plain_listed_pot};
 ghost use Rattle.ohh_facts.specs.Won.{plain_win};
 ghost use Rattle.ohh_facts.specs.Pots.{IsPaid, amount_said, no_pots, plain_found, plain_paid, pot_added, pots_said, rake_said, summed, win_added, win_said, wins_said};
-ghost use Rattle.ohh_members.specs.Values.{field as field_said, number_said};
+ghost use Rattle.ohh_members.specs.Values.{number_said};
+ghost use Rattle.ohh_members.specs.Values as member_values;
 
 use crate::listed_pot::ListedPot;
 use crate::listed_pots::{ListedPots, Paid};
@@ -51,7 +52,7 @@ fn add_pots(
         (added_from (pot_added players.now.ids.now) no_pots 0 (map view values.now)) }
     ensures seats { IfOk result (λ found. found.won.sums.seats ≡ length players.now.ids.now) }
 {
-    let mut found = ListedPots::new(alloc, players.ids.len() as u8);
+    let mut found = ListedPots::new(alloc, players.count());
     for (index, value) in values.iter().enumerate() {
         found = add_pot(players.ids, found, index as u64, value)?;
     }
@@ -130,7 +131,7 @@ fn or_zero(number: Option<u64>) -> u64
 // The number at a path, if it is there.
 fn number_or_none(pot: &Value, path: Path) -> Result<Option<u64>, ReadError<MemberFault>>
     ensures said { Gives (λ number. number) result
-        (read_if (number_said 0 MOST_AMOUNT path) (field_said path (view pot.now))) }
+        (read_if (number_said 0 MOST_AMOUNT path) (member_values.field path (view pot.now))) }
     ensures most { IfOk result (λ number. ForSome number (λ number. number ≤ MOST_AMOUNT)) }
 {
     match field(pot, path) {

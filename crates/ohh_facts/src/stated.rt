@@ -3,28 +3,27 @@
 ghost use Rattle.std.specs.Prelude.{◌≡◌, ◌≤◌, ◌+◌, ◌++◌, ◌∷◌, [], ℕ, map, IfOk};
 ghost use Rattle.chip_ledger.specs.RakeRow.{rake_of};
 ghost use Rattle.chip_ledger.specs.declared.seat_row.TheConstants.{MOST_AMOUNT};
-ghost use Rattle.ohh_facts.specs.PotSums.{plain_listed_pot, rake_at as rake_at_said, rakes_said};
+ghost use Rattle.ohh_facts.specs.PotSums.{plain_listed_pot, rakes_said};
+ghost use Rattle.ohh_facts.specs.PotSums as pot_sums;
 ghost use Rattle.ohh_facts.specs.Pots.{IsPaid, no_pots, none_paid, paid_of, plain_found, plain_paid};
 
 use crate::listed_pot::ListedPot;
 use crate::listed_pots::{ListedPots, Paid};
 use crate::won::Won;
 use card_set::{Memory, TryPush};
-use chip_ledger::RakeRow;
+use chip_ledger::{PlayerCount, RakeRow};
 use std::alloc::Global;
 
 impl ListedPots {
-    /// No pots yet, for a hand with `seats` seats.
-    pub fn new(alloc: Global, seats: u8) -> Self
-        requires some { 2 ≤ seats }
-        requires few { seats ≤ 10 }
+    /// No pots yet, for a hand with this number of players.
+    pub fn new(alloc: Global, players: PlayerCount) -> Self
         ensures none { plain_found result ≡ no_pots }
-        ensures seats { result.won.sums.seats ≡ seats }
+        ensures seats { result.won.sums.seats ≡ players.number }
     {
         ListedPots {
             pots: Vec::new(alloc),
             total: 0,
-            won: Won::new(alloc, seats),
+            won: Won::new(alloc, players),
         }
     }
 
@@ -98,7 +97,7 @@ fn rakes_of(pots: &[ListedPot]) -> RakeRow
 
 // The rake of the pot with this index, or 0 if there is no such pot.
 fn rake_at(pots: &[ListedPot], index: usize) -> u64
-    ensures said { result ≡ rake_at_said (map plain_listed_pot pots.now) index }
+    ensures said { result ≡ pot_sums.rake_at (map plain_listed_pot pots.now) index }
     ensures most { result ≤ MOST_AMOUNT }
 {
     match pots.get(index) {

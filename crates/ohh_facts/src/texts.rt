@@ -4,7 +4,7 @@ ghost use Rattle.serde_json.specs.View.{view};
 ghost use Rattle.hand_records.specs.AllowedNotes.{IsNoteText};
 ghost use Rattle.first_fault.specs.Reading.{Gives, or_none};
 ghost use Rattle.ohh_facts.specs.Notes.{label_said, text_note_said};
-ghost use Rattle.ohh_members.specs.Values.{field as field_said};
+ghost use Rattle.ohh_members.specs.Values as values;
 
 use card_set::displayed;
 use first_fault::{Quantity, ReadError, Text};
@@ -22,7 +22,7 @@ pub fn text_at(
     path: Path,
 ) -> Result<Option<Text>, ReadError<MemberFault>>
     ensures said { Gives (λ note. note) result
-        (or_none (text_note_said [] path) (field_said path (view ohh.now))) }
+        (or_none (text_note_said [] path) (values.field path (view ohh.now))) }
     ensures allowed { IfOk result (λ note. IfSome note IsNoteText) }
 {
     match field(ohh, path) {
@@ -44,7 +44,7 @@ pub fn label_at(
     default: &str,
 ) -> Result<Option<Text>, ReadError<MemberFault>>
     ensures said { Gives (λ note. note) result
-        (or_none (label_said default.now path) (field_said path (view ohh.now))) }
+        (or_none (label_said default.now path) (values.field path (view ohh.now))) }
     ensures allowed { IfOk result (λ note. IfSome note IsNoteText) }
 {
     let Some(value) = field(ohh, path) else {

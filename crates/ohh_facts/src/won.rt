@@ -5,7 +5,7 @@ ghost use Rattle.chip_ledger.specs.declared.seat_row.TheConstants.{MOST_AMOUNT};
 ghost use Rattle.ohh_facts.specs.Won.{plain_win, won_by};
 
 use card_set::{Memory, TryPush};
-use chip_ledger::{Seat, SeatRow};
+use chip_ledger::{PlayerCount, Seat, SeatRow};
 use std::alloc::Global;
 
 /// What the player in a seat wins of a pot, in chips.
@@ -25,16 +25,14 @@ pub struct Won {
 }
 
 impl Won {
-    /// No wins yet, for `seats` seats.
-    pub fn new(alloc: Global, seats: u8) -> Self
-        requires some { 2 ≤ seats }
-        requires few { seats ≤ 10 }
+    /// No wins yet, for this number of players.
+    pub fn new(alloc: Global, players: PlayerCount) -> Self
         ensures none { map plain_win result.list.items ≡ [] }
-        ensures seats { result.sums.seats ≡ seats }
+        ensures seats { result.sums.seats ≡ players.number }
     {
         Won {
             list: Vec::new(alloc),
-            sums: SeatRow::new(seats),
+            sums: SeatRow::new(players.number),
         }
     }
 

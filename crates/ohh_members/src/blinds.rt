@@ -4,8 +4,9 @@ ghost use Rattle.serde_json.specs.View.{view};
 ghost use Rattle.chip_ledger.specs.declared.numbers.TheConstants.{MOST_CHIPS};
 ghost use Rattle.first_fault.specs.Reading.{Gives, read_if};
 ghost use Rattle.ohh_members.specs.declared.fault.Path.TheVariants as paths;
-ghost use Rattle.ohh_members.specs.Blinds.{blind_said, blinds_said, is_fixed_game as is_fixed_game_said};
-ghost use Rattle.ohh_members.specs.Values.{field as field_said, number_said};
+ghost use Rattle.ohh_members.specs.Blinds.{blind_said, blinds_said, is_fixed_game};
+ghost use Rattle.ohh_members.specs.Values.{number_said};
+ghost use Rattle.ohh_members.specs.Values as values;
 
 use crate::fault::{MemberFault, MemberFaultKind, Path};
 use crate::values::{fault_at, field, read_number, required};
@@ -28,7 +29,7 @@ pub fn read_blinds(ohh: &Value, code: Code) -> Result<Blinds, ReadError<MemberFa
     ensures least { IfOk result (λ blinds. 1 ≤ blinds.small) }
     ensures order { IfOk result (λ blinds. blinds.small ≤ blinds.big) }
     ensures most { IfOk result (λ blinds. blinds.big ≤ MOST_CHIPS) }
-    ensures fixed { IfOk result (λ blinds. is_fixed_game_said code ≡ true
+    ensures fixed { IfOk result (λ blinds. is_fixed_game code ≡ true
         → 2 * blinds.big ≤ MOST_CHIPS) }
 {
     let _ante = read_ante(ohh)?;
@@ -47,7 +48,7 @@ pub fn read_blinds(ohh: &Value, code: Code) -> Result<Blinds, ReadError<MemberFa
 fn read_ante(ohh: &Value) -> Result<Option<u64>, ReadError<MemberFault>>
     ensures { Gives (λ ante. ante) result
         (read_if (number_said 0 MOST_CHIPS paths.AnteAmount)
-        (field_said paths.AnteAmount (view ohh.now))) }
+        (values.field paths.AnteAmount (view ohh.now))) }
 {
     match field(ohh, Path::AnteAmount) {
         Some(value) => Ok(Some(read_number(value, 0, MOST_CHIPS, Path::AnteAmount)?)),

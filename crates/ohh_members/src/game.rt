@@ -2,7 +2,8 @@
 ghost use Rattle.std.specs.Prelude.{◌≡◌, ◌&&◌, bytes_eq, IfOk, IfSome};
 ghost use Rattle.serde_json.specs.View.{view};
 ghost use Rattle.first_fault.specs.Reading.{Gives};
-ghost use Rattle.ohh_members.specs.Game.{IsReadGame, game_named as game_named_said, game_said, limits_said, word_said};
+ghost use Rattle.ohh_members.specs.Game.{IsReadGame, game_said, limits_said, word_said};
+ghost use Rattle.ohh_members.specs.Game as games;
 
 use crate::fault::{MemberFault, MemberFaultKind, Path};
 use crate::values::{fault_at, read_object, read_text, required};
@@ -42,7 +43,7 @@ fn read_word(value: &Value, path: Path) -> Result<&str, ReadError<MemberFault>>
 
 // The game of a type and a limit.
 fn game_named(game: &str, limit: &str) -> Option<Code>
-    ensures said { result ≡ game_named_said game.now limit.now }
+    ensures said { result ≡ games.game_named game.now limit.now }
     ensures read { IfSome result IsReadGame }
 {
     if are_words(game, "Holdem", limit, "FL") {

@@ -5,7 +5,8 @@ ghost use Rattle.serde_json.specs.View.{view};
 ghost use Rattle.chip_ledger.specs.declared.numbers.TheConstants.{MOST_CHIPS};
 ghost use Rattle.first_fault.specs.declared.limits.TheConstants.{MOST_TEXT_BYTES};
 ghost use Rattle.first_fault.specs.Reading.{Gives, added_from};
-ghost use Rattle.ohh_members.specs.Players.{has_id as has_id_said, has_seat as has_seat_said, id_said, name_said, plain_player, player_added, player_said, players_said, seat_said, short_text_said, stack_said};
+ghost use Rattle.ohh_members.specs.Players.{id_said, name_said, plain_player, player_added, player_said, players_said, seat_said, short_text_said, stack_said};
+ghost use Rattle.ohh_members.specs.Players as player_list;
 
 use crate::fault::{MemberFault, MemberFaultKind, Path, PlayerMember};
 use crate::player::Player;
@@ -114,7 +115,7 @@ fn read_id(earlier: &[Player], index: u64, player: &Value) -> Result<i128, ReadE
 
 // Whether some player has the id.
 fn has_id(id: i128, players: &[Player]) -> bool
-    ensures { result ≡ has_id_said id (map plain_player players.now) }
+    ensures { result ≡ player_list.has_id id (map plain_player players.now) }
 {
     for player in players {
         if id == player.id {
@@ -144,7 +145,7 @@ fn read_seat(earlier: &[Player], index: u64, player: &Value) -> Result<u8, ReadE
 
 // Whether some player has the seat.
 fn has_seat(seat: u8, players: &[Player]) -> bool
-    ensures { result ≡ has_seat_said seat (map plain_player players.now) }
+    ensures { result ≡ player_list.has_seat seat (map plain_player players.now) }
 {
     for player in players {
         if seat == player.seat {

@@ -1,7 +1,8 @@
 //! The ids and the stacks of the players of a hand, in the order of their seats.
 ghost use Rattle.std.specs.Prelude.{◌≡◌, ◌≤◌, ◌<◌, ℕ, length, map, slice_index, IfOk};
 ghost use Rattle.play_event.specs.ValidSetup.{IsSize};
-ghost use Rattle.ohh_members.specs.Header.{ids_of as ids_of_said, stacks_of};
+ghost use Rattle.ohh_members.specs.Header.{stacks_of};
+ghost use Rattle.ohh_members.specs.Header as header;
 ghost use Rattle.chip_ledger.specs.SeatRow.{amounts_in};
 ghost use Rattle.ohh_members.specs.Players.{plain_player};
 
@@ -12,7 +13,7 @@ use std::alloc::Global;
 
 /// The ids of players, the first seat's first.
 pub fn ids_of(alloc: Global, players: &[Player]) -> Result<Vec<i128>, Memory>
-    ensures said { IfOk result (λ ids. ids.items ≡ ids_of_said (map plain_player players.now)) }
+    ensures said { IfOk result (λ ids. ids.items ≡ header.ids_of (map plain_player players.now)) }
     ensures count { IfOk result (λ ids. length ids.items ≡ length players.now) }
 {
     let mut ids = Vec::new(alloc);

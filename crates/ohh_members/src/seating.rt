@@ -2,7 +2,8 @@
 ghost use Rattle.std.specs.Prelude.{◌≡◌, ◌≤◌, ◌∷◌, List, fold, length, map, IfOk, option_map};
 ghost use Rattle.serde_json.specs.View.{view};
 ghost use Rattle.first_fault.specs.Reading.{Gives};
-ghost use Rattle.ohh_members.specs.Players.{PlainPlayer, above, button_said, lower as lower_said, lowest, next_player as next_player_said, plain_player, player_at as player_at_said, seated, seated_said};
+ghost use Rattle.ohh_members.specs.Players.{PlainPlayer, above, button_said, lowest, plain_player, seated, seated_said};
+ghost use Rattle.ohh_members.specs.Players as player_list;
 
 use crate::fault::{MemberFault, MemberFaultKind, Path};
 use crate::player::Player;
@@ -50,7 +51,7 @@ fn read_button<'a>(
 // The player in a seat of the table.
 fn player_at<'a>(seat: i128, players: &[Player<'a>]) -> Option<Player<'a>>
     ensures { option_map plain_player result
-        ≡ player_at_said seat (map plain_player players.now) }
+        ≡ player_list.player_at seat (map plain_player players.now) }
 {
     for player in players {
         if i128::from(player.seat) == seat {
@@ -82,7 +83,7 @@ fn sit<'a>(
 // The player in the next higher seat, going round.
 fn next_player<'a>(players: &[Player<'a>], player: Player<'a>) -> Player<'a>
     ensures { plain_player result
-        ≡ next_player_said (map plain_player players.now) (plain_player player.entry) }
+        ≡ player_list.next_player (map plain_player players.now) (plain_player player.entry) }
 {
     match lowest_above(players, player.seat) {
         Some(next) => next,
@@ -108,8 +109,8 @@ fn lowest_above<'a>(players: &[Player<'a>], seat: u8) -> Option<Player<'a>>
 // The lower of `found` and this player, if the player's seat is higher than this one.
 fn lower_above<'a>(found: Option<Player<'a>>, player: Player<'a>, seat: u8) -> Option<Player<'a>>
     ensures { (rest : List PlainPlayer)
-        → fold lower_said (option_map plain_player result) (above seat rest)
-        ≡ fold lower_said (option_map plain_player found.entry)
+        → fold player_list.lower (option_map plain_player result) (above seat rest)
+        ≡ fold player_list.lower (option_map plain_player found.entry)
         (above seat (plain_player player.entry ∷ rest)) }
 {
     if seat < player.seat {
@@ -122,7 +123,7 @@ fn lower_above<'a>(found: Option<Player<'a>>, player: Player<'a>, seat: u8) -> O
 // Of two players, the one in the lower seat.
 fn lower<'a>(found: Option<Player<'a>>, player: Player<'a>) -> Option<Player<'a>>
     ensures { option_map plain_player result
-        ≡ lower_said (option_map plain_player found.entry) (plain_player player.entry) }
+        ≡ player_list.lower (option_map plain_player found.entry) (plain_player player.entry) }
 {
     match found {
         None => Some(player),

@@ -4,7 +4,8 @@ ghost use Rattle.serde_json.specs.Find.{get};
 ghost use Rattle.serde_json.specs.View.{items_view, view};
 ghost use Rattle.card_set.specs.Row.{cards_of, slots_of};
 ghost use Rattle.first_fault.specs.Reading.{Gives};
-ghost use Rattle.ohh_members.specs.Values.{cards_said, card_said, few_said, field as field_said, integer_said, known_in as known_in_said, listed, list_said, required as required_said, number_said, object_said, one_slot, player_said, seat_of as seat_of_said, slot_in as slot_in_said, slot_said, slots_said, text_said};
+ghost use Rattle.ohh_members.specs.Values.{cards_said, card_said, few_said, integer_said, listed, list_said, number_said, object_said, one_slot, player_said, slot_said, slots_said, text_said};
+ghost use Rattle.ohh_members.specs.Values as member_values;
 
 use crate::fault::{MemberFault, MemberFaultKind, Path};
 use card_set::{Card, CardRow, Slot, SlotRow};
@@ -15,7 +16,8 @@ use serde_json::Value;
 /// The value of a required member.
 #[tactic(auto, unfolding(crate::specs::Values::required))]
 pub fn required<'a>(value: &'a Value, path: Path) -> Result<&'a Value, ReadError<MemberFault>>
-    ensures { Gives (λ found. view found.now) result (required_said path (view value.now)) }
+    ensures { Gives (λ found. view found.now) result
+        (member_values.required path (view value.now)) }
 {
     match field(value, path) {
         Some(found) => Ok(found),
@@ -25,7 +27,8 @@ pub fn required<'a>(value: &'a Value, path: Path) -> Result<&'a Value, ReadError
 
 /// The value of the member that the path ends with, if the object has one.
 pub fn field<'a>(value: &'a Value, path: Path) -> Option<&'a Value>
-    ensures { option_map (λ found. view found.now) result ≡ field_said path (view value.now) }
+    ensures { option_map (λ found. view found.now) result
+        ≡ member_values.field path (view value.now) }
 {
     find_member(value, path.name())
 }
@@ -95,7 +98,7 @@ pub fn read_player(value: &Value, ids: &[i128], path: Path) -> Result<Seat, Read
 // The index of the seat of the player with this id; `ids` are those of the players in the order of
 // their seats.
 fn seat_of(ids: &[i128], id: i128) -> Option<usize>
-    ensures said { result ≡ seat_of_said ids.now id }
+    ensures said { result ≡ member_values.seat_of ids.now id }
     ensures seated { IfSome result (λ seat. (1 ≤ seat) × (seat ≤ length ids.now)) }
 {
     for (index, other) in ids.iter().enumerate() {
@@ -152,7 +155,7 @@ pub fn read_card(value: &Value, path: Path) -> Result<Card, ReadError<MemberFaul
 
 // The card, if it is known.
 fn known_in(slot: Slot) -> Option<Card>
-    ensures { result ≡ known_in_said slot }
+    ensures { result ≡ member_values.known_in slot }
 {
     match slot {
         Slot::Known(card) => Some(card),
@@ -187,7 +190,7 @@ pub fn read_slot(value: &Value, path: Path) -> Result<Slot, ReadError<MemberFaul
 
 // The card, known or unknown, that a text of two letters means.
 fn slot_in(text: &str) -> Option<Slot>
-    ensures { result ≡ slot_in_said text.now }
+    ensures { result ≡ member_values.slot_in text.now }
 {
     match card_set::read_slots(text.as_bytes()) {
         Ok(row) => only(row.as_slice()),

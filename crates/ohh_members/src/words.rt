@@ -1,6 +1,7 @@
 //! The words for what a player did.
 ghost use Rattle.std.specs.Prelude.{◌≡◌};
-ghost use Rattle.ohh_members.specs.Words.{is_deal as is_deal_said, word_named as word_said, word_text};
+ghost use Rattle.ohh_members.specs.Words.{word_text};
+ghost use Rattle.ohh_members.specs.Words as words;
 
 /// What a player did, as a word of the format.
 #[derive(Clone, Copy, Debug, PartialEq, Eq)]
@@ -48,7 +49,7 @@ impl Word {
 /// The word that a text is, if it is one.
 #[tactic(auto, unfolding(crate::specs::Words::word_named))]
 pub fn word_named(text: &str) -> Option<Word>
-    ensures { result ≡ word_said text.now }
+    ensures { result ≡ words.word_named text.now }
 {
     match text {
         "Post Ante" => Some(Word::PostAnte),
@@ -71,7 +72,7 @@ pub fn word_named(text: &str) -> Option<Word>
 
 /// Whether the word deals hole cards.
 pub fn is_deal(word: Word) -> bool
-    ensures { result ≡ is_deal_said word }
+    ensures { result ≡ words.is_deal word }
 {
     word == Word::DealtCards
 }

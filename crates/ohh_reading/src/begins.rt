@@ -1,6 +1,7 @@
 //! The lines of a text on which its blocks begin.
 ghost use Rattle.std.specs.Prelude.{◌≡◌, ◌+◌, ◌∷◌, ◌++◌, List, ℕ, IfOk};
-ghost use Rattle.ohh_reading.specs.Begins.{block_lines as block_lines_said, block_lines_from};
+ghost use Rattle.ohh_reading.specs.Begins.{block_lines_from};
+ghost use Rattle.ohh_reading.specs.Begins as begins;
 
 use crate::blocks::{cut_line, is_blank};
 use card_set::{Memory, TryPush};
@@ -12,7 +13,7 @@ use std::alloc::Global;
 ///
 /// Out of memory.
 pub fn block_lines(alloc: Global, text: &[u8]) -> Result<Vec<u64>, Memory>
-    ensures { IfOk result (λ lines. lines.items ≡ block_lines_said text.now) }
+    ensures { IfOk result (λ lines. lines.items ≡ begins.block_lines text.now) }
 {
     let mut lines = Vec::new(alloc);
     let mut inside = false;

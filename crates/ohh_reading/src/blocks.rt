@@ -2,7 +2,8 @@
 ghost use Rattle.std.specs.Prelude.{◌≡◌, ◌+◌, ◌==◌, [], ◌∷◌, ◌++◌, List, ℕ, map, length, None, option_map, IfOk, OnOk};
 ghost use Rattle.std.specs.List.{position_or_len};
 ghost use Rattle.std.specs.Option.{option_map_or};
-ghost use Rattle.ohh_reading.specs.Blocks.{blocks_from, blocks_of, is_blank as is_blank_said, lines_of};
+ghost use Rattle.ohh_reading.specs.Blocks.{blocks_from, blocks_of, lines_of};
+ghost use Rattle.ohh_reading.specs.Blocks as blocks;
 
 use card_set::{Memory, TryExtend, TryPush, vec_from};
 use std::alloc::Global;
@@ -83,7 +84,7 @@ fn take_line(
 
 /// Whether the line separates blocks.
 pub fn is_blank(line: &[u8]) -> bool
-    ensures { result ≡ is_blank_said line.now }
+    ensures { result ≡ blocks.is_blank line.now }
 {
     for sign in line {
         if *sign != b' ' && *sign != b'\t' && *sign != b'\r' {

@@ -5,7 +5,7 @@ ghost use Rattle.serde_json.specs.View.{view};
 ghost use Rattle.first_fault.specs.declared.limits.TheConstants.{MOST_FILE_MOVES, MOST_HANDS};
 ghost use Rattle.first_fault.specs.Reading.{Gives};
 ghost use Rattle.ohh_members.specs.declared.fault.Path.TheVariants as paths;
-ghost use Rattle.ohh_members.specs.Values.{field as field_said};
+ghost use Rattle.ohh_members.specs.Values as values;
 ghost use Rattle.ohh_reading.specs.Blocks.{blocks_of};
 ghost use Rattle.ohh_reading.specs.Reading.{hands_said, numbered_hand, object_of, tree_of, tree_said};
 ghost use Rattle.hand_records.specs.Histories.{AreHistories, IsNextHand};
@@ -145,7 +145,7 @@ fn read_tree(
 // The object of the hand in a tree.
 fn object_in(tree: &Value) -> Result<&Value, ReadError<MemberFault>>
     ensures { Gives (λ ohh. view ohh.now) result
-        (object_of (field_said paths.Ohh (view tree.now))) }
+        (object_of (values.field paths.Ohh (view tree.now))) }
 {
     match field(tree, Path::Ohh) {
         Some(value) => object_or_none(value),

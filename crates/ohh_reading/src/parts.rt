@@ -6,7 +6,8 @@ ghost use Rattle.play_event.specs.ValidSetup.{IsSize};
 ghost use Rattle.first_fault.specs.Reading.{Gives};
 ghost use Rattle.ohh_facts.specs.Notes.{notes_said};
 ghost use Rattle.ohh_facts.specs.Pots.{IsPaid, plain_paid, pots_said};
-ghost use Rattle.ohh_members.specs.Header.{IsFront, ids_of as ids_of_said, stacks_of};
+ghost use Rattle.ohh_members.specs.Header.{IsFront, stacks_of};
+ghost use Rattle.ohh_members.specs.Header as header;
 ghost use Rattle.chip_ledger.specs.SeatRow.{amounts_in};
 ghost use Rattle.ohh_members.specs.Players.{plain_player};
 ghost use Rattle.hand_records.specs.SaidNotes.{plain_notes};
@@ -37,7 +38,7 @@ pub fn stacks_in(front: &Header) -> SeatRow
 /// The ids of the players, the first seat's first.
 pub fn ids_in(alloc: Global, front: &Header) -> Result<Vec<i128>, Memory>
     ensures said { IfOk result (λ ids. ids.items
-        ≡ ids_of_said (map plain_player front.now.players.items)) }
+        ≡ header.ids_of (map plain_player front.now.players.items)) }
     ensures count { IfOk result (λ ids. length ids.items ≡ length front.now.players.items) }
 {
     ids_of(alloc, &front.players)
@@ -52,9 +53,9 @@ pub fn read_paid(
 ) -> Result<Paid, ReadError<MemberFault>>
     requires front { IsFront front.now }
     requires count { length ids.now.items ≡ length front.now.players.items }
-    requires ids { ids.now.items ≡ ids_of_said (map plain_player front.now.players.items) }
+    requires ids { ids.now.items ≡ header.ids_of (map plain_player front.now.players.items) }
     ensures said { Gives plain_paid result
-        (pots_said (ids_of_said (map plain_player front.now.players.items)) (view ohh.now)) }
+        (pots_said (header.ids_of (map plain_player front.now.players.items)) (view ohh.now)) }
     ensures fits { IfOk result (IsPaid (length front.now.players.items)) }
 {
     read_pots(alloc, ids, ohh)

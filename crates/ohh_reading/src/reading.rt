@@ -3,7 +3,8 @@ ghost use Rattle.std.specs.Prelude.{◌≡◌, ◌≤◌, Some, sum_by, length, 
 ghost use Rattle.std.specs.List.{AllByRecursion};
 ghost use Rattle.first_fault.specs.declared.limits.TheConstants.{MOST_FILE_MOVES, MOST_HANDS};
 ghost use Rattle.ohh_members.specs.Paths.{path_text};
-ghost use Rattle.ohh_reading.specs.Reading.{InHand, Reads, reading, spelled as spelled_said, wrong_of};
+ghost use Rattle.ohh_reading.specs.Reading.{InHand, Reads, reading, wrong_of};
+ghost use Rattle.ohh_reading.specs.Reading as files;
 ghost use Rattle.hand_records.specs.Histories.{IsHistory};
 ghost use Rattle.hand_records.specs.Moves.{moves_of};
 
@@ -33,7 +34,7 @@ pub fn read(alloc: Global, dialect: Dialect, bytes: &[u8]) -> Result<Records, Oh
 
 // A fault of a hand, with its path as text.
 fn spelled(alloc: Global, found: OhhHandFault) -> OhhFault
-    ensures { IfSome (wrong_of result) (λ wrong. wrong ≡ spelled_said found.hand found.what) }
+    ensures { IfSome (wrong_of result) (λ wrong. wrong ≡ files.spelled found.hand found.what) }
 {
     match found.what {
         HandFaultKind::Text => OhhFault::Text { hand: found.hand },

@@ -2,8 +2,8 @@
 ghost use Rattle.std.specs.Prelude.{◌≡◌, ◌≤◌, ◌*◌, not, true};
 ghost use Rattle.chip_ledger.specs.declared.numbers.TheConstants.{MOST_CHIPS};
 ghost use Rattle.play_event.specs.ValidSetup.{IsSizeWhere};
-ghost use Rattle.ohh_members.specs.Blinds.{is_fixed_game as is_fixed_game_said};
-ghost use Rattle.ohh_reading.specs.Sizes.{sizes_of as sizes_of_said};
+ghost use Rattle.ohh_members.specs.Blinds.{is_fixed_game};
+ghost use Rattle.ohh_reading.specs.Sizes as sizes;
 
 use hand_records::Sizes;
 use play_event::Code;
@@ -12,12 +12,12 @@ use play_event::Code;
 pub fn sizes_of(code: Code, big_blind: u64) -> Sizes
     requires least { 1 ≤ big_blind }
     requires most { big_blind ≤ MOST_CHIPS }
-    requires fixed { is_fixed_game_said code ≡ true → 2 * big_blind ≤ MOST_CHIPS }
-    ensures said { result ≡ sizes_of_said code big_blind }
+    requires fixed { is_fixed_game code ≡ true → 2 * big_blind ≤ MOST_CHIPS }
+    ensures said { result ≡ sizes.sizes_of code big_blind }
     ensures bring_in { result.bring_in ≡ 0 }
-    ensures small_bet { IsSizeWhere (is_fixed_game_said code) result.small_bet }
-    ensures big_bet { IsSizeWhere (is_fixed_game_said code) result.big_bet }
-    ensures min_bet { IsSizeWhere (not (is_fixed_game_said code)) result.min_bet }
+    ensures small_bet { IsSizeWhere (is_fixed_game code) result.small_bet }
+    ensures big_bet { IsSizeWhere (is_fixed_game code) result.big_bet }
+    ensures min_bet { IsSizeWhere (not (is_fixed_game code)) result.min_bet }
 {
     if code.is_fixed() {
         Sizes {

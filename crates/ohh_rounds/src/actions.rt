@@ -3,7 +3,7 @@ ghost use Rattle.std.specs.Prelude.{◌≡◌, ◌≤◌, ◌+◌, IfOk, length,
 ghost use Rattle.serde_json.specs.View.{view};
 ghost use Rattle.card_set.specs.Row.{slots_of};
 ghost use Rattle.play_event.specs.Said.{kind_said};
-ghost use Rattle.play_event.specs.PlayedScript.{is_move as is_move_said};
+ghost use Rattle.play_event.specs.PlayedScript.{is_move};
 ghost use Rattle.first_fault.specs.Reading.{Gives};
 ghost use Rattle.ohh_rounds.specs.Actions.{at_action, called, chips_said, dealt_cards, effect_counted, effect_said, event_counted, mucked, posted, raise_by, raised, seat_said, shown, step_said, word_said};
 ghost use Rattle.ohh_rounds.specs.HandContext.{plain_setting};
@@ -308,7 +308,7 @@ pub fn count_event(told: &RoundsSoFar, path: Path, kind: Kind) -> Result<(), Rea
     ensures said { Gives (λ x. x) result (event_counted (plain_setting told.now.setting)
         (map plain_step told.now.steps.items) path (kind_said kind)) }
     ensures room { IfOk result (λ x. HasRoom told.now.setting.table.stacks.seats
-        told.now.setting.file_moves (is_move_said (kind_said kind))
+        told.now.setting.file_moves (is_move (kind_said kind))
         (map plain_step told.now.steps.items)) }
 {
     if kind.is_move() {

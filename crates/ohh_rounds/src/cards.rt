@@ -4,7 +4,8 @@ ghost use Rattle.std.specs.Option.{option_or};
 ghost use Rattle.card_set.specs.Row.{slots_of};
 ghost use Rattle.ohh_rounds.specs.Kept.{AreTold};
 ghost use Rattle.play_event.specs.Said.{kind_said};
-ghost use Rattle.ohh_rounds.specs.Steps.{LeavesFew, folder as folder_said, plain_effect, plain_step};
+ghost use Rattle.ohh_rounds.specs.Steps.{LeavesFew, plain_effect, plain_step};
+ghost use Rattle.ohh_rounds.specs.Steps as round_steps;
 
 use crate::seat_so_far::SeatSoFar;
 use crate::step::{ActionEffect, RoundStep};
@@ -79,7 +80,7 @@ fn first_of(first: Option<u32>, number: u32) -> Option<u32>
 
 // The seat that folds, if the event is a fold.
 fn folder(kind: Kind) -> Option<Seat>
-    ensures { option_map (λ seat. seat.number) result ≡ folder_said (kind_said kind) }
+    ensures { option_map (λ seat. seat.number) result ≡ round_steps.folder (kind_said kind) }
 {
     match kind {
         Kind::Fold { actor } => actor,

@@ -11,7 +11,8 @@ ghost use Rattle.ohh_rounds.specs.PostRules.{posts_checked};
 ghost use Rattle.ohh_rounds.specs.Posts.{plain_post};
 ghost use Rattle.ohh_rounds.specs.AntesAndBlinds.{AreAntesAndBlindsFor, antes_and_blinds_said, plain_antes_and_blinds};
 ghost use Rattle.ohh_rounds.specs.NamedBlinds.{plain_named_blinds};
-ghost use Rattle.ohh_rounds.specs.Play.{at_posts, event_in, events_in, hole_cards as hole_cards_said, hole_deal as hole_deal_said, plain_play, post_in, posts_in, rounds_said, script_said};
+ghost use Rattle.ohh_rounds.specs.Play.{at_posts, event_in, events_in, hole_cards, plain_play, post_in, posts_in, rounds_said, script_said};
+ghost use Rattle.ohh_rounds.specs.Play as hand_play;
 ghost use Rattle.ohh_rounds.specs.HandContext.{plain_setting};
 ghost use Rattle.ohh_rounds.specs.Steps.{plain_effect, plain_step};
 
@@ -147,7 +148,8 @@ fn script_of(alloc: Global, told: &RoundsSoFar) -> Result<Script, Memory>
 // The hole deals of all seats.
 fn hole_deals(alloc: Global, told: &RoundsSoFar) -> Result<Script, Memory>
     ensures { IfOk result (λ script. map numbered script
-        ≡ map (hole_deal_said told.now.setting.hole_cards (map plain_step told.now.steps.items))
+        ≡ map
+        (hand_play.hole_deal told.now.setting.hole_cards (map plain_step told.now.steps.items))
         (seats_of told.now.setting.table.stacks.seats)) }
 {
     let mut script = Script::new(alloc);
@@ -159,7 +161,7 @@ fn hole_deals(alloc: Global, told: &RoundsSoFar) -> Result<Script, Memory>
 
 // The deal of a seat's hole cards.
 fn hole_deal(told: &RoundsSoFar, seat: Seat) -> Event
-    ensures { numbered result ≡ hole_deal_said told.now.setting.hole_cards
+    ensures { numbered result ≡ hand_play.hole_deal told.now.setting.hole_cards
         (map plain_step told.now.steps.items) seat.number }
 {
     let kept = told.seat(seat);
@@ -177,7 +179,7 @@ fn hole_deal(told: &RoundsSoFar, seat: Seat) -> Event
 // The cards, filled up to `count` with unknown ones.
 fn filled(cards: SlotRow, count: u8) -> SlotRow
     requires { count ≤ 7 }
-    ensures { slots_of result ≡ hole_cards_said count (slots_of cards) }
+    ensures { slots_of result ≡ hole_cards count (slots_of cards) }
 {
     let mut all = cards;
     for _index in cards.len..count {

@@ -1,13 +1,14 @@
 //! The order of the streets.
 ghost use Rattle.std.specs.Prelude.{◌≡◌};
-ghost use Rattle.ohh_rounds.specs.Streets.{has_board_cards as has_board_cards_said, if_named, street_after as street_said};
+ghost use Rattle.ohh_rounds.specs.Streets.{if_named};
+ghost use Rattle.ohh_rounds.specs.Streets as streets;
 
 use ohh_members::street::{StreetName, name_of};
 
 /// The street that a text names, if it may come after the last one.
 #[tactic(auto, unfolding(crate::specs::Streets::street_after))]
 pub fn street_after(last: Option<StreetName>, text: &str) -> Option<StreetName>
-    ensures { result ≡ street_said last text.now }
+    ensures { result ≡ streets.street_after last text.now }
 {
     let Some(last) = last else {
         return named(StreetName::Preflop, text);
@@ -38,7 +39,7 @@ fn named(street: StreetName, text: &str) -> Option<StreetName>
 
 /// Whether the street deals cards to the board.
 pub fn has_board_cards(street: StreetName) -> bool
-    ensures { result ≡ has_board_cards_said street }
+    ensures { result ≡ streets.has_board_cards street }
 {
     match street {
         StreetName::Flop | StreetName::Turn | StreetName::River => true,

@@ -4,7 +4,7 @@ ghost use Rattle.card_set.specs.Row.{slots_of};
 ghost use Rattle.play_event.specs.Places.{is_same_owner};
 ghost use Rattle.play_event.specs.CanonScript.{dealt_slots, held_slots};
 ghost use Rattle.hand_records.specs.TraceRows.{place_said};
-ghost use Rattle.ohh_writing.specs.Actions.{has_known as has_known_said};
+ghost use Rattle.ohh_writing.specs.Actions as actions;
 
 use card_set::{Slot, SlotRow};
 use chip_ledger::Seat;
@@ -66,7 +66,7 @@ fn is_owner(one: Option<Seat>, other: Option<Seat>) -> bool
 
 /// Whether one of the cards is known.
 pub fn has_known(cards: &[Slot]) -> bool
-    ensures { result ≡ has_known_said cards.now }
+    ensures { result ≡ actions.has_known cards.now }
 {
     for card in cards {
         if !card.is_unknown() {

@@ -1,12 +1,12 @@
 //! The games that the format can write, and the words that name them.
 ghost use Rattle.std.specs.Prelude.{◌≡◌};
-ghost use Rattle.ohh_writing.specs.Games.{bet_word as bet_said, game_word as game_said, is_spelled_game as is_spelled_said};
+ghost use Rattle.ohh_writing.specs.Games as games;
 
 use play_event::Code;
 
 /// Whether the format can write the game.
 pub fn is_spelled_game(code: Code) -> bool
-    ensures { result ≡ is_spelled_said code }
+    ensures { result ≡ games.is_spelled_game code }
 {
     match code {
         Code::FT | Code::NT | Code::PO | Code::FO8 => true,
@@ -17,7 +17,7 @@ pub fn is_spelled_game(code: Code) -> bool
 
 /// The word for the game.
 pub fn game_word(code: Code) -> &'static str
-    ensures { result.now ≡ game_said code }
+    ensures { result.now ≡ games.game_word code }
 {
     match code {
         Code::PO => "Omaha",
@@ -29,7 +29,7 @@ pub fn game_word(code: Code) -> &'static str
 
 /// The word for the limit of the game.
 pub fn bet_word(code: Code) -> &'static str
-    ensures { result.now ≡ bet_said code }
+    ensures { result.now ≡ games.bet_word code }
 {
     match code {
         Code::NT | Code::NS | Code::N2L1D => "NL",

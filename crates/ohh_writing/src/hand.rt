@@ -1,17 +1,17 @@
 //! The tree of a hand: its setup, its notes and its play as they are written.
 ghost use Rattle.std.specs.Prelude.{◌≡◌, [], codes, unwrap_or, IfOk, OnOk};
 ghost use Rattle.std.specs.Fmt.{decimal};
-ghost use Rattle.serde_json.specs.Data.{object, string, put as put_said};
+ghost use Rattle.serde_json.specs.Data.{object, string, put};
 ghost use Rattle.serde_json.specs.View.{view, members_view};
 ghost use Rattle.chip_ledger.specs.SeatRow.{amount_of};
 ghost use Rattle.hand_records.specs.TraceRows.{core_said};
 ghost use Rattle.play_event.specs.Tidy.{IsTidy};
-ghost use Rattle.ohh_writing.specs.Actions.{small_blind_seat as small_blind_seat_said};
-ghost use Rattle.ohh_writing.specs.Games.{game_word as game_said};
-ghost use Rattle.ohh_writing.specs.Rounds.{hand_rounds as hand_rounds_said};
-ghost use Rattle.ohh_writing.specs.Seating.{number_among as number_among_said};
-ghost use Rattle.ohh_writing.specs.Moment.{moment_of as moment_said};
-ghost use Rattle.ohh_writing.specs.Spelled.{big_blind as big_blind_said, greatest_ante as greatest_ante_said};
+ghost use Rattle.ohh_writing.specs.Actions as actions;
+ghost use Rattle.ohh_writing.specs.Games as games;
+ghost use Rattle.ohh_writing.specs.Rounds as rounds;
+ghost use Rattle.ohh_writing.specs.Seating as seating;
+ghost use Rattle.ohh_writing.specs.Moment as moment;
+ghost use Rattle.ohh_writing.specs.Spelled as spelled;
 ghost use Rattle.ohh_writing.specs.Tree.{hand_members, hand_tree, limit_tree, list, numbers_written, players, pots, round_trees, table_size, text_or_empty, whole, with_date};
 
 use crate::games::{bet_word, game_word};
@@ -69,12 +69,12 @@ fn make_members(alloc: Global, dialect: Dialect, place: usize, play: &Play) -> R
 // Puts the game, the greatest ante and the blinds under their names.
 fn put_setup(alloc: Global, ohh: &mut Map<String, Value>, setup: &Setup) -> Result<(), Memory>
     ensures { OnOk result (members_view ohh.new.entries
-        ≡ put_said (codes "small_blind_amount")
-        (whole (amount_of setup.now.blinds (small_blind_seat_said setup.now)))
-        (put_said (codes "big_blind_amount") (whole (big_blind_said setup.now))
-        (put_said (codes "ante_amount") (whole (greatest_ante_said setup.now))
-        (put_said (codes "bet_limit") (limit_tree setup.now)
-        (put_said (codes "game_type") (string (game_said setup.now.code))
+        ≡ put (codes "small_blind_amount")
+        (whole (amount_of setup.now.blinds (actions.small_blind_seat setup.now)))
+        (put (codes "big_blind_amount") (whole (spelled.big_blind setup.now))
+        (put (codes "ante_amount") (whole (spelled.greatest_ante setup.now))
+        (put (codes "bet_limit") (limit_tree setup.now)
+        (put (codes "game_type") (string (games.game_word setup.now.code))
         (members_view ohh.old.entries)))))) }
 {
     let small_blind = amount_at(&setup.blinds, small_blind_seat(setup).number);
@@ -103,10 +103,10 @@ fn put_seating(
     notes: &Notes,
 ) -> Result<(), Memory>
     ensures { OnOk result (members_view ohh.new.entries
-        ≡ put_said (codes "table_size") (whole (table_size setup.now notes.now))
-        (put_said (codes "players")
+        ≡ put (codes "table_size") (whole (table_size setup.now notes.now))
+        (put (codes "players")
         (players setup.now.stacks notes.now (numbers_written setup.now notes.now))
-        (put_said (codes "dealer_seat") (whole (number_among_said
+        (put (codes "dealer_seat") (whole (seating.number_among
         (numbers_written setup.now notes.now) setup.now.stacks.seats))
         (members_view ohh.old.entries)))) }
 {
@@ -134,10 +134,10 @@ fn put_names(
     notes: &Notes,
 ) -> Result<(), Memory>
     ensures { OnOk result (members_view ohh.new.entries
-        ≡ put_said (codes "table_name") (text_or_empty notes.now.table)
-        (put_said (codes "site_name") (text_or_empty notes.now.venue)
-        (put_said (codes "game_number") (string (unwrap_or notes.now.hand (decimal place)))
-        (put_said (codes "currency") (text_or_empty notes.now.currency)
+        ≡ put (codes "table_name") (text_or_empty notes.now.table)
+        (put (codes "site_name") (text_or_empty notes.now.venue)
+        (put (codes "game_number") (string (unwrap_or notes.now.hand (decimal place)))
+        (put (codes "currency") (text_or_empty notes.now.currency)
         (members_view ohh.old.entries))))) }
 {
     put_text(alloc, ohh, "currency", text_of(&notes.currency))?;
@@ -181,8 +181,8 @@ fn put_play(
 ) -> Result<(), Memory>
     requires { IsTidy (core_said trace.now) }
     ensures { OnOk result (members_view ohh.new.entries
-        ≡ put_said (codes "rounds") (list (round_trees 1 (hand_rounds_said dialect trace.now)))
-        (put_said (codes "pots") (pots trace.now) (members_view ohh.old.entries))) }
+        ≡ put (codes "rounds") (list (round_trees 1 (rounds.hand_rounds dialect trace.now)))
+        (put (codes "pots") (pots trace.now) (members_view ohh.old.entries))) }
 {
     put_value(alloc, ohh, "pots", pot_values(alloc, trace)?)?;
     let rounds = hand_rounds(alloc, dialect, &TidyTrace { trace })?;
@@ -194,8 +194,8 @@ fn put_play(
 // Puts the versions of the format and of this project's form of it under their names.
 fn put_versions(alloc: Global, ohh: &mut Map<String, Value>) -> Result<(), Memory>
     ensures { OnOk result (members_view ohh.new.entries
-        ≡ put_said (codes "spec_version") (string (codes "1.4.6"))
-        (put_said (codes "internal_version") (string (codes "1")) (members_view ohh.old.entries))) }
+        ≡ put (codes "spec_version") (string (codes "1.4.6"))
+        (put (codes "internal_version") (string (codes "1")) (members_view ohh.old.entries))) }
 {
     put_text(alloc, ohh, "internal_version", "1")?;
     put_text(alloc, ohh, "spec_version", "1.4.6")?;
@@ -205,7 +205,7 @@ fn put_versions(alloc: Global, ohh: &mut Map<String, Value>) -> Result<(), Memor
 // Puts the moment under its name, if the notes have a complete one.
 fn put_date(alloc: Global, ohh: &mut Map<String, Value>, notes: &Notes) -> Result<(), Memory>
     ensures { OnOk result (members_view ohh.new.entries
-        ≡ with_date (moment_said notes.now) (members_view ohh.old.entries)) }
+        ≡ with_date (moment.moment_of notes.now) (members_view ohh.old.entries)) }
 {
     if let Some(moment) = moment_of(notes) {
         let text = moment_text(alloc, moment)?;

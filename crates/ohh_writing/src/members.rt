@@ -1,7 +1,8 @@
 //! Puts the members of a JSON object, one after the other. Each call makes the value that it puts,
 //! so that its callers own nothing but the members if memory runs out.
 ghost use Rattle.std.specs.Prelude.{◌≡◌, IfOk, OnOk};
-ghost use Rattle.serde_json.specs.Data.{put as put_said, string};
+ghost use Rattle.serde_json.specs.Data.{string};
+ghost use Rattle.serde_json.specs.Data as json;
 ghost use Rattle.serde_json.specs.View.{view, members_view};
 ghost use Rattle.ohh_writing.specs.Tree.{whole};
 
@@ -17,7 +18,7 @@ pub fn put_number(
     number: u64,
 ) -> Result<(), Memory>
     ensures { OnOk result (members_view members.new.entries
-        ≡ put_said name.now (whole number) (members_view members.old.entries)) }
+        ≡ json.put name.now (whole number) (members_view members.old.entries)) }
 {
     put_value(alloc, members, name, Value::from(number))?;
     Ok(())
@@ -31,7 +32,7 @@ pub fn put_text(
     text: &str,
 ) -> Result<(), Memory>
     ensures { OnOk result (members_view members.new.entries
-        ≡ put_said name.now (string text.now) (members_view members.old.entries)) }
+        ≡ json.put name.now (string text.now) (members_view members.old.entries)) }
 {
     put_value(alloc, members, name, text_value(alloc, text)?)?;
     Ok(())
@@ -45,7 +46,7 @@ pub fn put_value(
     value: Value,
 ) -> Result<(), Memory>
     ensures { OnOk result (members_view members.new.entries
-        ≡ put_said name.now (view value) (members_view members.old.entries)) }
+        ≡ json.put name.now (view value) (members_view members.old.entries)) }
 {
     match put(members, alloc, name, value) {
         Ok(()) => Ok(()),

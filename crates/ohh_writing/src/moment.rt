@@ -1,6 +1,7 @@
 //! A hand gets a date if its notes have a complete moment in the zone UTC.
 ghost use Rattle.std.specs.Prelude.{◌≡◌, ◌++◌, string_bytes, IfOk, OnOk};
-ghost use Rattle.ohh_writing.specs.Moment.{by_digits, fraction_text, moment_in as moment_in_said, moment_of as moment_said, moment_text as text_said, time_text};
+ghost use Rattle.ohh_writing.specs.Moment.{by_digits, fraction_text, time_text};
+ghost use Rattle.ohh_writing.specs.Moment as moments;
 
 use card_set::{Memory, TryPush, TryWrite};
 use hand_records::{CivilDate, Clock, Moment, Notes};
@@ -8,7 +9,7 @@ use std::alloc::Global;
 
 /// The moment of the notes, if it is complete and its zone is UTC.
 pub fn moment_of(notes: &Notes) -> Option<Moment>
-    ensures { result ≡ moment_said notes.now }
+    ensures { result ≡ moments.moment_of notes.now }
 {
     let year = notes.year?;
     let month = notes.month?;
@@ -22,7 +23,7 @@ pub fn moment_of(notes: &Notes) -> Option<Moment>
 
 // The moment, if the zone is UTC.
 fn moment_in(year: u16, month: u8, day: u8, time: Clock, zone: &str) -> Option<Moment>
-    ensures { result ≡ moment_in_said year month day time zone.now }
+    ensures { result ≡ moments.moment_in year month day time zone.now }
 {
     if zone == "UTC" {
         let day = CivilDate { year, month, day };
@@ -34,7 +35,7 @@ fn moment_in(year: u16, month: u8, day: u8, time: Clock, zone: &str) -> Option<M
 
 /// A moment as the format writes it.
 pub fn moment_text(alloc: Global, moment: Moment) -> Result<String, Memory>
-    ensures { IfOk result (λ text. string_bytes text ≡ text_said moment) }
+    ensures { IfOk result (λ text. string_bytes text ≡ moments.moment_text moment) }
 {
     let mut text = String::new(alloc);
     push_digits(&mut text, 4, u32::from(moment.day.year))?;

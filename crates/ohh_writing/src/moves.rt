@@ -2,7 +2,8 @@
 ghost use Rattle.std.specs.Prelude.{◌≡◌, ◌==◌, ◌≤◌, ℕ, ◌+◌, ◌-◌, [], ◌∷◌, ◌++◌, if◌then◌else◌, map, slice_index, IfNone, IfSome, OnOk};
 ghost use Rattle.play_event.specs.Chips.{chips_left};
 ghost use Rattle.play_event.specs.Played.{move_said};
-ghost use Rattle.ohh_writing.specs.Actions.{act_written, action_said, alone, call_written, moves_written, raise_amount as raise_amount_said, raise_written};
+ghost use Rattle.ohh_writing.specs.Actions.{act_written, action_said, alone, call_written, moves_written, raise_written};
+ghost use Rattle.ohh_writing.specs.Actions as ohh;
 
 use crate::action::{Action, Detail};
 use crate::posts::{chips_action, left_after_posts};
@@ -116,7 +117,7 @@ fn raise_action(dialect: Dialect, played: Move, left: u64) -> Action
 
 // The amount of a raise in a dialect.
 fn raise_amount(dialect: Dialect, played: Move) -> u64
-    ensures { result ≡ raise_amount_said dialect (move_said played) }
+    ensures { result ≡ ohh.raise_amount dialect (move_said played) }
 {
     match dialect {
         Dialect::Added => added(played),

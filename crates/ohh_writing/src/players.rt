@@ -1,6 +1,6 @@
 //! The players of a hand, each with its seat at the table and its stack.
 ghost use Rattle.std.specs.Prelude.{◌≡◌, codes, string_bytes, IfOk, OnOk};
-ghost use Rattle.serde_json.specs.Data.{put as put_said, string};
+ghost use Rattle.serde_json.specs.Data.{put, string};
 ghost use Rattle.serde_json.specs.View.{view, members_view};
 ghost use Rattle.hand_records.specs.AllowedNotes.{name_written};
 ghost use Rattle.ohh_writing.specs.Tree.{player_tree, players};
@@ -61,7 +61,7 @@ fn put_name(
     seat: Seat,
 ) -> Result<(), Memory>
     ensures { OnOk result (members_view members.new.entries
-        ≡ put_said (codes "name") (string (name_written notes.now seat.number))
+        ≡ put (codes "name") (string (name_written notes.now seat.number))
         (members_view members.old.entries)) }
 {
     put_value(

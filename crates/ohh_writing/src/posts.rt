@@ -4,7 +4,8 @@ ghost use Rattle.std.specs.List.{flat_map};
 ghost use Rattle.chip_ledger.specs.SeatRow.{amount_of};
 ghost use Rattle.play_event.specs.Chips.{blind_posted, posted};
 ghost use Rattle.play_event.specs.Seats.{all_seats};
-ghost use Rattle.ohh_writing.specs.Actions.{action_said, ante_post, big_blind_seat as big_blind_seat_said, blind_post, posts, small_blind_seat as small_blind_seat_said, straddle_post, with_chips};
+ghost use Rattle.ohh_writing.specs.Actions.{action_said, ante_post, blind_post, posts, straddle_post, with_chips};
+ghost use Rattle.ohh_writing.specs.Actions as ohh;
 
 use crate::action::{Action, Detail};
 use card_set::{Memory, TryPush};
@@ -51,7 +52,7 @@ fn push_ante(actions: &mut Vec<Action>, setup: &Setup, seat: Seat) -> Result<(),
 
 /// The seat of the small blind.
 pub fn small_blind_seat(setup: &Setup) -> Seat
-    ensures { result.number ≡ small_blind_seat_said setup.now }
+    ensures { result.number ≡ ohh.small_blind_seat setup.now }
 {
     let number = if setup.stacks.seats == 2 { 2 } else { 1 };
     Seat { number }
@@ -59,7 +60,7 @@ pub fn small_blind_seat(setup: &Setup) -> Seat
 
 /// The seat of the big blind.
 pub fn big_blind_seat(setup: &Setup) -> Seat
-    ensures { result.number ≡ big_blind_seat_said setup.now }
+    ensures { result.number ≡ ohh.big_blind_seat setup.now }
 {
     let number = if setup.stacks.seats == 2 { 1 } else { 2 };
     Seat { number }

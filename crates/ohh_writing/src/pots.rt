@@ -1,8 +1,8 @@
 //! The pots of a hand, with their rakes and with who wins them.
 ghost use Rattle.std.specs.Prelude.{◌≡◌, ◌≤◌, ◌<◌, ◌++◌, ◌+◌, codes, map, IfOk, OnOk};
-ghost use Rattle.serde_json.specs.Data.{put as put_said};
+ghost use Rattle.serde_json.specs.Data.{put};
 ghost use Rattle.serde_json.specs.View.{view, members_view};
-ghost use Rattle.ohh_writing.specs.Tree.{pot_tree, pots as pots_said, win_object, win_tree, wins_of};
+ghost use Rattle.ohh_writing.specs.Tree.{pot_tree, pots, win_object, win_tree, wins_of};
 
 use crate::members::{put_number, put_value};
 use crate::posts::amount_at;
@@ -14,7 +14,7 @@ use std::alloc::Global;
 
 /// The trees of the pots, the lowest first.
 pub fn pot_values(alloc: Global, trace: &Trace) -> Result<Value, Memory>
-    ensures { IfOk result (λ value. view value ≡ pots_said trace.now) }
+    ensures { IfOk result (λ value. view value ≡ pots trace.now) }
 {
     let mut values = Vec::new(alloc);
     for place in 0..trace.pots.count {
@@ -47,7 +47,7 @@ fn put_wins(
 ) -> Result<(), Memory>
     requires { seats ≤ 10 }
     ensures { OnOk result (members_view members.new.entries
-        ≡ put_said (codes "player_wins") (wins_of share.now seats)
+        ≡ put (codes "player_wins") (wins_of share.now seats)
         (members_view members.old.entries)) }
 {
     put_value(

@@ -1,7 +1,8 @@
 //! A hand is written as a list of rounds: those of its streets, and the showdown.
 ghost use Rattle.std.specs.Prelude.{◌≡◌, None, [], ◌++◌, map, IfOk, OnOk};
 ghost use Rattle.ohh_writing.specs.Actions.{action_said, showings};
-ghost use Rattle.ohh_writing.specs.Rounds.{board_round_on, first_actions, hand_rounds as hand_rounds_said, moves_on as moves_on_said, round, round_said, showdown_round};
+ghost use Rattle.ohh_writing.specs.Rounds.{board_round_on, first_actions, round, round_said, showdown_round};
+ghost use Rattle.ohh_writing.specs.Rounds as ohh;
 ghost use Rattle.ohh_members.specs.declared.street.StreetName.TheVariants as streets;
 
 use crate::action::{Action, Round};
@@ -20,7 +21,7 @@ use std::alloc::Global;
 #[tactic(auto, unfolding(crate::specs::Rounds::hand_rounds))]
 pub fn hand_rounds(alloc: Global, dialect: Dialect, tidy: &TidyTrace) -> Result<Vec<Round>, Memory>
     ensures { IfOk result (λ rounds. map round_said rounds.items
-        ≡ hand_rounds_said dialect tidy.now.trace.now) }
+        ≡ ohh.hand_rounds dialect tidy.now.trace.now) }
 {
     let mut rounds = Vec::new(alloc);
     rounds.try_push(first_round(alloc, dialect, tidy)?)?;
@@ -88,7 +89,7 @@ fn moves_on(
     number: u8,
 ) -> Result<Vec<Action>, Memory>
     ensures { IfOk result (λ actions.
-        map action_said actions.items ≡ moves_on_said dialect trace.now number) }
+        map action_said actions.items ≡ ohh.moves_on dialect trace.now number) }
 {
     let mut actions = Vec::new(alloc);
     push_moves(

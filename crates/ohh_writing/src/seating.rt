@@ -1,13 +1,13 @@
 //! Numbers of seats are written if they go round the table once.
 ghost use Rattle.std.specs.Prelude.{◌≡◌, ◌==◌, ◌≤◌, length};
 ghost use Rattle.std.specs.List.{list_any};
-ghost use Rattle.ohh_writing.specs.Seating.{fall as fall_said, falls as falls_said, first_or as first_or_said, has_no_repeat as has_no_repeat_said, is_circular as is_circular_said, number_among as number_among_said, numbers_spelled as numbers_said};
+ghost use Rattle.ohh_writing.specs.Seating as seating;
 
 /// The numbers of the first `count` seats, if they are noted and go round.
 pub fn numbers_spelled(count: u8, said: Option<[u8; 10]>) -> Option<[u8; 10]>
     requires least { 1 ≤ count }
     requires greatest { count ≤ 10 }
-    ensures { result ≡ numbers_said count said }
+    ensures { result ≡ seating.numbers_spelled count said }
 {
     match said {
         Some(numbers) => {
@@ -24,7 +24,7 @@ pub fn numbers_spelled(count: u8, said: Option<[u8; 10]>) -> Option<[u8; 10]>
 // Whether the numbers differ and go round once: they fall at one step only.
 fn is_circular(numbers: &[u8]) -> bool
     requires { 1 ≤ length numbers.now }
-    ensures { result ≡ is_circular_said numbers.now }
+    ensures { result ≡ seating.is_circular numbers.now }
 {
     if !has_no_repeat(numbers) {
         return false;
@@ -34,7 +34,7 @@ fn is_circular(numbers: &[u8]) -> bool
 
 // Whether no number is repeated.
 fn has_no_repeat(numbers: &[u8]) -> bool
-    ensures { result ≡ has_no_repeat_said numbers.now }
+    ensures { result ≡ seating.has_no_repeat numbers.now }
 {
     match numbers {
         [] => true,
@@ -61,7 +61,7 @@ fn has_number(numbers: &[u8], number: u8) -> bool
 
 // How many steps fall, from each number to the next, and from the last one to `back`.
 fn falls(back: u8, numbers: &[u8]) -> usize
-    ensures falls { result ≡ falls_said back numbers.now }
+    ensures falls { result ≡ seating.falls back numbers.now }
     ensures few { result ≤ length numbers.now }
 {
     match numbers {
@@ -72,7 +72,7 @@ fn falls(back: u8, numbers: &[u8]) -> usize
 
 // 1 if a step falls, else 0.
 fn fall(number: u8, next: u8) -> usize
-    ensures fall { result ≡ fall_said number next }
+    ensures fall { result ≡ seating.fall number next }
     ensures few { result ≤ 1 }
 {
     usize::from(next < number)
@@ -80,7 +80,7 @@ fn fall(number: u8, next: u8) -> usize
 
 // The first of some numbers, or `back` after the last.
 fn first_or(back: u8, numbers: &[u8]) -> u8
-    ensures { result ≡ first_or_said back numbers.now }
+    ensures { result ≡ seating.first_or back numbers.now }
 {
     match numbers {
         [] => back,
@@ -92,7 +92,7 @@ fn first_or(back: u8, numbers: &[u8]) -> u8
 pub fn number_among(numbers: Option<[u8; 10]>, seat: u8) -> u8
     requires first { 1 ≤ seat }
     requires last { seat ≤ 10 }
-    ensures { result ≡ number_among_said numbers seat }
+    ensures { result ≡ seating.number_among numbers seat }
 {
     match numbers {
         Some(numbers) => numbers[seat as usize - 1],

@@ -1,7 +1,8 @@
 //! The first fact of a play that the format cannot write, and the first play that has one.
 ghost use Rattle.std.specs.Prelude.{◌≡◌, ◌≤◌, length};
 ghost use Rattle.first_fault.specs.declared.limits.TheConstants.{MOST_HANDS};
-ghost use Rattle.ohh_writing.specs.Spelled.{first_unspelled, has_spelled_numbers as has_numbers_said, kept_facts, note_facts, trace_facts, unspelled};
+ghost use Rattle.ohh_writing.specs.Spelled.{first_unspelled, kept_facts, note_facts, trace_facts, unspelled};
+ghost use Rattle.ohh_writing.specs.Spelled as spelled;
 ghost use Rattle.hand_records.specs.WriteRefusals.{first_refusal};
 
 use crate::games::is_spelled_game;
@@ -101,7 +102,7 @@ fn first_of_notes(stacks: &SeatRow, notes: &Notes) -> Option<Unspelled>
 
 // Whether the numbers of the seats are not noted, or go round the table.
 fn has_spelled_numbers(stacks: &SeatRow, notes: &Notes) -> bool
-    ensures { result ≡ has_numbers_said stacks.now.seats notes.now }
+    ensures { result ≡ spelled.has_spelled_numbers stacks.now.seats notes.now }
 {
     if notes.seats.is_none() {
         return true;

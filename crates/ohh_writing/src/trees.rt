@@ -1,6 +1,6 @@
 //! Rounds, actions and cards as JSON trees.
 ghost use Rattle.std.specs.Prelude.{◌≡◌, ◌≤◌, ◌<◌, ◌+◌, ◌^◌, codes, length, map, sum_by, slice_index, IfOk, OnOk};
-ghost use Rattle.serde_json.specs.Data.{boolean, put as put_said, string};
+ghost use Rattle.serde_json.specs.Data.{boolean, put, string};
 ghost use Rattle.serde_json.specs.View.{view, members_view};
 ghost use Rattle.card_set.specs.Spelling.{slot_spelling};
 ghost use Rattle.ohh_writing.specs.Actions.{action_said, detail_said};
@@ -94,8 +94,8 @@ fn put_chips(
     all_in: bool,
 ) -> Result<(), Memory>
     ensures { OnOk result (members_view members.new.entries
-        ≡ put_said (codes "is_allin") (boolean all_in)
-        (put_said (codes "amount") (whole amount) (members_view members.old.entries))) }
+        ≡ put (codes "is_allin") (boolean all_in)
+        (put (codes "amount") (whole amount) (members_view members.old.entries))) }
 {
     put_number(alloc, members, "amount", amount)?;
     put_value(alloc, members, "is_allin", Value::from(all_in))?;
@@ -105,7 +105,7 @@ fn put_chips(
 // Puts cards under their name.
 fn put_cards(alloc: Global, members: &mut Map<String, Value>, cards: &[Slot]) -> Result<(), Memory>
     ensures { OnOk result (members_view members.new.entries
-        ≡ put_said (codes "cards") (cards_tree cards.now) (members_view members.old.entries)) }
+        ≡ put (codes "cards") (cards_tree cards.now) (members_view members.old.entries)) }
 {
     put_value(alloc, members, "cards", card_values(alloc, cards)?)?;
     Ok(())

@@ -7,16 +7,15 @@ ghost use Rattle.chip_ledger.specs.SeatsSaid.{default_name};
 use crate::fault::ActionFault;
 use crate::words::is_word;
 use card_set::{CardRow, SlotRow, read_slots as read_row};
-use chip_ledger::{MOST_CHIPS, Seat};
+use chip_ledger::{MOST_CHIPS, PlayerCount, Seat};
 use first_fault::{are_digits, place_of, read_digits};
 
 /// The seat of the hand that a word names.
 #[tactic(auto, unfolding(crate::specs::Action::seat_said, crate::specs::Action::seat_named))]
-pub fn read_seat(seats: u8, name: &[u8]) -> Result<Seat, ActionFault>
-    requires { seats ≤ 10 }
-    ensures { seen_by (λ seat. seat.number) result ≡ seat_said seats name.now }
+pub fn read_seat(players: PlayerCount, name: &[u8]) -> Result<Seat, ActionFault>
+    ensures { seen_by (λ seat. seat.number) result ≡ seat_said players.number name.now }
 {
-    for index in 0..seats {
+    for index in 0..players.number {
         if names_seat(name, index + 1) {
             return Seat::new(index + 1).ok_or(ActionFault::BadAction);
         }

@@ -1,5 +1,5 @@
 //! Reads the words of an action as an event.
-ghost use Rattle.std.specs.Prelude.{◌≡◌, ◌≤◌, option_map};
+ghost use Rattle.std.specs.Prelude.{◌≡◌, option_map};
 ghost use Rattle.play_event.specs.Said.{kind_said};
 ghost use Rattle.phh_actions.specs.Action.{action_said, act_said, act_with_said, four_say, seen_by, three_say, two_say, words_say};
 ghost use Rattle.first_fault.specs.Words.{words_of};
@@ -8,26 +8,25 @@ use crate::fault::ActionFault;
 use crate::parts::{known_cards, read_amount, read_seat, read_slots};
 use crate::words::{before_commentary, is_word};
 use card_set::SlotRow;
-use chip_ledger::Seat;
+use chip_ledger::{PlayerCount, Seat};
 use first_fault::next_word;
 use play_event::{Kind, Spelled};
 
-/// The event of an action in a hand with `seats` seats; an action without a word is no event.
+/// The event of an action in a hand with this number of players; an action without a word is no
+/// event.
 ///
 /// The forms are those of the format's own document: `d dh pN cards`, `d db cards`, `pN f`, `pN
 /// cc`, `pN cbr amount`, `pN pb`, `pN sd`, `pN sd cards`, `pN sm` and `pN sm cards`.
-pub fn read_action(text: &str, seats: u8) -> Result<Option<Kind>, ActionFault>
-    requires { seats ≤ 10 }
-    ensures { seen_by (option_map kind_said) result ≡ action_said seats text.now }
+pub fn read_action(text: &str, players: PlayerCount) -> Result<Option<Kind>, ActionFault>
+    ensures { seen_by (option_map kind_said) result ≡ action_said players.number text.now }
 {
-    ActionReader { seats }.read_words(before_commentary(text.as_bytes()))
+    ActionReader { players }.read_words(before_commentary(text.as_bytes()))
 }
 
-// Reads the words of the actions of a hand with this number of seats.
+// Reads the words of the actions of a hand with this number of players.
 #[derive(Clone, Copy)]
 struct ActionReader {
-    seats: u8,
-    ghost few: { seats ≤ 10 },
+    players: PlayerCount,
 }
 
 impl ActionReader {
@@ -36,7 +35,7 @@ impl ActionReader {
     #[tactic(auto, unfolding(crate::specs::Action::words_say))]
     fn read_words(self, text: &[u8]) -> Result<Option<Kind>, ActionFault>
         ensures { seen_by (option_map kind_said) result
-            ≡ words_say self.seats (words_of text.now) }
+            ≡ words_say self.players.number (words_of text.now) }
     {
         let Some((first, rest)) = next_word(text) else {
             return Ok(None);
@@ -59,9 +58,9 @@ impl ActionReader {
     // A seat, and what it does.
     #[tactic(auto, unfolding(crate::specs::Action::two_say))]
     fn read_two(self, first: &[u8], second: &[u8]) -> Result<Kind, ActionFault>
-        ensures { seen_by kind_said result ≡ two_say self.seats first.now second.now }
+        ensures { seen_by kind_said result ≡ two_say self.players.number first.now second.now }
     {
-        let seat = read_seat(self.seats, first)?;
+        let seat = read_seat(self.players, first)?;
         read_act(seat, second)
     }
 
@@ -69,13 +68,13 @@ impl ActionReader {
     #[tactic(auto, unfolding(crate::specs::Action::three_say, crate::specs::Action::cards_said))]
     fn read_three(self, first: &[u8], second: &[u8], third: &[u8]) -> Result<Kind, ActionFault>
         ensures { seen_by kind_said result
-            ≡ three_say self.seats first.now second.now third.now }
+            ≡ three_say self.players.number first.now second.now third.now }
     {
         if is_word(first, "d") && is_word(second, "db") {
             let cards = known_cards(read_slots(5, third)?)?;
             return Ok(Kind::Board { cards });
         }
-        let seat = read_seat(self.seats, first)?;
+        let seat = read_seat(self.players, first)?;
         read_act_with(seat, second, third)
     }
 
@@ -89,12 +88,12 @@ impl ActionReader {
         fourth: &[u8],
     ) -> Result<Kind, ActionFault>
         ensures { seen_by kind_said result
-            ≡ four_say self.seats first.now second.now third.now fourth.now }
+            ≡ four_say self.players.number first.now second.now third.now fourth.now }
     {
         if !(is_word(first, "d") && is_word(second, "dh")) {
             return Err(ActionFault::BadAction);
         }
-        let seat = read_seat(self.seats, third)?;
+        let seat = read_seat(self.players, third)?;
         let cards = read_slots(7, fourth)?;
         Ok(Kind::Hole { seat, cards })
     }

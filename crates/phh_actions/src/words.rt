@@ -1,12 +1,12 @@
 //! What comes after the first `#` of a text is commentary.
 ghost use Rattle.std.specs.Prelude.{◌≡◌, bytes_eq};
-ghost use Rattle.phh_actions.specs.Words.{before_commentary as said_part};
+ghost use Rattle.phh_actions.specs.Words as words;
 
 use first_fault::place_of;
 
 /// The text before its commentary.
 pub fn before_commentary(text: &[u8]) -> &[u8]
-    ensures { result.now ≡ said_part text.now }
+    ensures { result.now ≡ words.before_commentary text.now }
 {
     let len = place_of(text, b'#');
     &text[..len]

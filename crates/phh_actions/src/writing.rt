@@ -4,7 +4,8 @@ ghost use Rattle.card_set.specs.Known.{known_slots};
 ghost use Rattle.card_set.specs.Spelling.{slot_spelling, spelling};
 ghost use Rattle.play_event.specs.Said.{Board, Discard, Hole, Raise, Said, Show, kind_said};
 ghost use Rattle.phh_actions.specs.Action.{action_said};
-ghost use Rattle.phh_actions.specs.Written.{event_text as text_said, has_words};
+ghost use Rattle.phh_actions.specs.Written.{has_words};
+ghost use Rattle.phh_actions.specs.Written as written;
 ghost use Rattle.play_event.specs.Ranges.{IsInRange};
 ghost use Rattle.chip_ledger.specs.SeatsSaid.{default_name};
 
@@ -18,7 +19,7 @@ use std::alloc::Global;
 #[tactic(auto, unfolding(crate::specs::Written::event_text))]
 pub fn event_text(alloc: Global, kind: Kind) -> Result<String, Memory>
     requires { IsTrue (has_words (kind_said kind)) }
-    ensures { IfOk result (λ text. string_bytes text ≡ text_said (kind_said kind)) }
+    ensures { IfOk result (λ text. string_bytes text ≡ written.event_text (kind_said kind)) }
 {
     match kind {
         Kind::Hole { seat, cards } => hole_text(alloc, seat, cards.as_slice()),
@@ -35,7 +36,8 @@ pub fn event_text(alloc: Global, kind: Kind) -> Result<String, Memory>
 
 #[tactic(auto, unfolding(crate::specs::Written::event_text))]
 fn hole_text(alloc: Global, seat: Seat, slots: &[Slot]) -> Result<String, Memory>
-    ensures { IfOk result (λ text. string_bytes text ≡ text_said (Hole seat.number slots.now)) }
+    ensures { IfOk result
+        (λ text. string_bytes text ≡ written.event_text (Hole seat.number slots.now)) }
 {
     let number = seat.number();
     let mut text = try_format!(in alloc; "d dh p{number} ")?;
@@ -45,7 +47,7 @@ fn hole_text(alloc: Global, seat: Seat, slots: &[Slot]) -> Result<String, Memory
 
 #[tactic(auto, unfolding(crate::specs::Written::event_text))]
 fn board_text(alloc: Global, cards: &[Card]) -> Result<String, Memory>
-    ensures { IfOk result (λ text. string_bytes text ≡ text_said (Board cards.now)) }
+    ensures { IfOk result (λ text. string_bytes text ≡ written.event_text (Board cards.now)) }
 {
     let mut text = string_from(alloc, "d db ")?;
     push_cards(&mut text, cards)?;
@@ -56,7 +58,7 @@ fn board_text(alloc: Global, cards: &[Card]) -> Result<String, Memory>
 fn raise_text(alloc: Global, seat: Seat, amount: Spelled) -> Result<String, Memory>
     requires { IsTrue (has_words (Raise (Some seat.number) amount)) }
     ensures { IfOk result (λ text. string_bytes text
-        ≡ text_said (Raise (Some seat.number) amount)) }
+        ≡ written.event_text (Raise (Some seat.number) amount)) }
 {
     let number = seat.number();
     match amount {
@@ -67,7 +69,8 @@ fn raise_text(alloc: Global, seat: Seat, amount: Spelled) -> Result<String, Memo
 
 #[tactic(auto, unfolding(crate::specs::Written::event_text))]
 fn discard_text(alloc: Global, seat: Seat, slots: &[Slot]) -> Result<String, Memory>
-    ensures { IfOk result (λ text. string_bytes text ≡ text_said (Discard seat.number slots.now)) }
+    ensures { IfOk result
+        (λ text. string_bytes text ≡ written.event_text (Discard seat.number slots.now)) }
 {
     let mut text = act_text(alloc, seat, "sd")?;
     if !slots.is_empty() {
@@ -89,7 +92,8 @@ fn push_slots(text: &mut String, slots: &[Slot]) -> Result<(), Memory>
 
 #[tactic(auto, unfolding(crate::specs::Written::event_text))]
 fn show_text(alloc: Global, seat: Seat, cards: &[Card]) -> Result<String, Memory>
-    ensures { IfOk result (λ text. string_bytes text ≡ text_said (Show seat.number cards.now)) }
+    ensures { IfOk result
+        (λ text. string_bytes text ≡ written.event_text (Show seat.number cards.now)) }
 {
     let mut text = act_text(alloc, seat, "sm ")?;
     push_cards(&mut text, cards)?;
@@ -140,5 +144,5 @@ fn letters_of(slot: Slot) -> [u8; 2]
 #[tactic(auto, using(crate::proofs::SaidAgain::event_again))]
 pub fn law_of_words()
     ensures { (seats : ℕ) (event : Said) → seats ≤ 10 → IsInRange seats event
-        → action_said seats (text_said event) ≡ Ok (Some event) }
+        → action_said seats (written.event_text event) ≡ Ok (Some event) }
 {}

@@ -4,7 +4,7 @@ ghost use Rattle.std.specs.Str.Parse.{digits_value};
 ghost use Rattle.toml.specs.Parse.{parse_document};
 ghost use Rattle.toml.specs.View.{table_view};
 ghost use Rattle.first_fault.specs.declared.limits.TheConstants.{MOST_FILE_MOVES, MOST_HANDS};
-ghost use Rattle.first_fault.specs.Digits.{are_digits as are_digits_said};
+ghost use Rattle.first_fault.specs.Digits.{are_digits};
 ghost use Rattle.phh_reading.specs.declared.by_table.TheConstants.{MOST_NUMBER};
 ghost use Rattle.phh_reading.specs.NextTable.{IsNextHand as IsNextTable};
 ghost use Rattle.phh_reading.specs.Reading.{document_said, numbered_hand};
@@ -80,7 +80,7 @@ fn next_hand(
 // The number that the digits say, if it is from `least` to the greatest that is read.
 #[tactic(auto, unfolding(first_fault::specs::Digits::number_of))]
 fn number_from(digits: &str, least: u64) -> Option<u64>
-    requires { IsTrue (are_digits_said digits.now) }
+    requires { IsTrue (are_digits digits.now) }
     ensures number { IfSome result (λ number. number ≡ digits_value 10 digits.now) }
     ensures least { IfSome result (λ number. least ≤ number) }
     ensures most { IfSome result (λ number. number ≤ MOST_NUMBER) }

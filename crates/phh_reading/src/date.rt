@@ -4,8 +4,10 @@ ghost use Rattle.toml.specs.View.{table_view, view};
 ghost use Rattle.hand_records.specs.AllowedNotes.{IsTime, IsWithin};
 ghost use Rattle.first_fault.specs.Reading.{Gives, read_if};
 ghost use Rattle.phh_reading.specs.declared.field_fault.FieldKey.TheVariants as keys;
-ghost use Rattle.phh_reading.specs.Fields.{at_key, field as field_said, number_said};
-ghost use Rattle.phh_reading.specs.NoteFields.{clock_of as clock_of_said, day_said, is_clock as is_clock_said, is_in_calendar as is_in_calendar_said, time_alone as time_alone_said, time_said};
+ghost use Rattle.phh_reading.specs.Fields.{at_key, number_said};
+ghost use Rattle.phh_reading.specs.Fields as fields;
+ghost use Rattle.phh_reading.specs.NoteFields.{day_said, time_said};
+ghost use Rattle.phh_reading.specs.NoteFields as note_fields;
 
 use crate::field_fault::{FieldFault, FieldFaultKind, FieldKey, FieldPlace};
 use crate::values::{field, field_fault_at, read_number};
@@ -30,7 +32,7 @@ pub fn read_day(table: &Table) -> Result<PartialDate, ReadError<FieldFault>>
     ensures month { IfOk result (λ date. IfSome date.month (IsWithin 1 12)) }
     ensures day { IfOk result (λ date. IfSome date.day (IsWithin 1 31)) }
     ensures civil { IfOk result (λ date.
-        is_in_calendar_said date.year date.month date.day ≡ true) }
+        note_fields.is_in_calendar date.year date.month date.day ≡ true) }
 {
     let year = read_year(table)?;
     let month = read_part(table, FieldKey::Month, 12)?;
@@ -47,7 +49,7 @@ pub fn read_day(table: &Table) -> Result<PartialDate, ReadError<FieldFault>>
 fn read_year(table: &Table) -> Result<Option<u16>, ReadError<FieldFault>>
     ensures said { Gives (λ year. year) result
         (read_if (number_said 1 9999 (at_key keys.Year))
-        (field_said keys.Year (table_view table.now))) }
+        (fields.field keys.Year (table_view table.now))) }
     ensures within { IfOk result (λ year. IfSome year (IsWithin 1 9999)) }
 {
     match field(table, FieldKey::Year) {
@@ -62,7 +64,7 @@ fn read_year(table: &Table) -> Result<Option<u16>, ReadError<FieldFault>>
 // The number from 1 to `most` at a key, if there is one.
 fn read_part(table: &Table, key: FieldKey, most: u8) -> Result<Option<u8>, ReadError<FieldFault>>
     ensures said { Gives (λ part. part) result
-        (read_if (number_said 1 most (at_key key)) (field_said key (table_view table.now))) }
+        (read_if (number_said 1 most (at_key key)) (fields.field key (table_view table.now))) }
     ensures within { IfOk result (λ part. IfSome part (IsWithin 1 most)) }
 {
     match field(table, key) {
@@ -79,7 +81,7 @@ fn is_in_calendar(date: PartialDate) -> bool
     requires year { IfSome date.year (IsWithin 1 9999) }
     requires month { IfSome date.month (IsWithin 1 12) }
     requires day { IfSome date.day (IsWithin 1 31) }
-    ensures { result ≡ is_in_calendar_said date.year date.month date.day }
+    ensures { result ≡ note_fields.is_in_calendar date.year date.month date.day }
 {
     match (date.year, date.month, date.day) {
         (Some(year), Some(month), Some(day)) => has_day(year, month, day),
@@ -90,7 +92,7 @@ fn is_in_calendar(date: PartialDate) -> bool
 /// The time of day, if it is given.
 pub fn read_time_at(table: &Table) -> Result<Option<Clock>, ReadError<FieldFault>>
     ensures said { Gives (λ clock. clock) result
-        (read_if time_said (field_said keys.Time (table_view table.now))) }
+        (read_if time_said (fields.field keys.Time (table_view table.now))) }
     ensures allowed { IfOk result (λ clock. IfSome clock IsTime) }
 {
     match field(table, FieldKey::Time) {
@@ -121,7 +123,7 @@ fn read_time(value: &Value) -> Result<Clock, ReadError<FieldFault>>
 
 // A time of day; a missing second or fraction is 0.
 fn clock_of(time: Time) -> Clock
-    ensures { result ≡ clock_of_said time }
+    ensures { result ≡ note_fields.clock_of time }
 {
     Clock {
         hour: time.hour,
@@ -139,14 +141,14 @@ fn clock_of(time: Time) -> Clock
 
 // Whether it is a valid time of day.
 fn is_clock(clock: Clock) -> bool
-    ensures { result ≡ is_clock_said clock }
+    ensures { result ≡ note_fields.is_clock clock }
 {
     (clock.hour <= 23 && clock.minute <= 59) && (clock.second <= 59 && clock.nano <= 999_999_999)
 }
 
 // The local time of a date-time, if it has no date and no zone.
 fn time_alone(said: &Datetime) -> Option<Time>
-    ensures { result ≡ time_alone_said said.now.date said.now.time said.now.offset }
+    ensures { result ≡ note_fields.time_alone said.now.date said.now.time said.now.offset }
 {
     match (said.date, said.time, said.offset) {
         (None, Some(time), None) => Some(time),

@@ -2,17 +2,16 @@
 ghost use Rattle.std.specs.Prelude.{◌≡◌, ◌≤◌, ◌+◌, ◌++◌, map, IfOk, OnOk, option_map};
 ghost use Rattle.toml.specs.View.{view};
 ghost use Rattle.first_fault.specs.declared.limits.TheConstants.{MOST_FILE_MOVES};
-ghost use Rattle.play_event.specs.PlayedScript.{is_move as is_move_said};
 ghost use Rattle.play_event.specs.Said.{kind_said, numbered};
 ghost use Rattle.first_fault.specs.Reading.{Gives};
 ghost use Rattle.phh_actions.specs.Action.{action_said};
 ghost use Rattle.phh_reading.specs.Events.{AreCounted, AreFew, IsAfter, IsOneMore, action_fault, at_place, counted, counts_after, event_said, events_said, listed_event, one_event};
-ghost use Rattle.first_fault.specs.Numbers.{kept_number};
 
 use crate::field_fault::{FieldFault, FieldFaultKind, FieldKey, FieldPlace};
 use crate::values::{field_fault_at, read_text};
 use card_set::Memory;
-use first_fault::{MOST_FILE_MOVES, Quantity, ReadError};
+use chip_ledger::PlayerCount;
+use first_fault::{MOST_FILE_MOVES, Quantity, ReadError, saturating_u32};
 use phh_actions::{ActionFault, read_action};
 use play_event::{Event, Kind, MOST_MOVES, MOST_OTHER_EVENTS, Script};
 use std::alloc::Global;
@@ -26,18 +25,17 @@ pub struct EventCounts {
     pub file_moves: usize,
 }
 
-/// The events of the actions of a hand with `seats` seats, after `file_moves` moves of the file;
-/// and the counts after them.
+/// The events of the actions of a hand with this number of players, after `file_moves` moves of the
+/// file; and the counts after them.
 pub fn read_events(
     alloc: Global,
-    seats: u8,
+    players: PlayerCount,
     file_moves: usize,
     actions: &[Value],
 ) -> Result<(Script, EventCounts), ReadError<FieldFault>>
-    requires seats { seats ≤ 10 }
     requires few { file_moves ≤ MOST_FILE_MOVES }
     ensures said { Gives (λ found. (map numbered found.0, found.1)) result
-        (events_said seats (counts_after file_moves) (map view actions.now)) }
+        (events_said players.number (counts_after file_moves) (map view actions.now)) }
     ensures few { IfOk result (λ found. AreFew found.1) }
     ensures counted { IfOk result (λ found. AreCounted file_moves found.0 found.1) }
 {
@@ -48,7 +46,7 @@ pub fn read_events(
         file_moves,
     };
     for (index, value) in actions.iter().enumerate() {
-        let (event, next) = read_event(seats, counts, index as u64 + 1, value)?;
+        let (event, next) = read_event(players, counts, index as u64 + 1, value)?;
         push_if(&mut script, event)?;
         counts = next;
     }
@@ -58,14 +56,13 @@ pub fn read_events(
 // An action.
 #[tactic(auto, unfolding(crate::specs::Events::event_said, crate::specs::Events::added))]
 fn read_event(
-    seats: u8,
+    players: PlayerCount,
     counts: EventCounts,
     number: u64,
     value: &Value,
 ) -> Result<(Option<Event>, EventCounts), ReadError<FieldFault>>
-    requires { seats ≤ 10 }
     ensures said { Gives (λ found. (listed_event found.0, found.1)) result
-        (event_said seats counts number (view value.now)) }
+        (event_said players.number counts number (view value.now)) }
     ensures few { AreFew counts → IfOk result (λ found. AreFew found.1) }
     ensures after { IfOk result (λ found. IsAfter counts found.0 found.1) }
 {
@@ -74,10 +71,10 @@ fn read_event(
         item: number,
     };
     let text = read_text(value, place)?;
-    match read_kind(text, seats, place)? {
+    match read_kind(text, players, place)? {
         None => Ok((None, counts)),
         Some(kind) => {
-            let next = count(counts, place, is_move(kind))?;
+            let next = count(counts, place, kind.is_move())?;
             let at = saturating_u32(number);
             Ok((Some(Event { at, kind }), next))
         }
@@ -87,13 +84,13 @@ fn read_event(
 // The event of an action's text.
 fn read_kind(
     text: &str,
-    seats: u8,
+    players: PlayerCount,
     place: FieldPlace,
 ) -> Result<Option<Kind>, ReadError<FieldFault>>
-    requires { seats ≤ 10 }
-    ensures { Gives (option_map kind_said) result (at_place place (action_said seats text.now)) }
+    ensures { Gives (option_map kind_said) result
+        (at_place place (action_said players.number text.now)) }
 {
-    match read_action(text, seats) {
+    match read_action(text, players) {
         Ok(kind) => Ok(kind),
         Err(fault) => Err(field_fault_at(fault_of(fault), place)),
     }
@@ -151,27 +148,6 @@ fn too_many(quantity: Quantity, place: FieldPlace) -> ReadError<FieldFault>
         (record { what = FieldFaultKind.TooMany quantity; place = place }) }
 {
     field_fault_at(FieldFaultKind::TooMany { quantity }, place)
-}
-
-// Whether the event is a move.
-fn is_move(kind: Kind) -> bool
-    ensures { result ≡ is_move_said (kind_said kind) }
-{
-    match kind {
-        Kind::Fold { .. } | Kind::Call { .. } | Kind::Raise { .. } | Kind::BringIn { .. } => true,
-        _ => false,
-    }
-}
-
-// The number of an action as it is stored.
-fn saturating_u32(number: u64) -> u32
-    ensures { result ≡ kept_number number }
-{
-    if number > 4_294_967_295 {
-        4_294_967_295
-    } else {
-        number as u32
-    }
 }
 
 // Appends the event to the script, if there is one.

@@ -1,6 +1,7 @@
 //! What is wrong with a hand, and where: the first fault in the order in which fields are examined.
 ghost use Rattle.std.specs.Prelude.{◌≡◌};
-ghost use Rattle.phh_reading.specs.Fields.{at_item as item_of, at_key as place_of, key_text};
+ghost use Rattle.phh_reading.specs.Fields.{key_text};
+ghost use Rattle.phh_reading.specs.Fields as fields;
 
 use first_fault::Quantity;
 
@@ -101,14 +102,14 @@ pub struct FieldPlace {
 impl FieldPlace {
     /// The key itself.
     pub fn at_key(key: FieldKey) -> Self
-        ensures { result ≡ place_of key }
+        ensures { result ≡ fields.at_key key }
     {
         FieldPlace { key, item: 0 }
     }
 
     /// The item with this number, from 1.
     pub fn at_item(key: FieldKey, item: u64) -> Self
-        ensures { result ≡ item_of key item }
+        ensures { result ≡ fields.at_item key item }
     {
         FieldPlace { key, item }
     }

@@ -7,7 +7,7 @@ ghost use Rattle.chip_ledger.specs.RakeRow.{rake_of};
 ghost use Rattle.first_fault.specs.declared.limits.TheConstants.{MOST_FILE_MOVES};
 ghost use Rattle.first_fault.specs.Reading.{Gives, read_if};
 ghost use Rattle.phh_reading.specs.declared.field_fault.FieldKey.TheVariants as keys;
-ghost use Rattle.phh_reading.specs.Fields.{field as field_said};
+ghost use Rattle.phh_reading.specs.Fields as fields;
 ghost use Rattle.phh_reading.specs.Rows.{row_said};
 ghost use Rattle.chip_ledger.specs.SeatRow.{amounts_in};
 ghost use Rattle.phh_reading.specs.Hand.{hand_said, rakes_at};
@@ -21,7 +21,7 @@ use crate::notes::read_notes;
 use crate::rows::{read_rakes, read_row};
 use crate::setup::read_setup;
 use crate::values::{field, read_list, required};
-use chip_ledger::{MOST_AMOUNT, RakeRow, SeatRow};
+use chip_ledger::{MOST_AMOUNT, PlayerCount, RakeRow, SeatRow};
 use first_fault::ReadError;
 use hand_records::{Record, Stated};
 use play_event::{Reopen, Rules, Setup};
@@ -45,15 +45,15 @@ pub fn read_hand(
     ensures few { IfOk result (λ found. found.1 ≤ MOST_FILE_MOVES) }
 {
     let setup = read_setup(table)?;
-    let seats = setup.stacks.seats;
+    let players = setup.stacks.players();
     let actions = read_list(
         required(table, FieldKey::Actions)?,
         FieldPlace::at_key(FieldKey::Actions),
     )?;
-    let (script, counts) = read_events(alloc, seats, file_moves, actions)?;
-    let finish = read_finish(table, seats)?;
+    let (script, counts) = read_events(alloc, players, file_moves, actions)?;
+    let finish = read_finish(table, players)?;
     let rakes = read_rakes_at(table)?;
-    let notes = read_notes(alloc, table, place, seats)?;
+    let notes = read_notes(alloc, table, place, players)?;
     let hand = Record {
         setup: Setup { rakes, ..setup },
         rules: Rules {
@@ -73,18 +73,19 @@ pub fn read_hand(
     Ok((hand, counts.file_moves))
 }
 
-// The finishing stacks of `seats` seats, if they are stated.
-fn read_finish(table: &Table, seats: u8) -> Result<Option<SeatRow>, ReadError<FieldFault>>
-    requires some { 2 ≤ seats }
-    requires few { seats ≤ 10 }
+// The finishing stacks of the players, if they are stated.
+fn read_finish(
+    table: &Table,
+    players: PlayerCount,
+) -> Result<Option<SeatRow>, ReadError<FieldFault>>
     ensures said { Gives (option_map amounts_in) result
-        (read_if (row_said seats MOST_AMOUNT keys.FinishingStacks)
-        (field_said keys.FinishingStacks (table_view table.now))) }
-    ensures seats { IfOk result (λ finish. ForSome finish (λ row. row.seats ≡ seats)) }
+        (read_if (row_said players.number MOST_AMOUNT keys.FinishingStacks)
+        (fields.field keys.FinishingStacks (table_view table.now))) }
+    ensures seats { IfOk result (λ finish. ForSome finish (λ row. row.seats ≡ players.number)) }
 {
     match field(table, FieldKey::FinishingStacks) {
         Some(value) => {
-            let finish = read_row(value, seats, MOST_AMOUNT, FieldKey::FinishingStacks)?;
+            let finish = read_row(value, players, MOST_AMOUNT, FieldKey::FinishingStacks)?;
             Ok(Some(finish))
         }
         None => Ok(None),

@@ -5,7 +5,8 @@ ghost use Rattle.toml.specs.View.{table_view};
 ghost use Rattle.hand_records.specs.AllowedNotes.{IsNoteText};
 ghost use Rattle.first_fault.specs.Reading.{Gives, or_none};
 ghost use Rattle.phh_reading.specs.declared.field_fault.FieldKey.TheVariants as keys;
-ghost use Rattle.phh_reading.specs.Fields.{at_key, field as field_said};
+ghost use Rattle.phh_reading.specs.Fields.{at_key};
+ghost use Rattle.phh_reading.specs.Fields as fields;
 ghost use Rattle.phh_reading.specs.NoteFields.{label_said, labels_said, text_note_said};
 
 use crate::field_fault::{FieldFault, FieldKey, FieldPlace};
@@ -55,7 +56,7 @@ pub fn read_labels(
 fn hand_at(alloc: Global, table: &Table, place: u32) -> Result<Option<Text>, ReadError<FieldFault>>
     ensures said { Gives (λ note. note) result
         (or_none (label_said (decimal place) (at_key keys.Hand))
-        (field_said keys.Hand (table_view table.now))) }
+        (fields.field keys.Hand (table_view table.now))) }
     ensures allowed { IfOk result (λ note. IfSome note IsNoteText) }
 {
     match field(table, FieldKey::Hand) {
@@ -79,7 +80,7 @@ fn label_at(
     key: FieldKey,
 ) -> Result<Option<Text>, ReadError<FieldFault>>
     ensures said { Gives (λ note. note) result
-        (or_none (label_said [] (at_key key)) (field_said key (table_view table.now))) }
+        (or_none (label_said [] (at_key key)) (fields.field key (table_view table.now))) }
     ensures allowed { IfOk result (λ note. IfSome note IsNoteText) }
 {
     match field(table, key) {
@@ -95,7 +96,7 @@ pub fn text_at(
     key: FieldKey,
 ) -> Result<Option<Text>, ReadError<FieldFault>>
     ensures said { Gives (λ note. note) result
-        (or_none (text_note_said [] (at_key key)) (field_said key (table_view table.now))) }
+        (or_none (text_note_said [] (at_key key)) (fields.field key (table_view table.now))) }
     ensures allowed { IfOk result (λ note. IfSome note IsNoteText) }
 {
     match field(table, key) {

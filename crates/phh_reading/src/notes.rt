@@ -1,5 +1,5 @@
 //! Reads the notes of a hand from its fields, and checks that they are allowed.
-ghost use Rattle.std.specs.Prelude.{◌≤◌, IfOk};
+ghost use Rattle.std.specs.Prelude.{IfOk};
 ghost use Rattle.toml.specs.View.{table_view};
 ghost use Rattle.hand_records.specs.AllowedNotes.{AreAllowed};
 ghost use Rattle.first_fault.specs.Reading.{Gives};
@@ -10,25 +10,25 @@ use crate::date::{PartialDate, read_day, read_time_at};
 use crate::field_fault::{FieldFault, FieldKey};
 use crate::labels::{Labels, read_labels, text_at};
 use crate::seating::{Seating, read_seating};
+use chip_ledger::PlayerCount;
 use first_fault::ReadError;
 use hand_records::Notes;
 use std::alloc::Global;
 use toml::Table;
 
-/// The notes of a hand with `seats` seats, at this place of its file, from 0.
+/// The notes of a hand with this number of players, at this place of its file, from 0.
 #[tactic(auto, unfolding(crate::specs::NoteFields::notes_said))]
 pub fn read_notes(
     alloc: Global,
     table: &Table,
     place: u32,
-    seats: u8,
+    players: PlayerCount,
 ) -> Result<Notes, ReadError<FieldFault>>
-    requires { seats ≤ 10 }
-    ensures said { Gives (plain_notes seats) result
-        (notes_said place seats (table_view table.now)) }
-    ensures allowed { IfOk result (AreAllowed seats) }
+    ensures said { Gives (plain_notes players.number) result
+        (notes_said place players.number (table_view table.now)) }
+    ensures allowed { IfOk result (AreAllowed players.number) }
 {
-    let seating = read_seating(alloc, table, seats)?;
+    let seating = read_seating(alloc, table, players)?;
     let labels = read_labels(alloc, table, place)?;
     let date = read_day(table)?;
     let time = read_time_at(table)?;

@@ -3,8 +3,9 @@
 ghost use Rattle.std.specs.Prelude.{◌≡◌, ◌==◌, [], ◌∷◌, ◌++◌, map, IfOk, IsTrue, OnOk};
 ghost use Rattle.std.specs.List.{prefix_len};
 ghost use Rattle.toml.specs.View.{table_view, view};
-ghost use Rattle.first_fault.specs.Digits.{are_digits as are_digits_said};
-ghost use Rattle.phh_reading.specs.Order.{is_multi_hand as are_hands_said, in_order, is_table as is_table_said, tables_among};
+ghost use Rattle.first_fault.specs.Digits as digits;
+ghost use Rattle.phh_reading.specs.Order.{in_order, tables_among};
+ghost use Rattle.phh_reading.specs.Order as order;
 ghost use Rattle.phh_reading.specs.Stripped.{number_digits};
 
 use card_set::{Memory, TryInsert, TryPush};
@@ -19,7 +20,7 @@ type NumberedTables<'a> = BTreeMap<(usize, &'a [u8], &'a [u8]), &'a Value>;
 
 /// Whether each key is a number and each value a table.
 pub fn is_multi_hand(table: &Table) -> bool
-    ensures { result ≡ are_hands_said (table_view table.now) }
+    ensures { result ≡ order.is_multi_hand (table_view table.now) }
 {
     for (key, value) in table.iter() {
         if !(is_number(key.as_str()) && is_table(value)) {
@@ -31,14 +32,14 @@ pub fn is_multi_hand(table: &Table) -> bool
 
 // Whether the text is a number.
 fn is_number(key: &str) -> bool
-    ensures { result ≡ are_digits_said key.now }
+    ensures { result ≡ digits.are_digits key.now }
 {
     are_digits(key.as_bytes())
 }
 
 // Whether the value is a table.
 fn is_table(value: &Value) -> bool
-    ensures { result ≡ is_table_said (view value.now) }
+    ensures { result ≡ order.is_table (view value.now) }
 {
     match value {
         Value::Table(_) => true,
@@ -48,7 +49,7 @@ fn is_table(value: &Value) -> bool
 
 /// The tables in the order of the numbers of their keys. Check first that they are hands.
 pub fn tables_in_order<'a>(alloc: Global, table: &'a Table) -> Result<Vec<&'a Table>, Memory>
-    requires { IsTrue (are_hands_said (table_view table.now)) }
+    requires { IsTrue (order.is_multi_hand (table_view table.now)) }
     ensures { IfOk result (λ tables. map (λ hand. table_view hand.now) tables.items
         ≡ in_order (table_view table.now)) }
 {
@@ -64,7 +65,7 @@ pub fn tables_in_order<'a>(alloc: Global, table: &'a Table) -> Result<Vec<&'a Ta
 // The values in the order of the numbers of their keys.
 #[tactic(auto, using(crate::proofs::Placing::tables_placed))]
 fn values_in_order<'a>(alloc: Global, table: &'a Table) -> Result<NumberedTables<'a>, Memory>
-    requires { IsTrue (are_hands_said (table_view table.now)) }
+    requires { IsTrue (order.is_multi_hand (table_view table.now)) }
     ensures { IfOk result (λ hands. tables_among (map (λ e. view e.1.now) hands.entries)
         ≡ in_order (table_view table.now)) }
 {

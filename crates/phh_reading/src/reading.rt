@@ -4,7 +4,7 @@ ghost use Rattle.std.specs.List.{AllByRecursion};
 ghost use Rattle.toml.specs.Parse.{parse_document};
 ghost use Rattle.toml.specs.View.{table_view};
 ghost use Rattle.first_fault.specs.declared.limits.TheConstants.{MOST_FILE_MOVES, MOST_HANDS};
-ghost use Rattle.phh_reading.specs.Fields.{place_text as place_text_said};
+ghost use Rattle.phh_reading.specs.Fields as fields;
 ghost use Rattle.phh_reading.specs.Reading.{InHand, Reads, document_said, reading, wrong_of};
 ghost use Rattle.hand_records.specs.Histories.{AreHistories, IsHistory};
 ghost use Rattle.hand_records.specs.Moves.{moves_of};
@@ -75,7 +75,7 @@ fn read_document(alloc: Global, table: &Table) -> Result<Records, PhhFault>
 // A fault with its key as text.
 fn spelled(alloc: Global, found: PhhHandFault) -> PhhFault
     ensures { IfSome (wrong_of result) (λ wrong.
-        wrong ≡ InHand found.hand (place_text_said found.fault.place) found.fault.what) }
+        wrong ≡ InHand found.hand (fields.place_text found.fault.place) found.fault.what) }
 {
     match place_text(alloc, found.fault.place) {
         Ok(key) => wrong_at(found.hand, key, found.fault.what),
@@ -85,7 +85,7 @@ fn spelled(alloc: Global, found: PhhHandFault) -> PhhFault
 
 // A place as text: the key, and for an item a space and its number.
 fn place_text(alloc: Global, place: FieldPlace) -> Result<Text, Memory>
-    ensures { IfOk result (λ text. text ≡ place_text_said place) }
+    ensures { IfOk result (λ text. text ≡ fields.place_text place) }
 {
     let key = place.key.text();
     if place.item == 0 {

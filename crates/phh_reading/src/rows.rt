@@ -6,31 +6,30 @@ ghost use Rattle.chip_ledger.specs.RakeRow.{rake_of};
 ghost use Rattle.play_event.specs.ValidSetup.{IsSize};
 ghost use Rattle.first_fault.specs.Reading.{Gives};
 ghost use Rattle.phh_reading.specs.declared.field_fault.FieldKey.TheVariants as keys;
-ghost use Rattle.phh_reading.specs.Rows.{AreHeld, amounts_said, antes_from, ante_said, antes_said, heads_up_swapped as heads_up_swapped_said, rakes_said, row_said, stacks_said};
+ghost use Rattle.phh_reading.specs.Rows.{AreHeld, amounts_said, antes_from, ante_said, antes_said, rakes_said, row_said, stacks_said};
+ghost use Rattle.phh_reading.specs.Rows as rows;
 ghost use Rattle.chip_ledger.specs.SeatRow.{amounts_in};
 
 use crate::field_fault::{FieldFault, FieldFaultKind, FieldKey, FieldPlace};
 use crate::values::{field_fault_at, read_amount, read_items, read_list};
-use chip_ledger::{MOST_AMOUNT, MOST_CHIPS, RakeRow, SeatRow};
+use chip_ledger::{MOST_AMOUNT, MOST_CHIPS, PlayerCount, RakeRow, SeatRow};
 use first_fault::{ReadError, has_count};
 use toml::Value;
 
-/// One amount per seat, for `seats` seats, each of at most `most` chips.
+/// One amount per player, each of at most `most` chips.
 #[tactic(auto, unfolding(crate::specs::Rows::row_said))]
 pub fn read_row(
     value: &Value,
-    seats: u8,
+    players: PlayerCount,
     most: u64,
     key: FieldKey,
 ) -> Result<SeatRow, ReadError<FieldFault>>
-    requires some { 2 ≤ seats }
-    requires few { seats ≤ 10 }
     requires bounded { most ≤ MOST_AMOUNT }
-    ensures amounts { Gives amounts_in result (row_said seats most key (view value.now)) }
-    ensures seats { IfOk result (λ row. row.seats ≡ seats) }
+    ensures amounts { Gives amounts_in result (row_said players.number most key (view value.now)) }
+    ensures seats { IfOk result (λ row. row.seats ≡ players.number) }
     ensures most { IfOk result (λ row. (k : ℕ) → slice_index row.amounts k ≤ most) }
 {
-    let values = read_items(value, seats, key)?;
+    let values = read_items(value, players.number, key)?;
     read_amounts(values, 0, most, key)
 }
 
@@ -125,7 +124,7 @@ fn read_ante(value: &Value, stack: u64, place: FieldPlace) -> Result<u64, ReadEr
 
 /// The blinds in the order of seats: with two seats, the first seat has the greater one.
 pub fn heads_up_swapped(mut blinds: SeatRow) -> SeatRow
-    ensures amounts { amounts_in result ≡ heads_up_swapped_said (amounts_in blinds) }
+    ensures amounts { amounts_in result ≡ rows.heads_up_swapped (amounts_in blinds) }
     ensures seats { result.seats ≡ blinds.seats }
     ensures most { (most : ℕ) → ((k : ℕ) → slice_index blinds.amounts k ≤ most)
         → (k : ℕ) → slice_index result.amounts k ≤ most }

@@ -4,7 +4,8 @@ ghost use Rattle.toml.specs.View.{table_view, view};
 ghost use Rattle.hand_records.specs.AllowedNotes.{AreSeatNumbers, IsName, IsSeatCount, IsWithin};
 ghost use Rattle.first_fault.specs.Reading.{Gives, or_none};
 ghost use Rattle.phh_reading.specs.declared.field_fault.FieldKey.TheVariants as keys;
-ghost use Rattle.phh_reading.specs.Fields.{at_item, field as field_said};
+ghost use Rattle.phh_reading.specs.Fields.{at_item};
+ghost use Rattle.phh_reading.specs.Fields as fields;
 ghost use Rattle.phh_reading.specs.NoteFields.{AreNames, names_from, names_said, numbers_from, plain_seating, seat_count_said, seating_said, seats_said, text_note_said};
 ghost use Rattle.chip_ledger.specs.SeatsSaid.{default_name};
 
@@ -12,6 +13,7 @@ use crate::field_fault::{FieldFault, FieldKey, FieldPlace};
 use crate::texts::read_text_note;
 use crate::values::{field, read_items, read_number};
 use card_set::try_format;
+use chip_ledger::PlayerCount;
 use first_fault::{ReadError, Text};
 use hand_records::non_default_seats;
 use std::alloc::Global;
@@ -25,22 +27,24 @@ pub struct Seating {
     pub seat_count: Option<u8>,
 }
 
-/// Who sits where in a hand with `seats` seats.
+/// Who sits where in a hand with this number of players.
 #[tactic(auto, unfolding(crate::specs::NoteFields::seating_said))]
 pub fn read_seating(
     alloc: Global,
     table: &Table,
-    seats: u8,
+    players: PlayerCount,
 ) -> Result<Seating, ReadError<FieldFault>>
-    requires { seats ≤ 10 }
-    ensures said { Gives (plain_seating seats) result (seating_said seats (table_view table.now)) }
-    ensures names { IfOk result (λ seating. AreNames seats seating.names) }
-    ensures seats { IfOk result (λ seating. IfSome seating.seats (AreSeatNumbers seats)) }
-    ensures seat_count { IfOk result (λ seating. IfSome seating.seat_count (IsSeatCount seats)) }
+    ensures said { Gives (plain_seating players.number) result
+        (seating_said players.number (table_view table.now)) }
+    ensures names { IfOk result (λ seating. AreNames players.number seating.names) }
+    ensures seats { IfOk result (λ seating.
+        IfSome seating.seats (AreSeatNumbers players.number)) }
+    ensures seat_count { IfOk result (λ seating.
+        IfSome seating.seat_count (IsSeatCount players.number)) }
 {
-    let names = read_names(alloc, table, seats)?;
-    let numbers = read_seats(table, seats)?;
-    let seat_count = read_seat_count(table, seats)?;
+    let names = read_names(alloc, table, players)?;
+    let numbers = read_seats(table, players)?;
+    let seat_count = read_seat_count(table, players)?;
     Ok(Seating {
         names,
         seats: numbers,
@@ -48,22 +52,21 @@ pub fn read_seating(
     })
 }
 
-// The names of the players of `seats` seats.
+// The names of the players.
 #[tactic(auto, unfolding(crate::specs::NoteFields::names_said))]
 fn read_names(
     alloc: Global,
     table: &Table,
-    seats: u8,
+    players: PlayerCount,
 ) -> Result<[Option<Text>; 10], ReadError<FieldFault>>
-    requires { seats ≤ 10 }
-    ensures said { Gives (take seats) result
-        (names_said seats (field_said keys.Players (table_view table.now))) }
-    ensures allowed { IfOk result (AreNames seats) }
+    ensures said { Gives (take players.number) result
+        (names_said players.number (fields.field keys.Players (table_view table.now))) }
+    ensures allowed { IfOk result (AreNames players.number) }
 {
     match field(table, FieldKey::Players) {
         None => Ok(no_names()),
         Some(value) => {
-            let values = read_items(value, seats, FieldKey::Players)?;
+            let values = read_items(value, players.number, FieldKey::Players)?;
             fill_names(alloc, values)
         }
     }
@@ -108,18 +111,20 @@ fn read_name(alloc: Global, value: &Value, seat: u8) -> Result<Option<Text>, Rea
 
 // The numbers of the seats, if they are given and are not the usual ones.
 #[tactic(auto, unfolding(crate::specs::NoteFields::seats_said))]
-fn read_seats(table: &Table, seats: u8) -> Result<Option<[u8; 10]>, ReadError<FieldFault>>
-    requires { seats ≤ 10 }
-    ensures said { Gives (option_map (take seats)) result
-        (or_none (seats_said seats) (field_said keys.Seats (table_view table.now))) }
-    ensures allowed { IfOk result (λ numbers. IfSome numbers (AreSeatNumbers seats)) }
+fn read_seats(
+    table: &Table,
+    players: PlayerCount,
+) -> Result<Option<[u8; 10]>, ReadError<FieldFault>>
+    ensures said { Gives (option_map (take players.number)) result
+        (or_none (seats_said players.number) (fields.field keys.Seats (table_view table.now))) }
+    ensures allowed { IfOk result (λ numbers. IfSome numbers (AreSeatNumbers players.number)) }
 {
     let Some(value) = field(table, FieldKey::Seats) else {
         return Ok(None);
     };
-    let values = read_items(value, seats, FieldKey::Seats)?;
+    let values = read_items(value, players.number, FieldKey::Seats)?;
     let numbers = fill_numbers(values)?;
-    Ok(non_default_seats(numbers, seats as usize))
+    Ok(non_default_seats(numbers, players.number as usize))
 }
 
 // The numbers of as many seats as there are values.
@@ -145,16 +150,17 @@ fn fill_numbers(values: &[Value]) -> Result<[u8; 10], ReadError<FieldFault>>
 
 // The number of seats of the table, if it is given and differs from that of the hand.
 #[tactic(auto, unfolding(crate::specs::NoteFields::seat_count_said))]
-fn read_seat_count(table: &Table, seats: u8) -> Result<Option<u8>, ReadError<FieldFault>>
+fn read_seat_count(table: &Table, players: PlayerCount) -> Result<Option<u8>, ReadError<FieldFault>>
     ensures said { Gives (λ count. count) result
-        (or_none (seat_count_said seats) (field_said keys.SeatCount (table_view table.now))) }
-    ensures allowed { IfOk result (λ count. IfSome count (IsSeatCount seats)) }
+        (or_none (seat_count_said players.number)
+        (fields.field keys.SeatCount (table_view table.now))) }
+    ensures allowed { IfOk result (λ count. IfSome count (IsSeatCount players.number)) }
 {
     let Some(value) = field(table, FieldKey::SeatCount) else {
         return Ok(None);
     };
     let count = read_number(value, 1, 255, FieldPlace::at_key(FieldKey::SeatCount))? as u8;
-    if count == seats {
+    if count == players.number {
         Ok(None)
     } else {
         Ok(Some(count))

@@ -5,17 +5,18 @@ ghost use Rattle.toml.specs.View.{table_view, view};
 ghost use Rattle.chip_ledger.specs.Seat.{seats_of};
 ghost use Rattle.chip_ledger.specs.SeatRow.{amount_of, amounts_in};
 ghost use Rattle.chip_ledger.specs.declared.numbers.TheConstants.{MOST_CHIPS};
-ghost use Rattle.play_event.specs.Streets.{is_stud as is_stud_said};
+ghost use Rattle.play_event.specs.Streets.{is_stud};
 ghost use Rattle.play_event.specs.ValidSetup.{IsValid};
 ghost use Rattle.first_fault.specs.Reading.{Gives};
 ghost use Rattle.hand_records.specs.PlainHands.{plain_setup};
-ghost use Rattle.phh_reading.specs.SetupFields.{are_dead as are_dead_said, blinds_said, game_named, setup_said, trimming_said, variant_said};
+ghost use Rattle.phh_reading.specs.SetupFields.{blinds_said, game_named, setup_said, trimming_said, variant_said};
+ghost use Rattle.phh_reading.specs.SetupFields as setup_fields;
 
 use crate::field_fault::{FieldFault, FieldFaultKind, FieldKey, FieldPlace};
 use crate::rows::{heads_up_swapped, read_antes, read_row, read_stacks};
 use crate::sizes::read_sizes;
 use crate::values::{field, field_fault_at, read_flag, read_text, required};
-use chip_ledger::{MOST_CHIPS, RakeRow, SeatRow};
+use chip_ledger::{MOST_CHIPS, PlayerCount, RakeRow, SeatRow};
 use first_fault::ReadError;
 use hand_records::Sizes;
 use play_event::{Code, Setup};
@@ -34,7 +35,7 @@ pub fn read_setup(table: &Table) -> Result<Setup, ReadError<FieldFault>>
     )?;
     let antes = read_antes(required(table, FieldKey::Antes)?, &stacks)?;
     let trimmed = read_trimming(table)?;
-    let blinds = read_blinds(table, code, stacks.seats)?;
+    let blinds = read_blinds(table, code, stacks.players())?;
     let sizes = read_sizes(table, code)?;
     let Sizes {
         bring_in,
@@ -86,34 +87,37 @@ fn read_trimming(table: &Table) -> Result<bool, ReadError<FieldFault>>
     }
 }
 
-// The blinds of `seats` seats; stud has none.
+// The blinds of the players; stud has none.
 #[tactic(auto, unfolding(crate::specs::SetupFields::blinds_said))]
-fn read_blinds(table: &Table, code: Code, seats: u8) -> Result<SeatRow, ReadError<FieldFault>>
-    requires some { 2 ≤ seats }
-    requires few { seats ≤ 10 }
-    ensures said { Gives amounts_in result (blinds_said code seats (table_view table.now)) }
-    ensures seats { IfOk result (λ row. row.seats ≡ seats) }
+fn read_blinds(
+    table: &Table,
+    code: Code,
+    players: PlayerCount,
+) -> Result<SeatRow, ReadError<FieldFault>>
+    ensures said { Gives amounts_in result
+        (blinds_said code players.number (table_view table.now)) }
+    ensures seats { IfOk result (λ row. row.seats ≡ players.number) }
     ensures most { IfOk result (λ row. (k : ℕ) → slice_index row.amounts k ≤ MOST_CHIPS) }
-    ensures heads_up { IfOk result (λ row. seats ≡ 2
+    ensures heads_up { IfOk result (λ row. players.number ≡ 2
         → slice_index row.amounts 1 ≤ slice_index row.amounts 0) }
-    ensures stud { IfOk result (λ row. is_stud_said code ≡ true
+    ensures stud { IfOk result (λ row. is_stud code ≡ true
         → (k : ℕ) → slice_index row.amounts k ≡ 0) }
 {
     if code.is_stud() {
         return Ok(SeatRow {
-            seats,
+            seats: players.number,
             amounts: [0; 10],
         });
     }
     let value = required(table, FieldKey::BlindsOrStraddles)?;
-    let blinds = read_row(value, seats, MOST_CHIPS, FieldKey::BlindsOrStraddles)?;
+    let blinds = read_row(value, players, MOST_CHIPS, FieldKey::BlindsOrStraddles)?;
     Ok(heads_up_swapped(blinds))
 }
 
 // Whether antes are dead.
 #[tactic(auto, using(card_set::proofs::NumbersOfRange::any_taken))]
 fn are_dead(trimmed: bool, antes: &SeatRow) -> bool
-    ensures said { result ≡ are_dead_said trimmed (amounts_in antes.now) }
+    ensures said { result ≡ setup_fields.are_dead trimmed (amounts_in antes.now) }
     ensures some { result ≡ true → list_any (λ seat. nat_lt 0 (amount_of antes.now seat))
         (seats_of antes.now.seats) ≡ true }
 {

@@ -2,7 +2,8 @@
 ghost use Rattle.std.specs.Prelude.{◌≡◌, ◌≤◌, length, map, option_map, IfOk};
 ghost use Rattle.toml.specs.View.{array_view, table_view, view};
 ghost use Rattle.first_fault.specs.Reading.{Gives};
-ghost use Rattle.phh_reading.specs.Fields.{amount_said, field as field_said, flag_said, items_said, list_said, listed, number_said, required as required_said, text_said};
+ghost use Rattle.phh_reading.specs.Fields.{amount_said, flag_said, items_said, list_said, listed, number_said, text_said};
+ghost use Rattle.phh_reading.specs.Fields as fields;
 
 use crate::field_fault::{FieldFault, FieldFaultKind, FieldKey, FieldPlace};
 use first_fault::{ReadError, in_range};
@@ -11,7 +12,7 @@ use toml::{Table, Value};
 /// The value at a required key.
 #[tactic(auto, unfolding(crate::specs::Fields::required))]
 pub fn required<'a>(table: &'a Table, key: FieldKey) -> Result<&'a Value, ReadError<FieldFault>>
-    ensures { Gives (λ value. view value.now) result (required_said key (table_view table.now)) }
+    ensures { Gives (λ value. view value.now) result (fields.required key (table_view table.now)) }
 {
     match field(table, key) {
         Some(value) => Ok(value),
@@ -22,7 +23,7 @@ pub fn required<'a>(table: &'a Table, key: FieldKey) -> Result<&'a Value, ReadEr
 /// The value at a key, if there is one.
 pub fn field<'a>(table: &'a Table, key: FieldKey) -> Option<&'a Value>
     ensures { option_map (λ value. view value.now) result
-        ≡ field_said key (table_view table.now) }
+        ≡ fields.field key (table_view table.now) }
 {
     table.get(key.text())
 }

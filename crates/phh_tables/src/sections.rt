@@ -1,14 +1,14 @@
 //! Whether a table has values that headers or dotted keys can make.
 ghost use Rattle.std.specs.Prelude.{◌≡◌};
 ghost use Rattle.toml.specs.View.{array_view, table_view, view};
-ghost use Rattle.phh_tables.specs.Tables.{has_section as has_section_said, has_table as has_table_said, is_section as is_section_said, is_table as is_table_said};
+ghost use Rattle.phh_tables.specs.Tables as tables;
 
 use toml::value::Array;
 use toml::{Table, Value};
 
 /// Whether some value is a table, or an array that has one.
 pub fn has_section(table: &Table) -> bool
-    ensures { result ≡ has_section_said (table_view table.now) }
+    ensures { result ≡ tables.has_section (table_view table.now) }
 {
     for (key, value) in table.iter() {
         let _key = key;
@@ -21,7 +21,7 @@ pub fn has_section(table: &Table) -> bool
 
 // Whether the value is a table, or an array that has one.
 fn is_section(value: &Value) -> bool
-    ensures { result ≡ is_section_said (view value.now) }
+    ensures { result ≡ tables.is_section (view value.now) }
 {
     match value {
         Value::Array(items) => has_table(items),
@@ -31,7 +31,7 @@ fn is_section(value: &Value) -> bool
 
 // Whether some item is a table.
 fn has_table(items: &Array) -> bool
-    ensures { result ≡ has_table_said (array_view items.now) }
+    ensures { result ≡ tables.has_table (array_view items.now) }
 {
     for item in items.iter() {
         if is_table(item) {
@@ -43,7 +43,7 @@ fn has_table(items: &Array) -> bool
 
 // Whether the value is a table.
 fn is_table(value: &Value) -> bool
-    ensures { result ≡ is_table_said (view value.now) }
+    ensures { result ≡ tables.is_table (view value.now) }
 {
     match value {
         Value::Table(_) => true,

@@ -2,12 +2,14 @@
 ghost use Rattle.std.specs.Prelude.{◌≡◌, ℕ, suc, ◌-◌, ◌<◌, ◌≤◌, ◌∷◌, ◌++◌, false, true, List, Some, None, IfOk, IfSome, IsTrue, length, slice_index};
 ghost use Rattle.std.specs.List.{list_all, prefix_len};
 ghost use Rattle.std.specs.Char.{is_ascii_digit, is_digit};
-ghost use Rattle.toml_parser.specs.Lexical.{skip_blank as skip_blank_said, starts_newline as starts_newline_said};
+ghost use Rattle.toml_parser.specs.Lexical as lexical;
 ghost use Rattle.toml.specs.Data.{Members};
-ghost use Rattle.toml.specs.Parse.{parse_document, skip_bom as skip_bom_said};
+ghost use Rattle.toml.specs.Parse.{parse_document};
+ghost use Rattle.toml.specs.Parse as parse;
 ghost use Rattle.toml.specs.View.{table_view};
 ghost use Rattle.phh_tables.specs.declared.table.TheConstants.{LONGEST_TABLE};
-ghost use Rattle.phh_tables.specs.Tables.{IsFirstTable, IsHeader, has_section as has_section_said};
+ghost use Rattle.phh_tables.specs.Tables.{IsFirstTable, IsHeader};
+ghost use Rattle.phh_tables.specs.Tables as tables;
 
 use crate::parsing::document;
 use crate::sections::has_section;
@@ -22,14 +24,14 @@ pub const LONGEST_TABLE: usize = 65_536;
 
 /// The text without a byte order mark and without the blank lines and comments at its front.
 pub fn first_line(text: &str) -> &str
-    ensures { result.now ≡ skip_blank_said (skip_bom_said text.now) }
+    ensures { result.now ≡ lexical.skip_blank (parse.skip_bom text.now) }
 {
     skip_blank(skip_bom(text), true)
 }
 
 // The text without a byte order mark.
 fn skip_bom(text: &str) -> &str
-    ensures { result.now ≡ skip_bom_said text.now }
+    ensures { result.now ≡ parse.skip_bom text.now }
 {
     if first(text) == 0xEF && byte_at(text, 1) == 0xBB && byte_at(text, 2) == 0xBF {
         &text[3..]
@@ -64,7 +66,7 @@ fn header(text: &str) -> Option<(&str, &str)>
     ensures some { IfSome result (λ parts. 0 < length parts.0.now) }
     ensures digits { IfSome result (λ parts.
         list_all (λ sign. is_digit sign 10) parts.0.now ≡ true) }
-    ensures line { IfSome result (λ parts. starts_newline_said parts.1.now ≡ true) }
+    ensures line { IfSome result (λ parts. lexical.starts_newline parts.1.now ≡ true) }
     ensures none { result ≡ None → (number rest : List ℕ)
         → IsHeader text.now number rest → ⊥ }
 {
@@ -118,11 +120,11 @@ fn plain_table(alloc: Global, lines: &str) -> Result<Option<Table>, Memory>
     ensures read { IfOk result (λ found. IfSome found (λ table.
         parse_document lines.now ≡ Some (table_view table))) }
     ensures plain { IfOk result (λ found. IfSome found (λ table.
-        has_section_said (table_view table) ≡ false)) }
+        tables.has_section (table_view table) ≡ false)) }
     ensures few { IfOk result (λ found. IfSome found (λ table. length lines.now ≤ LONGEST_TABLE)) }
     ensures none { IfOk result (λ found. found ≡ None → length lines.now ≤ LONGEST_TABLE
         → (members : Members) → parse_document lines.now ≡ Some members
-        → has_section_said members ≡ false → ⊥) }
+        → tables.has_section members ≡ false → ⊥) }
 {
     if lines.len() > LONGEST_TABLE {
         return Ok(None);

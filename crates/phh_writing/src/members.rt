@@ -3,7 +3,7 @@ ghost use Rattle.std.specs.Prelude.{ℕ, ◌≡◌, ◌≤◌, ◌<◌, ◌^◌,
 ghost use Rattle.toml.specs.Data.{integer, string};
 ghost use Rattle.toml.specs.View.{table_view, view};
 ghost use Rattle.chip_ledger.specs.declared.seat_row.TheConstants.{MOST_AMOUNT};
-ghost use Rattle.phh_writing.specs.Members.{put as put_said};
+ghost use Rattle.phh_writing.specs.Members as members;
 ghost use Rattle.phh_writing.specs.HandFields.{numbers};
 ghost use Rattle.chip_ledger.specs.SeatRow.{amounts_in};
 
@@ -15,7 +15,7 @@ use toml::{Table, Value};
 /// Puts a text under a key.
 pub fn put_text(alloc: Global, table: &mut Table, key: &str, text: &str) -> Result<(), Memory>
     ensures { OnOk result (table_view table.new
-        ≡ put_said key.now (string text.now) (table_view table.old)) }
+        ≡ members.put key.now (string text.now) (table_view table.old)) }
 {
     let text = string_from(alloc, text)?;
     put(alloc, table, key, Value::String(text))
@@ -31,7 +31,7 @@ pub fn text(text: String) -> Value
 /// Puts the amounts of a row under a key.
 pub fn put_row(alloc: Global, table: &mut Table, key: &str, row: &SeatRow) -> Result<(), Memory>
     ensures { OnOk result (table_view table.new
-        ≡ put_said key.now (numbers (amounts_in row.now)) (table_view table.old)) }
+        ≡ members.put key.now (numbers (amounts_in row.now)) (table_view table.old)) }
 {
     put_amounts(
         alloc,
@@ -53,7 +53,7 @@ pub fn put_amounts(
     requires within { count ≤ length amounts.now }
     requires bounded { (k : ℕ) → slice_index amounts.now k ≤ MOST_AMOUNT }
     ensures { OnOk result (table_view table.new
-        ≡ put_said key.now (numbers (take count amounts.now)) (table_view table.old)) }
+        ≡ members.put key.now (numbers (take count amounts.now)) (table_view table.old)) }
 {
     let mut values = Vec::new(alloc);
     for index in 0..count {
@@ -73,7 +73,7 @@ pub fn number(amount: u64) -> Value
 /// Puts a value under a key.
 pub fn put(alloc: Global, table: &mut Table, key: &str, value: Value) -> Result<(), Memory>
     ensures { OnOk result (table_view table.new
-        ≡ put_said key.now (view value) (table_view table.old)) }
+        ≡ members.put key.now (view value) (table_view table.old)) }
 {
     let name = string_from(alloc, key)?;
     table.try_insert(name, value)?;

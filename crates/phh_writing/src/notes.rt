@@ -4,8 +4,10 @@ ghost use Rattle.std.specs.List.{list_any};
 ghost use Rattle.std.specs.Option.{is_some};
 ghost use Rattle.toml.specs.Data.{integer, string};
 ghost use Rattle.toml.specs.View.{table_view, view};
-ghost use Rattle.phh_writing.specs.Members.{put as put_said, put_if, with_fields};
-ghost use Rattle.phh_writing.specs.HandFields.{fraction as fraction_said, hand_field, label, local_time as time_said, names_field, note_fields, number_field, number_written, numbers};
+ghost use Rattle.phh_writing.specs.Members.{put_if, with_fields};
+ghost use Rattle.phh_writing.specs.Members as members;
+ghost use Rattle.phh_writing.specs.HandFields.{hand_field, label, names_field, note_fields, number_field, number_written, numbers};
+ghost use Rattle.phh_writing.specs.HandFields as hand_fields;
 ghost use Rattle.hand_records.specs.AllowedNotes.{name_written};
 
 use crate::members::{number, put, put_text, text};
@@ -31,14 +33,14 @@ pub fn put_notes(
 {
     put_note(alloc, table, "time_zone", &notes.zone)?;
     put_time(alloc, table, notes.time)?;
-    put_said(alloc, table, "day", widened(notes.day))?;
-    put_said(alloc, table, "month", widened(notes.month))?;
-    put_said(alloc, table, "year", notes.year)?;
+    put_number(alloc, table, "day", widened(notes.day))?;
+    put_number(alloc, table, "month", widened(notes.month))?;
+    put_number(alloc, table, "year", notes.year)?;
     put_note(alloc, table, "currency", &notes.currency)?;
     put_note(alloc, table, "venue", &notes.venue)?;
     put_table_name(alloc, table, &notes.table)?;
     put_hand_name(alloc, table, place, &notes.hand)?;
-    put_said(alloc, table, "seat_count", widened(notes.seat_count))?;
+    put_number(alloc, table, "seat_count", widened(notes.seat_count))?;
     put_seats(alloc, table, count, notes.seats)?;
     put_names(alloc, table, count, notes)
 }
@@ -57,7 +59,7 @@ fn put_note(alloc: Global, table: &mut Table, key: &str, note: &Option<Text>) ->
 // Puts the time of day under its key, if it is noted.
 fn put_time(alloc: Global, table: &mut Table, said: Option<Clock>) -> Result<(), Memory>
     ensures { OnOk result (table_view table.new
-        ≡ put_if (codes "time") (option_map time_said said) (table_view table.old)) }
+        ≡ put_if (codes "time") (option_map hand_fields.local_time said) (table_view table.old)) }
 {
     match said {
         Some(clock) => put(alloc, table, "time", local_time(clock)),
@@ -67,7 +69,7 @@ fn put_time(alloc: Global, table: &mut Table, said: Option<Clock>) -> Result<(),
 
 // A time of day as a value.
 fn local_time(clock: Clock) -> Value
-    ensures { view result ≡ time_said clock }
+    ensures { view result ≡ hand_fields.local_time clock }
 {
     Value::Datetime(Datetime {
         date: None,
@@ -83,13 +85,13 @@ fn local_time(clock: Clock) -> Value
 
 // The fraction of a second, if it is not 0.
 fn fraction(nano: u32) -> Option<u32>
-    ensures { result ≡ fraction_said nano }
+    ensures { result ≡ hand_fields.fraction nano }
 {
     if nano == 0 { None } else { Some(nano) }
 }
 
 // Puts a number under a key, if there is one.
-fn put_said(alloc: Global, table: &mut Table, key: &str, said: Option<u16>) -> Result<(), Memory>
+fn put_number(alloc: Global, table: &mut Table, key: &str, said: Option<u16>) -> Result<(), Memory>
     ensures { OnOk result (table_view table.new
         ≡ put_if key.now (number_field said) (table_view table.old)) }
 {
@@ -143,7 +145,7 @@ fn put_hand_name(
 // Puts a text under a key, as a number if it is one.
 fn put_label(alloc: Global, table: &mut Table, key: &str, text: &str) -> Result<(), Memory>
     ensures { OnOk result (table_view table.new
-        ≡ put_said key.now (label text.now) (table_view table.old)) }
+        ≡ members.put key.now (label text.now) (table_view table.old)) }
 {
     match number_of(text.as_bytes()) {
         Some(said) => put(alloc, table, key, number(said)),

@@ -6,8 +6,10 @@ ghost use Rattle.play_event.specs.Said.{said_of};
 ghost use Rattle.play_event.specs.ValidSetup.{IsValid};
 ghost use Rattle.play_event.specs.Tidy.{IsTidy};
 ghost use Rattle.hand_records.specs.TraceRows.{core_said};
-ghost use Rattle.phh_actions.specs.Written.{event_text as text_said, has_words};
-ghost use Rattle.phh_writing.specs.Members.{put as put_said, put_if, with_fields};
+ghost use Rattle.phh_actions.specs.Written.{has_words};
+ghost use Rattle.phh_actions.specs.Written as written;
+ghost use Rattle.phh_writing.specs.Members.{put_if, with_fields};
+ghost use Rattle.phh_writing.specs.Members as members;
 ghost use Rattle.phh_writing.specs.HandFields.{rakes_field, texts, trace_fields};
 
 use crate::members::{put, put_amounts, put_row};
@@ -64,8 +66,8 @@ fn takes_some(rakes: &[u64]) -> bool
 // Puts the texts of a script under their key.
 fn put_actions(alloc: Global, table: &mut Table, script: &Script) -> Result<(), Memory>
     requires { list_all has_words (map said_of script.now) ≡ true }
-    ensures { OnOk result (table_view table.new ≡ put_said (codes "actions")
-        (texts (map text_said (map said_of script.now))) (table_view table.old)) }
+    ensures { OnOk result (table_view table.new ≡ members.put (codes "actions")
+        (texts (map written.event_text (map said_of script.now))) (table_view table.old)) }
 {
     let mut values = Vec::new(alloc);
     let mut cursor = script.cursor();

@@ -7,5 +7,5 @@ use Rattle.chip_ledger.specs.SeatsSaid.{default_name}
 pub loop-index-preserved : goal.loop-index-preserved
 loop-index-preserved c =
     let other : bytes_eq c.args.name.now (default_name (c.loop-index.index + 1)) ≡ false = grind arith in
-    let next = find_next (λ seat. bytes_eq c.args.name.now (default_name seat)) (c.loop-index.index + 1) (c.args.seats - c.loop-index.index) (omega arith) other in
+    let next = find_next (λ seat. bytes_eq c.args.name.now (default_name seat)) (c.loop-index.index + 1) (c.args.players.number - c.loop-index.index) (omega arith) other in
     ap (λ n. find (λ seat. bytes_eq c.args.name.now (default_name seat)) (range_with_len (c.loop-index.index + 1 + 1) n)) (omega arith) ∙ next ∙ c.loop-index.invariant

@@ -6,4 +6,4 @@ use Rattle.chip_ledger.specs.SeatsSaid.{default_name}
 
 -- no seat so far has the name
 abbrev pub invariant-loop-index : goal.invariant-loop-index
-invariant-loop-index l = find (λ seat. bytes_eq l.name (default_name seat)) (range_with_len (l.index + 1) (l.seats - l.index)) ≡ seat_named l.seats l.name
+invariant-loop-index l = find (λ seat. bytes_eq l.name (default_name seat)) (range_with_len (l.index + 1) (l.fn.players.number - l.index)) ≡ seat_named l.fn.players.number l.name

@@ -11,5 +11,5 @@ abbrev pub invariant-loop-index : goal.invariant-loop-index
 invariant-loop-index l = record {
   few : AreFew l.counts;
   counted : AreCounted l.file_moves l.script l.counts;
-  read : behind (map numbered l.script) (thread_from (event_said l.seats) l.counts (l.index + 1) (map view (drop l.index l.actions))) ≡ events_said l.seats (counts_after l.file_moves) (map view l.actions);
+  read : behind (map numbered l.script) (thread_from (event_said l.players.number) l.counts (l.index + 1) (map view (drop l.index l.actions))) ≡ events_said l.players.number (counts_after l.file_moves) (map view l.actions);
 }

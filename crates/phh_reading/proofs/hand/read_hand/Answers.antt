@@ -1,4 +1,4 @@
-use Rattle.std.proofs.Common.{refl, arith}
+use Rattle.std.proofs.Common.{refl, sym, arith}
 use Rattle.phh_reading.proofs.hand.read_hand.Goals as goal
 
 pub returns-clause-sound : goal.returns-clause-sound
@@ -29,12 +29,12 @@ returns-clause-sound c =
           others = omega (arith, few.other_events, counted.other_events);
         };
         stated = record {
-          finish = c.in_ok-finish.ensures.seats;
+          finish = rw (sym c.players-players.ensures) c.in_ok-finish.ensures.seats;
           wins = λ x is. absurd (cc);
           pot_total = λ x is. absurd (cc);
           values = λ x is. absurd (cc);
         };
-        notes = c.in_ok-notes.ensures.allowed;
+        notes = rw (sym c.players-players.ensures) c.in_ok-notes.ensures.allowed;
       };
       rules = refl;
     }

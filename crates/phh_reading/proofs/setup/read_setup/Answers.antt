@@ -10,7 +10,7 @@ returns-clause-valid c =
     let antes = c.in_ok-antes.antes in
     record {
       same_antes = c.in_ok-antes.ensures.held.seats;
-      same_blinds = c.in_ok-blinds.ensures.seats;
+      same_blinds = c.in_ok-blinds.ensures.seats ∙ c.players.ensures;
       few_seats = omega (arith, c.in_ok-stacks.ensures.seats, c.most_seats.ensures);
       stacks = λ seat first last. c.in_ok-stacks.ensures.sizes (seat - 1) (omega (arith, first, last));
       antes = λ seat. c.in_ok-antes.ensures.held.each (seat - 1);
@@ -20,7 +20,7 @@ returns-clause-valid c =
       big_bet = c.in_ok-sizes.ensures.big_bet;
       least_bet = c.in_ok-sizes.ensures.min_bet;
       dead_antes = λ dead. ap (λ seats. list_any (λ seat. nat_lt 0 (amount_of antes seat)) (seats_of seats)) (sym c.in_ok-antes.ensures.held.seats) ∙ c.are_dead.ensures.some dead;
-      heads_up = λ two. c.in_ok-blinds.ensures.heads_up two;
+      heads_up = λ two. c.in_ok-blinds.ensures.heads_up (c.players.ensures ∙ two);
       stud = λ is seat. c.in_ok-blinds.ensures.stud is (seat - 1);
       rakes = λ pot. none_above c.none.result c.none.ensures pot;
     }
