@@ -1,35 +1,28 @@
 -- If everything is expressed, what the choice of notes keeps is what the notation can express.
-use Rattle.std.proofs.Common.{◌≡◌, ◌+◌, ℕ, ◌<◌, ◌≤◌, ◌↔◌, length, List, [], ◌∷◌, Option, None, refl, sym, ◌∙◌, arith}
+use Rattle.std.proofs.Common.{◌≡◌, ◌+◌, ℕ, ◌<◌, ◌≤◌, length, List, [], ◌∷◌, None, refl, sym, ◌∙◌, arith}
 use Rattle.std.specs.List.{AllByRecursion}
 use Rattle.first_fault.specs.declared.limits.TheConstants.{MOST_HANDS}
 use Rattle.hand_canon.specs.ReadAgain.{AreAgain}
 use Rattle.hand_canon.specs.Sound.{IsSound}
-use Rattle.hand_records.specs.SaidNotes.{KeepsNotes, SaidNotes, notes_of}
+use Rattle.hand_records.specs.SaidNotes.{KeepsNotes, notes_of}
 use Rattle.hand_records.specs.SameHands.{AllPaired, kept_notes}
 use Rattle.hand_records.specs.WriteRefusals.{first_refusal}
 use Rattle.hand_records.specs.declared.record.Record.{Record}
 use Rattle.hand_records.specs.declared.trace.Play.{Play}
 use Rattle.hand_records.specs.declared.writing.Keep.{Keep}
 use Rattle.hand_records.specs.declared.writing.Keep.TheVariants as keeps
-use Rattle.hand_records.specs.declared.writing.Unspelled.{Unspelled}
-use Rattle.convert_core.specs.ReadBack.{ReadBack}
-use Rattle.convert_core.specs.declared.format_fault.FormatFault.{FormatFault}
+use Rattle.convert_core.specs.Lawful.{Lawful}
+use Rattle.convert_core.specs.Meaning.{AreReadBack, Meaning}
 use Rattle.convert_core.proofs.LawfulNotations.{IsReadAgain}
 use Rattle.convert_core.proofs.Paired.{each_spelled}
 
--- all notes of a play are expressed if and only if the kept notes are all that are said
-abbrev pub AreAllSpelled : (Keep → Play → Option Unspelled) → (SaidNotes → SaidNotes) → Type 0
-AreAllSpelled unspelled kept =
-    (place : ℕ) (play : Play) → place < MOST_HANDS → IsSound play
-    → (unspelled keeps.All play ≡ None) ↔ ((unspelled keeps.Spelled play ≡ None) × (kept (notes_of place play) ≡ notes_of place play))
-
-module _ (unspelled : Keep → Play → Option Unspelled) (kept : SaidNotes → SaidNotes) (all_spelled : AreAllSpelled unspelled kept) where
-  one_kept : (keep : Keep) (place : ℕ) (play : Play) → place < MOST_HANDS → IsSound play → unspelled keep play ≡ None → kept_notes keep kept (notes_of place play) ≡ kept (notes_of place play)
-  one_kept keeps.All place play early sound none = sym ((all_spelled place play early sound).0 none).1
+module _ {n : Meaning} (law : Lawful n) where
+  one_kept : (keep : Keep) (place : ℕ) (play : Play) → place < MOST_HANDS → IsSound play → n.unspelled keep play ≡ None → kept_notes keep n.kept (notes_of place play) ≡ n.kept (notes_of place play)
+  one_kept keeps.All place play early sound none = sym ((law.all_spelled place play early sound).0 none).1
   one_kept keeps.Spelled place play early sound none = refl
 
-  hands_kept : (keep : Keep) (place : ℕ) (plays : List Play) (hands : List Record) → place + length plays ≤ MOST_HANDS → AllByRecursion IsSound plays → AllByRecursion (λ play. unspelled keep play ≡ None) plays
-      → AreAgain (KeepsNotes kept) place plays hands → AreAgain (KeepsNotes (kept_notes keep kept)) place plays hands
+  hands_kept : (keep : Keep) (place : ℕ) (plays : List Play) (hands : List Record) → place + length plays ≤ MOST_HANDS → AllByRecursion IsSound plays → AllByRecursion (λ play. n.unspelled keep play ≡ None) plays
+      → AreAgain (KeepsNotes n.kept) place plays hands → AreAgain (KeepsNotes (kept_notes keep n.kept)) place plays hands
   unfolding AreAgain
   hands_kept keep place [] [] few sound none again = tt
   hands_kept keep place [] (hand ∷ hands) few sound none again = again
@@ -45,18 +38,18 @@ module _ (unspelled : Keep → Play → Option Unspelled) (kept : SaidNotes → 
 
   -- what reads back with the notes that the notation can express reads back with those that are to
   -- be kept
-  pub kept_back : (Say : List Record → Type 0) (ReadAsHands : ℕ → Type 0) (HaveFault : FormatFault → Type 0) (keep : Keep) (plays : List Play) → length plays ≤ MOST_HANDS → AllByRecursion IsSound plays
-      → first_refusal (unspelled keep) plays ≡ None
-      → ReadBack Say ReadAsHands HaveFault (KeepsNotes kept) plays → ReadBack Say ReadAsHands HaveFault (KeepsNotes (kept_notes keep kept)) plays
-  kept_back Say ReadAsHands HaveFault keep plays few sound none back =
+  pub kept_back : (keep : Keep) (plays : List Play) (output : List ℕ) → length plays ≤ MOST_HANDS → AllByRecursion IsSound plays
+      → first_refusal (n.unspelled keep) plays ≡ None
+      → AreReadBack n n.kept plays output → AreReadBack n (kept_notes keep n.kept) plays output
+  kept_back keep plays output few sound none back =
       record {
         read = back.read;
         no_fault = back.no_fault;
-        again = λ hands say. hands_kept keep 0 plays hands (omega (arith, few)) sound (each_spelled (unspelled keep) 1 plays none) (back.again hands say);
+        again = λ hands say. hands_kept keep 0 plays hands (omega (arith, few)) sound (each_spelled (n.unspelled keep) 1 plays none) (back.again hands say);
       }
 
-  pairs_spelled : (keep : Keep) (place : ℕ) (plays others : List Play) → place + length plays ≤ MOST_HANDS → AllByRecursion IsSound plays → AllByRecursion (λ play. unspelled keep play ≡ None) plays
-      → AllPaired (IsReadAgain (kept_notes keep kept)) place plays others → AllPaired (IsReadAgain kept) place plays others
+  pairs_spelled : (keep : Keep) (place : ℕ) (plays others : List Play) → place + length plays ≤ MOST_HANDS → AllByRecursion IsSound plays → AllByRecursion (λ play. n.unspelled keep play ≡ None) plays
+      → AllPaired (IsReadAgain (kept_notes keep n.kept)) place plays others → AllPaired (IsReadAgain n.kept) place plays others
   unfolding AllPaired
   pairs_spelled keep place [] [] few sound none all = tt
   pairs_spelled keep place [] (other ∷ others) few sound none all = all
@@ -68,6 +61,6 @@ module _ (unspelled : Keep → Play → Option Unspelled) (kept : SaidNotes → 
 
   -- and what is read back with those that are to be kept is read back with those that it can
   -- express
-  pub again_spelled : (keep : Keep) (plays others : List Play) → length plays ≤ MOST_HANDS → AllByRecursion IsSound plays → first_refusal (unspelled keep) plays ≡ None
-      → AllPaired (IsReadAgain (kept_notes keep kept)) 0 plays others → AllPaired (IsReadAgain kept) 0 plays others
-  again_spelled keep plays others few sound none all = pairs_spelled keep 0 plays others (omega (arith, few)) sound (each_spelled (unspelled keep) 1 plays none) all
+  pub again_spelled : (keep : Keep) (plays others : List Play) → length plays ≤ MOST_HANDS → AllByRecursion IsSound plays → first_refusal (n.unspelled keep) plays ≡ None
+      → AllPaired (IsReadAgain (kept_notes keep n.kept)) 0 plays others → AllPaired (IsReadAgain n.kept) 0 plays others
+  again_spelled keep plays others few sound none all = pairs_spelled keep 0 plays others (omega (arith, few)) sound (each_spelled (n.unspelled keep) 1 plays none) all

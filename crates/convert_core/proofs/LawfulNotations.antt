@@ -1,5 +1,5 @@
--- A notation together with its laws, as one value, and what is read of its bytes.
-use Rattle.std.proofs.Common.{◌≡◌, ◌⊎◌, ◌+◌, ◌-◌, ℕ, ◌<◌, ◌≤◌, length, List, [], ◌∷◌, Option, None, All, take, option_map, option_and_then, refl, sym, ap, subst, ◌∙◌, ◌↔◌, inl, inr}
+-- What is read of the bytes of a notation that keeps the laws.
+use Rattle.std.proofs.Common.{◌≡◌, ◌⊎◌, ◌+◌, ◌-◌, ℕ, ◌≤◌, length, List, [], ◌∷◌, Option, All, take, option_map, option_and_then, refl, sym, ap, subst, ◌∙◌, inl, inr}
 use Rattle.std.specs.List.{AllByRecursion}
 use Rattle.std.proofs.lemmas.List.Elements.{All-cons, All-nil, recursion_from_All}
 use Rattle.first_fault.specs.declared.limits.TheConstants.{MOST_HANDS}
@@ -8,22 +8,21 @@ use Rattle.hand_canon.specs.ReadAgain.{AreAgain}
 use Rattle.hand_canon.specs.Sound.{IsSound}
 use Rattle.hand_records.specs.AllowedNotes.{non_default_seats}
 use Rattle.hand_records.specs.Plays.{hands_of}
-use Rattle.hand_records.specs.WriteRefusals.{first_refusal}
 use Rattle.hand_records.specs.declared.notes.Notes.{Notes}
 use Rattle.hand_records.specs.declared.record.Record.{Record}
 use Rattle.hand_records.specs.declared.trace.Play.{Play}
 use Rattle.hand_records.specs.declared.trace.Trace.{Trace}
-use Rattle.hand_records.specs.declared.writing.Keep.{Keep}
 use Rattle.hand_records.specs.declared.writing.Keep.TheVariants as keeps
-use Rattle.hand_records.specs.declared.writing.Unspelled.{Unspelled}
 use Rattle.card_set.proofs.NumbersOfRange.{map_agree}
 use Rattle.play_event.specs.declared.setup.Rules.{Rules}
 use Rattle.convert_core.specs.Conversion.{ReadAsPlays, ReadAsRefused}
 use Rattle.convert_core.specs.Judged.{ArePlaysOf}
+use Rattle.convert_core.specs.Lawful.{Lawful}
+use Rattle.convert_core.specs.Meaning.{AreReadBack, Meaning}
 use Rattle.convert_core.specs.ReadBack.{ReadBack}
-use Rattle.convert_core.specs.ReadOrFail.{OnlyFail, OnlyRead, ReadOrFail}
-use Rattle.convert_core.specs.Records.{AreFew, AreOfFile, IsUnder}
-use Rattle.convert_core.specs.SameRecords.{AllAlike, ArePlayedAlike, NoteTheSame}
+use Rattle.convert_core.specs.ReadOrFail.{OnlyFail, OnlyRead}
+use Rattle.convert_core.specs.Records.{AreFew, IsUnder}
+use Rattle.convert_core.specs.SameRecords.{ArePlayedAlike, NoteTheSame}
 use Rattle.convert_core.specs.declared.refusal.Refusal.{Refusal}
 use Rattle.convert_core.specs.declared.format_fault.FormatFault.{FormatFault}
 use Rattle.convert_core.proofs.JudgedPlays.{judged_sound}
@@ -34,43 +33,21 @@ use Rattle.hand_records.proofs.NoteLaws.{notes_same, said_taken}
 use Rattle.hand_records.specs.SaidNotes.{KeepsNotes, SaidNotes, kept_label, name_said, notes_of, numbers_said, said_notes}
 use Rattle.hand_records.specs.SameHands.{AllPaired, AreSameHand}
 
--- what a notation says of bytes, with the laws of that
-pub record ReadNotation : Type 1 where
-  pub rules : Rules
-  pub Say : List ℕ → List Record → Type 0
-  pub ReadAsHands : List ℕ → ℕ → Type 0
-  pub HaveFault : List ℕ → FormatFault → Type 0
-  pub reads_file : (bytes : List ℕ) (hands : List Record) → Say bytes hands → AreOfFile rules hands
-  pub read_or_fail : (bytes : List ℕ) → ReadOrFail (ReadAsHands bytes) (HaveFault bytes)
-  pub say_as_many : (bytes : List ℕ) (hands : List Record) → Say bytes hands → ReadAsHands bytes (length hands)
-  pub one_reading : (bytes : List ℕ) (hands others : List Record) → Say bytes hands → Say bytes others → AllAlike hands others
-
--- what a notation says of bytes, and how it writes plays, with the laws of both
-pub record WrittenNotation : Type 1 where
-  pub source : ReadNotation
-  pub unspelled : Keep → Play → Option Unspelled
-  pub Spell : List Play → List ℕ → Type 0
-  pub kept : SaidNotes → SaidNotes
-  pub AreSame : List ℕ → List ℕ → Type 0
-  pub kept_again : (notes : SaidNotes) → kept (kept notes) ≡ kept notes
-  pub same_fact : (keep : Keep) (place : ℕ) (play other : Play) → place < MOST_HANDS → IsSound play → IsSound other → AreSameHand (λ notes. notes) place play other
-      → unspelled keep play ≡ unspelled keep other
-  pub trace_fact : (play other : Play) → play.trace ≡ other.trace → unspelled keeps.Spelled play ≡ unspelled keeps.Spelled other
-  pub all_spelled : (place : ℕ) (play : Play) → place < MOST_HANDS → IsSound play
-      → (unspelled keeps.All play ≡ None) ↔ ((unspelled keeps.Spelled play ≡ None) × (kept (notes_of place play) ≡ notes_of place play))
-  pub one_spelling : (plays others : List Play) (bytes too : List ℕ) → AllByRecursion IsSound plays → AllByRecursion IsSound others → Spell plays bytes → Spell others too
-      → AllPaired (AreSameHand kept) 0 plays others → AreSame bytes too
-  pub same_hands : (keep : Keep) (plays others : List Play) (bytes too : List ℕ) → AreFew plays → AreFew others → AllByRecursion IsSound plays → AllByRecursion IsSound others
-      → first_refusal (unspelled keep) plays ≡ None → first_refusal (unspelled keep) others ≡ None → Spell plays bytes → Spell others too
-      → AreSame bytes too → AllPaired (AreSameHand kept) 0 plays others
-
 -- bytes that say records have no fault
-pub no_fault : (n : ReadNotation) (bytes : List ℕ) (hands : List Record) (fault : FormatFault) → n.Say bytes hands → n.HaveFault bytes fault → ⊥
-no_fault n bytes hands fault say have = by_case (n.read_or_fail bytes)
+pub no_fault : {n : Meaning} (law : Lawful n) (bytes : List ℕ) (hands : List Record) (fault : FormatFault) → n.Say bytes hands → n.HaveFault bytes fault → ⊥
+no_fault {n} law bytes hands fault say have = by_case (law.read_or_fail bytes)
   where
     by_case : OnlyRead (n.ReadAsHands bytes) (n.HaveFault bytes) ⊎ OnlyFail (n.ReadAsHands bytes) (n.HaveFault bytes) → ⊥
     by_case (inl is) = is.no_fault fault have
-    by_case (inr is) = is.unread (length hands) (n.say_as_many bytes hands say)
+    by_case (inr is) = is.unread (length hands) (law.say_as_many bytes hands say)
+
+-- and bytes that have a fault have one
+pub one_fault : {n : Meaning} (law : Lawful n) (bytes : List ℕ) (fault other : FormatFault) → n.HaveFault bytes fault → n.HaveFault bytes other → fault ≡ other
+one_fault {n} law bytes fault other have has = by_case (law.read_or_fail bytes)
+  where
+    by_case : OnlyRead (n.ReadAsHands bytes) (n.HaveFault bytes) ⊎ OnlyFail (n.ReadAsHands bytes) (n.HaveFault bytes) → fault ≡ other
+    by_case (inl is) = absurd (is.no_fault fault have)
+    by_case (inr is) = is.one fault have ∙ sym (is.one other has)
 
 -- ---- plays that are read
 
@@ -79,14 +56,14 @@ each_sound rules [] each judged = tt
 each_sound rules (play ∷ plays) each judged = (judged_sound play each.0.sound judged.0, each_sound rules plays each.1 judged.1)
 
 -- plays that bytes read as are sound, and at most as many as a file may have
-pub read_sound : (n : ReadNotation) (bytes : List ℕ) (plays : List Play) → ReadAsPlays (n.Say bytes) plays → AllByRecursion IsSound plays
-read_sound n bytes plays read =
-    let file = n.reads_file bytes read.records read.say in
+pub read_sound : {n : Meaning} (law : Lawful n) (bytes : List ℕ) (plays : List Play) → ReadAsPlays (n.Say bytes) plays → AllByRecursion IsSound plays
+read_sound {n} law bytes plays read =
+    let file = law.reads_file bytes read.records read.say in
     each_sound n.rules plays (subst (AllByRecursion (IsUnder n.rules)) (sym read.are.same) file.each) (recursion_from_All IsJudged plays read.are.judged)
 
-pub read_few : (n : ReadNotation) (bytes : List ℕ) (plays : List Play) → ReadAsPlays (n.Say bytes) plays → AreFew plays
-read_few n bytes plays read =
-    let file = n.reads_file bytes read.records read.say in
+pub read_few : {n : Meaning} (law : Lawful n) (bytes : List ℕ) (plays : List Play) → ReadAsPlays (n.Say bytes) plays → AreFew plays
+read_few {n} law bytes plays read =
+    let file = law.reads_file bytes read.records read.say in
     few_plays read.records plays read.are file.few file.few_moves
 
 -- ---- plays of one reading
@@ -129,9 +106,9 @@ all_same place (play ∷ plays) [] alike = alike
 all_same place (play ∷ plays) (other ∷ others) alike = (hand_same place play other alike.0, all_same (place + 1) plays others alike.1)
 
 -- two lists of plays that the same file reads as are the same
-pub read_same : (n : ReadNotation) (bytes : List ℕ) (plays others : List Play) → ReadAsPlays (n.Say bytes) plays → ReadAsPlays (n.Say bytes) others → AllPaired (AreSameHand (λ notes. notes)) 0 plays others
-read_same n bytes plays others read too =
-    all_same 0 plays others (plays_alike read.records too.records plays others (n.one_reading bytes read.records too.records read.say too.say) read.are too.are)
+pub read_same : {n : Meaning} (law : Lawful n) (bytes : List ℕ) (plays others : List Play) → ReadAsPlays (n.Say bytes) plays → ReadAsPlays (n.Say bytes) others → AllPaired (AreSameHand (λ notes. notes)) 0 plays others
+read_same {n} law bytes plays others read too =
+    all_same 0 plays others (plays_alike read.records too.records plays others (law.one_reading bytes read.records too.records read.say too.say) read.are too.are)
 
 -- plays that the same file reads as: each is sound, they are at most as many as a file may have,
 -- and they are the same
@@ -141,13 +118,13 @@ pub record AreReadSame (plays others : List Play) : Type 0 where
   pub few : length plays ≤ MOST_HANDS
   pub hands : AllPaired (AreSameHand (λ notes. notes)) 0 plays others
 
-pub all_read_same : (n : ReadNotation) (bytes : List ℕ) (plays others : List Play) → ReadAsPlays (n.Say bytes) plays → ReadAsPlays (n.Say bytes) others → AreReadSame plays others
-all_read_same n bytes plays others read too =
+pub all_read_same : {n : Meaning} (law : Lawful n) (bytes : List ℕ) (plays others : List Play) → ReadAsPlays (n.Say bytes) plays → ReadAsPlays (n.Say bytes) others → AreReadSame plays others
+all_read_same {n} law bytes plays others read too =
     record {
-      sound = read_sound n bytes plays read;
-      others_sound = read_sound n bytes others too;
-      few = (read_few n bytes plays read).few;
-      hands = read_same n bytes plays others read too;
+      sound = read_sound law bytes plays read;
+      others_sound = read_sound law bytes others too;
+      few = (read_few law bytes plays read).few;
+      hands = read_same law bytes plays others read too;
     }
 
 -- ---- plays that are read back
@@ -189,12 +166,8 @@ again_paired kept place (play ∷ plays) [] again = absurd again
 again_paired kept place (play ∷ plays) (hand ∷ hands) again =
     (record { trace = refl; notes = again.0.notes }, again_paired kept (place + 1) plays hands again.1)
 
--- bytes read back as plays, with these notes of them
-abbrev pub AreReadBack : ReadNotation → (SaidNotes → SaidNotes) → List Play → List ℕ → Type 0
-AreReadBack n kept plays bytes = ReadBack (n.Say bytes) (n.ReadAsHands bytes) (n.HaveFault bytes) (KeepsNotes kept) plays
-
 -- what bytes that read back as plays are read as
-pub read_again : (n : ReadNotation) (kept : SaidNotes → SaidNotes) (plays others : List Play) (bytes : List ℕ) → AreReadBack n kept plays bytes → ReadAsPlays (n.Say bytes) others
+pub read_again : (n : Meaning) (kept : SaidNotes → SaidNotes) (plays others : List Play) (bytes : List ℕ) → AreReadBack n kept plays bytes → ReadAsPlays (n.Say bytes) others
     → AllPaired (IsReadAgain kept) 0 plays others
 read_again n kept plays others bytes back read =
     let again = back.again read.records read.say in
@@ -202,8 +175,8 @@ read_again n kept plays others bytes back read =
     (again_paired kept 0 plays read.records again)
 
 -- and they have no refused hand
-pub never_refused : (n : WrittenNotation) {keeps : ℕ → ℕ → Notes → Notes → Type 0} (plays : List Play) (bytes : List ℕ) (number : ℕ) (why : Refusal)
-    → ReadBack (n.source.Say bytes) (n.source.ReadAsHands bytes) (n.source.HaveFault bytes) keeps plays → ReadAsRefused (n.source.Say bytes) number why → ⊥
+pub never_refused : (n : Meaning) {keeps : ℕ → ℕ → Notes → Notes → Type 0} (plays : List Play) (bytes : List ℕ) (number : ℕ) (why : Refusal)
+    → ReadBack (n.Say bytes) (n.ReadAsHands bytes) (n.HaveFault bytes) keeps plays → ReadAsRefused (n.Say bytes) number why → ⊥
 never_refused n {keeps} plays bytes number why back refused =
     let again = back.again refused.records refused.say in
     not_both refused.records (again_plays plays refused.records) number why (again_are keeps 0 plays refused.records again) refused.first

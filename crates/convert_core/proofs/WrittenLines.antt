@@ -1,5 +1,5 @@
 -- What is written after one more hand.
-use Rattle.std.proofs.Common.{◌≡◌, Bool, true, false, ℕ, ◌+◌, ◌≤◌, All, List, [], ◌∷◌, ◌++◌, Option, Some, None, Result, Ok, Err, length, sum_by, refl, sym, ap, subst, ◌∙◌, arith}
+use Rattle.std.proofs.Common.{◌≡◌, true, false, ℕ, ◌+◌, ◌≤◌, All, List, [], ◌∷◌, ◌++◌, Option, Some, None, Result, Ok, Err, length, sum_by, refl, sym, ap, subst, ◌∙◌, arith}
 use Rattle.std.specs.Option.{is_some}
 use Rattle.hand_records.specs.WriteRefusals.{first_refusal, refusal_from, refused_at}
 use Rattle.std.proofs.lemmas.List.{length-map}
@@ -22,6 +22,8 @@ use Rattle.hand_records.proofs.Refusals.{none_refused}
 use Rattle.convert_core.proofs.Taken.{all_counted, legal_more}
 use Rattle.convert_core.specs.Verdicts.{AreLegalUnless, Legal, Verdict, legal_plays}
 use Rattle.convert_core.specs.Lines.{IsWritten}
+use Rattle.convert_core.specs.Meaning.{Meaning}
+use Rattle.hand_records.specs.declared.writing.Keep.{Keep}
 
 -- if one is refused already, it stays the first
 refused_first : (number : ℕ) (fact : Option Unspelled) (behind more : Option WriteRefusal) (refusal : WriteRefusal)
@@ -65,52 +67,52 @@ last_first unspelled number (p ∷ plays) play none =
     ∙ ap (λ (n : ℕ). refused_at n (unspelled play) None) here
 
 -- a hand after one that is refused
-pub behind_refused : (is_lined : Bool) (unspelled : Play → Option Unspelled) (Spell : List Play → List ℕ → Type 0) (refusal : Option WriteRefusal) (out : List ℕ) (before : List Verdict) (play : Play)
-    → is_some refusal ≡ true → IsWritten is_lined unspelled Spell refusal out before → IsWritten is_lined unspelled Spell refusal out (before ++ Legal play ∷ [])
-behind_refused is_lined unspelled Spell refusal out before play some written =
+pub behind_refused : (to : Meaning) (keep : Keep) (refusal : Option WriteRefusal) (out : List ℕ) (before : List Verdict) (play : Play)
+    → is_some refusal ≡ true → IsWritten to keep refusal out before → IsWritten to keep refusal out (before ++ Legal play ∷ [])
+behind_refused to keep refusal out before play some written =
     record {
       lined = written.lined;
-      first = ap (λ (ps : List Play). first_refusal unspelled ps) (legal_more before play) ∙ stays unspelled (legal_plays before) play refusal some written.first;
+      first = ap (λ (ps : List Play). first_refusal (to.unspelled keep) ps) (legal_more before play) ∙ stays (to.unspelled keep) (legal_plays before) play refusal some written.first;
       spell = λ none. absurd (some_is refusal some none);
     }
 
 -- the first one that is refused
-pub now_refused : (is_lined : Bool) (unspelled : Play → Option Unspelled) (Spell : List Play → List ℕ → Type 0) (refusal : Option WriteRefusal) (out : List ℕ) (before : List Verdict) (play : Play) (place : ℕ) (fact : Unspelled)
-    → length before ≡ place → AreLegalUnless false before → refusal ≡ None → unspelled play ≡ Some fact → IsWritten is_lined unspelled Spell refusal out before
-    → IsWritten is_lined unspelled Spell (Some (refusals.Unspelled (place + 1) fact)) out (before ++ Legal play ∷ [])
-now_refused is_lined unspelled Spell refusal out before play place fact counted legal none found written =
+pub now_refused : (to : Meaning) (keep : Keep) (refusal : Option WriteRefusal) (out : List ℕ) (before : List Verdict) (play : Play) (place : ℕ) (fact : Unspelled)
+    → length before ≡ place → AreLegalUnless false before → refusal ≡ None → to.unspelled keep play ≡ Some fact → IsWritten to keep refusal out before
+    → IsWritten to keep (Some (refusals.Unspelled (place + 1) fact)) out (before ++ Legal play ∷ [])
+now_refused to keep refusal out before play place fact counted legal none found written =
     let plays = legal_plays before in
     let here : 1 + length plays ≡ place + 1 = omega (arith, counted, all_counted before (legal refl)) in
     record {
       lined = written.lined;
-      first = ap (λ (ps : List Play). first_refusal unspelled ps) (legal_more before play)
-          ∙ last_first unspelled 1 plays play (written.first ∙ none)
+      first = ap (λ (ps : List Play). first_refusal (to.unspelled keep) ps) (legal_more before play)
+          ∙ last_first (to.unspelled keep) 1 plays play (written.first ∙ none)
           ∙ ap (λ (f : Option Unspelled). refused_at (1 + length plays) f None) found
           ∙ ap (λ (n : ℕ). Some (refusals.Unspelled n fact)) here;
       spell = λ is. absurd (cc (is));
     }
 
 -- a hand that can be expressed, after others that can
-pub now_spelled : (is_lined : Bool) (unspelled : Play → Option Unspelled) (Spell : List Play → List ℕ → Type 0) (refusal : Option WriteRefusal) (out new : List ℕ) (before : List Verdict) (play : Play)
-    → refusal ≡ None → unspelled play ≡ None → IsWritten is_lined unspelled Spell refusal out before → Spell (legal_plays before ++ play ∷ []) new
-    → IsWritten is_lined unspelled Spell refusal new (before ++ Legal play ∷ [])
-now_spelled is_lined unspelled Spell refusal out new before play none spelled written spell =
+pub now_spelled : (to : Meaning) (keep : Keep) (refusal : Option WriteRefusal) (out new : List ℕ) (before : List Verdict) (play : Play)
+    → refusal ≡ None → to.unspelled keep play ≡ None → IsWritten to keep refusal out before → to.Spell (legal_plays before ++ play ∷ []) new
+    → IsWritten to keep refusal new (before ++ Legal play ∷ [])
+now_spelled to keep refusal out new before play none spelled written spell =
     let plays = legal_plays before in
     record {
       lined = written.lined;
-      first = ap (λ (ps : List Play). first_refusal unspelled ps) (legal_more before play)
-          ∙ last_first unspelled 1 plays play (written.first ∙ none)
+      first = ap (λ (ps : List Play). first_refusal (to.unspelled keep) ps) (legal_more before play)
+          ∙ last_first (to.unspelled keep) 1 plays play (written.first ∙ none)
           ∙ ap (λ (f : Option Unspelled). refused_at (1 + length plays) f None) spelled
           ∙ sym none;
-      spell = λ _. subst (λ (ps : List Play). Spell ps new) (sym (legal_more before play)) spell;
+      spell = λ _. subst (λ (ps : List Play). to.Spell ps new) (sym (legal_more before play)) spell;
     }
 
 -- before the first hand nothing is written
-pub none_written : (is_lined : Bool) (unspelled : Play → Option Unspelled) (Spell : List Play → List ℕ → Type 0) (out : List ℕ)
-    → is_lined ≡ true → Spell [] [] → out ≡ [] → IsWritten is_lined unspelled Spell None out []
+pub none_written : (to : Meaning) (keep : Keep) (out : List ℕ)
+    → to.is_lined ≡ true → to.Spell [] [] → out ≡ [] → IsWritten to keep None out []
 unfolding legal_plays
-none_written is_lined unspelled Spell out lined spell empty =
-    record { lined = lined; first = refl; spell = λ _. subst (λ (o : List ℕ). Spell [] o) (sym empty) spell }
+none_written to keep out lined spell empty =
+    record { lined = lined; first = refl; spell = λ _. subst (λ (o : List ℕ). to.Spell [] o) (sym empty) spell }
 
 -- there are at most as many as a file may have, and so are their moves
 pub few_plays : (records : List Record) (plays : List Play) → ArePlaysOf records plays

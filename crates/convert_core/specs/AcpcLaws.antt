@@ -5,6 +5,7 @@ use Rattle.std.specs.List.{AllByRecursion}
 use Rattle.std.proofs.lemmas.List.Sums.{sum_by-cons}
 use Rattle.acpc_format.specs.Again.{hands_again}
 use Rattle.acpc_format.specs.KeptNotes.{kept_in_acpc}
+use Rattle.acpc_format.proofs.NoteFacts as note_facts
 use Rattle.acpc_format.proofs.OneForm as forms
 use Rattle.hand_records.specs.SaidNotes.{KeepsNotes}
 use Rattle.hand_records.specs.SameHands.{AreSameHands}
@@ -31,8 +32,12 @@ use Rattle.hand_records.specs.declared.record.Record.{Record}
 use Rattle.hand_records.specs.declared.trace.Play.{Play}
 use Rattle.hand_records.specs.declared.writing.Keep.{Keep}
 use Rattle.hand_records.specs.declared.writing.Unspelled.{Unspelled}
-use Rattle.convert_core.specs.Acpc.{HaveFault, ReadAsHands, Say, Spell}
-use Rattle.convert_core.specs.AcpcReads.{none_of_read, read_again}
+use Rattle.convert_core.specs.Acpc.{HaveFault, ReadAsHands, Say, Spell, meaning}
+use Rattle.convert_core.specs.AcpcAlike.{one_reading}
+use Rattle.convert_core.specs.AcpcReads.{none_of_read, read_again, read_or_fail, say_as_many}
+use Rattle.convert_core.specs.KeptParts as parts
+use Rattle.convert_core.specs.Lawful.{Lawful}
+use Rattle.convert_core.specs.PlainFacts.{no_note_in_acpc}
 use Rattle.convert_core.specs.ReadBack.{ReadBack}
 use Rattle.convert_core.specs.Records.{AreFew, AreOfFile, IsUnder}
 use Rattle.convert_core.specs.declared.format_fault.FormatFault.{FormatFault}
@@ -189,3 +194,27 @@ same_hands game keep plays others bytes too few few_too sound sound_too none non
     (omega (arith, few_too.few_moves, all_counted others sound_too))
     sound sound_too spell.texts spell_too.texts none none_too
     (sym spell.lines ∙ same ∙ spell_too.lines)
+
+-- it keeps the laws
+pub lawful : (game : Game) → Lawful (meaning game)
+lawful game =
+    record {
+      reads_file = reads_file game;
+      read_or_fail = read_or_fail game;
+      say_as_many = say_as_many game;
+      one_reading = one_reading game;
+      sharp = sharp game;
+      no_lines = λ _. no_lines game;
+      reads_back = reads_back game;
+      kept_part = parts.part_in_acpc;
+      kept_most = parts.most_in_acpc;
+      kept_again = forms.kept_again;
+      same_fact = note_facts.one_fact game;
+      trace_fact = note_facts.trace_fact game;
+      no_note = no_note_in_acpc game;
+      all_spelled = note_facts.all_spelled game;
+      one_spelling =
+          λ plays others bytes too _ _ spell spell_too same.
+          one_spelling game plays others bytes too spell spell_too same;
+      same_hands = same_hands game;
+    }

@@ -53,9 +53,8 @@ module _ (game : Game) (bytes : List ℕ) where
   -- a fault of bytes is the one that is read
   one_fault : (fault : FormatFault) → HaveFault game bytes fault
       → (first : AcpcFault) × ((reading game bytes ≡ Err first) × (fault ≡ formats.Acpc first))
-  one_fault (formats.Phh fault) have = absurd have
-  one_fault (formats.Ohh fault) have = absurd have
   one_fault (formats.Acpc fault) have = (fault, (have.reads, refl))
+  one_fault _ have = absurd have
 
   faults_of : HasFaultsOf (reading game bytes) formats.Acpc (HaveFault game bytes)
   faults_of =

@@ -3,6 +3,8 @@
 pub mod Judged
 pub mod Faults
 pub mod Records
+pub mod Meaning
+pub mod Lawful
 pub mod ReadBack
 pub mod ReadOrFail
 pub mod Readings
@@ -32,6 +34,9 @@ pub mod AcpcLaws
 pub mod AcpcTold
 pub mod AcpcReads
 pub mod KeptParts
+pub mod PlainFacts
+pub mod Formats
+pub mod FormatLaws
 -- Passed on to the crates above.
 pub use Rattle.acpc_format.specs.KeptNotes as AcpcKeptNotes
 pub use Rattle.ohh_format.specs.KeptNotes as OhhKeptNotes

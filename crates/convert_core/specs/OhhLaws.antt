@@ -11,6 +11,7 @@ use Rattle.hand_records.specs.declared.writing.Unspelled.TheVariants as unspella
 use Rattle.play_event.specs.HistoryRules.{history_rules}
 use Rattle.ohh_format.specs.Again.{hands_again}
 use Rattle.ohh_format.specs.KeptNotes.{kept_in_ohh}
+use Rattle.ohh_format.proofs.NoteFacts as note_facts
 use Rattle.ohh_format.proofs.OneForm as forms
 use Rattle.hand_records.specs.SaidNotes.{KeepsNotes}
 use Rattle.hand_records.specs.SameHands.{AreSameHands}
@@ -21,10 +22,14 @@ use Rattle.ohh_format.proofs.SoundPlays.{sound_again}
 use Rattle.ohh_writing.specs.Spelled as facts
 use Rattle.ohh_members.specs.declared.dialect.Dialect.{Dialect}
 use Rattle.ohh_reading.specs.Reading.{reading}
+use Rattle.convert_core.specs.PlainFacts.{no_note_in_ohh}
 use Rattle.convert_core.specs.ReadBack.{ReadBack}
 use Rattle.convert_core.specs.Records.{AreFew, AreOfFile}
-use Rattle.convert_core.specs.Ohh.{HaveFault, ReadAsHands, Say, Spell}
-use Rattle.convert_core.specs.OhhReads.{none_of_read, read_again}
+use Rattle.convert_core.specs.KeptParts as parts
+use Rattle.convert_core.specs.Lawful.{Lawful}
+use Rattle.convert_core.specs.Ohh.{HaveFault, ReadAsHands, Say, Spell, meaning}
+use Rattle.convert_core.specs.OhhAlike.{one_reading}
+use Rattle.convert_core.specs.OhhReads.{none_of_read, read_again, read_or_fail, say_as_many}
 use Rattle.convert_core.specs.declared.format_fault.FormatFault.{FormatFault}
 use Rattle.hand_canon.specs.Sharp.{IsOther, is_sharp}
 use Rattle.hand_records.specs.WriteRefusals.{first_refusal}
@@ -93,3 +98,27 @@ same_hands dialect keep plays others bytes too few few_too sound sound_too none 
     spell_too same =
     forms.same_hands dialect keep plays others bytes too few.few few_too.few few.few_moves
     few_too.few_moves sound sound_too none none_too spell spell_too same
+
+-- it keeps the laws
+pub lawful : (dialect : Dialect) → Lawful (meaning dialect)
+lawful dialect =
+    record {
+      reads_file = reads_file dialect;
+      read_or_fail = read_or_fail dialect;
+      say_as_many = say_as_many dialect;
+      one_reading = one_reading dialect;
+      sharp = sharp dialect;
+      no_lines = λ _. no_lines dialect;
+      reads_back = reads_back dialect;
+      kept_part = parts.part_in_ohh;
+      kept_most = parts.most_in_ohh;
+      kept_again = forms.kept_again;
+      same_fact =
+          λ keep place play other _ sound sound_too same.
+          note_facts.one_fact keep place play other sound sound_too same;
+      trace_fact = note_facts.trace_fact;
+      no_note = no_note_in_ohh;
+      all_spelled = λ place play _ sound. note_facts.all_spelled place play sound;
+      one_spelling = forms.one_spelling dialect;
+      same_hands = same_hands dialect;
+    }

@@ -92,10 +92,9 @@ module _ (dialect : Dialect) (bytes : List ℕ) where
   one_fault : (fault : FormatFault) → HaveFault dialect bytes fault
       → (wrong : Wrong)
       × ((reading dialect bytes ≡ Err wrong) × (fault ≡ formats.Ohh (fault_of wrong)))
-  one_fault (formats.Phh fault) have = absurd have
   one_fault (formats.Ohh fault) have =
       (have.wrong, (have.reads, ap formats.Ohh (told_fault fault have.wrong have.told)))
-  one_fault (formats.Acpc fault) have = absurd have
+  one_fault _ have = absurd have
 
   faults_of : HasFaultsOf (reading dialect bytes) (λ wrong. formats.Ohh (fault_of wrong))
       (HaveFault dialect bytes)

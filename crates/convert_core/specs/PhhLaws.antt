@@ -18,8 +18,12 @@ use Rattle.phh_format.proofs.Sharpness.{unspelled_unsaid}
 use Rattle.phh_format.proofs.SoundPlays.{sound_again}
 use Rattle.phh_reading.specs.Reading.{reading}
 use Rattle.phh_writing.specs.Spelled as facts
-use Rattle.convert_core.specs.Phh.{HaveFault, ReadAsHands, Say, Spell}
-use Rattle.convert_core.specs.PhhReads.{none_of_read, read_again}
+use Rattle.convert_core.specs.KeptParts as parts
+use Rattle.convert_core.specs.Lawful.{Lawful}
+use Rattle.convert_core.specs.Phh.{HaveFault, ReadAsHands, Say, Spell, meaning}
+use Rattle.convert_core.specs.PhhAlike.{one_reading}
+use Rattle.convert_core.specs.PhhReads.{none_of_read, read_again, read_or_fail, say_as_many}
+use Rattle.convert_core.specs.PlainFacts.{no_note_in_phh}
 use Rattle.convert_core.specs.ReadBack.{ReadBack}
 use Rattle.convert_core.specs.Records.{AreFew, AreOfFile}
 use Rattle.convert_core.specs.declared.format_fault.FormatFault.{FormatFault}
@@ -76,3 +80,28 @@ pub same_hands : (plays others : List Play) (bytes too : List ℕ) → AreFew pl
 same_hands plays others bytes too few few_too sound sound_too spell spell_too same =
     forms.same_hands plays others bytes too few.few few_too.few few.few_moves few_too.few_moves
     sound sound_too spell.document spell_too.document same
+
+-- it keeps the laws
+pub lawful : Lawful meaning
+lawful =
+    record {
+      reads_file = reads_file;
+      read_or_fail = read_or_fail;
+      say_as_many = say_as_many;
+      one_reading = one_reading;
+      sharp = λ _ play fact found is bytes hands say. sharp play fact found is bytes hands say;
+      no_lines = λ lined. absurd (cc (lined));
+      reads_back =
+          λ _ plays bytes few sound spelled spell. reads_back plays bytes few sound spelled spell;
+      kept_part = parts.part_in_phh;
+      kept_most = parts.most_in_phh;
+      kept_again = forms.kept_again;
+      same_fact = λ _ _ play other _ _ _ same. forms.trace_fact play other same.trace;
+      trace_fact = forms.trace_fact;
+      no_note = no_note_in_phh;
+      all_spelled = λ place play _ _. forms.all_spelled place play;
+      one_spelling = one_spelling;
+      same_hands =
+          λ _ plays others bytes too few few_too sound sound_too _ _ spell spell_too same.
+          same_hands plays others bytes too few few_too sound sound_too spell spell_too same;
+    }

@@ -84,8 +84,7 @@ one_fault : (bytes : List ℕ) (fault : FormatFault) → HaveFault bytes fault
     → (wrong : Wrong) × ((reading bytes ≡ Err wrong) × (fault ≡ formats.Phh (fault_of wrong)))
 one_fault bytes (formats.Phh fault) have =
     (have.wrong, (have.reads, ap formats.Phh (told_fault fault have.wrong have.told)))
-one_fault bytes (formats.Ohh fault) have = absurd have
-one_fault bytes (formats.Acpc fault) have = absurd have
+one_fault bytes _ have = absurd have
 
 faults_of : (bytes : List ℕ)
     → HasFaultsOf (reading bytes) (λ wrong. formats.Phh (fault_of wrong)) (HaveFault bytes)

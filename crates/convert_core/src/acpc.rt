@@ -1,25 +1,19 @@
 //! Logs of the Annual Computer Poker Competition, read and written under a game.
 ghost use Rattle.std.specs.Prelude.{◌≡◌, ◌⊎◌, ◌≤◌, ◌++◌, [], ◌∷◌, true, List, length, None, Some, IfErr, IfOk, OnErr, OnOk};
 ghost use Rattle.std.specs.List.{AllByRecursion};
-ghost use Rattle.acpc_format.proofs.NoteFacts as note_facts;
-ghost use Rattle.acpc_format.proofs.OneForm as forms;
-ghost use Rattle.acpc_format.specs.KeptNotes.{kept_in_acpc};
 ghost use Rattle.acpc_writing.specs.Spelled as facts;
-ghost use Rattle.acpc_reading.specs.RecordView.{rules_of as rules_of_game};
 ghost use Rattle.first_fault.specs.declared.limits.TheConstants.{MOST_HANDS};
 ghost use Rattle.hand_canon.specs.Sound.{IsSound};
 ghost use Rattle.hand_records.specs.declared.trace.Play.{Play as AnyPlay};
 ghost use Rattle.convert_core.specs.Faults.{is_out_of_memory};
-ghost use Rattle.convert_core.specs.KeptParts as parts;
-ghost use Rattle.convert_core.specs.AcpcAlike as alike;
 ghost use Rattle.convert_core.specs.AcpcLaws as laws;
-ghost use Rattle.convert_core.specs.AcpcReads as reads;
 ghost use Rattle.convert_core.specs.Acpc as in_acpc;
 ghost use Rattle.hand_records.specs.WriteRefusals.{IsOutOfMemory, first_refusal};
 
 use crate::format_fault::FormatFault;
 use crate::notation::Notation;
 use acpc_format::Game;
+use acpc_reading::hand_lines;
 use card_set::Memory;
 use hand_records::{Keep, Play, Records, Unspelled, WriteRefusal};
 use play_event::{Reopen, Rules};
@@ -80,62 +74,9 @@ fn push_acpc_line(
 }
 
 impl Notation for Acpc {
-    ghost rules_of = { λ log. rules_of_game log.game };
+    ghost meaning = { λ log. in_acpc.meaning log.game };
 
-    ghost Say = { λ log bytes records. in_acpc.Say log.game bytes records };
-
-    ghost ReadAsHands = { λ log bytes count. in_acpc.ReadAsHands log.game bytes count };
-
-    ghost HaveFault = { λ log bytes fault. in_acpc.HaveFault log.game bytes fault };
-
-    ghost unspelled = { λ log keep play. facts.unspelled log.game keep play };
-
-    ghost is_lined = { λ _. true };
-
-    ghost Spell = { λ log plays bytes. in_acpc.Spell log.game plays bytes };
-
-    ghost kept = { λ _. kept_in_acpc };
-
-    ghost AreSame = { λ _ bytes too. bytes ≡ too };
-
-    ghost reads_file = { λ log bytes hands say. laws.reads_file log.game bytes hands say };
-
-    ghost read_or_fail = { λ log bytes. reads.read_or_fail log.game bytes };
-
-    ghost say_as_many = { λ log bytes hands say. reads.say_as_many log.game bytes hands say };
-
-    ghost one_reading = { λ log bytes hands others say too.
-        alike.one_reading log.game bytes hands others say too };
-
-    ghost sharp = { λ log keep play fact found is bytes hands say.
-        laws.sharp log.game keep play fact found is bytes hands say };
-
-    ghost no_lines = { λ log _. laws.no_lines log.game };
-
-    ghost reads_back = { λ log keep plays bytes few sound spelled spell.
-        laws.reads_back log.game keep plays bytes few sound spelled spell };
-
-    ghost kept_part = { λ _ notes. parts.part_in_acpc notes };
-
-    ghost kept_most = { λ _ part notes of_it same. parts.most_in_acpc part notes of_it same };
-
-    ghost kept_again = { λ _ notes. forms.kept_again notes };
-
-    ghost same_fact = { λ log keep place play other few sound sound_too same.
-        note_facts.one_fact log.game keep place play other few sound sound_too same };
-
-    ghost trace_fact = { λ log play other same. note_facts.trace_fact log.game play other same };
-
-    ghost all_spelled = { λ log place play few sound.
-        note_facts.all_spelled log.game place play few sound };
-
-    ghost one_spelling = { λ log plays others bytes too _ _ spell spell_too same.
-        laws.one_spelling log.game plays others bytes too spell spell_too same };
-
-    ghost same_hands = { λ log keep plays others bytes too few few_too sound sound_too
-        none none_too spell spell_too same.
-        laws.same_hands log.game keep plays others bytes too few few_too sound sound_too
-        none none_too spell spell_too same };
+    ghost lawful = { λ log. laws.lawful log.game };
 
     fn rules(&self) -> Rules {
         Rules {
@@ -147,6 +88,10 @@ impl Notation for Acpc {
 
     fn read(&self, alloc: Global, bytes: &[u8]) -> Result<Records, FormatFault> {
         read_acpc(alloc, &self.game, bytes)
+    }
+
+    fn first_lines(&self, alloc: Global, bytes: &[u8]) -> Result<Vec<u64>, Memory> {
+        hand_lines(alloc, bytes)
     }
 
     fn spells(&self, play: &Play, keep: Keep) -> Option<Unspelled> {

@@ -3,10 +3,8 @@
 ghost use Rattle.std.specs.Prelude.{IfErr, IfOk};
 ghost use Rattle.std.specs.List.{AllByRecursion};
 ghost use Rattle.hand_canon.specs.Sound.{IsSound};
-ghost use Rattle.hand_records.specs.SaidNotes.{KeepsNotes};
-ghost use Rattle.hand_records.specs.SameHands.{kept_notes};
-ghost use Rattle.convert_core.specs.Conversion.{IsConversion, IsPlaysRefusal, IsReadFault, ReadAsPlays};
-ghost use Rattle.convert_core.specs.ReadBack.{ReadBack};
+ghost use Rattle.convert_core.specs.Answers.{Converts};
+ghost use Rattle.convert_core.specs.Conversion.{IsPlaysRefusal, IsReadFault, ReadAsPlays};
 ghost use Rattle.convert_core.specs.Records.{AreFew, AreOfFile};
 
 use crate::convert_fault::ConvertFault;
@@ -37,10 +35,7 @@ pub fn convert<N: Notation, M: Notation>(
     keep: Keep,
     bytes: &[u8],
 ) -> Result<Vec<u8>, ConvertFault>
-    ensures { IsConversion (N.Say from.now bytes.now) (N.HaveFault from.now bytes.now)
-        (M.unspelled to.now keep) (M.Spell to.now)
-        (λ plays output. ReadBack (M.Say to.now output) (M.ReadAsHands to.now output)
-        (M.HaveFault to.now output) (KeepsNotes (kept_notes keep (M.kept to.now))) plays)
+    ensures { Converts (N.meaning from.now) (M.meaning to.now) keep bytes.now
         (λ output. output.items) result }
 {
     if to.has_lines() {
@@ -65,11 +60,12 @@ pub fn convert<N: Notation, M: Notation>(
 /// The first fault of the bytes; or else the first refused hand, with its first fault; or out of
 /// memory.
 pub fn plays<N: Notation>(alloc: Global, from: &N, bytes: &[u8]) -> Result<Vec<Play>, ConvertFault>
-    ensures plays { IfOk result (λ plays. ReadAsPlays (N.Say from.now bytes.now) plays.items) }
+    ensures plays { IfOk result (λ plays.
+        ReadAsPlays ((N.meaning from.now).Say bytes.now) plays.items) }
     ensures sound { IfOk result (λ plays. AllByRecursion IsSound plays.items) }
     ensures few { IfOk result (λ plays. AreFew plays.items) }
-    ensures refused { IfErr result (IsPlaysRefusal (N.Say from.now bytes.now)
-        (N.HaveFault from.now bytes.now)) }
+    ensures refused { IfErr result (IsPlaysRefusal ((N.meaning from.now).Say bytes.now)
+        ((N.meaning from.now).HaveFault bytes.now)) }
 {
     let records = match read_records(alloc, from, bytes) {
         Ok(records) => records,
@@ -92,9 +88,9 @@ pub fn read_records<N: Notation>(
     from: &N,
     bytes: &[u8],
 ) -> Result<Records, ConvertFault>
-    ensures said { IfOk result (N.Say from.now bytes.now) }
-    ensures of_file { IfOk result (AreOfFile (N.rules_of from.now)) }
-    ensures refused { IfErr result (IsReadFault (N.HaveFault from.now bytes.now)) }
+    ensures said { IfOk result ((N.meaning from.now).Say bytes.now) }
+    ensures of_file { IfOk result (AreOfFile (N.meaning from.now).rules) }
+    ensures refused { IfErr result (IsReadFault ((N.meaning from.now).HaveFault bytes.now)) }
 {
     match from.read(alloc, bytes) {
         Ok(records) => Ok(records),

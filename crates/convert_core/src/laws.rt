@@ -2,17 +2,16 @@
 //! file of it says, and equal hands give equal outputs.
 ghost use Rattle.std.specs.Prelude.{◌≡◌, ◌<◌, ◌↔◌, ℕ, true, List, None, Ok, Some, Result, map};
 ghost use Rattle.std.specs.List.{AllByRecursion};
-ghost use Rattle.hand_records.specs.SaidNotes.{KeepsNotes, notes_of};
+ghost use Rattle.hand_records.specs.SaidNotes.{notes_of};
 ghost use Rattle.hand_records.specs.SameHands.{AreSameHands, kept_notes};
 ghost use Rattle.hand_records.specs.declared.record.Record.{Record};
 ghost use Rattle.hand_records.specs.declared.trace.Play.{Play};
 ghost use Rattle.hand_records.specs.declared.writing.Keep.TheVariants as keeps;
 ghost use Rattle.hand_records.specs.declared.writing.Unspelled.{Unspelled};
 ghost use Rattle.convert_core.specs.Answers.{Answers};
-ghost use Rattle.convert_core.specs.Conversion.{HasUnspelled, IsConversion, ReadAsPlays, ReadAsRefused, RefusesNothing};
+ghost use Rattle.convert_core.specs.Conversion.{HasUnspelled, ReadAsPlays, ReadAsRefused, RefusesNothing};
 ghost use Rattle.convert_core.specs.Judged.{ArePlaysOf, IsFirstRefused};
 ghost use Rattle.convert_core.specs.NoteParts.{ArePartOf};
-ghost use Rattle.convert_core.specs.ReadBack.{ReadBack};
 ghost use Rattle.convert_core.specs.ReadOrFail.{ReadOrFail};
 ghost use Rattle.convert_core.specs.SameAnswers.{AreSameAnswers};
 ghost use Rattle.hand_canon.specs.Sharp.{IsOther, is_sharp};
@@ -58,25 +57,28 @@ pub fn law_of_verdicts()
 /// the target cannot express, and that fact is unique, or the target can express all. The function
 /// does nothing: its contract is a law.
 pub fn law_of_one_conversion<N: Notation, M: Notation>(from: &N, to: &M, keep: Keep)
-    ensures read_or_fail { (bytes : List ℕ)
-        → ReadOrFail (N.ReadAsHands from.now bytes) (N.HaveFault from.now bytes) }
+    ensures read_or_fail { (bytes : List ℕ) → ReadOrFail ((N.meaning from.now).ReadAsHands bytes)
+        ((N.meaning from.now).HaveFault bytes) }
     ensures unread { (bytes : List ℕ) (records : List Record) (fault : FormatFault)
-        → N.Say from.now bytes records → N.HaveFault from.now bytes fault → ⊥ }
+        → (N.meaning from.now).Say bytes records → (N.meaning from.now).HaveFault bytes fault → ⊥ }
     ensures refused { (bytes : List ℕ) (number other : ℕ) (why reason : Refusal)
-        → ReadAsRefused (N.Say from.now bytes) number why
-        → ReadAsRefused (N.Say from.now bytes) other reason
+        → ReadAsRefused ((N.meaning from.now).Say bytes) number why
+        → ReadAsRefused ((N.meaning from.now).Say bytes) other reason
         → (number ≡ other) × (why ≡ reason) }
     ensures played { (bytes : List ℕ) (number : ℕ) (why : Refusal) (plays : List Play)
-        → ReadAsRefused (N.Say from.now bytes) number why
-        → ReadAsPlays (N.Say from.now bytes) plays → ⊥ }
+        → ReadAsRefused ((N.meaning from.now).Say bytes) number why
+        → ReadAsPlays ((N.meaning from.now).Say bytes) plays → ⊥ }
     ensures unspelled { (bytes : List ℕ) (number other : ℕ) (fact too : Unspelled)
-        → HasUnspelled (N.Say from.now bytes) (M.unspelled to.now keep) number fact
-        → HasUnspelled (N.Say from.now bytes) (M.unspelled to.now keep) other too
+        → HasUnspelled ((N.meaning from.now).Say bytes) ((M.meaning to.now).unspelled keep)
+        number fact
+        → HasUnspelled ((N.meaning from.now).Say bytes) ((M.meaning to.now).unspelled keep)
+        other too
         → (number ≡ other) × (fact ≡ too) }
     ensures spelled { (bytes : List ℕ) (number : ℕ) (fact : Unspelled) (plays : List Play)
-        → HasUnspelled (N.Say from.now bytes) (M.unspelled to.now keep) number fact
-        → ReadAsPlays (N.Say from.now bytes) plays
-        → first_refusal (M.unspelled to.now keep) plays ≡ None → ⊥ }
+        → HasUnspelled ((N.meaning from.now).Say bytes) ((M.meaning to.now).unspelled keep)
+        number fact
+        → ReadAsPlays ((N.meaning from.now).Say bytes) plays
+        → first_refusal ((M.meaning to.now).unspelled keep) plays ≡ None → ⊥ }
 {}
 
 /// If the bytes read as hands, all are legal and agree with what is stated of them, and the target
@@ -84,13 +86,9 @@ pub fn law_of_one_conversion<N: Notation, M: Notation>(from: &N, to: &M, keep: K
 /// does nothing: its contract is a law.
 pub fn law_of_legal_conversions<N: Notation, M: Notation>(from: &N, to: &M, keep: Keep)
     ensures { (bytes : List ℕ) (plays : List Play) (answer : Result (List ℕ) ConvertFault)
-        → ReadAsPlays (N.Say from.now bytes) plays
-        → first_refusal (M.unspelled to.now keep) plays ≡ None
-        → IsConversion (N.Say from.now bytes) (N.HaveFault from.now bytes)
-        (M.unspelled to.now keep) (M.Spell to.now)
-        (λ read output. ReadBack (M.Say to.now output) (M.ReadAsHands to.now output)
-        (M.HaveFault to.now output) (KeepsNotes (kept_notes keep (M.kept to.now))) read)
-        (λ output. output) answer
+        → ReadAsPlays ((N.meaning from.now).Say bytes) plays
+        → first_refusal ((M.meaning to.now).unspelled keep) plays ≡ None
+        → Answers (N.meaning from.now) (M.meaning to.now) keep bytes answer
         → RefusesNothing answer }
 {}
 
@@ -99,14 +97,14 @@ pub fn law_of_legal_conversions<N: Notation, M: Notation>(from: &N, to: &M, keep
 /// notation can express whole. The function does nothing: its contract is a law.
 pub fn law_of_kept_notes<N: Notation>(notation: &N)
     ensures all { (place : ℕ) (play : Play) → place < MOST_HANDS → IsSound play
-        → N.unspelled notation.now keeps.All play ≡ None
-        → N.kept notation.now (notes_of place play) ≡ notes_of place play }
+        → (N.meaning notation.now).unspelled keeps.All play ≡ None
+        → (N.meaning notation.now).kept (notes_of place play) ≡ notes_of place play }
     ensures part { (place : ℕ) (play : Play)
-        → ArePartOf (N.kept notation.now (notes_of place play)) (notes_of place play) }
+        → ArePartOf ((N.meaning notation.now).kept (notes_of place play)) (notes_of place play) }
     ensures most { (place : ℕ) (play part : Play) → place < MOST_HANDS → IsSound part
         → ArePartOf (notes_of place part) (notes_of place play)
-        → N.unspelled notation.now keeps.All part ≡ None
-        → ArePartOf (notes_of place part) (N.kept notation.now (notes_of place play)) }
+        → (N.meaning notation.now).unspelled keeps.All part ≡ None
+        → ArePartOf (notes_of place part) ((N.meaning notation.now).kept (notes_of place play)) }
 {}
 
 /// What a notation is said not to express, no file of it says. If a play has such a fact, other
@@ -114,8 +112,8 @@ pub fn law_of_kept_notes<N: Notation>(notation: &N)
 /// the play. The function does nothing: its contract is a law.
 pub fn law_of_sharpness<N: Notation>(notation: &N, keep: Keep)
     ensures { (play : Play) (fact : Unspelled)
-        → N.unspelled notation.now keep play ≡ Some fact → is_sharp fact ≡ true
-        → (bytes : List ℕ) (hands : List Record) → N.Say notation.now bytes hands
+        → (N.meaning notation.now).unspelled keep play ≡ Some fact → is_sharp fact ≡ true
+        → (bytes : List ℕ) (hands : List Record) → (N.meaning notation.now).Say bytes hands
         → AllByRecursion (IsOther play) hands }
 {}
 
@@ -130,28 +128,21 @@ pub fn law_of_equal_outputs<A: Notation, B: Notation, N: Notation>(
     keep: Keep,
 )
     ensures { (bytes too output written : List ℕ) (plays others : List Play)
-        → ReadAsPlays (A.Say from.now bytes) plays → ReadAsPlays (B.Say other.now too) others
-        → Answers (A.Say from.now) (A.HaveFault from.now) (N.unspelled to.now) (N.Spell to.now)
-        (N.Say to.now) (N.ReadAsHands to.now) (N.HaveFault to.now) (N.kept to.now)
-        keep bytes (Ok output)
-        → Answers (B.Say other.now) (B.HaveFault other.now) (N.unspelled to.now) (N.Spell to.now)
-        (N.Say to.now) (N.ReadAsHands to.now) (N.HaveFault to.now) (N.kept to.now)
-        keep too (Ok written)
-        → AreSameHands (kept_notes keep (N.kept to.now)) plays others
-        ↔ N.AreSame to.now output written }
+        → ReadAsPlays ((A.meaning from.now).Say bytes) plays
+        → ReadAsPlays ((B.meaning other.now).Say too) others
+        → Answers (A.meaning from.now) (N.meaning to.now) keep bytes (Ok output)
+        → Answers (B.meaning other.now) (N.meaning to.now) keep too (Ok written)
+        → AreSameHands (kept_notes keep (N.meaning to.now).kept) plays others
+        ↔ (N.meaning to.now).AreSame output written }
 {}
 
 /// Converting an output to its own notation gives the same output, whichever notes are kept then,
 /// unless memory runs out. The function does nothing: its contract is a law.
 pub fn law_of_converting_again<A: Notation, N: Notation>(from: &A, to: &N, keep: Keep, again: Keep)
     ensures { (bytes output : List ℕ) (answer : Result (List ℕ) ConvertFault)
-        → Answers (A.Say from.now) (A.HaveFault from.now) (N.unspelled to.now) (N.Spell to.now)
-        (N.Say to.now) (N.ReadAsHands to.now) (N.HaveFault to.now) (N.kept to.now)
-        keep bytes (Ok output)
-        → Answers (N.Say to.now) (N.HaveFault to.now) (N.unspelled to.now) (N.Spell to.now)
-        (N.Say to.now) (N.ReadAsHands to.now) (N.HaveFault to.now) (N.kept to.now)
-        again output answer
-        → AreSameAnswers (N.AreSame to.now) (Ok output) answer }
+        → Answers (A.meaning from.now) (N.meaning to.now) keep bytes (Ok output)
+        → Answers (N.meaning to.now) (N.meaning to.now) again output answer
+        → AreSameAnswers (N.meaning to.now).AreSame (Ok output) answer }
 {}
 
 /// A conversion may go by way of another notation. If bytes are converted with all notes, then
@@ -165,14 +156,8 @@ pub fn law_of_converting_by_way<A: Notation, B: Notation, C: Notation>(
     keep: Keep,
 )
     ensures { (bytes output : List ℕ) (first second : Result (List ℕ) ConvertFault)
-        → Answers (A.Say from.now) (A.HaveFault from.now) (B.unspelled by.now) (B.Spell by.now)
-        (B.Say by.now) (B.ReadAsHands by.now) (B.HaveFault by.now) (B.kept by.now)
-        keeps.All bytes (Ok output)
-        → Answers (A.Say from.now) (A.HaveFault from.now) (C.unspelled to.now) (C.Spell to.now)
-        (C.Say to.now) (C.ReadAsHands to.now) (C.HaveFault to.now) (C.kept to.now)
-        keep bytes first
-        → Answers (B.Say by.now) (B.HaveFault by.now) (C.unspelled to.now) (C.Spell to.now)
-        (C.Say to.now) (C.ReadAsHands to.now) (C.HaveFault to.now) (C.kept to.now)
-        keep output second
-        → AreSameAnswers (C.AreSame to.now) first second }
+        → Answers (A.meaning from.now) (B.meaning by.now) keeps.All bytes (Ok output)
+        → Answers (A.meaning from.now) (C.meaning to.now) keep bytes first
+        → Answers (B.meaning by.now) (C.meaning to.now) keep output second
+        → AreSameAnswers (C.meaning to.now).AreSame first second }
 {}

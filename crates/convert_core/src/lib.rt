@@ -6,6 +6,7 @@
 mod acpc;
 mod convert_fault;
 mod converting;
+mod format;
 mod format_fault;
 mod judging;
 mod kept_plays;
@@ -21,6 +22,7 @@ mod visitor;
 pub use acpc::Acpc;
 pub use convert_fault::ConvertFault;
 pub use converting::{convert, plays, read_records};
+pub use format::Format;
 pub use format_fault::FormatFault;
 pub use kept_plays::plays_of;
 pub use laws::{

@@ -32,8 +32,7 @@ impl<'a, N: Notation> VerdictVisitor for Writer<'a, N> {
     ghost KEEPS = { false };
 
     ghost Took = { λ start it verdicts. (it.to.now ≡ start.to.now) × (it.keep ≡ start.keep)
-        × IsWritten (N.is_lined it.to.now) (N.unspelled it.to.now it.keep) (N.Spell it.to.now)
-        it.refusal it.out.items verdicts };
+        × IsWritten (N.meaning it.to.now) it.keep it.refusal it.out.items verdicts };
 
     fn continues(&self) -> bool {
         false
@@ -75,11 +74,12 @@ pub fn write_records<N: Notation>(
     keep: Keep,
     records: Records,
 ) -> Result<Vec<u8>, ConvertFault>
-    requires lined { N.is_lined to.now ≡ true }
+    requires lined { (N.meaning to.now).is_lined ≡ true }
     requires sound { All IsSoundRecord records }
     requires few { length records ≤ MOST_HANDS }
-    ensures { IsConversion (λ hands. hands ≡ records) (λ _. ⊥) (N.unspelled to.now keep)
-        (N.Spell to.now) (λ plays _. All IsSound plays) (λ output. output.items) result }
+    ensures { IsConversion (λ hands. hands ≡ records) (λ _. ⊥)
+        ((N.meaning to.now).unspelled keep) (N.meaning to.now).Spell
+        (λ plays _. All IsSound plays) (λ output. output.items) result }
 {
     let mut writer = Writer {
         to,

@@ -4,16 +4,9 @@ ghost use Rattle.std.specs.List.{AllByRecursion};
 ghost use Rattle.first_fault.specs.declared.limits.TheConstants.{MOST_HANDS};
 ghost use Rattle.hand_canon.specs.Sound.{IsSound};
 ghost use Rattle.hand_records.specs.declared.trace.Play.{Play as AnyPlay};
-ghost use Rattle.ohh_format.proofs.NoteFacts as note_facts;
-ghost use Rattle.ohh_format.proofs.OneForm as forms;
-ghost use Rattle.ohh_format.specs.KeptNotes.{kept_in_ohh};
 ghost use Rattle.ohh_writing.specs.Spelled as facts;
-ghost use Rattle.play_event.specs.HistoryRules.{history_rules as rules_of_histories};
 ghost use Rattle.convert_core.specs.Faults.{is_out_of_memory};
-ghost use Rattle.convert_core.specs.KeptParts as parts;
-ghost use Rattle.convert_core.specs.OhhAlike as alike;
 ghost use Rattle.convert_core.specs.OhhLaws as laws;
-ghost use Rattle.convert_core.specs.OhhReads as reads;
 ghost use Rattle.convert_core.specs.Ohh as in_ohh;
 ghost use Rattle.hand_records.specs.WriteRefusals.{IsOutOfMemory, first_refusal};
 
@@ -22,6 +15,7 @@ use crate::notation::Notation;
 use card_set::Memory;
 use hand_records::{Keep, Play, Records, Unspelled, WriteRefusal};
 use ohh_format::Dialect;
+use ohh_reading::block_lines;
 use play_event::{Reopen, Rules};
 use std::alloc::Global;
 
@@ -81,62 +75,9 @@ fn push_ohh_line(
 }
 
 impl Notation for Ohh {
-    ghost rules_of = { λ _. rules_of_histories };
+    ghost meaning = { λ tree. in_ohh.meaning tree.dialect };
 
-    ghost Say = { λ tree bytes records. in_ohh.Say tree.dialect bytes records };
-
-    ghost ReadAsHands = { λ tree bytes count. in_ohh.ReadAsHands tree.dialect bytes count };
-
-    ghost HaveFault = { λ tree bytes fault. in_ohh.HaveFault tree.dialect bytes fault };
-
-    ghost unspelled = { λ _ keep play. facts.unspelled keep play };
-
-    ghost is_lined = { λ _. true };
-
-    ghost Spell = { λ tree plays bytes. in_ohh.Spell tree.dialect plays bytes };
-
-    ghost kept = { λ _. kept_in_ohh };
-
-    ghost AreSame = { λ _ bytes too. bytes ≡ too };
-
-    ghost reads_file = { λ tree bytes hands say. laws.reads_file tree.dialect bytes hands say };
-
-    ghost read_or_fail = { λ tree bytes. reads.read_or_fail tree.dialect bytes };
-
-    ghost say_as_many = { λ tree bytes hands say. reads.say_as_many tree.dialect bytes hands say };
-
-    ghost one_reading = { λ tree bytes hands others say too.
-        alike.one_reading tree.dialect bytes hands others say too };
-
-    ghost sharp = { λ tree keep play fact found is bytes hands say.
-        laws.sharp tree.dialect keep play fact found is bytes hands say };
-
-    ghost no_lines = { λ tree _. laws.no_lines tree.dialect };
-
-    ghost reads_back = { λ tree keep plays bytes few sound spelled spell.
-        laws.reads_back tree.dialect keep plays bytes few sound spelled spell };
-
-    ghost kept_part = { λ _ notes. parts.part_in_ohh notes };
-
-    ghost kept_most = { λ _ part notes of_it same. parts.most_in_ohh part notes of_it same };
-
-    ghost kept_again = { λ _ notes. forms.kept_again notes };
-
-    ghost same_fact = { λ _ keep place play other _ sound sound_too same.
-        note_facts.one_fact keep place play other sound sound_too same };
-
-    ghost trace_fact = { λ _ play other same. note_facts.trace_fact play other same };
-
-    ghost all_spelled = { λ _ place play _ sound. note_facts.all_spelled place play sound };
-
-    ghost one_spelling = { λ tree plays others bytes too sound sound_too spell spell_too same.
-        forms.one_spelling tree.dialect plays others bytes too
-        sound sound_too spell spell_too same };
-
-    ghost same_hands = { λ tree keep plays others bytes too few few_too sound sound_too
-        none none_too spell spell_too same.
-        laws.same_hands tree.dialect keep plays others bytes too few few_too sound sound_too
-        none none_too spell spell_too same };
+    ghost lawful = { λ tree. laws.lawful tree.dialect };
 
     fn rules(&self) -> Rules {
         Rules {
@@ -148,6 +89,10 @@ impl Notation for Ohh {
 
     fn read(&self, alloc: Global, bytes: &[u8]) -> Result<Records, FormatFault> {
         read_ohh(alloc, self.dialect, bytes)
+    }
+
+    fn first_lines(&self, alloc: Global, bytes: &[u8]) -> Result<Vec<u64>, Memory> {
+        block_lines(alloc, bytes)
     }
 
     fn spells(&self, play: &Play, keep: Keep) -> Option<Unspelled> {

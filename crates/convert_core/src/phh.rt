@@ -1,19 +1,12 @@
 //! Hand histories in the Poker Hand History format.
-ghost use Rattle.std.specs.Prelude.{◌≡◌, ◌⊎◌, ◌≤◌, true, false, length, None, Some, IfErr, IfOk, OnOk};
+ghost use Rattle.std.specs.Prelude.{◌≡◌, ◌⊎◌, ◌≤◌, true, length, None, Some, IfErr, IfOk, OnOk};
 ghost use Rattle.std.specs.List.{AllByRecursion};
 ghost use Rattle.first_fault.specs.declared.limits.TheConstants.{MOST_HANDS};
 ghost use Rattle.hand_canon.specs.Sound.{IsSound};
-ghost use Rattle.phh_format.proofs.OneForm as forms;
-ghost use Rattle.phh_format.specs.KeptNotes.{kept_in_phh};
-ghost use Rattle.phh_format.specs.SameTables.{AreSameTable};
 ghost use Rattle.phh_writing.specs.Spelled as facts;
-ghost use Rattle.play_event.specs.HistoryRules.{history_rules as rules_of_histories};
 ghost use Rattle.convert_core.specs.Faults.{is_out_of_memory};
-ghost use Rattle.convert_core.specs.KeptParts as parts;
 ghost use Rattle.convert_core.specs.Phh as in_phh;
-ghost use Rattle.convert_core.specs.PhhAlike as alike;
 ghost use Rattle.convert_core.specs.PhhLaws as laws;
-ghost use Rattle.convert_core.specs.PhhReads as reads;
 ghost use Rattle.hand_records.specs.WriteRefusals.{IsOutOfMemory, first_refusal};
 
 use crate::format_fault::FormatFault;
@@ -52,60 +45,9 @@ fn write_phh(alloc: Global, plays: &[Play], keep: Keep) -> Result<Vec<u8>, Write
 }
 
 impl Notation for Phh {
-    ghost rules_of = { λ _. rules_of_histories };
+    ghost meaning = { λ _. in_phh.meaning };
 
-    ghost Say = { λ _ bytes records. in_phh.Say bytes records };
-
-    ghost ReadAsHands = { λ _ bytes count. in_phh.ReadAsHands bytes count };
-
-    ghost HaveFault = { λ _ bytes fault. in_phh.HaveFault bytes fault };
-
-    ghost unspelled = { λ _ _ play. facts.unspelled play };
-
-    ghost is_lined = { λ _. false };
-
-    ghost Spell = { λ _ plays bytes. in_phh.Spell plays bytes };
-
-    ghost kept = { λ _. kept_in_phh };
-
-    ghost AreSame = { λ _ bytes too. AreSameTable bytes too };
-
-    ghost reads_file = { λ _ bytes hands say. laws.reads_file bytes hands say };
-
-    ghost read_or_fail = { λ _ bytes. reads.read_or_fail bytes };
-
-    ghost say_as_many = { λ _ bytes hands say. reads.say_as_many bytes hands say };
-
-    ghost one_reading = { λ _ bytes hands others say too.
-        alike.one_reading bytes hands others say too };
-
-    ghost sharp = { λ _ _ play fact found is bytes hands say.
-        laws.sharp play fact found is bytes hands say };
-
-    ghost no_lines = { λ _ lined. absurd (cc (lined)) };
-
-    ghost reads_back = { λ _ _ plays bytes few sound spelled spell.
-        laws.reads_back plays bytes few sound spelled spell };
-
-    ghost kept_part = { λ _ notes. parts.part_in_phh notes };
-
-    ghost kept_most = { λ _ part notes of_it same. parts.most_in_phh part notes of_it same };
-
-    ghost kept_again = { λ _ notes. forms.kept_again notes };
-
-    ghost same_fact = { λ _ _ _ play other _ _ _ same.
-        forms.trace_fact play other same.trace };
-
-    ghost trace_fact = { λ _ play other same. forms.trace_fact play other same };
-
-    ghost all_spelled = { λ _ place play _ _. forms.all_spelled place play };
-
-    ghost one_spelling = { λ _ plays others bytes too sound sound_too spell spell_too same.
-        laws.one_spelling plays others bytes too sound sound_too spell spell_too same };
-
-    ghost same_hands = { λ _ _ plays others bytes too few few_too sound sound_too
-        _ _ spell spell_too same.
-        laws.same_hands plays others bytes too few few_too sound sound_too spell spell_too same };
+    ghost lawful = { λ _. laws.lawful };
 
     fn rules(&self) -> Rules {
         Rules {
@@ -117,6 +59,11 @@ impl Notation for Phh {
 
     fn read(&self, alloc: Global, bytes: &[u8]) -> Result<Records, FormatFault> {
         read_phh(alloc, bytes)
+    }
+
+    fn first_lines(&self, alloc: Global, _: &[u8]) -> Result<Vec<u64>, Memory> {
+        // A hand of PHH is a table, and the reader of tables gives no lines.
+        Ok(Vec::new(alloc))
     }
 
     fn spells(&self, play: &Play, keep: Keep) -> Option<Unspelled> {

@@ -2,37 +2,37 @@
 use Rattle.std.proofs.Common.{rules, ◌≡◌, List, None, subst}
 use Rattle.std.proofs.lemmas.List.Elements.{recursion_from_All}
 use Rattle.hand_canon.specs.Sound.{IsSound}
-use Rattle.hand_records.specs.SaidNotes.{KeepsNotes}
 use Rattle.hand_records.specs.SameHands.{kept_notes}
 use Rattle.hand_records.specs.WriteRefusals.{first_refusal}
 use Rattle.hand_records.specs.declared.trace.Play.{Play}
 use Rattle.convert_core.proofs.KeptByChoice.{kept_back}
 use Rattle.convert_core.proofs.WrittenLines.{few_plays, of_file}
-use Rattle.convert_core.specs.ReadBack.{ReadBack}
+use Rattle.convert_core.specs.Meaning.{AreReadBack}
 use Rattle.convert_core.proofs.converting.convert.Goals as goal
 
 pub returns-in-Ok : goal.returns-in-Ok
 returns-in-Ok g c =
-    let file = g.met.N.Notation.reads_file c.args.from.now c.args.bytes.now c.in-Ok.records c.in-Ok.ensures.said in
-    of_file (g.N.Notation.Say c.args.from.now c.args.bytes.now) (g.N.Notation.HaveFault c.args.from.now c.args.bytes.now) (g.M.Notation.unspelled c.args.to.now c.args.keep) (g.M.Notation.Spell c.args.to.now)
-    (λ plays output. ReadBack (g.M.Notation.Say c.args.to.now output) (g.M.Notation.ReadAsHands c.args.to.now output) (g.M.Notation.HaveFault c.args.to.now output)
-    (KeepsNotes (kept_notes c.args.keep (g.M.Notation.kept c.args.to.now))) plays)
+    let from = g.N.Notation.meaning c.args.from.now in
+    let to = g.M.Notation.meaning c.args.to.now in
+    let law = g.met.M.Notation.lawful c.args.to.now in
+    let file = (g.met.N.Notation.lawful c.args.from.now).reads_file c.args.bytes.now c.in-Ok.records c.in-Ok.ensures.said in
+    of_file (from.Say c.args.bytes.now) (from.HaveFault c.args.bytes.now) (to.unspelled c.args.keep) to.Spell (AreReadBack to (kept_notes c.args.keep to.kept))
     (λ output. output.items) c.in-Ok.records c.write_records.result c.in-Ok.ensures.said
     (λ plays output are sound spelled spell.
     let few = few_plays c.in-Ok.records plays are file.few file.few_moves in
     let each = recursion_from_All IsSound plays sound in
-    kept_back (g.M.Notation.unspelled c.args.to.now) (g.M.Notation.kept c.args.to.now) (g.met.M.Notation.all_spelled c.args.to.now)
-    (g.M.Notation.Say c.args.to.now output) (g.M.Notation.ReadAsHands c.args.to.now output) (g.M.Notation.HaveFault c.args.to.now output) c.args.keep plays few.few each spelled
-    (g.met.M.Notation.reads_back c.args.to.now c.args.keep plays output few each spelled spell))
+    kept_back law c.args.keep plays output few.few each spelled (law.reads_back c.args.keep plays output few each spelled spell))
     c.write_records.ensures
 
 pub returns-in-Ok-write : goal.returns-in-Ok-write
 returns-in-Ok-write g c =
     let plays = c.in_ok-plays.plays.items in
     let output = c.in-Ok-write.output.items in
+    let to = g.M.Notation.meaning c.args.to.now in
+    let law = g.met.M.Notation.lawful c.args.to.now in
     let same : c.deref.result.now ≡ plays = search rules in
-    let spelled = subst (λ (ps : List Play). first_refusal (g.M.Notation.unspelled c.args.to.now c.args.keep) ps ≡ None) same c.in-Ok-write.ensures.spelled in
-    let spell = subst (λ (ps : List Play). g.M.Notation.Spell c.args.to.now ps output) same c.in-Ok-write.ensures.spell in
+    let spelled = subst (λ (ps : List Play). first_refusal (to.unspelled c.args.keep) ps ≡ None) same c.in-Ok-write.ensures.spelled in
+    let spell = subst (λ (ps : List Play). to.Spell ps output) same c.in-Ok-write.ensures.spell in
     let few = c.in_ok-plays.ensures.few in
     let sound = c.in_ok-plays.ensures.sound in
     record {
@@ -40,8 +40,5 @@ returns-in-Ok-write g c =
       read = c.in_ok-plays.ensures.plays;
       spelled = spelled;
       spell = spell;
-      back =
-          kept_back (g.M.Notation.unspelled c.args.to.now) (g.M.Notation.kept c.args.to.now) (g.met.M.Notation.all_spelled c.args.to.now)
-          (g.M.Notation.Say c.args.to.now output) (g.M.Notation.ReadAsHands c.args.to.now output) (g.M.Notation.HaveFault c.args.to.now output) c.args.keep plays few.few sound spelled
-          (g.met.M.Notation.reads_back c.args.to.now c.args.keep plays output few sound spelled spell);
+      back = kept_back law c.args.keep plays output few.few sound spelled (law.reads_back c.args.keep plays output few sound spelled spell);
     }

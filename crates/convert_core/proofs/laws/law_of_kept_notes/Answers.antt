@@ -3,12 +3,12 @@ use Rattle.hand_records.specs.SaidNotes.{notes_of}
 use Rattle.convert_core.proofs.laws.law_of_kept_notes.Goals as goal
 
 pub returns-clause-all : goal.returns-clause-all
-returns-clause-all g c = λ place play early sound none. ((g.met.N.Notation.all_spelled c.args.notation.now place play early sound).0 none).1
+returns-clause-all g c = λ place play early sound none. (((g.met.N.Notation.lawful c.args.notation.now).all_spelled place play early sound).0 none).1
 
 pub returns-clause-part : goal.returns-clause-part
-returns-clause-part g c = λ place play. g.met.N.Notation.kept_part c.args.notation.now (notes_of place play)
+returns-clause-part g c = λ place play. (g.met.N.Notation.lawful c.args.notation.now).kept_part (notes_of place play)
 
 pub returns-clause-most : goal.returns-clause-most
 returns-clause-most g c = λ place play part early sound of_it none.
-    g.met.N.Notation.kept_most c.args.notation.now (notes_of place part) (notes_of place play) of_it
-    ((g.met.N.Notation.all_spelled c.args.notation.now place part early sound).0 none).1
+    let law = g.met.N.Notation.lawful c.args.notation.now in
+    law.kept_most (notes_of place part) (notes_of place play) of_it ((law.all_spelled place part early sound).0 none).1

@@ -12,8 +12,8 @@ pub judge_all-requires-clause-begun : goal.judge_all-requires-clause-begun
 judge_all-requires-clause-begun g c = (
   refl,
   refl,
-  none_written (g.N.Notation.is_lined c.args.to.now) (g.N.Notation.unspelled c.args.to.now c.args.keep) (g.N.Notation.Spell c.args.to.now) _
-      c.requires.lined (g.met.N.Notation.no_lines c.args.to.now c.requires.lined) (search rules),
+  none_written (g.N.Notation.meaning c.args.to.now) c.args.keep _
+      c.requires.lined ((g.met.N.Notation.lawful c.args.to.now).no_lines c.requires.lined) (search rules),
 )
 
 pub returns-in-Err-Refused : goal.returns-in-Err-Refused
@@ -30,8 +30,8 @@ returns-in-None g c =
     let taken = c.in-Ok.ensures.taken in
     let took = taken.took in
     let now = c.judge_all.new.visitor in
-    let written = subst (λ x. IsWritten (g.N.Notation.is_lined x) (g.N.Notation.unspelled x c.args.keep) (g.N.Notation.Spell x) now.refusal now.out.items taken.verdicts) took.0
-    (subst (λ k. IsWritten (g.N.Notation.is_lined now.to.now) (g.N.Notation.unspelled now.to.now k) (g.N.Notation.Spell now.to.now) now.refusal now.out.items taken.verdicts) took.1 took.2) in
+    let written = subst (λ x. IsWritten (g.N.Notation.meaning x) c.args.keep now.refusal now.out.items taken.verdicts) took.0
+    (subst (λ k. IsWritten (g.N.Notation.meaning now.to.now) k now.refusal now.out.items taken.verdicts) took.1 took.2) in
     let are = plays_are false _ c.args.records _ _ taken in
     record {
       plays = legal_plays taken.verdicts;
@@ -46,8 +46,8 @@ returns-in-Some-Unspelled g c =
     let taken = c.in-Ok.ensures.taken in
     let took = taken.took in
     let now = c.judge_all.new.visitor in
-    let written = subst (λ x. IsWritten (g.N.Notation.is_lined x) (g.N.Notation.unspelled x c.args.keep) (g.N.Notation.Spell x) now.refusal now.out.items taken.verdicts) took.0
-    (subst (λ k. IsWritten (g.N.Notation.is_lined now.to.now) (g.N.Notation.unspelled now.to.now k) (g.N.Notation.Spell now.to.now) now.refusal now.out.items taken.verdicts) took.1 took.2) in
+    let written = subst (λ x. IsWritten (g.N.Notation.meaning x) c.args.keep now.refusal now.out.items taken.verdicts) took.0
+    (subst (λ k. IsWritten (g.N.Notation.meaning now.to.now) k now.refusal now.out.items taken.verdicts) took.1 took.2) in
     let first = written.first in
     record {
       plays = legal_plays taken.verdicts;

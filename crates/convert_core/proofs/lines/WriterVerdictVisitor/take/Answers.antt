@@ -9,7 +9,7 @@ returns-then-is_some g c = λ start before counted legal took.
     let it = c.args.self.now in (
       took.0,
       took.1,
-      behind_refused (g.N.Notation.is_lined it.to.now) (g.N.Notation.unspelled it.to.now it.keep) (g.N.Notation.Spell it.to.now) it.refusal it.out.items before c.args.play.now
+      behind_refused (g.N.Notation.meaning it.to.now) it.keep it.refusal it.out.items before c.args.play.now
           (sym c.is_some.ensures ∙ c.if-is_some.true) took.2,
     )
 
@@ -19,7 +19,7 @@ returns-in_ok-push_line-in-None g c = λ start before counted legal took.
     let none = none_is it.refusal (sym c.is_some.ensures ∙ c.if-is_some.false) in (
       took.0,
       took.1,
-      now_spelled (g.N.Notation.is_lined it.to.now) (g.N.Notation.unspelled it.to.now it.keep) (g.N.Notation.Spell it.to.now) it.refusal it.out.items c.push_line.new.out.items before c.args.play.now
+      now_spelled (g.N.Notation.meaning it.to.now) it.keep it.refusal it.out.items c.push_line.new.out.items before c.args.play.now
           none (sym c.spells.ensures ∙ c.in-None.is) took.2
           (c.in_ok-push_line-in-None.ensures.line took.2.lined _ (sym (all_counted before (legal refl)) ∙ counted) (took.2.spell none)),
     )
@@ -29,6 +29,6 @@ returns-in-Some g c = λ start before counted legal took.
     let it = c.args.self.now in (
       took.0,
       took.1,
-      now_refused (g.N.Notation.is_lined it.to.now) (g.N.Notation.unspelled it.to.now it.keep) (g.N.Notation.Spell it.to.now) it.refusal it.out.items before c.args.play.now c.args.place c.in-Some.fact
+      now_refused (g.N.Notation.meaning it.to.now) it.keep it.refusal it.out.items before c.args.play.now c.args.place c.in-Some.fact
           counted legal (none_is it.refusal (sym c.is_some.ensures ∙ c.if-is_some.false)) (sym c.spells.ensures ∙ c.in-Some.is) took.2,
     )
