@@ -2,10 +2,9 @@
 //! this crate does not prove.
 ghost use Rattle.std.specs.Prelude.{◌≡◌, ◌<◌, ◌↔◌, ℕ, List, None, Ok, Result, map};
 ghost use Rattle.convert_core.specs.Answers.{Answers};
-ghost use Rattle.convert_core.specs.Conversion.{HasUnspelled, IsConversion, ReadAsPlays, ReadAsRefused, RefusesNothing};
+ghost use Rattle.convert_core.specs.Conversion.{HasUnspelled, ReadAsPlays, ReadAsRefused, RefusesNothing};
 ghost use Rattle.convert_core.specs.Judged.{ArePlaysOf, IsFirstRefused};
 ghost use Rattle.convert_core.specs.NoteParts.{ArePartOf};
-ghost use Rattle.convert_core.specs.ReadBack.{ReadBack};
 ghost use Rattle.convert_core.specs.ReadOrFail.{ReadOrFail};
 ghost use Rattle.convert_core.specs.SameAnswers.{AreSameAnswers};
 ghost use Rattle.convert_core.specs.Verdicts.{AreVerdictsOn, IsFirstNotLegal, Legal, Verdict};
@@ -14,7 +13,7 @@ ghost use Rattle.convert_core.specs.declared.format_fault.FormatFault.{FormatFau
 ghost use Rattle.convert_core.specs.declared.refusal.Refusal.{Refusal};
 ghost use Rattle.first_fault.specs.declared.limits.TheConstants.{MOST_HANDS};
 ghost use Rattle.hand_canon.specs.Sound.{IsSound};
-ghost use Rattle.hand_records.specs.SaidNotes.{KeepsNotes, notes_of};
+ghost use Rattle.hand_records.specs.SaidNotes.{notes_of};
 ghost use Rattle.hand_records.specs.SameHands.{AreSameHands, kept_notes};
 ghost use Rattle.hand_records.specs.WriteRefusals.{first_refusal};
 ghost use Rattle.hand_records.specs.declared.record.Record.{Record};
@@ -57,25 +56,28 @@ pub fn verdicts_are_the_plays()
 
 /// Bytes have one conversion.
 pub fn conversion_is_one<N: Notation, M: Notation>(from: &N, to: &M, keep: Keep)
-    ensures read_or_fail { (bytes : List ℕ)
-        → ReadOrFail (N.ReadAsHands from.now bytes) (N.HaveFault from.now bytes) }
+    ensures read_or_fail { (bytes : List ℕ) → ReadOrFail ((N.meaning from.now).ReadAsHands bytes)
+        ((N.meaning from.now).HaveFault bytes) }
     ensures unread { (bytes : List ℕ) (records : List Record) (fault : FormatFault)
-        → N.Say from.now bytes records → N.HaveFault from.now bytes fault → ⊥ }
+        → (N.meaning from.now).Say bytes records → (N.meaning from.now).HaveFault bytes fault → ⊥ }
     ensures refused { (bytes : List ℕ) (number other : ℕ) (why reason : Refusal)
-        → ReadAsRefused (N.Say from.now bytes) number why
-        → ReadAsRefused (N.Say from.now bytes) other reason
+        → ReadAsRefused ((N.meaning from.now).Say bytes) number why
+        → ReadAsRefused ((N.meaning from.now).Say bytes) other reason
         → (number ≡ other) × (why ≡ reason) }
     ensures played { (bytes : List ℕ) (number : ℕ) (why : Refusal) (plays : List Play)
-        → ReadAsRefused (N.Say from.now bytes) number why
-        → ReadAsPlays (N.Say from.now bytes) plays → ⊥ }
+        → ReadAsRefused ((N.meaning from.now).Say bytes) number why
+        → ReadAsPlays ((N.meaning from.now).Say bytes) plays → ⊥ }
     ensures unspelled { (bytes : List ℕ) (number other : ℕ) (fact too : Unspelled)
-        → HasUnspelled (N.Say from.now bytes) (M.unspelled to.now keep) number fact
-        → HasUnspelled (N.Say from.now bytes) (M.unspelled to.now keep) other too
+        → HasUnspelled ((N.meaning from.now).Say bytes) ((M.meaning to.now).unspelled keep)
+        number fact
+        → HasUnspelled ((N.meaning from.now).Say bytes) ((M.meaning to.now).unspelled keep)
+        other too
         → (number ≡ other) × (fact ≡ too) }
     ensures spelled { (bytes : List ℕ) (number : ℕ) (fact : Unspelled) (plays : List Play)
-        → HasUnspelled (N.Say from.now bytes) (M.unspelled to.now keep) number fact
-        → ReadAsPlays (N.Say from.now bytes) plays
-        → first_refusal (M.unspelled to.now keep) plays ≡ None → ⊥ }
+        → HasUnspelled ((N.meaning from.now).Say bytes) ((M.meaning to.now).unspelled keep)
+        number fact
+        → ReadAsPlays ((N.meaning from.now).Say bytes) plays
+        → first_refusal ((M.meaning to.now).unspelled keep) plays ≡ None → ⊥ }
 {
     law_of_one_conversion(from, to, keep);
 }
@@ -83,13 +85,9 @@ pub fn conversion_is_one<N: Notation, M: Notation>(from: &N, to: &M, keep: Keep)
 /// Legal hands are converted if all their facts can be written, unless memory runs out.
 pub fn legal_hands_are_converted<N: Notation, M: Notation>(from: &N, to: &M, keep: Keep)
     ensures { (bytes : List ℕ) (plays : List Play) (answer : Result (List ℕ) ConvertFault)
-        → ReadAsPlays (N.Say from.now bytes) plays
-        → first_refusal (M.unspelled to.now keep) plays ≡ None
-        → IsConversion (N.Say from.now bytes) (N.HaveFault from.now bytes)
-        (M.unspelled to.now keep) (M.Spell to.now)
-        (λ read output. ReadBack (M.Say to.now output) (M.ReadAsHands to.now output)
-        (M.HaveFault to.now output) (KeepsNotes (kept_notes keep (M.kept to.now))) read)
-        (λ output. output) answer
+        → ReadAsPlays ((N.meaning from.now).Say bytes) plays
+        → first_refusal ((M.meaning to.now).unspelled keep) plays ≡ None
+        → Answers (N.meaning from.now) (M.meaning to.now) keep bytes answer
         → RefusesNothing answer }
 {
     law_of_legal_conversions(from, to, keep);
@@ -98,14 +96,14 @@ pub fn legal_hands_are_converted<N: Notation, M: Notation>(from: &N, to: &M, kee
 /// No note is dropped, and none is made up.
 pub fn notes_are_kept<N: Notation>(notation: &N)
     ensures all { (place : ℕ) (play : Play) → place < MOST_HANDS → IsSound play
-        → N.unspelled notation.now keeps.All play ≡ None
-        → N.kept notation.now (notes_of place play) ≡ notes_of place play }
+        → (N.meaning notation.now).unspelled keeps.All play ≡ None
+        → (N.meaning notation.now).kept (notes_of place play) ≡ notes_of place play }
     ensures part { (place : ℕ) (play : Play)
-        → ArePartOf (N.kept notation.now (notes_of place play)) (notes_of place play) }
+        → ArePartOf ((N.meaning notation.now).kept (notes_of place play)) (notes_of place play) }
     ensures most { (place : ℕ) (play part : Play) → place < MOST_HANDS → IsSound part
         → ArePartOf (notes_of place part) (notes_of place play)
-        → N.unspelled notation.now keeps.All part ≡ None
-        → ArePartOf (notes_of place part) (N.kept notation.now (notes_of place play)) }
+        → (N.meaning notation.now).unspelled keeps.All part ≡ None
+        → ArePartOf (notes_of place part) ((N.meaning notation.now).kept (notes_of place play)) }
 {
     law_of_kept_notes(notation);
 }
@@ -118,15 +116,12 @@ pub fn equal_outputs_are_of_equal_hands<A: Notation, B: Notation, N: Notation>(
     keep: Keep,
 )
     ensures { (bytes too output written : List ℕ) (plays others : List Play)
-        → ReadAsPlays (A.Say from.now bytes) plays → ReadAsPlays (B.Say other.now too) others
-        → Answers (A.Say from.now) (A.HaveFault from.now) (N.unspelled to.now) (N.Spell to.now)
-        (N.Say to.now) (N.ReadAsHands to.now) (N.HaveFault to.now) (N.kept to.now)
-        keep bytes (Ok output)
-        → Answers (B.Say other.now) (B.HaveFault other.now) (N.unspelled to.now) (N.Spell to.now)
-        (N.Say to.now) (N.ReadAsHands to.now) (N.HaveFault to.now) (N.kept to.now)
-        keep too (Ok written)
-        → AreSameHands (kept_notes keep (N.kept to.now)) plays others
-        ↔ N.AreSame to.now output written }
+        → ReadAsPlays ((A.meaning from.now).Say bytes) plays
+        → ReadAsPlays ((B.meaning other.now).Say too) others
+        → Answers (A.meaning from.now) (N.meaning to.now) keep bytes (Ok output)
+        → Answers (B.meaning other.now) (N.meaning to.now) keep too (Ok written)
+        → AreSameHands (kept_notes keep (N.meaning to.now).kept) plays others
+        ↔ (N.meaning to.now).AreSame output written }
 {
     law_of_equal_outputs(from, other, to, keep);
 }
@@ -139,13 +134,9 @@ pub fn output_converts_to_itself<A: Notation, N: Notation>(
     again: Keep,
 )
     ensures { (bytes output : List ℕ) (answer : Result (List ℕ) ConvertFault)
-        → Answers (A.Say from.now) (A.HaveFault from.now) (N.unspelled to.now) (N.Spell to.now)
-        (N.Say to.now) (N.ReadAsHands to.now) (N.HaveFault to.now) (N.kept to.now)
-        keep bytes (Ok output)
-        → Answers (N.Say to.now) (N.HaveFault to.now) (N.unspelled to.now) (N.Spell to.now)
-        (N.Say to.now) (N.ReadAsHands to.now) (N.HaveFault to.now) (N.kept to.now)
-        again output answer
-        → AreSameAnswers (N.AreSame to.now) (Ok output) answer }
+        → Answers (A.meaning from.now) (N.meaning to.now) keep bytes (Ok output)
+        → Answers (N.meaning to.now) (N.meaning to.now) again output answer
+        → AreSameAnswers (N.meaning to.now).AreSame (Ok output) answer }
 {
     law_of_converting_again(from, to, keep, again);
 }
@@ -158,16 +149,10 @@ pub fn way_of_a_conversion_is_free<A: Notation, B: Notation, C: Notation>(
     keep: Keep,
 )
     ensures { (bytes output : List ℕ) (first second : Result (List ℕ) ConvertFault)
-        → Answers (A.Say from.now) (A.HaveFault from.now) (B.unspelled by.now) (B.Spell by.now)
-        (B.Say by.now) (B.ReadAsHands by.now) (B.HaveFault by.now) (B.kept by.now)
-        keeps.All bytes (Ok output)
-        → Answers (A.Say from.now) (A.HaveFault from.now) (C.unspelled to.now) (C.Spell to.now)
-        (C.Say to.now) (C.ReadAsHands to.now) (C.HaveFault to.now) (C.kept to.now)
-        keep bytes first
-        → Answers (B.Say by.now) (B.HaveFault by.now) (C.unspelled to.now) (C.Spell to.now)
-        (C.Say to.now) (C.ReadAsHands to.now) (C.HaveFault to.now) (C.kept to.now)
-        keep output second
-        → AreSameAnswers (C.AreSame to.now) first second }
+        → Answers (A.meaning from.now) (B.meaning by.now) keeps.All bytes (Ok output)
+        → Answers (A.meaning from.now) (C.meaning to.now) keep bytes first
+        → Answers (B.meaning by.now) (C.meaning to.now) keep output second
+        → AreSameAnswers (C.meaning to.now).AreSame first second }
 {
     law_of_converting_by_way(from, by, to, keep);
 }

@@ -43,8 +43,8 @@ use trace_laws::{
 /// the trace of that play, unless the fact is an odd chip or a note.
 pub fn unspelled_is_not_said<N: Notation>(notation: &N, keep: Keep)
     ensures { (play : Play) (fact : Unspelled)
-        → N.unspelled notation.now keep play ≡ Some fact → is_sharp fact ≡ true
-        → (bytes : List ℕ) (hands : List Record) → N.Say notation.now bytes hands
+        → (N.meaning notation.now).unspelled keep play ≡ Some fact → is_sharp fact ≡ true
+        → (bytes : List ℕ) (hands : List Record) → (N.meaning notation.now).Say bytes hands
         → AllByRecursion (IsOther play) hands }
 {
     law_of_sharpness(notation, keep);

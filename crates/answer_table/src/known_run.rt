@@ -3,15 +3,13 @@
 ghost use Rattle.std.specs.Prelude.{◌≡◌, ◌↔◌, map, None, Some, IfSome, string_bytes};
 ghost use Rattle.card_set.specs.Refusal.{WasRefused};
 ghost use Rattle.command_words.specs.Words.{request_said};
-ghost use Rattle.hand_records.specs.declared.writing.Keep.{Keep};
 ghost use Rattle.host_io.specs.FaultPlan.{CountsOneCall};
 ghost use Rattle.host_io.specs.Faults.{Rose};
 ghost use Rattle.host_io.specs.MemShelf.{shelf_files, shelf_plan};
 ghost use Rattle.host_io.specs.MemSink.{bytes_held, sink_plan};
 ghost use Rattle.host_io.specs.MemSource.{bytes_left, source_plan};
-ghost use Rattle.poker_cli.specs.Headline.{AsksToConvert, Headline};
-ghost use Rattle.poker_cli.specs.Run.{AsksInTurn, EndsLeaving, LacksFile, MakesHands, ReadsNothing, TellsLine, WhereTold, WritesNothing, change_of, fixed_line};
-ghost use Rattle.poker_cli.specs.declared.task.Format.{Format};
+ghost use Rattle.poker_cli.specs.Headline.{EndsOver};
+ghost use Rattle.poker_cli.specs.Run.{AsksInTurn, LacksFile, MakesHands, ReadsNothing, TellsLine, WhereTold, WritesNothing, change_of, fixed_line};
 
 use host_io::{MemShelf, MemSink, MemSource};
 use poker_cli::{Status, run};
@@ -30,24 +28,16 @@ pub fn run_on(
     ensures memory { result ≡ Status.Memory → WasRefused }
     // The status is Usage for other words, and only for them.
     ensures usage { (result ≡ Status.Usage) ↔ (request_said (map string_bytes words.now) ≡ None) }
-    // The answer itself: the run gives the answer of the request to these files and bytes.
+    // The answer itself: the run gives the answer of the request to these files and bytes, and if
+    // it is a conversion, the headline holds.
     ensures ends { IfSome (request_said (map string_bytes words.now)) (λ request.
         WhereTold request (Some (bytes_left input.old)) (Some (shelf_files shelf.old))
-        (λ files bytes. EndsLeaving request files bytes
+        (λ files bytes. EndsOver request files bytes
         (change_of (λ (sink : MemSink). Some (bytes_held sink))
         (λ (sink : MemSink). (sink_plan sink).faults) out.old out.new)
         (change_of (λ (sink : MemSink). Some (bytes_held sink))
         (λ (sink : MemSink). (sink_plan sink).faults) diag.old diag.new)
         result (out.new ≡ out.old))) }
-    // The answer of a conversion.
-    ensures headline { IfSome (request_said (map string_bytes words.now)) (λ request.
-        WhereTold request (Some (bytes_left input.old)) (Some (shelf_files shelf.old))
-        (λ files bytes. (from to : Format) (keep : Keep)
-        → AsksToConvert files request from to keep → Headline from to keep bytes
-        (change_of (λ (sink : MemSink). Some (bytes_held sink))
-        (λ (sink : MemSink). (sink_plan sink).faults) out.old out.new)
-        (change_of (λ (sink : MemSink). Some (bytes_held sink))
-        (λ (sink : MemSink). (sink_plan sink).faults) diag.old diag.new) result)) }
     // A fault is reported only if its device failed.
     ensures read_fault { result ≡ Status.ReadFault
         → Rose (source_plan input.old).faults (source_plan input.new).faults }

@@ -5,7 +5,7 @@ ghost use Rattle.first_fault.specs.declared.limits.TheConstants.{MOST_HANDS};
 ghost use Rattle.hand_canon.specs.Sound.{IsSound};
 
 use acpc_format::{Game, read_game};
-use convert_core::{Acpc, Notation, Ohh, Phh, plays};
+use convert_core::{Format, Notation, plays};
 use hand_records::{Keep, Play, Records};
 use ohh_members::Dialect;
 use std::alloc::Global;
@@ -17,24 +17,14 @@ firstPlayer = 3 1 1 1\nnumSuits = 4\nnumRanks = 13\nnumHoleCards = 2\nnumBoardCa
 
 /// The records that the bytes say in the named notation, if they read as hands there.
 pub fn read_hands(alloc: Global, from: &str, bytes: &[u8]) -> Option<Records> {
-    match from {
-        "phh" => Phh.read(alloc, bytes).ok(),
-        "ohh" => added().read(alloc, bytes).ok(),
-        "acpc" => game_log(alloc)?.read(alloc, bytes).ok(),
-        _ => None,
-    }
+    named(alloc, from)?.read(alloc, bytes).ok()
 }
 
 /// The number of bytes of the hands in the second notation. They are read and replayed once, and
 /// written `times` times.
 pub fn write_hands(alloc: Global, from: &str, to: &str, times: u32, bytes: &[u8]) -> Option<usize> {
     let plays = play_hands(alloc, from, bytes)?;
-    match to {
-        "phh" => write_times(alloc, &Phh, times, &plays),
-        "ohh" => write_times(alloc, &added(), times, &plays),
-        "acpc" => write_times(alloc, &game_log(alloc)?, times, &plays),
-        _ => None,
-    }
+    write_times(alloc, &named(alloc, to)?, times, &plays)
 }
 
 /// The plays of the bytes in the named notation, if they read as legal hands there.
@@ -42,16 +32,11 @@ pub fn play_hands(alloc: Global, from: &str, bytes: &[u8]) -> Option<Vec<Play>>
     ensures sound { IfSome result (λ plays. AllByRecursion IsSound plays.items) }
     ensures few { IfSome result (λ plays. length plays.items ≤ MOST_HANDS) }
 {
-    match from {
-        "phh" => plays(alloc, &Phh, bytes).ok(),
-        "ohh" => plays(alloc, &added(), bytes).ok(),
-        "acpc" => plays(alloc, &game_log(alloc)?, bytes).ok(),
-        _ => None,
-    }
+    plays(alloc, &named(alloc, from)?, bytes).ok()
 }
 
 // The number of bytes of the plays in a notation. They are written `times` times.
-fn write_times<N: Notation>(alloc: Global, to: &N, times: u32, plays: &[Play]) -> Option<usize>
+fn write_times(alloc: Global, to: &Format, times: u32, plays: &[Play]) -> Option<usize>
     requires sound { AllByRecursion IsSound plays.now }
     requires few { length plays.now ≤ MOST_HANDS }
 {
@@ -65,15 +50,16 @@ fn write_times<N: Notation>(alloc: Global, to: &N, times: u32, plays: &[Play]) -
     Some(written)
 }
 
-// Open Hand History, in the dialect in which a raise adds its amount.
-fn added() -> Ohh {
-    Ohh {
-        dialect: Dialect::Added,
+// The notation with this name. In Open Hand History a raise adds its amount, and logs are of the
+// game.
+fn named(alloc: Global, name: &str) -> Option<Format> {
+    match name {
+        "phh" => Some(Format::Phh),
+        "ohh" => Some(Format::Ohh(Dialect::Added)),
+        "acpc" => {
+            let game: Option<Game> = read_game(alloc, GAME).ok();
+            game.map(|game| Format::Acpc(game))
+        }
+        _ => None,
     }
-}
-
-// The logs of the game.
-fn game_log(alloc: Global) -> Option<Acpc> {
-    let game: Option<Game> = read_game(alloc, GAME).ok();
-    game.map(|game| Acpc { game })
 }

@@ -29,19 +29,29 @@ use Rattle.ohh_reading.specs.declared.fault.OhhFault.{OhhFault}
 use Rattle.ohh_reading.specs.declared.fault.OhhFault.TheVariants as in_ohh
 use Rattle.phh_reading.specs.declared.fault.PhhFault.{PhhFault}
 use Rattle.phh_reading.specs.declared.fault.PhhFault.TheVariants as in_phh
-use Rattle.poker_cli.specs.Answer.{Answer, Files, FilesByName, GivesGame, GivesNoGame, IsAnswer, IsAnswerBy, IsAnswerIn, IsAnswerOfEach, IsAnswerTo, IsAnswerUnder, IsJudgement, IsToldOf, IsToldText, IsWritten, done, most_input, to_excess, to_fault, to_refusal}
+use Rattle.poker_cli.specs.Answer.{IsAnswer, IsAnswerBy, IsAnswerIn, IsAnswerUnder}
+use Rattle.poker_cli.specs.AnswerParts.{Answer, IsAnswerTo, done, most_input, to_excess, to_fault, to_refusal}
+use Rattle.poker_cli.specs.Convert.{IsWritten}
+use Rattle.poker_cli.specs.Each.{IsAnswerOfEach}
+use Rattle.poker_cli.specs.Files.{Files, FilesByName}
+use Rattle.poker_cli.specs.GameFiles.{GivesGame, GivesNoGame, IsGameFileErrorTold, Lacks}
+use Rattle.poker_cli.specs.Judge.{IsJudgement}
 use Rattle.poker_cli.specs.Answer as answers
-use Rattle.poker_cli.specs.Lacking.{IsGameFileErrorTold, Lacks}
+use Rattle.poker_cli.specs.AnswerParts as parts
+use Rattle.poker_cli.specs.Convert as in_convert
+use Rattle.poker_cli.specs.Each as each_said
+use Rattle.poker_cli.specs.GameFiles as game_files
+use Rattle.poker_cli.specs.Judge as in_judge
 use Rattle.poker_cli.specs.Texts.{IsTextOf}
-use Rattle.poker_cli.specs.Told.{answer_told}
+use Rattle.poker_cli.specs.Told.{IsToldOf, IsToldText, answer_told}
 use Rattle.poker_cli.specs.declared.answer.Answer as made
 use Rattle.poker_cli.specs.declared.no_answer.NoAnswerError.{NoAnswerError}
-use Rattle.poker_cli.specs.declared.games.GameFileError.{GameFileError}
-use Rattle.poker_cli.specs.declared.games.GameFileError.TheVariants as lacks
+use Rattle.poker_cli.specs.declared.game_files.GameFileError.{GameFileError}
+use Rattle.poker_cli.specs.declared.game_files.GameFileError.TheVariants as lacks
 use Rattle.poker_cli.specs.Run.{AsksForFile, Ends, EndsLeaving, IsFileMissing, IsGameMissing, IsOwn, IsWithoutFile, MayEnd, OfBytes, OfFile, ReadsHands, Sinks, TellsLine, Writes, WhereTold, line_of}
 use Rattle.poker_cli.specs.declared.status.Status.{Status}
 use Rattle.poker_cli.specs.declared.status.Status.TheVariants as statuses
-use Rattle.poker_cli.specs.declared.task.Format.{Format}
+use Rattle.convert_core.specs.declared.format.Format.{Format}
 use Rattle.poker_cli.specs.Ways.{job_under}
 use Rattle.poker_cli.proofs.FilesTold.{any_file, any_game_file, game_alone, of_file, of_game_file, two_files}
 
@@ -115,16 +125,16 @@ module _ (Say : List Record → Type 0) (HaveFault : FormatFault → Type 0) whe
     pub answer_unread : (fault : FormatFault) → (is_out_of_memory fault ≡ true) ⊎ HaveFault fault → to_fault fault ≡ Some answer
         → IsAnswerTo Say HaveFault IsMade answer
     answer_unread fault (inl memory) told = absurd (no_memory fault answer told memory)
-    answer_unread fault (inr have) told = answers.Unread fault have answer told
+    answer_unread fault (inr have) told = parts.Unread fault have answer told
 
     -- a hand is refused
     pub answer_refused : (number : ℕ) (why : Refusal) → ReadAsRefused Say number why → answer ≡ to_refusal number why
         → IsAnswerTo Say HaveFault IsMade answer
-    answer_refused number why is told = subst (IsAnswerTo Say HaveFault IsMade) (sym told) (answers.Refused number why is)
+    answer_refused number why is told = subst (IsAnswerTo Say HaveFault IsMade) (sym told) (parts.Refused number why is)
 
     -- bytes have no plays
     pub answer_unplayed : (fault : ConvertFault) → IsPlaysRefusal Say HaveFault fault → IsToldOf fault answer → IsAnswerTo Say HaveFault IsMade answer
-    answer_unplayed (convert_faults.Format fault) have told = answers.Unread fault have answer told
+    answer_unplayed (convert_faults.Format fault) have told = parts.Unread fault have answer told
     answer_unplayed (convert_faults.Refused number why) is told = answer_refused number why is told
     answer_unplayed (convert_faults.Unspelled number fact) is told = absurd is
     answer_unplayed (convert_faults.Memory memory) is told = absurd told
@@ -132,7 +142,7 @@ module _ (Say : List Record → Type 0) (HaveFault : FormatFault → Type 0) whe
   -- bytes that cannot be read have no hands
   pub answer_wrong : (IsMade : List Play → Answer → Type 0) (answer : Answer) (fault : ConvertFault) → IsReadFault HaveFault fault
       → IsToldOf fault answer → IsAnswerTo Say HaveFault IsMade answer
-  answer_wrong IsMade answer (convert_faults.Format fault) have told = answers.Unread fault have answer told
+  answer_wrong IsMade answer (convert_faults.Format fault) have told = parts.Unread fault have answer told
   answer_wrong IsMade answer (convert_faults.Refused number why) have told = absurd have
   answer_wrong IsMade answer (convert_faults.Unspelled number fact) have told = absurd have
   answer_wrong IsMade answer (convert_faults.Memory memory) have told = absurd told
@@ -142,7 +152,7 @@ module _ (Say : List Record → Type 0) (HaveFault : FormatFault → Type 0) whe
       → IfOk text (λ some. IsTextOf printed records (string_bytes some)) → IfErr text (IsPlaysFaultOf records) → IsToldText text answer
       → IsAnswerTo Say HaveFault (λ plays told. told ≡ done (printed plays)) answer
   answer_printed printed records say (Ok text) answer is refused told =
-      answers.Played is.plays (record { records = records; say = say; are = is.are }) answer (told ∙ ap done is.said)
+      parts.Played is.plays (record { records = records; say = say; are = is.are }) answer (told ∙ ap done is.said)
   answer_printed printed records say (Err (plays_faults.Refused number why)) answer is refused told =
       answer_refused (λ plays told. told ≡ done (printed plays)) answer number why (record { records = records; say = say; first = refused }) told
   answer_printed printed records say (Err (plays_faults.Memory memory)) answer is refused told = absurd told
@@ -150,7 +160,7 @@ module _ (Say : List Record → Type 0) (HaveFault : FormatFault → Type 0) whe
   -- and no verdicts
   pub not_judged : (lines : List ℕ) (answer : Answer) (fault : ConvertFault) → IsReadFault HaveFault fault → IsToldOf fault answer
       → IsJudgement Say HaveFault lines answer
-  not_judged lines answer (convert_faults.Format fault) have told = answers.NotJudged fault have answer told
+  not_judged lines answer (convert_faults.Format fault) have told = in_judge.NotJudged fault have answer told
   not_judged lines answer (convert_faults.Refused number why) have told = absurd have
   not_judged lines answer (convert_faults.Unspelled number fact) have told = absurd have
   not_judged lines answer (convert_faults.Memory memory) have told = absurd told
@@ -158,7 +168,7 @@ module _ (Say : List Record → Type 0) (HaveFault : FormatFault → Type 0) whe
   -- and no hands that answer each by itself
   pub not_read : (question : EachQuestion) (answer : Answer) (fault : ConvertFault) → IsReadFault HaveFault fault → IsToldOf fault answer
       → IsAnswerOfEach Say HaveFault question answer
-  not_read question answer (convert_faults.Format fault) have told = answers.NotRead fault have answer told
+  not_read question answer (convert_faults.Format fault) have told = each_said.NotRead fault have answer told
   not_read question answer (convert_faults.Refused number why) have told = absurd have
   not_read question answer (convert_faults.Unspelled number fact) have told = absurd have
   not_read question answer (convert_faults.Memory memory) have told = absurd told
@@ -167,19 +177,19 @@ module _ (Say : List Record → Type 0) (HaveFault : FormatFault → Type 0) whe
     -- bytes that cannot be converted
     pub answer_unconverted : {X : Type 0} (view : X → List ℕ) (fault : ConvertFault) → IsConverting Say HaveFault unspelled Spell Back view (Err fault)
         → IsToldOf fault answer → IsAnswerTo Say HaveFault (IsWritten unspelled Spell Back) answer
-    answer_unconverted view (convert_faults.Format fault) have told = answers.Unread fault have answer told
+    answer_unconverted view (convert_faults.Format fault) have told = parts.Unread fault have answer told
     answer_unconverted view (convert_faults.Refused number why) is told = answer_refused (IsWritten unspelled Spell Back) answer number why is told
     answer_unconverted view (convert_faults.Unspelled number fact) is told =
-        answers.Played is.plays is.read answer
-        (subst (IsWritten unspelled Spell Back is.plays) (sym told) (answers.NotSpelled number fact is.first))
+        parts.Played is.plays is.read answer
+        (subst (IsWritten unspelled Spell Back is.plays) (sym told) (in_convert.NotSpelled number fact is.first))
     answer_unconverted view (convert_faults.Memory memory) is told = absurd told
 
     -- bytes that can be converted
     pub answer_converted : (output : List ℕ) → IsConverted Say unspelled Spell Back output → answer ≡ done output
         → IsAnswerTo Say HaveFault (IsWritten unspelled Spell Back) answer
     answer_converted output is same =
-        answers.Played is.plays is.read answer
-        (subst (IsWritten unspelled Spell Back is.plays) (sym same) (answers.Spelled is.spelled output is.spell is.back))
+        parts.Played is.plays is.read answer
+        (subst (IsWritten unspelled Spell Back is.plays) (sym same) (in_convert.Spelled is.spelled output is.spell is.back))
 
 -- a run ends with the answer to its files and its input
 pub ends_with : (request : Request) (files : Files) (bytes : List ℕ) (out diag : Sinks) (answer : Answer) (status : Status)
@@ -354,9 +364,9 @@ game_reply told left name logs game (Err why) gives is = tt
 
 -- or it reports what is wrong with the file
 pub no_game : (file : Option (List ℕ)) (lack : GameFileError) (answer : Answer) → Lacks file lack → IsGameFileErrorTold lack answer → GivesNoGame file answer
-no_game file lacks.TooLong answer is told = subst (λ (a : Answer). GivesNoGame file a) (sym told) (answers.FileTooLong is.0 is.1.0 is.1.1)
+no_game file lacks.TooLong answer is told = subst (λ (a : Answer). GivesNoGame file a) (sym told) (game_files.FileTooLong is.0 is.1.0 is.1.1)
 no_game file (lacks.Bad fault) answer is told =
-    subst (λ (a : Answer). GivesNoGame file a) (sym told) (answers.BadGame is.0 is.1.0 is.1.1.0 fault is.1.1.1)
+    subst (λ (a : Answer). GivesNoGame file a) (sym told) (game_files.BadGame is.0 is.1.0 is.1.1.0 fault is.1.1.1)
 
 pub game_file_error_reply : (told : Option FilesByName) (left : Option (List ℕ)) (name : List ℕ) (logs : Logs) (lack : GameFileError) (answer : Answer)
     → OfFile told name (λ file. Lacks file lack) → IsGameFileErrorTold lack answer

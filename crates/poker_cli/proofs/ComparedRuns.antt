@@ -7,6 +7,7 @@ use Rattle.std.specs.Io.KnownBytes.{Appends}
 use Rattle.std.proofs.lemmas.Bool.{eq-eqb, false≢true}
 use Rattle.std.proofs.lemmas.Option.{same_Some}
 use Rattle.command_words.specs.Words.{Request}
+use Rattle.convert_core.specs.FormatLaws.{lawful_of}
 use Rattle.convert_core.specs.Conversion.{ReadAsPlays}
 use Rattle.convert_core.proofs.LawfulNotations.{read_sound}
 use Rattle.hand_canon.specs.Sound.{IsSound}
@@ -14,18 +15,20 @@ use Rattle.hand_differences.proofs.SameHands.{made_none, neither, same_traces, s
 use Rattle.hand_differences.specs.FirstDifference.{PlainDifference, first_difference}
 use Rattle.hand_records.specs.SameHands.{AllPaired}
 use Rattle.hand_records.specs.declared.trace.Play.{Play}
-use Rattle.poker_cli.specs.Answer.{Answer, AsksToCompare, Files, IsAnswerIn, IsComparedWith, IsComparison, most_input}
-use Rattle.poker_cli.specs.Answer as answers
-use Rattle.poker_cli.specs.Compare.{DifferentHand, compared, compared_by, first_different, to_other_count, to_same}
+use Rattle.poker_cli.specs.Answer.{IsAnswerIn}
+use Rattle.poker_cli.specs.AnswerParts.{Answer, most_input}
+use Rattle.poker_cli.specs.Files.{Files}
+use Rattle.poker_cli.specs.AnswerParts as parts_said
+use Rattle.poker_cli.specs.Compare as in_compare
+use Rattle.poker_cli.specs.Compare.{AsksToCompare, DifferentHand, IsComparedWith, IsComparison, compared, compared_by, first_different, to_other_count, to_same}
 use Rattle.poker_cli.specs.ComparedRuns.{AreFoundOther, AreFoundSame, AreOther, AreSame, BothRead, FindsOther, InCount, InHand, IsFirstDifferent, IsSameHand}
-use Rattle.poker_cli.specs.Inputs.{SayRecords}
+use Rattle.convert_core.specs.Formats.{SayRecords}
 use Rattle.poker_cli.specs.Run.{Ends, RefusesNothing, Sinks}
 use Rattle.poker_cli.specs.declared.compare.Comparison.{Comparison}
 use Rattle.poker_cli.specs.declared.status.Status.{Status}
 use Rattle.poker_cli.specs.declared.status.Status.TheVariants as statuses
 use Rattle.poker_cli.proofs.Comparisons.{by_request, compared_as, compared_legal, legal_compares}
 use Rattle.poker_cli.proofs.Headline.{IsUnread, not_unread}
-use Rattle.poker_cli.proofs.LawfulFormats.{read_by}
 
 -- two sound plays have no difference if and only if they are the same hand
 each_same : (notes : Bool) (place : ℕ) (play other : Play) → IsSound play → IsSound other
@@ -182,24 +185,24 @@ record IsToldOfBoth (by : Comparison) (text bytes : List ℕ) (answer : Answer) 
 module _ (by : Comparison) (text bytes : List ℕ) (status : Status) (read : IsUnread status → ⊥) (legal : statuses.Refused ≡ status → ⊥) where
   told_with : (plays : List Play) (answer : Answer) → length bytes ≤ most_input → ReadAsPlays (SayRecords by.from bytes) plays
       → IsComparedWith by.other by.notes text plays answer → answer.status ≡ status → IsToldOfBoth by text bytes answer
-  told_with plays _ few is (answers.OtherUnread fault have answer told) same = absurd (not_unread fault answer status read told same)
-  told_with plays _ few is (answers.OtherRefused number why first) same = absurd (legal same)
-  told_with plays _ few is (answers.OtherPlayed others reads) same =
+  told_with plays _ few is (in_compare.OtherUnread fault have answer told) same = absurd (not_unread fault answer status read told same)
+  told_with plays _ few is (in_compare.OtherRefused number why first) same = absurd (legal same)
+  told_with plays _ few is (in_compare.OtherPlayed others reads) same =
       record { plays = plays; others = others; both = record { within = few; read = is; other = reads }; is = refl }
 
   told_of_both : (answer : Answer) → IsComparison by text bytes answer → answer.status ≡ status → IsToldOfBoth by text bytes answer
   unfolding IsUnread
-  told_of_both _ (answers.InputTooLong many) same = absurd (read (subst IsUnread same tt))
-  told_of_both answer (answers.InputRead few _ (answers.Unread fault have _ told)) same = absurd (not_unread fault answer status read told same)
-  told_of_both _ (answers.InputRead few _ (answers.Refused number why first)) same = absurd (legal same)
-  told_of_both answer (answers.InputRead few _ (answers.Played plays is _ made)) same = told_with plays answer few is made same
+  told_of_both _ (in_compare.InputTooLong many) same = absurd (read (subst IsUnread same tt))
+  told_of_both answer (in_compare.InputRead few _ (parts_said.Unread fault have _ told)) same = absurd (not_unread fault answer status read told same)
+  told_of_both _ (in_compare.InputRead few _ (parts_said.Refused number why first)) same = absurd (legal same)
+  told_of_both answer (in_compare.InputRead few _ (parts_said.Played plays is _ made)) same = told_with plays answer few is made same
 
 module _ (by : Comparison) (text bytes : List ℕ) (plays others : List Play) (both : BothRead by text bytes plays others) where
   plays_sound : AllByRecursion IsSound plays
-  plays_sound = read_sound (read_by by.from) bytes plays both.read
+  plays_sound = read_sound (lawful_of by.from) bytes plays both.read
 
   others_sound : AllByRecursion IsSound others
-  others_sound = read_sound (read_by by.other) text others both.other
+  others_sound = read_sound (lawful_of by.other) text others both.other
 
   -- they are the same if and only if the answer is done
   done_of_both : ((compared by.notes plays others).status ≡ statuses.Done) ↔ AreSame by.notes plays others

@@ -8,11 +8,12 @@ use Rattle.std.proofs.lemmas.Bool.{eq-eqb, eqb-true}
 use Rattle.std.proofs.lemmas.Option.{same_Some}
 use Rattle.acpc_game.specs.declared.game.Game.{Game as AnyGame}
 use Rattle.command_words.specs.Words.{Load, Plain, Request, Under, Compare, PlainSides, SidesUnder}
+use Rattle.convert_core.specs.FormatLaws.{lawful_of}
 use Rattle.convert_core.specs.Conversion.{ReadAsPlays}
 use Rattle.convert_core.specs.declared.refusal.Refusal.{Refusal}
 use Rattle.convert_core.proofs.Conversions.{all_both, all_turned}
 use Rattle.convert_core.proofs.KeptByChoice.{again_spelled}
-use Rattle.convert_core.proofs.LawfulNotations.{AreReadSame, IsReadAgain, never_refused, read_again, read_few, read_same, read_sound}
+use Rattle.convert_core.proofs.LawfulNotations.{AreReadSame, IsReadAgain, never_refused, no_fault, read_again, read_few, read_same, read_sound}
 use Rattle.convert_core.proofs.OneConversion.{all_same}
 use Rattle.convert_core.proofs.OneOutcome.{same_refused}
 use Rattle.convert_core.proofs.Paired.{each_both, each_spelled, paired_below, paired_both, paired_turned}
@@ -26,18 +27,20 @@ use Rattle.hand_records.specs.declared.trace.Play.{Play}
 use Rattle.hand_records.specs.declared.trace.Trace.{Trace}
 use Rattle.hand_records.specs.declared.writing.Keep.{Keep}
 use Rattle.hand_records.specs.declared.writing.Keep.TheVariants as keeps
-use Rattle.poker_cli.specs.Answer.{Answer, AsksToCompare, Files, IsAnswerIn, IsComparedTo, IsComparedWith, IsComparison, comparison_under, in_file, most_input, to_refusal}
-use Rattle.poker_cli.specs.Answer as answers
-use Rattle.poker_cli.specs.Compare.{DifferentHand, compared, compared_by, first_different, to_other_count, to_same}
+use Rattle.poker_cli.specs.Answer.{IsAnswerIn}
+use Rattle.poker_cli.specs.AnswerParts.{Answer, most_input, to_refusal}
+use Rattle.poker_cli.specs.Files.{Files}
+use Rattle.poker_cli.specs.AnswerParts as parts_said
+use Rattle.poker_cli.specs.Compare as in_compare
+use Rattle.poker_cli.specs.Compare.{AsksToCompare, DifferentHand, IsComparedTo, IsComparedWith, IsComparison, compared, compared_by, comparison_under, first_different, in_file, to_other_count, to_same}
 use Rattle.poker_cli.specs.Headline.{ConvertsInto}
-use Rattle.poker_cli.specs.Inputs.{HaveFault, SayRecords}
-use Rattle.poker_cli.specs.Outputs.{AreSameIn, first_refusal_in, kept_in, unspelled_in}
+use Rattle.convert_core.specs.Formats.{AreSameIn, HaveFault, SayRecords, first_refusal_in, kept_in, meaning_of, unspelled_in}
 use Rattle.poker_cli.specs.Run.{Ends, IsFileMissing, IsGameMissing, RefusesNothing, Sinks}
 use Rattle.poker_cli.specs.declared.compare.Comparison.{Comparison}
 use Rattle.poker_cli.specs.declared.status.Status.{Status}
 use Rattle.poker_cli.specs.declared.status.Status.TheVariants as statuses
-use Rattle.poker_cli.specs.declared.task.Format.{Format}
-use Rattle.poker_cli.proofs.LawfulFormats.{all_spelled, equal_runs, no_fault, one_reading, read_by, written_by}
+use Rattle.convert_core.specs.declared.format.Format.{Format}
+use Rattle.poker_cli.proofs.LawfulFormats.{equal_runs}
 use Rattle.poker_cli.proofs.OneAnswer.{AllToldAlike, done_so, ends_so, games_same, made_of, no_game, one_told, read_the_same, refused_or_played, same_answer, say_or_fault}
 
 -- two plays are the same hand, with their notes
@@ -87,36 +90,36 @@ same_compared notes ps qs os ts same too =
 one_compared : (other : Format) (notes : Bool) (file : List ℕ) (ps qs : List Play) (answer too : Answer) → AreReadSame ps qs
     → IsComparedWith other notes file ps answer → IsComparedWith other notes file qs too → answer ≡ too
 unfolding AllToldAlike
-one_compared other notes file ps qs _ _ same (answers.OtherUnread fault have answer told) (answers.OtherUnread found has too tells) =
+one_compared other notes file ps qs _ _ same (in_compare.OtherUnread fault have answer told) (in_compare.OtherUnread found has too tells) =
     ap in_file (one_told other file fault found answer too have has told tells)
-one_compared other notes file ps qs _ _ same (answers.OtherUnread fault have answer told) (answers.OtherRefused number why first) =
-    absurd (no_fault other file first.records fault first.say have)
-one_compared other notes file ps qs _ _ same (answers.OtherUnread fault have answer told) (answers.OtherPlayed others read) =
-    absurd (no_fault other file read.records fault read.say have)
-one_compared other notes file ps qs _ _ same (answers.OtherRefused number why first) (answers.OtherUnread fault have answer told) =
-    absurd (no_fault other file first.records fault first.say have)
-one_compared other notes file ps qs _ _ same (answers.OtherRefused number why first) (answers.OtherRefused count reason next) =
+one_compared other notes file ps qs _ _ same (in_compare.OtherUnread fault have answer told) (in_compare.OtherRefused number why first) =
+    absurd (no_fault (lawful_of other) file first.records fault first.say have)
+one_compared other notes file ps qs _ _ same (in_compare.OtherUnread fault have answer told) (in_compare.OtherPlayed others read) =
+    absurd (no_fault (lawful_of other) file read.records fault read.say have)
+one_compared other notes file ps qs _ _ same (in_compare.OtherRefused number why first) (in_compare.OtherUnread fault have answer told) =
+    absurd (no_fault (lawful_of other) file first.records fault first.say have)
+one_compared other notes file ps qs _ _ same (in_compare.OtherRefused number why first) (in_compare.OtherRefused count reason next) =
     let both = same_refused first.records next.records number count why reason
-    (all_same first.records next.records (one_reading other file first.records next.records first.say next.say)) first.first next.first in
+    (all_same first.records next.records ((lawful_of other).one_reading file first.records next.records first.say next.say)) first.first next.first in
     ap₂ (λ (n : ℕ) (w : Refusal). in_file (to_refusal n w)) both.0 both.1
-one_compared other notes file ps qs _ _ same (answers.OtherRefused number why first) (answers.OtherPlayed others read) =
-    absurd (refused_or_played first.records read.records number why others (one_reading other file first.records read.records first.say read.say) first.first read.are)
-one_compared other notes file ps qs _ _ same (answers.OtherPlayed others read) (answers.OtherUnread fault have answer told) =
-    absurd (no_fault other file read.records fault read.say have)
-one_compared other notes file ps qs _ _ same (answers.OtherPlayed others read) (answers.OtherRefused number why first) =
-    absurd (refused_or_played first.records read.records number why others (one_reading other file first.records read.records first.say read.say) first.first read.are)
-one_compared other notes file ps qs _ _ same (answers.OtherPlayed others read) (answers.OtherPlayed too reads) =
-    same_compared notes ps qs others too same.hands (read_same (read_by other) file others too read reads)
+one_compared other notes file ps qs _ _ same (in_compare.OtherRefused number why first) (in_compare.OtherPlayed others read) =
+    absurd (refused_or_played first.records read.records number why others ((lawful_of other).one_reading file first.records read.records first.say read.say) first.first read.are)
+one_compared other notes file ps qs _ _ same (in_compare.OtherPlayed others read) (in_compare.OtherUnread fault have answer told) =
+    absurd (no_fault (lawful_of other) file read.records fault read.say have)
+one_compared other notes file ps qs _ _ same (in_compare.OtherPlayed others read) (in_compare.OtherRefused number why first) =
+    absurd (refused_or_played first.records read.records number why others ((lawful_of other).one_reading file first.records read.records first.say read.say) first.first read.are)
+one_compared other notes file ps qs _ _ same (in_compare.OtherPlayed others read) (in_compare.OtherPlayed too reads) =
+    same_compared notes ps qs others too same.hands (read_same (lawful_of other) file others too read reads)
 
 pub one_comparison : (by : Comparison) (file bytes : List ℕ) (answer other : Answer)
     → IsComparison by file bytes answer → IsComparison by file bytes other → answer ≡ other
-one_comparison by file bytes _ _ (answers.InputTooLong many) (answers.InputTooLong too) = refl
-one_comparison by file bytes _ other (answers.InputTooLong many) (answers.InputRead few _ is) = absurd (omega (arith, many, few))
-one_comparison by file bytes answer _ (answers.InputRead few _ is) (answers.InputTooLong many) = absurd (omega (arith, many, few))
-one_comparison by file bytes answer other (answers.InputRead few _ is) (answers.InputRead less _ it) =
+one_comparison by file bytes _ _ (in_compare.InputTooLong many) (in_compare.InputTooLong too) = refl
+one_comparison by file bytes _ other (in_compare.InputTooLong many) (in_compare.InputRead few _ is) = absurd (omega (arith, many, few))
+one_comparison by file bytes answer _ (in_compare.InputRead few _ is) (in_compare.InputTooLong many) = absurd (omega (arith, many, few))
+one_comparison by file bytes answer other (in_compare.InputRead few _ is) (in_compare.InputRead less _ it) =
     same_answer (SayRecords by.from bytes) (HaveFault by.from bytes) (IsComparedWith by.other by.notes file) (λ one too. one ≡ too) answer other
     (record { itself = λ one too same. same; made = λ ps qs one too judged traced alike same so it_is. one_compared by.other by.notes file ps qs one too same so it_is })
-    (one_reading by.from bytes) (read_the_same by.from bytes) (one_told by.from bytes) (say_or_fault by.from bytes) is it
+    ((lawful_of by.from).one_reading bytes) (read_the_same by.from bytes) (one_told by.from bytes) (say_or_fault by.from bytes) is it
 
 -- ---- hands that are all legal
 
@@ -128,30 +131,30 @@ own_hands place (p ∷ ps) = (record { trace = refl; notes = refl }, own_hands (
 -- the answer if both files read as legal hands
 with_legal : (other : Format) (notes : Bool) (file : List ℕ) (plays others : List Play) (answer : Answer) → ReadAsPlays (SayRecords other file) others
     → IsComparedWith other notes file plays answer → answer ≡ compared notes plays others
-with_legal other notes file plays others _ read (answers.OtherUnread fault have answer told) = absurd (no_fault other file read.records fault read.say have)
-with_legal other notes file plays others _ read (answers.OtherRefused number why first) =
-    absurd (refused_or_played first.records read.records number why others (one_reading other file first.records read.records first.say read.say) first.first read.are)
-with_legal other notes file plays others _ read (answers.OtherPlayed too reads) =
-    same_compared notes plays plays too others (own_hands 0 plays) (read_same (read_by other) file too others reads read)
+with_legal other notes file plays others _ read (in_compare.OtherUnread fault have answer told) = absurd (no_fault (lawful_of other) file read.records fault read.say have)
+with_legal other notes file plays others _ read (in_compare.OtherRefused number why first) =
+    absurd (refused_or_played first.records read.records number why others ((lawful_of other).one_reading file first.records read.records first.say read.say) first.first read.are)
+with_legal other notes file plays others _ read (in_compare.OtherPlayed too reads) =
+    same_compared notes plays plays too others (own_hands 0 plays) (read_same (lawful_of other) file too others reads read)
 
 pub compared_legal : (by : Comparison) (file bytes : List ℕ) (plays others : List Play) (answer : Answer) → length bytes ≤ most_input
     → ReadAsPlays (SayRecords by.from bytes) plays → ReadAsPlays (SayRecords by.other file) others → IsComparison by file bytes answer
     → answer ≡ compared by.notes plays others
-compared_legal by file bytes plays others _ few read reads (answers.InputTooLong many) = absurd (omega (arith, many, few))
-compared_legal by file bytes plays others answer few read reads (answers.InputRead less _ to) =
+compared_legal by file bytes plays others _ few read reads (in_compare.InputTooLong many) = absurd (omega (arith, many, few))
+compared_legal by file bytes plays others answer few read reads (in_compare.InputRead less _ to) =
     let made = made_of (SayRecords by.from bytes) (HaveFault by.from bytes) (IsComparedWith by.other by.notes file) read.records plays answer
-    (one_reading by.from bytes) (read_the_same by.from bytes) (say_or_fault by.from bytes) read.say read.are to in
+    ((lawful_of by.from).one_reading bytes) (read_the_same by.from bytes) (say_or_fault by.from bytes) read.say read.are to in
     with_legal by.other by.notes file made.others others answer reads made.made
-    ∙ sym (same_compared by.notes plays made.others others others made.same.hands (read_same (read_by by.other) file others others reads reads))
+    ∙ sym (same_compared by.notes plays made.others others others made.same.hands (read_same (lawful_of by.other) file others others reads reads))
 
 -- a request to compare is answered by the bytes of its file
 to_other : (by : Comparison) (file : Option (List ℕ)) (text bytes : List ℕ) (answer : Answer) → file ≡ Some text → length text ≤ most_input
     → IsComparedTo by file bytes answer → IsComparison by text bytes answer
-to_other by file text bytes _ there short (answers.OtherTooLong found is many) =
+to_other by file text bytes _ there short (in_compare.OtherTooLong found is many) =
     let same : found ≡ text = same_Some found text (sym is ∙ there) in
     let few : length found ≤ most_input = subst (λ (t : List ℕ). length t ≤ most_input) (sym same) short in
     absurd (omega (arith, many, few))
-to_other by file text bytes answer there short (answers.ToOther found is few _ to) =
+to_other by file text bytes answer there short (in_compare.ToOther found is few _ to) =
     subst (λ (t : List ℕ). IsComparison by t bytes answer) (same_Some found text (sym is ∙ there)) to
 
 pub by_request : (request : Request) (files : Files) (by : Comparison) (text bytes : List ℕ) (answer : Answer) → AsksToCompare files request by text
@@ -161,10 +164,10 @@ by_request (Plain from command) files by text bytes answer asks is = absurd asks
 by_request (Under name logs) files by text bytes answer asks is = absurd asks
 by_request (Compare (PlainSides from other) file notes) files by text bytes answer asks is =
     subst (λ (c : Comparison). IsComparison c text bytes answer) (sym asks.comparison)
-    (to_other (answers.plain_comparison from other notes) files.other text bytes answer asks.there asks.short is)
-by_request (Compare (SidesUnder name from other) file notes) files by text bytes answer asks (answers.NoGameToCompare _ lacks) =
+    (to_other (in_compare.plain_comparison from other notes) files.other text bytes answer asks.there asks.short is)
+by_request (Compare (SidesUnder name from other) file notes) files by text bytes answer asks (in_compare.NoGameToCompare _ lacks) =
     absurd (no_game files.game asks.comparison.game answer asks.comparison.gives lacks)
-by_request (Compare (SidesUnder name from other) file notes) files by text bytes answer asks (answers.ComparedInGame game gives _ to) =
+by_request (Compare (SidesUnder name from other) file notes) files by text bytes answer asks (in_compare.ComparedInGame game gives _ to) =
     subst (λ (c : Comparison). IsComparison c text bytes answer)
     (ap (λ (g : AnyGame). comparison_under g from other notes) (games_same files.game game asks.comparison.game gives asks.comparison.gives)
     ∙ sym asks.comparison.same)
@@ -265,7 +268,7 @@ same_but_notes plays others sound too = compared_as false (λ place play other. 
 
 module _ (from to : Format) (keep : Keep) (bytes output : List ℕ) (into : ConvertsInto from to keep bytes output) where
   into_sound : AllByRecursion IsSound into.plays
-  into_sound = read_sound (read_by from) bytes into.plays into.can.legal
+  into_sound = read_sound (lawful_of from) bytes into.plays into.can.legal
 
   -- the output reads as the same hands, including their notes if all of these are kept
   again_traces : (plays others : List Play) → ReadAsPlays (SayRecords from bytes) plays → ReadAsPlays (SayRecords to output) others
@@ -273,70 +276,70 @@ module _ (from to : Format) (keep : Keep) (bytes output : List ℕ) (into : Conv
   again_traces plays others read reads =
       paired_both Same (IsReadAgain (kept_notes keep (kept_in to))) (λ place play other. play.trace ≡ other.trace)
       (λ place play middle other same again. same.trace ∙ sym again.trace)
-      0 plays into.plays others (read_same (read_by from) bytes plays into.plays read into.can.legal)
-      (read_again (read_by to) (kept_notes keep (kept_in to)) into.plays others output into.back reads)
+      0 plays into.plays others (read_same (lawful_of from) bytes plays into.plays read into.can.legal)
+      (read_again (meaning_of to) (kept_notes keep (kept_in to)) into.plays others output into.back reads)
 
   again_with_notes : (plays others : List Play) → ReadAsPlays (SayRecords from bytes) plays → ReadAsPlays (SayRecords to output) others
       → first_refusal_in to keeps.All into.plays ≡ None → AllPaired Same 0 plays others
   again_with_notes plays others read reads none =
-      let by_choice = read_again (read_by to) (kept_notes keep (kept_in to)) into.plays others output into.back reads in
+      let by_choice = read_again (meaning_of to) (kept_notes keep (kept_in to)) into.plays others output into.back reads in
       let whole = each_both IsSound (λ play. unspelled_in to keeps.All play ≡ None) (λ play. IsSound play × (unspelled_in to keeps.All play ≡ None))
       (λ play is spelled. (is, spelled)) into.plays into_sound (each_spelled (unspelled_in to keeps.All) 1 into.plays none) in
-      let few = (read_few (read_by from) bytes into.plays into.can.legal).few in
-      let again = again_spelled (unspelled_in to) (kept_in to) (all_spelled to) keep into.plays others few into_sound into.can.spelled by_choice in
+      let few = (read_few (lawful_of from) bytes into.plays into.can.legal).few in
+      let again = again_spelled (lawful_of to) keep into.plays others few into_sound into.can.spelled by_choice in
       let here : AllPaired Same 0 into.plays others =
       paired_below MOST_HANDS (IsReadAgain (kept_in to)) Same (λ play. IsSound play × (unspelled_in to keeps.All play ≡ None)) IsSound
-      (λ place play other early is it same. record { trace = sym same.trace; notes = sym ((all_spelled to place play early is.0).0 is.1).1 ∙ sym same.notes })
-      0 into.plays others (omega (arith, few)) whole (read_sound (read_by to) output others reads) again in
-      all_both (λ notes. notes) plays into.plays others (read_same (read_by from) bytes plays into.plays read into.can.legal) here
+      (λ place play other early is it same. record { trace = sym same.trace; notes = sym (((lawful_of to).all_spelled place play early is.0).0 is.1).1 ∙ sym same.notes })
+      0 into.plays others (omega (arith, few)) whole (read_sound (lawful_of to) output others reads) again in
+      all_both (λ notes. notes) plays into.plays others (read_same (lawful_of from) bytes plays into.plays read into.can.legal) here
 
   -- so the comparison is done
   same_again : (notes : Bool) (plays others : List Play) → ReadAsPlays (SayRecords from bytes) plays → ReadAsPlays (SayRecords to output) others
       → (notes ≡ true → first_refusal_in to keeps.All into.plays ≡ None) → (compared notes plays others).status ≡ statuses.Done
   same_again true plays others read reads none =
-      (same_with_all plays others (read_sound (read_by from) bytes plays read) (read_sound (read_by to) output others reads)).1
+      (same_with_all plays others (read_sound (lawful_of from) bytes plays read) (read_sound (lawful_of to) output others reads)).1
       (again_with_notes plays others read reads (none refl))
   same_again false plays others read reads none =
-      (same_but_notes plays others (read_sound (read_by from) bytes plays read) (read_sound (read_by to) output others reads)).1
+      (same_but_notes plays others (read_sound (lawful_of from) bytes plays read) (read_sound (lawful_of to) output others reads)).1
       (again_traces plays others read reads)
 
   -- the answer if the output is the other file
   beside_output : (notes : Bool) (answer : Answer) → (notes ≡ true → first_refusal_in to keeps.All into.plays ≡ None)
       → IsComparison (record { from = from; other = to; notes = notes }) output bytes answer → answer.status ≡ statuses.Done
-  beside_output notes _ none (answers.InputTooLong many) = let few = into.can.within in absurd (omega (arith, many, few))
-  beside_output notes answer none (answers.InputRead less _ made) =
+  beside_output notes _ none (in_compare.InputTooLong many) = let few = into.can.within in absurd (omega (arith, many, few))
+  beside_output notes answer none (in_compare.InputRead less _ made) =
       let legal = into.can.legal in
       let alike = made_of (SayRecords from bytes) (HaveFault from bytes) (IsComparedWith to notes output) legal.records into.plays answer
-      (one_reading from bytes) (read_the_same from bytes) (say_or_fault from bytes) legal.say legal.are made in
+      ((lawful_of from).one_reading bytes) (read_the_same from bytes) (say_or_fault from bytes) legal.say legal.are made in
       go alike.others answer (all_turned (λ notes. notes) into.plays alike.others alike.same.hands) alike.made
     where
       go : (plays : List Play) (answer : Answer) → AllPaired Same 0 plays into.plays → IsComparedWith to notes output plays answer
           → answer.status ≡ statuses.Done
-      go plays _ same (answers.OtherUnread fault have answer told) = absurd (into.back.no_fault fault have)
-      go plays _ same (answers.OtherRefused number why first) = absurd (never_refused (written_by to) into.plays output number why into.back first)
-      go plays _ same (answers.OtherPlayed others reads) =
+      go plays _ same (in_compare.OtherUnread fault have answer told) = absurd (into.back.no_fault fault have)
+      go plays _ same (in_compare.OtherRefused number why first) = absurd (never_refused (meaning_of to) into.plays output number why into.back first)
+      go plays _ same (in_compare.OtherPlayed others reads) =
           ap (λ (a : Answer). a.status)
-          (same_compared notes plays into.plays others others same (read_same (read_by to) output others others reads reads))
+          (same_compared notes plays into.plays others others same (read_same (lawful_of to) output others others reads reads))
           ∙ same_again notes into.plays others into.can.legal reads none
 
   -- and if it is the input
   before_source : (notes : Bool) (answer : Answer) → (notes ≡ true → first_refusal_in to keeps.All into.plays ≡ None) → length output ≤ most_input
       → IsComparison (record { from = to; other = from; notes = notes }) bytes output answer → answer.status ≡ statuses.Done
-  before_source notes _ none few (answers.InputTooLong many) = absurd (omega (arith, many, few))
-  before_source notes answer none few (answers.InputRead less _ (answers.Unread fault have _ told)) = absurd (into.back.no_fault fault have)
-  before_source notes _ none few (answers.InputRead less _ (answers.Refused number why first)) =
-      absurd (never_refused (written_by to) into.plays output number why into.back first)
-  before_source notes answer none few (answers.InputRead less _ (answers.Played others reads _ made)) =
+  before_source notes _ none few (in_compare.InputTooLong many) = absurd (omega (arith, many, few))
+  before_source notes answer none few (in_compare.InputRead less _ (parts_said.Unread fault have _ told)) = absurd (into.back.no_fault fault have)
+  before_source notes _ none few (in_compare.InputRead less _ (parts_said.Refused number why first)) =
+      absurd (never_refused (meaning_of to) into.plays output number why into.back first)
+  before_source notes answer none few (in_compare.InputRead less _ (parts_said.Played others reads _ made)) =
       ap (λ (a : Answer). a.status) (with_legal from notes bytes others into.plays answer into.can.legal made)
       ∙ turned notes none
     where
       turned : (notes : Bool) → (notes ≡ true → first_refusal_in to keeps.All into.plays ≡ None)
           → (compared notes others into.plays).status ≡ statuses.Done
       turned true none =
-          (same_with_all others into.plays (read_sound (read_by to) output others reads) into_sound).1
+          (same_with_all others into.plays (read_sound (lawful_of to) output others reads) into_sound).1
           (all_turned (λ notes. notes) into.plays others (again_with_notes into.plays others into.can.legal reads (none refl)))
       turned false none =
-          (same_but_notes others into.plays (read_sound (read_by to) output others reads) into_sound).1
+          (same_but_notes others into.plays (read_sound (lawful_of to) output others reads) into_sound).1
           (paired_turned (λ place play other. play.trace ≡ other.trace) (λ place play other. play.trace ≡ other.trace)
           (λ place play other same. sym same) 0 into.plays others (again_traces into.plays others into.can.legal reads))
 
@@ -376,7 +379,7 @@ compares_outputs request files from other to bytes too output written out diag s
     let by : Comparison = record { from = from; other = other; notes = true } in
     let plays = into.plays in
     let others = into_too.plays in
-    let same = same_with_all plays others (read_sound (read_by from) bytes plays into.can.legal) (read_sound (read_by other) too others into_too.can.legal) in
+    let same = same_with_all plays others (read_sound (lawful_of from) bytes plays into.can.legal) (read_sound (lawful_of other) too others into_too.can.legal) in
     let equal = equal_runs from other to keeps.All bytes too output written plays others into.can.legal into_too.can.legal into into_too in
     let answered = λ (answer : Answer) (is : IsAnswerIn request files bytes answer).
     compared_legal by too bytes plays others answer into.can.within into.can.legal into_too.can.legal (by_request request files by too bytes answer asks is) in (

@@ -1,8 +1,9 @@
 -- Equal hands have equal answers to their conversion, an output is converted to itself, and a
 -- conversion may go through another notation.
 use Rattle.std.proofs.Common.{◌≡◌, ◌↔◌, ℕ, ◌≤◌, List, length, Ok, Err, refl, ap₂, arith}
+use Rattle.convert_core.specs.FormatLaws.{lawful_of}
 use Rattle.convert_core.proofs.Conversions.{output_again, same_answers}
-use Rattle.convert_core.proofs.LawfulNotations.{never_refused}
+use Rattle.convert_core.proofs.LawfulNotations.{never_refused, no_fault}
 use Rattle.convert_core.specs.Conversion.{ReadAsPlays, ReadAsRefused}
 use Rattle.convert_core.specs.declared.convert_fault.ConvertFault.TheVariants as faults
 use Rattle.convert_core.specs.declared.format_fault.FormatFault.{FormatFault}
@@ -11,17 +12,20 @@ use Rattle.hand_records.specs.SameHands.{AreSameHands, kept_notes}
 use Rattle.hand_records.specs.declared.trace.Play.{Play}
 use Rattle.hand_records.specs.declared.writing.Keep.{Keep}
 use Rattle.hand_records.specs.declared.writing.Keep.TheVariants as keeps
-use Rattle.poker_cli.specs.Answer.{Answer, IsAnswer, IsConversion, done, most_input, to_unspelled}
+use Rattle.poker_cli.specs.Answer.{IsAnswer}
+use Rattle.poker_cli.specs.AnswerParts.{Answer, done, most_input, to_unspelled}
+use Rattle.poker_cli.specs.Convert.{IsConversion}
 use Rattle.poker_cli.specs.Answer as answers
+use Rattle.poker_cli.specs.AnswerParts as parts
+use Rattle.poker_cli.specs.Convert as in_convert
 use Rattle.poker_cli.specs.Headline.{ConvertsInto}
-use Rattle.poker_cli.specs.Inputs.{HaveFault, SayRecords}
+use Rattle.convert_core.specs.Formats.{AreSameIn, HaveFault, SayRecords, kept_in, meaning_of}
 use Rattle.poker_cli.specs.OneAnswer.{AreOneAnswer}
-use Rattle.poker_cli.specs.Outputs.{AreSameIn, kept_in}
 use Rattle.poker_cli.specs.declared.status.Status.TheVariants as statuses
-use Rattle.poker_cli.specs.declared.task.Format.{Format}
+use Rattle.convert_core.specs.declared.format.Format.{Format}
 use Rattle.command_words.specs.declared.command.Command.TheVariants as commands
 use Rattle.poker_cli.proofs.Headline.{done_into}
-use Rattle.poker_cli.proofs.LawfulFormats.{converted, equal_runs, no_fault, one_reading, read_by, written_by}
+use Rattle.poker_cli.proofs.LawfulFormats.{converted, equal_runs}
 use Rattle.poker_cli.proofs.OneAnswer.{one_itself, one_output, refused_or_played}
 
 pub equal_answers : (from other to : Format) (keep : Keep) (bytes too : List ℕ) (plays others : List Play) (answer written : Answer)
@@ -47,9 +51,9 @@ made_of_plays : (from to : Format) (keep : Keep) (bytes : List ℕ) (answer : An
     → ((fault : FormatFault) → HaveFault from bytes fault → ⊥) → ((number : ℕ) (why : Refusal) → ReadAsRefused (SayRecords from bytes) number why → ⊥)
     → IsAnswer (commands.Convert to keep) from bytes answer → IsMadeOf from to keep bytes answer
 made_of_plays from to keep bytes _ few reads legal (answers.TooLong many) = absurd (omega (arith, many, few))
-made_of_plays from to keep bytes answer few reads legal (answers.Read less _ (answers.Unread fault have _ told)) = absurd (reads fault have)
-made_of_plays from to keep bytes _ few reads legal (answers.Read less _ (answers.Refused number why first)) = absurd (legal number why first)
-made_of_plays from to keep bytes answer few reads legal (answers.Read less _ (answers.Played plays read _ made)) =
+made_of_plays from to keep bytes answer few reads legal (answers.Read less _ (parts.Unread fault have _ told)) = absurd (reads fault have)
+made_of_plays from to keep bytes _ few reads legal (answers.Read less _ (parts.Refused number why first)) = absurd (legal number why first)
+made_of_plays from to keep bytes answer few reads legal (answers.Read less _ (parts.Played plays read _ made)) =
     record { plays = plays; read = read; made = made }
 
 module _ (from to : Format) (keep : Keep) (bytes output : List ℕ) (into : ConvertsInto from to keep bytes output) where
@@ -58,8 +62,8 @@ module _ (from to : Format) (keep : Keep) (bytes output : List ℕ) (into : Conv
   source_made target other answer is =
       let legal = into.can.legal in
       made_of_plays from target other bytes answer into.can.within
-      (λ fault have. no_fault from bytes legal.records fault legal.say have)
-      (λ number why first. refused_or_played first.records legal.records number why into.plays (one_reading from bytes first.records legal.records first.say legal.say) first.first legal.are)
+      (λ fault have. no_fault (lawful_of from) bytes legal.records fault legal.say have)
+      (λ number why first. refused_or_played first.records legal.records number why into.plays ((lawful_of from).one_reading bytes first.records legal.records first.say legal.say) first.first legal.are)
       is
 
   -- and so does the output
@@ -67,20 +71,20 @@ module _ (from to : Format) (keep : Keep) (bytes output : List ℕ) (into : Conv
       → IsMadeOf to target other output answer
   output_made target other answer few is =
       made_of_plays to target other output answer few into.back.no_fault
-      (λ number why first. never_refused (written_by to) into.plays output number why into.back first) is
+      (λ number why first. never_refused (meaning_of to) into.plays output number why into.back first) is
 
 -- ---- an output again
 
 again_made : (from to : Format) (once keep : Keep) (bytes output : List ℕ) (plays : List Play) (other : Answer) → ConvertsInto from to once bytes output
     → ReadAsPlays (SayRecords to output) plays → IsConversion to keep plays other
     → (other.status ≡ statuses.Done) × AreSameIn to output other.output
-again_made from to once keep bytes output plays _ into read (answers.NotSpelled number fact is) =
+again_made from to once keep bytes output plays _ into read (in_convert.NotSpelled number fact is) =
     absurd
-    (output_again (read_by from) (written_by to) once keep bytes output (Err (faults.Unspelled number fact))
+    (output_again (lawful_of from) (lawful_of to) once keep bytes output (Err (faults.Unspelled number fact))
     (converted from to once bytes output into) (record { plays = plays; read = read; first = is }))
-again_made from to once keep bytes output plays _ into read (answers.Spelled none written spell back) = (
+again_made from to once keep bytes output plays _ into read (in_convert.Spelled none written spell back) = (
   refl,
-  output_again (read_by from) (written_by to) once keep bytes output (Ok written) (converted from to once bytes output into)
+  output_again (lawful_of from) (lawful_of to) once keep bytes output (Ok written) (converted from to once bytes output into)
       (record { plays = plays; read = read; spelled = none; spell = spell; back = back }),
 )
 
@@ -98,25 +102,25 @@ answer_again from to once keep bytes answer other is done few it =
 module _ (from by to : Format) (keep : Keep) (bytes output : List ℕ) (into : ConvertsInto from by keeps.All bytes output) (plays others : List Play)
     (read : ReadAsPlays (SayRecords from bytes) plays) (reads : ReadAsPlays (SayRecords by output) others) where
   by_way_made : (first second : Answer) → IsConversion to keep plays first → IsConversion to keep others second → AreOneAnswer (commands.Convert to keep) first second
-  by_way_made _ _ (answers.NotSpelled number fact is) (answers.NotSpelled count more it) =
+  by_way_made _ _ (in_convert.NotSpelled number fact is) (in_convert.NotSpelled count more it) =
       let same =
-      same_answers (read_by from) (written_by by) (written_by to) keep bytes output (converted from by keeps.All bytes output into)
+      same_answers (lawful_of from) (lawful_of by) (lawful_of to) keep bytes output (converted from by keeps.All bytes output into)
       (Err (faults.Unspelled number fact)) (Err (faults.Unspelled count more))
       (record { plays = plays; read = read; first = is }) (record { plays = others; read = reads; first = it }) in
       one_itself (commands.Convert to keep) (to_unspelled number fact) (to_unspelled count more) (ap₂ to_unspelled same.0 same.1)
-  by_way_made _ _ (answers.NotSpelled number fact is) (answers.Spelled none again spell back) =
+  by_way_made _ _ (in_convert.NotSpelled number fact is) (in_convert.Spelled none again spell back) =
       absurd
-      (same_answers (read_by from) (written_by by) (written_by to) keep bytes output (converted from by keeps.All bytes output into)
+      (same_answers (lawful_of from) (lawful_of by) (lawful_of to) keep bytes output (converted from by keeps.All bytes output into)
       (Err (faults.Unspelled number fact)) (Ok again)
       (record { plays = plays; read = read; first = is }) (record { plays = others; read = reads; spelled = none; spell = spell; back = back }))
-  by_way_made _ _ (answers.Spelled none written spell back) (answers.NotSpelled number fact is) =
+  by_way_made _ _ (in_convert.Spelled none written spell back) (in_convert.NotSpelled number fact is) =
       absurd
-      (same_answers (read_by from) (written_by by) (written_by to) keep bytes output (converted from by keeps.All bytes output into)
+      (same_answers (lawful_of from) (lawful_of by) (lawful_of to) keep bytes output (converted from by keeps.All bytes output into)
       (Ok written) (Err (faults.Unspelled number fact))
       (record { plays = plays; read = read; spelled = none; spell = spell; back = back }) (record { plays = others; read = reads; first = is }))
-  by_way_made _ _ (answers.Spelled none written spell back) (answers.Spelled too again spells backs) =
+  by_way_made _ _ (in_convert.Spelled none written spell back) (in_convert.Spelled too again spells backs) =
       one_output to keep written again
-      (same_answers (read_by from) (written_by by) (written_by to) keep bytes output (converted from by keeps.All bytes output into)
+      (same_answers (lawful_of from) (lawful_of by) (lawful_of to) keep bytes output (converted from by keeps.All bytes output into)
       (Ok written) (Ok again)
       (record { plays = plays; read = read; spelled = none; spell = spell; back = back })
       (record { plays = others; read = reads; spelled = too; spell = spells; back = backs }))

@@ -6,7 +6,7 @@ use Rattle.command_words.specs.Words.{Sides, PlainSides, SidesUnder}
 use Rattle.host_io.specs.Shelf.{IsAnswer, IsWithin}
 use Rattle.host_io.specs.declared.shelf.Fetched.{Fetched}
 use Rattle.host_io.specs.declared.shelf.Fetched.TheVariants.{Bytes, Absent, TooLong}
-use Rattle.poker_cli.specs.Answer.{Files, FilesByName}
+use Rattle.poker_cli.specs.Files.{Files, FilesByName}
 use Rattle.poker_cli.specs.Run.{OfFile, OfGameFile}
 
 -- what follows for a file

@@ -16,7 +16,9 @@ use Rattle.hand_records.specs.declared.trace.Play.{Play}
 use Rattle.hand_records.specs.declared.writing.Unspelled.{Unspelled}
 use Rattle.hand_records.specs.declared.writing.Unspelled.TheVariants as facts
 use Rattle.play_event.specs.declared.setup.Setup.{Setup}
-use Rattle.poker_cli.specs.Answer.{GivesGame, IsGameReply, done, to_game, to_unspelled}
+use Rattle.poker_cli.specs.AnswerParts.{done, to_unspelled}
+use Rattle.poker_cli.specs.Game.{IsGameReply, to_game}
+use Rattle.poker_cli.specs.GameFiles.{GivesGame}
 use Rattle.poker_cli.proofs.GameLengths.{game_length}
 
 -- no hand states caps

@@ -6,6 +6,8 @@ use Rattle.acpc_game.specs.declared.fault.AcpcFault.TheVariants as in_acpc
 use Rattle.command_words.specs.Words.{Load, Plain, Request, Under, Compare}
 use Rattle.command_words.specs.declared.request.Logs.TheVariants as logs_are
 use Rattle.command_words.specs.declared.command.Command.TheVariants as commands
+use Rattle.convert_core.specs.FormatLaws.{lawful_of}
+use Rattle.convert_core.proofs.LawfulNotations.{no_fault}
 use Rattle.convert_core.specs.declared.format_fault.FormatFault.{FormatFault}
 use Rattle.convert_core.specs.declared.format_fault.FormatFault.TheVariants as formats
 use Rattle.hand_records.specs.declared.record.Record.{Record}
@@ -18,21 +20,24 @@ use Rattle.ohh_reading.specs.Reading as in_ohh
 use Rattle.phh_reading.specs.declared.field_fault.FieldFaultKind.TheVariants as whats
 use Rattle.phh_reading.specs.Reading.{InHand, NoDocument, Wrong}
 use Rattle.phh_reading.specs.Reading as in_phh
-use Rattle.poker_cli.specs.Answer.{Answer, Files, FilesByName, IsAnswer, most_input, to_fault, to_wrong_acpc, to_wrong_ohh, to_wrong_phh}
+use Rattle.poker_cli.specs.Answer.{IsAnswer}
+use Rattle.poker_cli.specs.AnswerParts.{Answer, most_input, to_fault, to_wrong_acpc, to_wrong_ohh, to_wrong_phh}
+use Rattle.poker_cli.specs.Files.{Files, FilesByName}
 use Rattle.poker_cli.specs.Answer as answers
+use Rattle.poker_cli.specs.AnswerParts as parts
+use Rattle.poker_cli.specs.Convert as in_convert
 use Rattle.poker_cli.specs.PhhFaults.{phh_status}
-use Rattle.poker_cli.specs.Headline.{AsksToConvert, CanConvert, ConversionEnds, ConvertsInto, Headline, IsOfHands, IsOfLogs, NamesFault, IsTooLong, NamesRefused, NamesUnspelled, TellsAlone}
-use Rattle.poker_cli.specs.Inputs.{SayRecords}
+use Rattle.poker_cli.specs.Headline.{AsksToConvert, CanConvert, ConversionEnds, ConvertsInto, EndsOver, Headline, IsOfHands, IsOfLogs, NamesFault, IsTooLong, NamesRefused, NamesUnspelled, TellsAlone}
+use Rattle.convert_core.specs.Formats.{SayRecords}
 use Rattle.poker_cli.specs.Run.{AsksForFile, Ends, EndsLeaving, RefusesNothing, Sinks, TellsLine, WhereTold, WritesNothing, fixed_line}
 use Rattle.poker_cli.specs.OhhFaults.{ohh_status}
 use Rattle.poker_cli.specs.Ways.{way}
 use Rattle.poker_cli.specs.declared.status.Status.{Status}
 use Rattle.poker_cli.specs.declared.status.Status.TheVariants as statuses
-use Rattle.poker_cli.specs.declared.task.Format.{Format}
-use Rattle.poker_cli.specs.declared.task.Format.TheVariants as readers
+use Rattle.convert_core.specs.declared.format.Format.{Format}
+use Rattle.convert_core.specs.declared.format.Format.TheVariants as readers
 use Rattle.poker_cli.specs.declared.task.Job.{Job}
 use Rattle.poker_cli.proofs.Answering.{where_told}
-use Rattle.poker_cli.proofs.LawfulFormats.{no_fault}
 use Rattle.poker_cli.proofs.OneAnswer.{in_way, legal_in_way, no_file_missing, no_missing}
 use Rattle.card_set.proofs.Options.{some_more}
 
@@ -107,10 +112,10 @@ module _ (from to : Format) (keep : Keep) (bytes : List ℕ) where
   pub done_into : (answer : Answer) → IsAnswer (commands.Convert to keep) from bytes answer → answer.status ≡ statuses.Done → ConvertsInto from to keep bytes answer.output
   unfolding IsUnread
   done_into _ (answers.TooLong many) same = absurd (cc (same))
-  done_into answer (answers.Read few _ (answers.Unread fault have _ told)) same = absurd (not_unread fault answer statuses.Done (λ un. un) told same)
-  done_into _ (answers.Read few _ (answers.Refused number why first)) same = absurd (cc (same))
-  done_into _ (answers.Read few _ (answers.Played plays read _ (answers.NotSpelled number fact is))) same = absurd (cc (same))
-  done_into _ (answers.Read few _ (answers.Played plays read _ (answers.Spelled none output spell back))) same =
+  done_into answer (answers.Read few _ (parts.Unread fault have _ told)) same = absurd (not_unread fault answer statuses.Done (λ un. un) told same)
+  done_into _ (answers.Read few _ (parts.Refused number why first)) same = absurd (cc (same))
+  done_into _ (answers.Read few _ (parts.Played plays read _ (in_convert.NotSpelled number fact is))) same = absurd (cc (same))
+  done_into _ (answers.Read few _ (parts.Played plays read _ (in_convert.Spelled none output spell back))) same =
       record { plays = plays; can = record { within = few; legal = read; spelled = none }; spell = spell; back = back }
 
   module _ (out diag : Sinks) where
@@ -119,69 +124,69 @@ module _ (from to : Format) (keep : Keep) (bytes : List ℕ) where
         → TellsAlone out diag answer.line → NamesRefused from bytes out diag
     unfolding IsUnread
     refused_so _ (answers.TooLong many) same told = absurd (cc (same))
-    refused_so answer (answers.Read few _ (answers.Unread fault have _ is)) same told = absurd (not_unread fault answer statuses.Refused (λ un. un) is same)
-    refused_so _ (answers.Read few _ (answers.Refused number why first)) same told =
+    refused_so answer (answers.Read few _ (parts.Unread fault have _ is)) same told = absurd (not_unread fault answer statuses.Refused (λ un. un) is same)
+    refused_so _ (answers.Read few _ (parts.Refused number why first)) same told =
         record { within = few; number = number; why = why; first = first; told = told }
-    refused_so _ (answers.Read few _ (answers.Played plays read _ (answers.NotSpelled number fact is))) same told = absurd (cc (same))
-    refused_so _ (answers.Read few _ (answers.Played plays read _ (answers.Spelled none output spell back))) same told = absurd (cc (same))
+    refused_so _ (answers.Read few _ (parts.Played plays read _ (in_convert.NotSpelled number fact is))) same told = absurd (cc (same))
+    refused_so _ (answers.Read few _ (parts.Played plays read _ (in_convert.Spelled none output spell back))) same told = absurd (cc (same))
 
     -- a fact that cannot be written
     unspelled_so : (answer : Answer) → IsAnswer (commands.Convert to keep) from bytes answer → answer.status ≡ statuses.Unspelled
         → TellsAlone out diag answer.line → NamesUnspelled from to keep bytes out diag
     unfolding IsUnread
     unspelled_so _ (answers.TooLong many) same told = absurd (cc (same))
-    unspelled_so answer (answers.Read few _ (answers.Unread fault have _ is)) same told = absurd (not_unread fault answer statuses.Unspelled (λ un. un) is same)
-    unspelled_so _ (answers.Read few _ (answers.Refused number why first)) same told = absurd (cc (same))
-    unspelled_so _ (answers.Read few _ (answers.Played plays read _ (answers.NotSpelled number fact is))) same told =
+    unspelled_so answer (answers.Read few _ (parts.Unread fault have _ is)) same told = absurd (not_unread fault answer statuses.Unspelled (λ un. un) is same)
+    unspelled_so _ (answers.Read few _ (parts.Refused number why first)) same told = absurd (cc (same))
+    unspelled_so _ (answers.Read few _ (parts.Played plays read _ (in_convert.NotSpelled number fact is))) same told =
         record { within = few; number = number; fact = fact; first = record { plays = plays; read = read; first = is }; told = told }
-    unspelled_so _ (answers.Read few _ (answers.Played plays read _ (answers.Spelled none output spell back))) same told = absurd (cc (same))
+    unspelled_so _ (answers.Read few _ (parts.Played plays read _ (in_convert.Spelled none output spell back))) same told = absurd (cc (same))
 
     -- bytes that cannot be read
     bad_so : (answer : Answer) → IsAnswer (commands.Convert to keep) from bytes answer → answer.status ≡ statuses.BadInput
         → TellsAlone out diag answer.line → NamesFault from bytes out diag statuses.BadInput
     bad_so _ (answers.TooLong many) same told = absurd (cc (same))
-    bad_so answer (answers.Read few _ (answers.Unread fault have _ is)) same told =
+    bad_so answer (answers.Read few _ (parts.Unread fault have _ is)) same told =
         record { within = few; fault = fault; have = have; answer = answer; answered = is; same = same; told = told }
-    bad_so _ (answers.Read few _ (answers.Refused number why first)) same told = absurd (cc (same))
-    bad_so _ (answers.Read few _ (answers.Played plays read _ (answers.NotSpelled number fact is))) same told = absurd (cc (same))
-    bad_so _ (answers.Read few _ (answers.Played plays read _ (answers.Spelled none output spell back))) same told = absurd (cc (same))
+    bad_so _ (answers.Read few _ (parts.Refused number why first)) same told = absurd (cc (same))
+    bad_so _ (answers.Read few _ (parts.Played plays read _ (in_convert.NotSpelled number fact is))) same told = absurd (cc (same))
+    bad_so _ (answers.Read few _ (parts.Played plays read _ (in_convert.Spelled none output spell back))) same told = absurd (cc (same))
 
     -- bytes over a limit
     limit_so : (answer : Answer) → IsAnswer (commands.Convert to keep) from bytes answer → answer.status ≡ statuses.Limit
         → TellsAlone out diag answer.line → IsTooLong bytes out diag ⊎ NamesFault from bytes out diag statuses.Limit
     limit_so _ (answers.TooLong many) same told = inl (record { beyond = many; told = told })
-    limit_so answer (answers.Read few _ (answers.Unread fault have _ is)) same told =
+    limit_so answer (answers.Read few _ (parts.Unread fault have _ is)) same told =
         inr (record { within = few; fault = fault; have = have; answer = answer; answered = is; same = same; told = told })
-    limit_so _ (answers.Read few _ (answers.Refused number why first)) same told = absurd (cc (same))
-    limit_so _ (answers.Read few _ (answers.Played plays read _ (answers.NotSpelled number fact is))) same told = absurd (cc (same))
-    limit_so _ (answers.Read few _ (answers.Played plays read _ (answers.Spelled none output spell back))) same told = absurd (cc (same))
+    limit_so _ (answers.Read few _ (parts.Refused number why first)) same told = absurd (cc (same))
+    limit_so _ (answers.Read few _ (parts.Played plays read _ (in_convert.NotSpelled number fact is))) same told = absurd (cc (same))
+    limit_so _ (answers.Read few _ (parts.Played plays read _ (in_convert.Spelled none output spell back))) same told = absurd (cc (same))
 
   -- no question about one hand is asked
   never_none : (answer : Answer) → IsAnswer (commands.Convert to keep) from bytes answer → answer.status ≡ statuses.NoSuch → ⊥
   unfolding IsUnread
   never_none _ (answers.TooLong many) same = cc (same)
-  never_none answer (answers.Read few _ (answers.Unread fault have _ is)) same = not_unread fault answer statuses.NoSuch (λ un. un) is same
-  never_none _ (answers.Read few _ (answers.Refused number why first)) same = cc (same)
-  never_none _ (answers.Read few _ (answers.Played plays read _ (answers.NotSpelled number fact is))) same = cc (same)
-  never_none _ (answers.Read few _ (answers.Played plays read _ (answers.Spelled none output spell back))) same = cc (same)
+  never_none answer (answers.Read few _ (parts.Unread fault have _ is)) same = not_unread fault answer statuses.NoSuch (λ un. un) is same
+  never_none _ (answers.Read few _ (parts.Refused number why first)) same = cc (same)
+  never_none _ (answers.Read few _ (parts.Played plays read _ (in_convert.NotSpelled number fact is))) same = cc (same)
+  never_none _ (answers.Read few _ (parts.Played plays read _ (in_convert.Spelled none output spell back))) same = cc (same)
 
   -- nothing is compared
   never_differs : (answer : Answer) → IsAnswer (commands.Convert to keep) from bytes answer → answer.status ≡ statuses.Differs → ⊥
   unfolding IsUnread
   never_differs _ (answers.TooLong many) same = cc (same)
-  never_differs answer (answers.Read few _ (answers.Unread fault have _ is)) same = not_unread fault answer statuses.Differs (λ un. un) is same
-  never_differs _ (answers.Read few _ (answers.Refused number why first)) same = cc (same)
-  never_differs _ (answers.Read few _ (answers.Played plays read _ (answers.NotSpelled number fact is))) same = cc (same)
-  never_differs _ (answers.Read few _ (answers.Played plays read _ (answers.Spelled none output spell back))) same = cc (same)
+  never_differs answer (answers.Read few _ (parts.Unread fault have _ is)) same = not_unread fault answer statuses.Differs (λ un. un) is same
+  never_differs _ (answers.Read few _ (parts.Refused number why first)) same = cc (same)
+  never_differs _ (answers.Read few _ (parts.Played plays read _ (in_convert.NotSpelled number fact is))) same = cc (same)
+  never_differs _ (answers.Read few _ (parts.Played plays read _ (in_convert.Spelled none output spell back))) same = cc (same)
 
   -- the game file has no part in it
   never_game : (answer : Answer) → IsAnswer (commands.Convert to keep) from bytes answer → answer.status ≡ statuses.BadGame → ⊥
   unfolding IsUnread
   never_game _ (answers.TooLong many) same = cc (same)
-  never_game answer (answers.Read few _ (answers.Unread fault have _ is)) same = not_unread fault answer statuses.BadGame (λ un. un) is same
-  never_game _ (answers.Read few _ (answers.Refused number why first)) same = cc (same)
-  never_game _ (answers.Read few _ (answers.Played plays read _ (answers.NotSpelled number fact is))) same = cc (same)
-  never_game _ (answers.Read few _ (answers.Played plays read _ (answers.Spelled none output spell back))) same = cc (same)
+  never_game answer (answers.Read few _ (parts.Unread fault have _ is)) same = not_unread fault answer statuses.BadGame (λ un. un) is same
+  never_game _ (answers.Read few _ (parts.Refused number why first)) same = cc (same)
+  never_game _ (answers.Read few _ (parts.Played plays read _ (in_convert.NotSpelled number fact is))) same = cc (same)
+  never_game _ (answers.Read few _ (parts.Played plays read _ (in_convert.Spelled none output spell back))) same = cc (same)
 
 -- if a shelf is asked for a game, a notation is that of logs
 asks_for_logs : (files : Files) (request : Request) (from to : Format) (keep : Keep) → AsksToConvert files request from to keep
@@ -267,9 +272,9 @@ module _ (request : Request) (files : Files) (from to : Format) (keep : Keep) (b
   conversion_reads statuses.NoSuch ends few records say = ends
   conversion_reads statuses.Differs ends few records say = ends
   conversion_reads statuses.FileMissing ends few records say = ends
-  conversion_reads statuses.BadInput ends few records say = no_fault from bytes records ends.fault say ends.have
+  conversion_reads statuses.BadInput ends few records say = no_fault (lawful_of from) bytes records ends.fault say ends.have
   conversion_reads statuses.Limit (inl ends) few records say = let beyond = ends.beyond in absurd (omega (arith, beyond, few))
-  conversion_reads statuses.Limit (inr ends) few records say = no_fault from bytes records ends.fault say ends.have
+  conversion_reads statuses.Limit (inr ends) few records say = no_fault (lawful_of from) bytes records ends.fault say ends.have
 
   -- if the hands can be converted, nothing is refused
   conversion_exactly : (status : Status) → AsksToConvert files request from to keep → Ends request files bytes out diag status
@@ -285,24 +290,23 @@ module _ (request : Request) (files : Files) (from to : Format) (keep : Keep) (b
       record { ends = so; reads = conversion_reads status so; exactly = conversion_exactly status found ends }
 
 -- whether the devices show what they hold or not
-abbrev pub EndsTold : Option Request → Option (List ℕ) → Option FilesByName → (out diag : Sinks) → Status → Type 0 → Type 0
-EndsTold said left told out diag status Same =
+abbrev pub LeavingTold : Option Request → Option (List ℕ) → Option FilesByName → (out diag : Sinks) → Status → Type 0 → Type 0
+LeavingTold said left told out diag status Same =
     IfSome said (λ request. WhereTold request left told (λ files bytes. EndsLeaving request files bytes out diag status Same))
 
-abbrev pub HeadlineTold : Option Request → Option (List ℕ) → Option FilesByName → (out diag : Sinks) → Status → Type 0
-HeadlineTold said left told out diag status =
-    IfSome said (λ request. WhereTold request left told (λ files bytes.
-    (from to : Format) (keep : Keep) → AsksToConvert files request from to keep → Headline from to keep bytes out diag status))
+abbrev pub EndsTold : Option Request → Option (List ℕ) → Option FilesByName → (out diag : Sinks) → Status → Type 0 → Type 0
+EndsTold said left told out diag status Same =
+    IfSome said (λ request. WhereTold request left told (λ files bytes. EndsOver request files bytes out diag status Same))
 
-pub headline_told : (said : Option Request) (left : Option (List ℕ)) (told : Option FilesByName) (out diag : Sinks) (status : Status) (Same : Type 0)
-    → EndsTold said left told out diag status Same → IsLeft out diag status → HeadlineTold said left told out diag status
-headline_told said left told out diag status Same ends is_left =
+pub ends_told : (said : Option Request) (left : Option (List ℕ)) (told : Option FilesByName) (out diag : Sinks) (status : Status) (Same : Type 0)
+    → LeavingTold said left told out diag status Same → IsLeft out diag status → EndsTold said left told out diag status Same
+ends_told said left told out diag status Same ends is_left =
     some_more said _ _
     (λ request. where_told request left told _ _
-    (λ files bytes so. λ from to keep. headline request files from to keep bytes out diag status so.ends is_left)) ends
+    (λ files bytes so. record { ends = so; headline = λ from to keep. headline request files from to keep bytes out diag status so.ends is_left })) ends
 
 -- of the request that the words are read as
-pub headline_read : (request : Request) (said : Option Request) (left : Option (List ℕ)) (told : Option FilesByName) (out diag : Sinks) (status : Status) (Same : Type 0)
-    → Some request ≡ said → EndsTold (Some request) left told out diag status Same → IsLeft out diag status → HeadlineTold said left told out diag status
-headline_read request said left told out diag status Same read ends is_left =
-    subst (λ (s : Option Request). HeadlineTold s left told out diag status) read (headline_told (Some request) left told out diag status Same ends is_left)
+pub ends_read : (request : Request) (said : Option Request) (left : Option (List ℕ)) (told : Option FilesByName) (out diag : Sinks) (status : Status) (Same : Type 0)
+    → Some request ≡ said → LeavingTold (Some request) left told out diag status Same → IsLeft out diag status → EndsTold said left told out diag status Same
+ends_read request said left told out diag status Same read ends is_left =
+    subst (λ (s : Option Request). EndsTold s left told out diag status Same) read (ends_told (Some request) left told out diag status Same ends is_left)

@@ -9,11 +9,11 @@ use Rattle.convert_core.proofs.OneOutcome.{AllTraced}
 use Rattle.hand_equity.specs.Street.{deals_board, first_unknown}
 use Rattle.hand_records.specs.declared.trace.Play.{Play}
 use Rattle.hand_records.specs.declared.trace.Trace.{Trace}
-use Rattle.poker_cli.specs.Answer.{Answer, Files, done}
+use Rattle.poker_cli.specs.AnswerParts.{Answer, done, hand_numbered}
+use Rattle.poker_cli.specs.Files.{Files}
 use Rattle.poker_cli.specs.LegalInputs.{AsksOfLegal}
 use Rattle.poker_cli.specs.Equity.{IsEquityAt}
 use Rattle.poker_cli.specs.Options.{AreOptionsAt}
-use Rattle.poker_cli.specs.Replies.{hand_numbered}
 use Rattle.poker_cli.specs.Views.{each_view, most_view_bytes}
 use Rattle.poker_cli.specs.Options as in_options
 use Rattle.poker_cli.specs.Equity as in_equity
@@ -22,8 +22,8 @@ use Rattle.poker_cli.specs.Run.{Ends, RefusesNothing, Sinks}
 use Rattle.poker_cli.specs.Ways.{way}
 use Rattle.poker_cli.specs.declared.status.Status.{Status}
 use Rattle.poker_cli.specs.declared.status.Status.TheVariants as statuses
-use Rattle.poker_cli.specs.declared.task.Format.{Format}
-use Rattle.poker_cli.specs.declared.task.Format.TheVariants as readers
+use Rattle.convert_core.specs.declared.format.Format.{Format}
+use Rattle.convert_core.specs.declared.format.Format.TheVariants as readers
 use Rattle.command_words.specs.declared.command.Command.TheVariants as commands
 use Rattle.poker_cli.proofs.OneAnswer.{done_so, ends_so, in_way, legal_asked, legal_asks, no_file_missing, no_missing}
 use Rattle.poker_cli.proofs.OneReply.{at_place, not_fewer, not_other}

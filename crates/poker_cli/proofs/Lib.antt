@@ -20,6 +20,7 @@ mod Headline
 mod Comparisons
 mod ComparedRuns
 mod LegalReplies
+mod LegalEach
 mod EqualAnswers
 mod ReadHands
 mod Replying

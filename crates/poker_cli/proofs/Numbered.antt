@@ -3,7 +3,7 @@ use Rattle.std.proofs.Common.{◌≡◌, ℕ, ◌-◌, ◌<◌, ◌≤◌, List,
 use Rattle.std.specs.List.{slice_get}
 use Rattle.std.proofs.lemmas.Option.{slice_get_past, slice_get_read}
 use Rattle.hand_records.specs.declared.trace.Play.{Play}
-use Rattle.poker_cli.specs.Replies.{hand_numbered}
+use Rattle.poker_cli.specs.AnswerParts.{hand_numbered}
 
 pub found : (plays : List Play) (number place : ℕ) (play : Play) → place ≡ number - 1 → place < length plays
     → play ≡ get_or plays place play → hand_numbered plays number ≡ Some play

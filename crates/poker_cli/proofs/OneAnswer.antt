@@ -2,7 +2,7 @@
 use Rattle.std.proofs.Common.{◌≡◌, ◌⊎◌, ℕ, ◌+◌, ◌-◌, ◌<◌, ◌≤◌, All, Bool, List, [], ◌∷◌, ◌++◌, length, map, Option, Some, None, IfSome, Ok, refl, sym, subst, ap, ap₂, ◌∙◌, inl, inr, arith}
 use Rattle.std.specs.List.{range_with_len}
 use Rattle.toml.specs.Parse.{parse_document}
-use Rattle.std.specs.Option.{option_map, unwrap_or}
+use Rattle.std.specs.Option.{unwrap_or}
 use Rattle.std.proofs.lemmas.List.Elements.{All-head, All-tail}
 use Rattle.std.proofs.lemmas.Option.{same_Some}
 use Rattle.acpc_game.specs.declared.game.Game.{Game as AnyGame}
@@ -24,36 +24,46 @@ use Rattle.printed_hands.specs.Check.{check_end, check_line, check_said, each_ha
 use Rattle.printed_hands.specs.Steps.{replay_lines}
 use Rattle.printed_report.specs.Report.{Hand, Seated, hand_of, report_on, seated_in}
 use Rattle.hand_canon.specs.Judged.{IsJudged}
+use Rattle.convert_core.specs.FormatLaws.{lawful_of}
 use Rattle.convert_core.specs.Judged.{ArePlaysOf, IsFirstRefused}
 use Rattle.convert_core.specs.declared.refusal.Refusal.{Refusal}
 use Rattle.convert_core.specs.declared.format_fault.FormatFault.{FormatFault}
-use Rattle.convert_core.specs.declared.format_fault.FormatFault.TheVariants as formats
 use Rattle.convert_core.specs.SameRecords.{AllAlike, AreAlike, SayTheSame}
 use Rattle.convert_core.proofs.Conversions.{all_less, same_refusal}
-use Rattle.convert_core.proofs.LawfulNotations.{AreReadSame, all_read_same}
+use Rattle.convert_core.proofs.LawfulNotations.{AreReadSame, all_read_same, no_fault, one_fault}
 use Rattle.convert_core.proofs.OneConversion.{all_same, IsReadAlike}
 use Rattle.convert_core.specs.Conversion.{ReadAsPlays}
 use Rattle.convert_core.proofs.OneOutcome.{AllTraced, no_plays, same_refused, same_traces}
-use Rattle.poker_cli.specs.Answer.{Answer, Files, FilesByName, GivesGame, GivesNoGame, IsAnswer, IsAnswerBy, IsAnswerIn, IsAnswerOf, IsAnswerOfEach, IsAnswerTo, AreMessages, IsConversion, IsJudgement, IsReply, IsWay, done, most_input, to_excess, to_fault, to_first_game, to_refusal, to_unspelled, to_wrong_acpc, to_wrong_ohh, to_wrong_phh}
+use Rattle.poker_cli.specs.Answer.{IsAnswer, IsAnswerBy, IsAnswerIn, IsAnswerOf, IsReply}
+use Rattle.poker_cli.specs.AnswerParts.{Answer, IsAnswerTo, done, most_input, to_excess, to_fault, to_refusal, to_unspelled}
+use Rattle.poker_cli.specs.Convert.{IsConversion}
+use Rattle.poker_cli.specs.Each.{IsAnswerOfEach}
+use Rattle.poker_cli.specs.Files.{Files, FilesByName}
+use Rattle.poker_cli.specs.Game.{to_first_game}
+use Rattle.poker_cli.specs.GameFiles.{GivesGame, GivesNoGame}
+use Rattle.poker_cli.specs.Judge.{IsJudgement, if_asked}
 use Rattle.poker_cli.specs.Answer as answers
-use Rattle.poker_cli.specs.Inputs.{HaveFault, SayRecords, first_lines, if_asked}
+use Rattle.poker_cli.specs.AnswerParts as parts
+use Rattle.poker_cli.specs.Convert as in_convert
+use Rattle.poker_cli.specs.Each as each_said
+use Rattle.poker_cli.specs.GameFiles as game_files
+use Rattle.poker_cli.specs.Judge as in_judge
+use Rattle.convert_core.specs.Formats.{AreSameIn, HaveFault, SayRecords, first_lines, first_refusal_in, kept_in, unspelled_in}
 use Rattle.poker_cli.specs.LegalInputs.{PrintsAll}
 use Rattle.poker_cli.specs.OneAnswer.{AreOneAnswer}
-use Rattle.poker_cli.specs.Outputs.{AreSameIn, first_refusal_in, kept_in, unspelled_in}
-use Rattle.poker_cli.specs.Ways.{way, job_under}
+use Rattle.poker_cli.specs.Ways.{IsWay, job_under, way}
 use Rattle.poker_cli.specs.Run.{Ends, GivesNone, IsFileMissing, IsGameMissing, NeedsNoInput, OfFile, RefusesNothing, Sinks}
 use Rattle.poker_cli.specs.declared.status.Status.{Status}
 use Rattle.poker_cli.specs.declared.status.Status.TheVariants as statuses
-use Rattle.poker_cli.specs.declared.task.Format.{Format}
-use Rattle.poker_cli.specs.declared.task.Format.TheVariants as readers
+use Rattle.convert_core.specs.declared.format.Format.{Format}
+use Rattle.convert_core.specs.declared.format.Format.TheVariants as readers
 use Rattle.poker_cli.specs.declared.task.Job.{Job}
 use Rattle.poker_cli.proofs.AlikeGames.{one_game}
-use Rattle.poker_cli.proofs.LawfulFormats.{no_fault, one_reading, one_spelling, read_by, same_fact}
 use Rattle.hand_session.specs.Hands.{Hand as SessionHand}
 use Rattle.hand_session.specs.Printed.{session_printed}
 use Rattle.hand_session.specs.Sessions.{session_of}
 use Rattle.chip_ledger.specs.declared.numbers.Seat.{Seat}
-use Rattle.poker_cli.specs.Views.{AreViews}
+use Rattle.poker_cli.specs.Views.{AreMessages, AreViews}
 use Rattle.poker_cli.proofs.OneReply.{as_many, one_equity, one_options, one_view, same_sessions}
 use Rattle.poker_cli.proofs.OneEach.{one_of_each, same_replay_lines}
 use Rattle.poker_cli.proofs.OneJudgement.{same_judged}
@@ -134,12 +144,11 @@ one_status command answer other one = ap (λ (a : Answer). a.status) one
 -- the same output counts as one
 pub one_output : (to : Format) (keep : Keep) (bytes others : List ℕ) → AreSameIn to bytes others → AreOneAnswer (commands.Convert to keep) (done bytes) (done others)
 one_output readers.Phh keep bytes others same = record { status = refl; line = refl; document = same.first ∙ sym same.second }
-one_output (readers.Ohh dialect) keep bytes others same = ap done same
-one_output (readers.Acpc game) keep bytes others same = ap done same
+one_output _ keep bytes others same = ap done same
 
 -- equal plays are refused alike
 refusal_same : (to : Format) (keep : Keep) (ps qs : List Play) → AreReadSame ps qs → first_refusal_in to keep ps ≡ first_refusal_in to keep qs
-refusal_same to keep ps qs same = same_refusal (unspelled_in to keep) (same_fact to keep) ps qs same
+refusal_same to keep ps qs same = same_refusal (unspelled_in to keep) ((lawful_of to).same_fact keep) ps qs same
 
 refusals_same : (number count : ℕ) (fact other : Unspelled) → refusals.Unspelled number fact ≡ refusals.Unspelled count other
     → to_unspelled number fact ≡ to_unspelled count other
@@ -147,16 +156,16 @@ refusals_same number count fact other same = ap₂ to_unspelled (cc) (cc)
 
 one_conversion : (to : Format) (keep : Keep) (ps qs : List Play) (answer other : Answer) → AreReadSame ps qs
     → IsConversion to keep ps answer → IsConversion to keep qs other → AreOneAnswer (commands.Convert to keep) answer other
-one_conversion to keep ps qs _ _ alike (answers.NotSpelled number fact is) (answers.NotSpelled count more it) =
+one_conversion to keep ps qs _ _ alike (in_convert.NotSpelled number fact is) (in_convert.NotSpelled count more it) =
     one_itself (commands.Convert to keep) (to_unspelled number fact) (to_unspelled count more)
     (refusals_same number count fact more
     (same_Some (refusals.Unspelled number fact) (refusals.Unspelled count more) (sym is ∙ refusal_same to keep ps qs alike ∙ it)))
-one_conversion to keep ps qs _ _ alike (answers.NotSpelled number fact is) (answers.Spelled none bytes spell back) =
+one_conversion to keep ps qs _ _ alike (in_convert.NotSpelled number fact is) (in_convert.Spelled none bytes spell back) =
     let same = sym is ∙ refusal_same to keep ps qs alike ∙ none in absurd (cc (same))
-one_conversion to keep ps qs _ _ alike (answers.Spelled none bytes spell back) (answers.NotSpelled number fact is) =
+one_conversion to keep ps qs _ _ alike (in_convert.Spelled none bytes spell back) (in_convert.NotSpelled number fact is) =
     let same = sym is ∙ sym (refusal_same to keep ps qs alike) ∙ none in absurd (cc (same))
-one_conversion to keep ps qs _ _ alike (answers.Spelled none bytes spell back) (answers.Spelled too others it again) =
-    one_output to keep bytes others (one_spelling to ps qs bytes others alike.sound alike.others_sound spell it (all_less (kept_in to) ps qs alike.hands))
+one_conversion to keep ps qs _ _ alike (in_convert.Spelled none bytes spell back) (in_convert.Spelled too others it again) =
+    one_output to keep bytes others ((lawful_of to).one_spelling ps qs bytes others alike.sound alike.others_sound spell it (all_less (kept_in to) ps qs alike.hands))
 
 -- what a seat received
 one_message : (reader : Format) (seat : Seat) (ps qs : List Play) (answer other : Answer) → AllTraced ps qs → AllAlike (hands_of ps) (hands_of qs)
@@ -214,25 +223,25 @@ pub same_answer : (Say : List Record → Type 0) (HaveFault : FormatFault → Ty
     → IsOneMade IsMade One → IsReadAlike Say → AllReadSame Say → AllToldAlike HaveFault → SayOrFault Say HaveFault
     → IsAnswerTo Say HaveFault IsMade answer → IsAnswerTo Say HaveFault IsMade other → One answer other
 unfolding AllReadSame AllToldAlike SayOrFault
-same_answer Say HaveFault IsMade One answer other one alike same told apart (answers.Unread fault have _ is) (answers.Unread found has _ it) =
+same_answer Say HaveFault IsMade One answer other one alike same told apart (parts.Unread fault have _ is) (parts.Unread found has _ it) =
     one.itself answer other (told fault found answer other have has is it)
-same_answer Say HaveFault IsMade One answer _ one alike same told apart (answers.Unread fault have _ is) (answers.Refused number why first) =
+same_answer Say HaveFault IsMade One answer _ one alike same told apart (parts.Unread fault have _ is) (parts.Refused number why first) =
     absurd (apart first.records fault first.say have)
-same_answer Say HaveFault IsMade One answer other one alike same told apart (answers.Unread fault have _ is) (answers.Played plays read _ made) =
+same_answer Say HaveFault IsMade One answer other one alike same told apart (parts.Unread fault have _ is) (parts.Played plays read _ made) =
     absurd (apart read.records fault read.say have)
-same_answer Say HaveFault IsMade One _ other one alike same told apart (answers.Refused number why first) (answers.Unread fault have _ is) =
+same_answer Say HaveFault IsMade One _ other one alike same told apart (parts.Refused number why first) (parts.Unread fault have _ is) =
     absurd (apart first.records fault first.say have)
-same_answer Say HaveFault IsMade One _ _ one alike same told apart (answers.Refused number why first) (answers.Refused count reason next) =
+same_answer Say HaveFault IsMade One _ _ one alike same told apart (parts.Refused number why first) (parts.Refused count reason next) =
     let both = same_refused first.records next.records number count why reason
     (all_same first.records next.records (alike first.records next.records first.say next.say)) first.first next.first in
     one.itself (to_refusal number why) (to_refusal count reason) (ap₂ to_refusal both.0 both.1)
-same_answer Say HaveFault IsMade One _ other one alike same told apart (answers.Refused number why first) (answers.Played plays read _ made) =
+same_answer Say HaveFault IsMade One _ other one alike same told apart (parts.Refused number why first) (parts.Played plays read _ made) =
     absurd (refused_or_played first.records read.records number why plays (alike first.records read.records first.say read.say) first.first read.are)
-same_answer Say HaveFault IsMade One answer other one alike same told apart (answers.Played plays read _ made) (answers.Unread fault have _ is) =
+same_answer Say HaveFault IsMade One answer other one alike same told apart (parts.Played plays read _ made) (parts.Unread fault have _ is) =
     absurd (apart read.records fault read.say have)
-same_answer Say HaveFault IsMade One answer _ one alike same told apart (answers.Played plays read _ made) (answers.Refused number why first) =
+same_answer Say HaveFault IsMade One answer _ one alike same told apart (parts.Played plays read _ made) (parts.Refused number why first) =
     absurd (refused_or_played first.records read.records number why plays (alike first.records read.records first.say read.say) first.first read.are)
-same_answer Say HaveFault IsMade One answer other one alike same told apart (answers.Played plays read _ made) (answers.Played too reads _ makes) =
+same_answer Say HaveFault IsMade One answer other one alike same told apart (parts.Played plays read _ made) (parts.Played too reads _ makes) =
     let both = alike read.records reads.records read.say reads.say in
     one.made plays too answer other read.are.judged
     (same_traces read.records reads.records plays too (all_same read.records reads.records both) read.are reads.are)
@@ -243,13 +252,13 @@ same_judgement : (Say : List Record → Type 0) (HaveFault : FormatFault → Typ
     → IsReadAlike Say → AllToldAlike HaveFault → SayOrFault Say HaveFault
     → IsJudgement Say HaveFault lines answer → IsJudgement Say HaveFault lines other → answer ≡ other
 unfolding AllToldAlike SayOrFault
-same_judgement Say HaveFault lines answer other alike told apart (answers.NotJudged fault have _ is) (answers.NotJudged found has _ it) =
+same_judgement Say HaveFault lines answer other alike told apart (in_judge.NotJudged fault have _ is) (in_judge.NotJudged found has _ it) =
     told fault found answer other have has is it
-same_judgement Say HaveFault lines answer _ alike told apart (answers.NotJudged fault have _ is) (answers.Judged records say verdicts are) =
+same_judgement Say HaveFault lines answer _ alike told apart (in_judge.NotJudged fault have _ is) (in_judge.Judged records say verdicts are) =
     absurd (apart records fault say have)
-same_judgement Say HaveFault lines _ other alike told apart (answers.Judged records say verdicts are) (answers.NotJudged fault have _ is) =
+same_judgement Say HaveFault lines _ other alike told apart (in_judge.Judged records say verdicts are) (in_judge.NotJudged fault have _ is) =
     absurd (apart records fault say have)
-same_judgement Say HaveFault lines _ _ alike told apart (answers.Judged records say verdicts are) (answers.Judged others says too is) =
+same_judgement Say HaveFault lines _ _ alike told apart (in_judge.Judged records say verdicts are) (in_judge.Judged others says too is) =
     ap done (same_judged lines records others verdicts too (all_same records others (alike records others say says)) are is)
 
 -- the answers of hands, each by itself, count as one
@@ -257,55 +266,30 @@ same_of_each : (Say : List Record → Type 0) (HaveFault : FormatFault → Type 
     → IsReadAlike Say → AllToldAlike HaveFault → SayOrFault Say HaveFault
     → IsAnswerOfEach Say HaveFault question answer → IsAnswerOfEach Say HaveFault question other → answer ≡ other
 unfolding AllToldAlike SayOrFault
-same_of_each Say HaveFault question answer other alike told apart (answers.NotRead fault have _ is) (answers.NotRead found has _ it) =
+same_of_each Say HaveFault question answer other alike told apart (each_said.NotRead fault have _ is) (each_said.NotRead found has _ it) =
     told fault found answer other have has is it
-same_of_each Say HaveFault question answer other alike told apart (answers.NotRead fault have _ is) (answers.OfEach records say _ it) =
+same_of_each Say HaveFault question answer other alike told apart (each_said.NotRead fault have _ is) (each_said.OfEach records say _ it) =
     absurd (apart records fault say have)
-same_of_each Say HaveFault question answer other alike told apart (answers.OfEach records say _ is) (answers.NotRead fault have _ it) =
+same_of_each Say HaveFault question answer other alike told apart (each_said.OfEach records say _ is) (each_said.NotRead fault have _ it) =
     absurd (apart records fault say have)
-same_of_each Say HaveFault question answer other alike told apart (answers.OfEach records say _ is) (answers.OfEach others says _ it) =
+same_of_each Say HaveFault question answer other alike told apart (each_said.OfEach records say _ is) (each_said.OfEach others says _ it) =
     one_of_each question records others answer other (all_same records others (alike records others say says)) is it
 
 -- a fault of bytes is reported in one way
 pub one_told : (reader : Format) (bytes : List ℕ) → AllToldAlike (HaveFault reader bytes)
 unfolding AllToldAlike
-one_told readers.Phh bytes (formats.Phh fault) (formats.Phh other) answer too have has told tells =
-    let reads = have.reads in
-    let again = has.reads in
-    let wrong : have.wrong ≡ has.wrong = cc (reads, again) in
-    same_Some answer too (sym told ∙ ap (option_map to_wrong_phh) (have.told ∙ ap Some wrong ∙ sym has.told) ∙ tells)
-one_told readers.Phh bytes (formats.Ohh fault) other answer too have has told tells = absurd have
-one_told readers.Phh bytes (formats.Acpc fault) other answer too have has told tells = absurd have
-one_told readers.Phh bytes (formats.Phh fault) (formats.Ohh other) answer too have has told tells = absurd has
-one_told readers.Phh bytes (formats.Phh fault) (formats.Acpc other) answer too have has told tells = absurd has
-one_told (readers.Ohh dialect) bytes (formats.Ohh fault) (formats.Ohh other) answer too have has told tells =
-    let reads = have.reads in
-    let again = has.reads in
-    let wrong : have.wrong ≡ has.wrong = cc (reads, again) in
-    same_Some answer too (sym told ∙ ap (option_map to_wrong_ohh) (have.told ∙ ap Some wrong ∙ sym has.told) ∙ tells)
-one_told (readers.Ohh dialect) bytes (formats.Phh fault) other answer too have has told tells = absurd have
-one_told (readers.Ohh dialect) bytes (formats.Acpc fault) other answer too have has told tells = absurd have
-one_told (readers.Ohh dialect) bytes (formats.Ohh fault) (formats.Phh other) answer too have has told tells = absurd has
-one_told (readers.Ohh dialect) bytes (formats.Ohh fault) (formats.Acpc other) answer too have has told tells = absurd has
-one_told (readers.Acpc game) bytes (formats.Acpc fault) (formats.Acpc other) answer too have has told tells =
-    let reads = have.reads in
-    let again = has.reads in
-    let same : fault ≡ other = cc (reads, again) in
-    same_Some answer too (sym told ∙ ap to_wrong_acpc same ∙ tells)
-one_told (readers.Acpc game) bytes (formats.Phh fault) other answer too have has told tells = absurd have
-one_told (readers.Acpc game) bytes (formats.Ohh fault) other answer too have has told tells = absurd have
-one_told (readers.Acpc game) bytes (formats.Acpc fault) (formats.Phh other) answer too have has told tells = absurd has
-one_told (readers.Acpc game) bytes (formats.Acpc fault) (formats.Ohh other) answer too have has told tells = absurd has
+one_told reader bytes fault other answer too have has told tells =
+    same_Some answer too (sym told ∙ ap to_fault (one_fault (lawful_of reader) bytes fault other have has) ∙ tells)
 
 -- bytes with a fault are not read as records
 pub say_or_fault : (reader : Format) (bytes : List ℕ) → SayOrFault (SayRecords reader bytes) (HaveFault reader bytes)
 unfolding SayOrFault
-say_or_fault reader bytes records fault say have = no_fault reader bytes records fault say have
+say_or_fault reader bytes records fault say have = no_fault (lawful_of reader) bytes records fault say have
 
 -- the plays of bytes are the same
 pub read_the_same : (reader : Format) (bytes : List ℕ) → AllReadSame (SayRecords reader bytes)
 unfolding AllReadSame
-read_the_same reader bytes plays others is it = all_read_same (read_by reader) bytes plays others is it
+read_the_same reader bytes plays others is it = all_read_same (lawful_of reader) bytes plays others is it
 
 -- what is made of hands counts as one
 one_made : (command : Command Format) (reader : Format) → IsOneMade (IsReply command reader) (AreOneAnswer command)
@@ -333,13 +317,13 @@ one_read : (command : Command Format) (reader : Format) (bytes : List ℕ) (answ
     → IsAnswerOf command reader (SayRecords reader bytes) (HaveFault reader bytes) (first_lines reader bytes) other → AreOneAnswer command answer other
 one_read (commands.Each question) reader bytes answer other is it =
     same_of_each (SayRecords reader bytes) (HaveFault reader bytes) question answer other
-    (one_reading reader bytes) (one_told reader bytes) (say_or_fault reader bytes) is it
+    ((lawful_of reader).one_reading bytes) (one_told reader bytes) (say_or_fault reader bytes) is it
 one_read (commands.Judge asked) reader bytes answer other is it =
     same_judgement (SayRecords reader bytes) (HaveFault reader bytes) (if_asked asked (first_lines reader bytes)) answer other
-    (one_reading reader bytes) (one_told reader bytes) (say_or_fault reader bytes) is it
+    ((lawful_of reader).one_reading bytes) (one_told reader bytes) (say_or_fault reader bytes) is it
 one_read command reader bytes answer other is it =
     same_answer (SayRecords reader bytes) (HaveFault reader bytes) (IsReply command reader) (AreOneAnswer command) answer other
-    (one_made command reader) (one_reading reader bytes) (read_the_same reader bytes) (one_told reader bytes) (say_or_fault reader bytes) is it
+    (one_made command reader) ((lawful_of reader).one_reading bytes) (read_the_same reader bytes) (one_told reader bytes) (say_or_fault reader bytes) is it
 
 pub one_answer : (command : Command Format) (reader : Format) (bytes : List ℕ) (answer other : Answer)
     → IsAnswer command reader bytes answer → IsAnswer command reader bytes other → AreOneAnswer command answer other
@@ -361,10 +345,10 @@ pub record IsMadeAlike (IsMade : List Play → Answer → Type 0) (plays : List 
 pub made_of : (Say : List Record → Type 0) (HaveFault : FormatFault → Type 0) (IsMade : List Play → Answer → Type 0) (records : List Record) (plays : List Play) (answer : Answer)
     → IsReadAlike Say → AllReadSame Say → SayOrFault Say HaveFault → Say records → ArePlaysOf records plays → IsAnswerTo Say HaveFault IsMade answer → IsMadeAlike IsMade plays answer
 unfolding AllReadSame SayOrFault
-made_of Say HaveFault IsMade records plays answer alike same apart say are (answers.Unread fault have _ is) = absurd (apart records fault say have)
-made_of Say HaveFault IsMade records plays _ alike same apart say are (answers.Refused number why first) =
+made_of Say HaveFault IsMade records plays answer alike same apart say are (parts.Unread fault have _ is) = absurd (apart records fault say have)
+made_of Say HaveFault IsMade records plays _ alike same apart say are (parts.Refused number why first) =
     absurd (refused_or_played first.records records number why plays (alike first.records records first.say say) first.first are)
-made_of Say HaveFault IsMade records plays answer alike same apart say are (answers.Played too read _ makes) =
+made_of Say HaveFault IsMade records plays answer alike same apart say are (parts.Played too read _ makes) =
     let both = alike records read.records say read.say in
     let traced = same_traces records read.records plays too (all_same records read.records both) are read.are in
     let hands = alike_hands records read.records plays too both are read.are in
@@ -382,7 +366,7 @@ pub legal_asked : (command : Command Format) (reader : Format) (bytes : List ℕ
     → IsMadeAlike (IsReply command reader) plays answer
 legal_asked command reader bytes records plays _ of few is are (answers.TooLong many) = absurd (omega (arith, many, few))
 legal_asked command reader bytes records plays answer of few is are (answers.Read less _ to) =
-    made_of (SayRecords reader bytes) (HaveFault reader bytes) (IsReply command reader) records plays answer (one_reading reader bytes) (read_the_same reader bytes)
+    made_of (SayRecords reader bytes) (HaveFault reader bytes) (IsReply command reader) records plays answer ((lawful_of reader).one_reading bytes) (read_the_same reader bytes)
     (say_or_fault reader bytes) is are
     (of_plays command reader (SayRecords reader bytes) (HaveFault reader bytes) (first_lines reader bytes) answer of to)
 
@@ -414,13 +398,13 @@ asked_status command reader plays answer reply to is =
 judged_status : (asked : Bool) (reader : Format) (bytes : List ℕ) (records : List Record) (answer : Answer) → length bytes ≤ most_input
     → SayRecords reader bytes records → IsAnswer (commands.Judge asked) reader bytes answer → answer.status ≡ statuses.Done
 judged_status asked reader bytes records _ few say (answers.TooLong many) = absurd (omega (arith, many, few))
-judged_status asked reader bytes records answer few say (answers.Read less _ (answers.NotJudged fault have _ is)) = absurd (no_fault reader bytes records fault say have)
-judged_status asked reader bytes records _ few say (answers.Read less _ (answers.Judged others says verdicts are)) = refl
+judged_status asked reader bytes records answer few say (answers.Read less _ (in_judge.NotJudged fault have _ is)) = absurd (no_fault (lawful_of reader) bytes records fault say have)
+judged_status asked reader bytes records _ few say (answers.Read less _ (in_judge.Judged others says verdicts are)) = refl
 
 spelled_status : (to : Format) (keep : Keep) (plays : List Play) (answer : Answer) → first_refusal_in to keep plays ≡ None
     → IsConversion to keep plays answer → answer.status ≡ statuses.Done
-spelled_status to keep plays _ none (answers.NotSpelled number fact is) = absurd (cc (none, is))
-spelled_status to keep plays _ none (answers.Spelled spelled bytes spell back) = refl
+spelled_status to keep plays _ none (in_convert.NotSpelled number fact is) = absurd (cc (none, is))
+spelled_status to keep plays _ none (in_convert.Spelled spelled bytes spell back) = refl
 
 converted_status : (to : Format) (keep : Keep) (plays : List Play) (answer : Answer) → first_refusal_in to keep plays ≡ None
     → IsMadeAlike (IsConversion to keep) plays answer → answer.status ≡ statuses.Done
@@ -429,11 +413,11 @@ converted_status to keep plays answer none is =
 
 -- a file gives one game, or none
 pub no_game : (file : Option (List ℕ)) (game : AnyGame) (answer : Answer) → GivesGame file game → GivesNoGame file answer → ⊥
-no_game file game _ gives (answers.FileTooLong text there many) =
+no_game file game _ gives (game_files.FileTooLong text there many) =
     let same : gives.text ≡ text = same_Some gives.text text (sym gives.there ∙ there) in
     let few : length text ≤ most_input = subst (λ (t : List ℕ). length t ≤ most_input) same gives.short in
     absurd (omega (arith, few, many))
-no_game file game _ gives (answers.BadGame text there short fault is) =
+no_game file game _ gives (game_files.BadGame text there short fault is) =
     let same : gives.text ≡ text = same_Some gives.text text (sym gives.there ∙ there) in
     let says : game_said text ≡ Ok (game_in game) = subst (λ (t : List ℕ). game_said t ≡ Ok (game_in game)) same gives.says in
     absurd (cc (says, is))

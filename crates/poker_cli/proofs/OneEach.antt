@@ -24,11 +24,10 @@ use Rattle.play_event.specs.Scripts.{past_after, why_at}
 use Rattle.play_event.specs.declared.event.Event.{Event}
 use Rattle.play_event.specs.declared.setup.Rules.{Rules}
 use Rattle.play_event.specs.declared.setup.Setup.{Setup}
-use Rattle.poker_cli.specs.AnswerParts.{Answer, done}
+use Rattle.poker_cli.specs.AnswerParts.{Answer, done, no_hand}
 use Rattle.poker_cli.specs.Each as each
 use Rattle.poker_cli.specs.Each.{AreOwnLines, AreReplayedAlone, AreReplayedEach, HasVerdictAfter, IsEveryPoint, IsPoint, IsReplyOfEach, IsReplayedAlone, IsTextOfPoints, IsVerdictOn, refusal_line}
 use Rattle.poker_cli.specs.Options.{no_event}
-use Rattle.poker_cli.specs.Replies.{no_hand}
 use Rattle.printed_hands.specs.Steps.{begun_lines, replay_lines}
 use Rattle.replay_core.specs.Events.{said_by}
 use Rattle.replay_core.specs.LegalPart.{IsLegalBeginning}
@@ -48,7 +47,7 @@ one_beginning setup rules script count other is it = elim (cases_lt count other)
   ]
 ]
 
-same_beginning : (a b : Record) (count other : ℕ) → SayTheSame a b → IsLegalBeginning a.setup a.rules (script_said a) count → IsLegalBeginning b.setup b.rules (script_said b) other → count ≡ other
+pub same_beginning : (a b : Record) (count other : ℕ) → SayTheSame a b → IsLegalBeginning a.setup a.rules (script_said a) count → IsLegalBeginning b.setup b.rules (script_said b) other → count ≡ other
 same_beginning a b count other same is it =
     one_beginning b.setup b.rules (script_said b) count other
     (moved (λ setup rules script stated. IsLegalBeginning setup rules (said_by script) count) a b same is) it
@@ -129,7 +128,7 @@ same_points number a b _ _ _ _ same equal (points.OneMore count text are options
     (same_options number count other a b options others same earlier is it)
 
 -- records at one place say the same
-same_at : (records others : List Record) (place : ℕ) (a b : Record) → AllTheSame records others → slice_get records place ≡ Some a → slice_get others place ≡ Some b → SayTheSame a b
+pub same_at : (records others : List Record) (place : ℕ) (a b : Record) → AllTheSame records others → slice_get records place ≡ Some a → slice_get others place ≡ Some b → SayTheSame a b
 unfolding AllTheSame
 same_at [] others place a b same is it = absurd (cc (is))
 same_at (x ∷ records) [] place a b same is it = absurd same
@@ -146,7 +145,7 @@ not_there (x ∷ records) [] place b same none is = same
 not_there (x ∷ records) (y ∷ others) zero b same none is = cc (none)
 not_there (x ∷ records) (y ∷ others) (suc place) b same none is = not_there records others place b same.1 none is
 
-not_here : (records others : List Record) (place : ℕ) (a : Record) → AllTheSame records others → slice_get records place ≡ Some a → slice_get others place ≡ None → ⊥
+pub not_here : (records others : List Record) (place : ℕ) (a : Record) → AllTheSame records others → slice_get records place ≡ Some a → slice_get others place ≡ None → ⊥
 unfolding AllTheSame
 not_here [] others place a same is none = cc (is)
 not_here (x ∷ records) [] place a same is none = same

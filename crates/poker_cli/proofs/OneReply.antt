@@ -29,10 +29,9 @@ use Rattle.play_event.specs.Seats.{all_seats}
 use Rattle.play_event.specs.declared.event.Event.{Event}
 use Rattle.play_event.specs.declared.setup.Rules.{Rules}
 use Rattle.play_event.specs.declared.setup.Setup.{Setup}
-use Rattle.poker_cli.specs.AnswerParts.{Answer, done}
+use Rattle.poker_cli.specs.AnswerParts.{Answer, done, no_hand}
 use Rattle.poker_cli.specs.Equity.{IsEquityAt, no_cards}
 use Rattle.poker_cli.specs.Options.{AreOptionsAt, no_event}
-use Rattle.poker_cli.specs.Replies.{no_hand}
 use Rattle.poker_cli.specs.Views.{AreViews, each_view}
 use Rattle.poker_cli.specs.Options as in_options
 use Rattle.poker_cli.specs.Equity as in_equity

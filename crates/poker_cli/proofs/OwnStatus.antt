@@ -19,20 +19,28 @@ use Rattle.ohh_members.specs.declared.fault.MemberFaultKind.TheVariants as in_me
 use Rattle.ohh_reading.specs.Reading as in_ohh
 use Rattle.phh_reading.specs.declared.field_fault.FieldFaultKind.TheVariants as in_field
 use Rattle.phh_reading.specs.Reading as in_phh
-use Rattle.poker_cli.specs.Answer.{Answer, AreMessages, IsAnswer, IsAnswerBy, IsAnswerOf, IsAnswerOfEach, IsAnswerTo, IsComparedWith, IsComparison, IsJudgement, IsReply, IsWritten, to_fault, to_first_game, to_game, to_wrong_acpc, to_wrong_ohh, to_wrong_phh}
+use Rattle.poker_cli.specs.Answer.{IsAnswer, IsAnswerBy, IsAnswerOf, IsReply}
+use Rattle.poker_cli.specs.AnswerParts.{Answer, IsAnswerTo, to_fault, to_wrong_acpc, to_wrong_ohh, to_wrong_phh}
+use Rattle.poker_cli.specs.Convert.{IsWritten}
+use Rattle.poker_cli.specs.Game.{to_first_game, to_game}
+use Rattle.poker_cli.specs.Judge.{IsJudgement}
 use Rattle.poker_cli.specs.Answer as answers
-use Rattle.poker_cli.specs.Compare.{DifferentHand, compared_by, first_different, to_other_count, to_same}
+use Rattle.poker_cli.specs.AnswerParts as parts
+use Rattle.poker_cli.specs.Compare as in_compare
+use Rattle.poker_cli.specs.Convert as in_convert
+use Rattle.poker_cli.specs.Judge as in_judge
+use Rattle.poker_cli.specs.Compare.{DifferentHand, IsComparedWith, IsComparison, compared_by, first_different, to_other_count, to_same}
 use Rattle.poker_cli.specs.Each as each
-use Rattle.poker_cli.specs.Each.{AreReplayedEach, IsEveryPoint, IsPoint, IsReplyOfEach}
+use Rattle.poker_cli.specs.Each.{AreReplayedEach, IsAnswerOfEach, IsEveryPoint, IsPoint, IsReplyOfEach}
 use Rattle.poker_cli.specs.OhhFaults.{ohh_status}
 use Rattle.poker_cli.specs.PhhFaults.{phh_status}
 use Rattle.poker_cli.specs.Equity.{IsEquityAt}
 use Rattle.poker_cli.specs.Options.{AreOptionsAt}
-use Rattle.poker_cli.specs.Views.{AreViews}
+use Rattle.poker_cli.specs.Views.{AreMessages, AreViews}
 use Rattle.poker_cli.specs.Options as in_options
 use Rattle.poker_cli.specs.Equity as in_equity
 use Rattle.poker_cli.specs.Views as in_views
-use Rattle.poker_cli.specs.Inputs.{if_asked}
+use Rattle.poker_cli.specs.Judge.{if_asked}
 use Rattle.poker_cli.specs.Run.{IsOfInput, IsOwn, OfBytes, ReadsNothing}
 use Rattle.poker_cli.specs.Told.{answer_told}
 use Rattle.poker_cli.specs.declared.answer.Answer as made
@@ -40,8 +48,8 @@ use Rattle.poker_cli.specs.declared.compare.Comparison.{Comparison}
 use Rattle.poker_cli.specs.declared.no_answer.NoAnswerError.{NoAnswerError}
 use Rattle.poker_cli.specs.declared.status.Status.{Status}
 use Rattle.poker_cli.specs.declared.status.Status.TheVariants as statuses
-use Rattle.poker_cli.specs.declared.task.Format.{Format}
-use Rattle.poker_cli.specs.declared.task.Format.TheVariants as readers
+use Rattle.convert_core.specs.declared.format.Format.{Format}
+use Rattle.convert_core.specs.declared.format.Format.TheVariants as readers
 use Rattle.command_words.specs.declared.command.Command.{Command}
 use Rattle.command_words.specs.declared.command.Command.TheVariants as commands
 use Rattle.poker_cli.specs.declared.task.Job.{Job}
@@ -95,8 +103,8 @@ fault_own (formats.Acpc fault) answer told = acpc_own fault answer told
 
 written_own : (unspelled : Play → Option Unspelled) (Spell Back : List Play → List ℕ → Type 0) (plays : List Play) (answer : Answer)
     → IsWritten unspelled Spell Back plays answer → IsOfInput answer.status
-written_own unspelled Spell Back plays _ (answers.NotSpelled number fact first) = tt
-written_own unspelled Spell Back plays _ (answers.Spelled none bytes spell back) = tt
+written_own unspelled Spell Back plays _ (in_convert.NotSpelled number fact first) = tt
+written_own unspelled Spell Back plays _ (in_convert.Spelled none bytes spell back) = tt
 
 game_own : (found : Result GameSaid Unspelled) → IsOfInput (to_game found).status
 game_own (Ok game) = tt
@@ -141,13 +149,13 @@ reply_own command reader plays answer is = same_own answer _ is tt
 made_own : (Say : List Record → Type 0) (HaveFault : FormatFault → Type 0) (IsMade : List Play → Answer → Type 0)
     → ((plays : List Play) (answer : Answer) → IsMade plays answer → IsOfInput answer.status)
     → (answer : Answer) → IsAnswerTo Say HaveFault IsMade answer → IsOfInput answer.status
-made_own Say HaveFault IsMade made answer (answers.Unread fault have _ told) = fault_own fault answer told
-made_own Say HaveFault IsMade made _ (answers.Refused number why is) = tt
-made_own Say HaveFault IsMade made answer (answers.Played plays read _ is) = made plays answer is
+made_own Say HaveFault IsMade made answer (parts.Unread fault have _ told) = fault_own fault answer told
+made_own Say HaveFault IsMade made _ (parts.Refused number why is) = tt
+made_own Say HaveFault IsMade made answer (parts.Played plays read _ is) = made plays answer is
 
 judged_own : (Say : List Record → Type 0) (HaveFault : FormatFault → Type 0) (lines : List ℕ) (answer : Answer) → IsJudgement Say HaveFault lines answer → IsOfInput answer.status
-judged_own Say HaveFault lines answer (answers.NotJudged fault have _ told) = fault_own fault answer told
-judged_own Say HaveFault lines _ (answers.Judged records say verdicts are) = tt
+judged_own Say HaveFault lines answer (in_judge.NotJudged fault have _ told) = fault_own fault answer told
+judged_own Say HaveFault lines _ (in_judge.Judged records say verdicts are) = tt
 
 points_own : (number : ℕ) (records : List Record) (answer : Answer) → IsEveryPoint number records answer → IsOfInput answer.status
 points_own number records _ (each.NoSuchHand none) = tt
@@ -167,8 +175,8 @@ of_each_own (of_each.EveryPoint hand) records answer is = points_own hand record
 of_each_own (of_each.Point hand events) records answer is = point_own hand events records answer is
 
 each_own : (Say : List Record → Type 0) (HaveFault : FormatFault → Type 0) (question : EachQuestion) (answer : Answer) → IsAnswerOfEach Say HaveFault question answer → IsOfInput answer.status
-each_own Say HaveFault question answer (answers.NotRead fault have _ told) = fault_own fault answer told
-each_own Say HaveFault question answer (answers.OfEach records say _ is) = of_each_own question records answer is
+each_own Say HaveFault question answer (each.NotRead fault have _ told) = fault_own fault answer told
+each_own Say HaveFault question answer (each.OfEach records say _ is) = of_each_own question records answer is
 
 command_own : (command : Command Format) (reader : Format) (Say : List Record → Type 0) (HaveFault : FormatFault → Type 0) (lines : List ℕ) (answer : Answer)
     → IsAnswerOf command reader Say HaveFault lines answer → IsOfInput answer.status
@@ -188,13 +196,13 @@ both_own None hands others =
     elim (hands == others) as (λ same. IsOfInput (if same then to_same hands else to_other_count hands others).status) [ true ↦ tt | false ↦ tt ]
 
 beside_own : (other : Format) (notes : Bool) (file : List ℕ) (plays : List Play) (answer : Answer) → IsComparedWith other notes file plays answer → IsOfInput answer.status
-beside_own other notes file plays _ (answers.OtherUnread fault have answer told) = fault_own fault answer told
-beside_own other notes file plays _ (answers.OtherRefused number why is) = tt
-beside_own other notes file plays _ (answers.OtherPlayed others read) = both_own (first_different notes 0 plays others) (length plays) (length others)
+beside_own other notes file plays _ (in_compare.OtherUnread fault have answer told) = fault_own fault answer told
+beside_own other notes file plays _ (in_compare.OtherRefused number why is) = tt
+beside_own other notes file plays _ (in_compare.OtherPlayed others read) = both_own (first_different notes 0 plays others) (length plays) (length others)
 
 comparison_own : (by : Comparison) (file bytes : List ℕ) (answer : Answer) → IsComparison by file bytes answer → IsOfInput answer.status
-comparison_own by file bytes _ (answers.InputTooLong many) = tt
-comparison_own by file bytes answer (answers.InputRead few _ is) = made_own _ _ _ (beside_own by.other by.notes file) answer is
+comparison_own by file bytes _ (in_compare.InputTooLong many) = tt
+comparison_own by file bytes answer (in_compare.InputRead few _ is) = made_own _ _ _ (beside_own by.other by.notes file) answer is
 
 -- ---- bytes of a source, whether it shows them or not
 

@@ -6,9 +6,10 @@ use Rattle.command_words.specs.Words.{Compare, Plain, Sides, Under}
 use Rattle.command_words.specs.declared.notation.PlainNotation.{PlainNotation}
 use Rattle.command_words.specs.declared.request.Logs.{Logs}
 use Rattle.host_io.specs.Faults.{Rose}
-use Rattle.poker_cli.specs.Answer.{FilesByName, GivesGame, IsComparisonOf}
-use Rattle.poker_cli.specs.Lacking.{ComesFirst}
-use Rattle.poker_cli.specs.Replied.{HasNoAnswer, Keeps}
+use Rattle.poker_cli.specs.Compare.{IsComparisonOf}
+use Rattle.poker_cli.specs.Files.{FilesByName}
+use Rattle.poker_cli.specs.GameFiles.{GivesGame}
+use Rattle.poker_cli.specs.Replied.{ComesFirst, HasNoAnswer, Keeps}
 use Rattle.poker_cli.specs.Run.{IsNotThere, IsOfInput, OfFile, OfGameFile}
 use Rattle.poker_cli.specs.declared.answer.Answer as made
 use Rattle.poker_cli.specs.declared.compare.Comparison.{Comparison}

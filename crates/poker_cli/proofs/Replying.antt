@@ -9,19 +9,22 @@ use Rattle.convert_core.specs.Conversion.{IsPlaysRefusal}
 use Rattle.convert_core.specs.declared.convert_fault.ConvertFault.{ConvertFault}
 use Rattle.convert_core.specs.declared.convert_fault.ConvertFault.TheVariants as convert_faults
 use Rattle.hand_records.specs.declared.trace.Play.{Play}
-use Rattle.poker_cli.specs.Answer.{Answer, Files, FilesByName, GivesGame, IsComparedIn, IsComparedTo, IsComparedWith, IsComparison, IsComparisonOf, IsToldOf, in_file, most_input, to_excess, to_file_excess}
-use Rattle.poker_cli.specs.Answer as answers
-use Rattle.poker_cli.specs.Inputs.{HaveFault, SayRecords}
-use Rattle.poker_cli.specs.Lacking.{AreOfLogs, AsksForGame, HasNoFile, HasNoGameFor, IsGameFileErrorTold}
+use Rattle.poker_cli.specs.AnswerParts.{Answer, most_input, to_excess}
+use Rattle.poker_cli.specs.Compare.{IsComparedIn, IsComparedTo, IsComparedWith, IsComparison, IsComparisonOf, in_file, to_file_excess}
+use Rattle.poker_cli.specs.Files.{Files, FilesByName}
+use Rattle.poker_cli.specs.GameFiles.{GivesGame, IsGameFileErrorTold}
+use Rattle.poker_cli.specs.Compare as answers
+use Rattle.convert_core.specs.Formats.{HaveFault, SayRecords}
+use Rattle.poker_cli.specs.ComparedFiles.{AreOfLogs, AsksForGame, HasNoFile, HasNoGameFor}
 use Rattle.poker_cli.specs.Run.{Asks, GivesNone, GivesSome, IsFileMissing, IsGameMissing, IsNotThere, IsWithoutFile, LacksFile, OfBytes, OfFile, OfGameFile, ReadsHands, WhereTold}
-use Rattle.poker_cli.specs.Told.{answer_told}
+use Rattle.poker_cli.specs.Told.{IsToldOf, answer_told}
 use Rattle.poker_cli.specs.declared.answer.Answer as made
-use Rattle.poker_cli.specs.declared.comparing.NoFileError.TheVariants as no_files
+use Rattle.poker_cli.specs.declared.compared_files.NoFileError.TheVariants as no_files
 use Rattle.poker_cli.specs.declared.compare.Comparison.{Comparison}
-use Rattle.poker_cli.specs.declared.games.GameFileError.{GameFileError}
-use Rattle.poker_cli.specs.declared.games.NoGameError.TheVariants as reasons
+use Rattle.poker_cli.specs.declared.game_files.GameFileError.{GameFileError}
+use Rattle.poker_cli.specs.declared.game_files.NoGameError.TheVariants as reasons
 use Rattle.poker_cli.specs.declared.no_answer.NoAnswerError.{NoAnswerError}
-use Rattle.poker_cli.specs.declared.task.Format.{Format}
+use Rattle.convert_core.specs.declared.format.Format.{Format}
 use Rattle.poker_cli.proofs.Answering.{beyond, bytes_told, no_game, of_all}
 use Rattle.poker_cli.proofs.FilesTold.{any_file, of_file, of_game_file, two_files}
 use Rattle.poker_cli.proofs.OneAnswer.{lacks_none}

@@ -8,12 +8,10 @@ use Rattle.convert_core.specs.Conversion.{ReadAsPlays}
 use Rattle.hand_differences.specs.FirstDifference.{first_difference}
 use Rattle.hand_records.specs.SameHands.{AllPaired, AreSameHand}
 use Rattle.hand_records.specs.declared.trace.Play.{Play}
-use Rattle.poker_cli.specs.AnswerParts.{Answer}
-use Rattle.poker_cli.specs.Answer.{most_input}
+use Rattle.poker_cli.specs.AnswerParts.{Answer, hand_numbered, most_input}
 use Rattle.poker_cli.specs.Compare.{DifferentHand, to_different, to_other_count, to_same}
 use Rattle.poker_cli.specs.Headline.{IsTold}
-use Rattle.poker_cli.specs.Inputs.{SayRecords}
-use Rattle.poker_cli.specs.Replies.{hand_numbered}
+use Rattle.convert_core.specs.Formats.{SayRecords}
 use Rattle.poker_cli.specs.Run.{Sinks}
 use Rattle.poker_cli.specs.declared.compare.Comparison.{Comparison}
 use Rattle.poker_cli.specs.declared.status.Status.{Status}

@@ -4,6 +4,7 @@ use Rattle.command_words.specs.declared.command.EachQuestion.{EachQuestion}
 use Rattle.command_words.specs.declared.command.EachQuestion.TheVariants as of_each
 use Rattle.convert_core.specs.Judged.{IsRefusedFor, IsReplayFaultOf}
 use Rattle.convert_core.specs.Verdicts.{Refused}
+use Rattle.convert_core.specs.declared.format_fault.FormatFault.{FormatFault}
 use Rattle.convert_core.specs.declared.refusal.Refusal.{Refusal}
 use Rattle.hand_canon.specs.Agreement.{HasBoundedPots}
 use Rattle.hand_canon.specs.Judged.{IsJudged, IsTraceOfLegal}
@@ -15,10 +16,9 @@ use Rattle.hand_records.specs.SoundRecord.{script_said}
 use Rattle.hand_records.specs.declared.record.Record.{Record}
 use Rattle.hand_records.specs.declared.trace.Trace.{Trace}
 use Rattle.play_event.specs.Scripts.{past_after}
-use Rattle.poker_cli.specs.AnswerParts.{Answer, done}
-use Rattle.poker_cli.specs.Options.{no_event}
-use Rattle.poker_cli.specs.Replies.{no_hand}
+use Rattle.poker_cli.specs.AnswerParts.{Answer, done, no_hand, to_fault}
 use Rattle.poker_cli.specs.Judge.{verdict_line}
+use Rattle.poker_cli.specs.Options.{no_event}
 use Rattle.printed_hands.specs.Steps.{begun_lines, replay_lines}
 use Rattle.replay_core.specs.Faults.{IsFaultOf}
 use Rattle.replay_core.specs.LegalPart.{IsLegalBeginning}
@@ -133,3 +133,14 @@ pub record Adds (Are : List ℕ → Type 0) (before text : List ℕ) : Type 0 wh
   pub added : List ℕ
   pub are : Are added
   pub said : text ≡ before ++ added
+
+-- The answer to a question that hands answer each by itself; the notation of the bytes says which
+-- records are in them and which fault they have.
+pub data IsAnswerOfEach (Say : List Record → Type 0) (HaveFault : FormatFault → Type 0)
+    (question : EachQuestion) : Answer → Type 0 where
+  -- the bytes cannot be read as hands
+  NotRead : (fault : FormatFault) → HaveFault fault → (answer : Answer)
+      → to_fault fault ≡ Some answer → IsAnswerOfEach Say HaveFault question answer
+  -- the hands answer, legal or refused
+  OfEach : (records : List Record) → Say records → (answer : Answer)
+      → IsReplyOfEach question records answer → IsAnswerOfEach Say HaveFault question answer

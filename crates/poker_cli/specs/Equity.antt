@@ -7,9 +7,8 @@ use Rattle.hand_equity.specs.declared.row.EquityRow.{EquityRow}
 use Rattle.hand_equity.specs.Street.{HasNoEquity, IsEquityOn}
 use Rattle.hand_equity.specs.Text.{equity_said}
 use Rattle.hand_records.specs.declared.trace.Play.{Play}
-use Rattle.poker_cli.specs.AnswerParts.{Answer, done, refusal}
+use Rattle.poker_cli.specs.AnswerParts.{Answer, done, hand_numbered, no_hand, refusal}
 use Rattle.poker_cli.specs.declared.status.Status.TheVariants as statuses
-use Rattle.poker_cli.specs.Replies.{hand_numbered, no_hand}
 
 -- no board is dealt on this street of the hand with this number
 abbrev pub no_street : ℕ → ℕ → Answer

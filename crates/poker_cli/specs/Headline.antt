@@ -16,18 +16,18 @@ use Rattle.hand_records.specs.declared.writing.Keep.{Keep}
 use Rattle.hand_records.specs.declared.writing.Unspelled.{Unspelled}
 use Rattle.host_io.specs.Bytes.{AppendsPart}
 use Rattle.host_io.specs.Faults.{Rose}
-use Rattle.poker_cli.specs.Answer.{Answer, Files, IsWay, most_input, to_fault}
-use Rattle.poker_cli.specs.Inputs.{HaveFault, SayRecords}
+use Rattle.poker_cli.specs.AnswerParts.{Answer, most_input, to_fault}
+use Rattle.poker_cli.specs.Files.{Files}
+use Rattle.convert_core.specs.Formats.{HaveFault, ReadsBack, SayRecords, SpellPlays, first_refusal_in, unspelled_in}
 use Rattle.poker_cli.specs.Limits.{excess_line}
 use Rattle.poker_cli.specs.Refusals.{refused_line}
-use Rattle.poker_cli.specs.Outputs.{ReadsBack, SpellPlays, first_refusal_in, unspelled_in}
-use Rattle.poker_cli.specs.Run.{RefusesNothing, Sinks, TellsLine}
+use Rattle.poker_cli.specs.Run.{EndsLeaving, RefusesNothing, Sinks, TellsLine}
 use Rattle.poker_cli.specs.Unspelled.{unspelled_line}
-use Rattle.poker_cli.specs.Ways.{way}
+use Rattle.poker_cli.specs.Ways.{IsWay, way}
 use Rattle.poker_cli.specs.declared.status.Status.{Status}
 use Rattle.poker_cli.specs.declared.status.Status.TheVariants as statuses
-use Rattle.poker_cli.specs.declared.task.Format.{Format}
-use Rattle.poker_cli.specs.declared.task.Format.TheVariants as readers
+use Rattle.convert_core.specs.declared.format.Format.{Format}
+use Rattle.convert_core.specs.declared.format.Format.TheVariants as readers
 use Rattle.command_words.specs.declared.command.Command.TheVariants as commands
 
 -- the request is a conversion: the input is read in the notation `from` and its hands are written
@@ -164,3 +164,11 @@ pub record Headline (from to : Format) (keep : Keep) (bytes : List ℕ) (out dia
   pub reads : length bytes ≤ most_input → (records : List Record) → SayRecords from bytes records
       → IsOfHands status
   pub exactly : (plays : List Play) → CanConvert from to keep bytes plays → RefusesNothing status
+
+-- A run on a request over these files and bytes: it ends this way, and if the request is a
+-- conversion, the headline holds.
+pub record EndsOver (request : Request) (files : Files) (bytes : List ℕ) (out diag : Sinks)
+    (status : Status) (Same : Type 0) : Type 0 where
+  pub ends : EndsLeaving request files bytes out diag status Same
+  pub headline : (from to : Format) (keep : Keep) → AsksToConvert files request from to keep
+      → Headline from to keep bytes out diag status

@@ -1,9 +1,16 @@
 -- What `judge` prints: one line per hand with its verdict, and then the number of legal hands.
-use Rattle.std.specs.Prelude.{◌≡◌, ℕ, ◌+◌, List, [], ◌∷◌, ◌++◌, length, codes, slice_get, Option, Some, None}
+use Rattle.std.specs.Prelude.{◌≡◌, ℕ, ◌+◌, Bool, true, false, List, [], ◌∷◌, ◌++◌, length, codes, slice_get, Option, Some, None}
 use Rattle.std.specs.Fmt.{decimal}
 use Rattle.convert_core.specs.Verdicts.{AreVerdictsOn, Legal, Refused, Verdict, legal_plays}
+use Rattle.convert_core.specs.declared.format_fault.FormatFault.{FormatFault}
 use Rattle.hand_records.specs.declared.record.Record.{Record}
+use Rattle.poker_cli.specs.AnswerParts.{Answer, done, to_fault}
 use Rattle.poker_cli.specs.Refusals.{refusal_text}
+
+-- these lines if they are asked for
+abbrev pub if_asked : Bool → (lines : List ℕ) → List ℕ
+if_asked true lines = lines
+if_asked false lines = []
 
 -- the verdict on a hand as text: that it is legal, or what is wrong with it first
 abbrev pub verdict_text : Verdict → List ℕ
@@ -53,3 +60,16 @@ pub record IsJudged (lines : List ℕ) (records : List Record) (text : List ℕ)
   pub verdicts : List Verdict
   pub are : AreVerdictsOn records verdicts
   pub said : text ≡ judged_said lines verdicts
+
+-- The answer to `judge`; the notation of the bytes says which records are in them and which fault
+-- they have, and `lines` on which lines the hands begin, if that is asked for.
+pub data IsJudgement (Say : List Record → Type 0) (HaveFault : FormatFault → Type 0)
+    (lines : List ℕ) : Answer → Type 0 where
+  -- the bytes cannot be read as hands
+  NotJudged : (fault : FormatFault) → HaveFault fault → (answer : Answer)
+      → to_fault fault ≡ Some answer
+      → IsJudgement Say HaveFault lines answer
+  -- the verdict on each hand is printed: legal or refused
+  Judged : (records : List Record) → Say records → (verdicts : List Verdict)
+      → AreVerdictsOn records verdicts
+      → IsJudgement Say HaveFault lines (done (judged_said lines verdicts))

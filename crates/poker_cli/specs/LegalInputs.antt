@@ -1,14 +1,25 @@
--- A request about hands that are all legal and agree with what is stated of them.
-use Rattle.std.specs.Prelude.{ℕ, ◌≤◌, List, length}
+-- A request about hands that are all legal and agree with what is stated of them, and one about
+-- hands that answer each by itself.
+use Rattle.std.specs.Prelude.{◌≡◌, ℕ, ◌≤◌, List, length, Some}
+use Rattle.card_set.specs.Refusal.{WasRefused}
 use Rattle.command_words.specs.Words.{Request}
 use Rattle.convert_core.specs.Conversion.{ReadAsPlays}
+use Rattle.hand_records.specs.SoundRecord.{script_said}
+use Rattle.hand_records.specs.declared.record.Record.{Record}
 use Rattle.hand_records.specs.declared.trace.Play.{Play}
-use Rattle.poker_cli.specs.Answer.{Files, IsWay, most_input}
-use Rattle.poker_cli.specs.Inputs.{SayRecords}
-use Rattle.poker_cli.specs.Ways.{way}
-use Rattle.poker_cli.specs.declared.task.Format.{Format}
+use Rattle.poker_cli.specs.AnswerParts.{most_input}
+use Rattle.poker_cli.specs.Each.{record_numbered}
+use Rattle.poker_cli.specs.Files.{Files}
+use Rattle.convert_core.specs.Formats.{SayRecords}
+use Rattle.poker_cli.specs.Ways.{IsWay, way}
+use Rattle.poker_cli.specs.declared.status.Status.{Status}
+use Rattle.poker_cli.specs.declared.status.Status.TheVariants as statuses
+use Rattle.convert_core.specs.declared.format.Format.{Format}
 use Rattle.command_words.specs.declared.command.Command.{Command}
 use Rattle.command_words.specs.declared.command.Command.TheVariants as commands
+use Rattle.command_words.specs.declared.command.EachQuestion.{EachQuestion}
+use Rattle.command_words.specs.declared.command.EachQuestion.TheVariants as of_each
+use Rattle.replay_core.specs.LegalPart.{IsLegalBeginning}
 
 -- the command prints something about all hands
 abbrev pub PrintsAll : Command Format → Type 0
@@ -26,3 +37,37 @@ pub record AsksOfLegal (files : Files) (request : Request) (command : Command Fo
   pub asks : IsWay files request (way command reader)
   pub within : length bytes ≤ most_input
   pub read : ReadAsPlays (SayRecords reader bytes) plays
+
+-- The request asks this about the hands of an input, legal or refused: the input is read in this
+-- notation, is within the limit, and reads as these hands.
+pub record AsksOfHands (files : Files) (request : Request) (command : Command Format)
+    (reader : Format) (bytes : List ℕ) (records : List Record) : Type 0 where
+  pub asks : IsWay files request (way command reader)
+  pub within : length bytes ≤ most_input
+  pub say : SayRecords reader bytes records
+
+-- There is a hand with this number, and it has this number of events before its first illegal one,
+-- or more.
+pub record HasPoint (number events : ℕ) (records : List Record) : Type 0 where
+  pub hand : Record
+  pub there : record_numbered records number ≡ Some hand
+  pub legal : ℕ
+  pub beginning : IsLegalBeginning hand.setup hand.rules (script_said hand) legal
+  pub reached : events ≤ legal
+
+-- what hands are asked for, each by itself, is there: all hands always are, and otherwise the hand
+-- with a number, and the point of it
+abbrev pub IsThere : EachQuestion → List Record → Type 0
+IsThere of_each.Replay records = Unit {0}
+IsThere (of_each.EveryPoint number) records =
+    (hand : Record) × (record_numbered records number ≡ Some hand)
+IsThere (of_each.Point number events) records = HasPoint number events records
+
+-- a status if what is asked for is not there: NoSuch, or a device could not be read, or memory ran
+-- out
+abbrev pub FindsNone : Status → Type 0
+FindsNone statuses.NoSuch = Unit {0}
+FindsNone statuses.ReadFault = Unit {0}
+FindsNone statuses.ShelfFault = Unit {0}
+FindsNone statuses.Memory = WasRefused
+FindsNone status = ⊥

@@ -1,9 +1,9 @@
 -- When two answers to an input count as one.
 use Rattle.std.specs.Prelude.{◌≡◌}
 use Rattle.toml.specs.Parse.{parse_document}
-use Rattle.poker_cli.specs.Answer.{Answer}
-use Rattle.poker_cli.specs.declared.task.Format.{Format}
-use Rattle.poker_cli.specs.declared.task.Format.TheVariants as readers
+use Rattle.poker_cli.specs.AnswerParts.{Answer}
+use Rattle.convert_core.specs.declared.format.Format.{Format}
+use Rattle.convert_core.specs.declared.format.Format.TheVariants as readers
 use Rattle.command_words.specs.declared.command.Command.{Command}
 use Rattle.command_words.specs.declared.command.Command.TheVariants as commands
 

@@ -7,9 +7,8 @@ use Rattle.hand_options.specs.Printed.{options_said}
 use Rattle.hand_records.specs.SoundRecord.{script_said}
 use Rattle.hand_records.specs.declared.trace.Play.{Play}
 use Rattle.play_event.specs.Scripts.{past_after}
-use Rattle.poker_cli.specs.AnswerParts.{Answer, done, refusal}
+use Rattle.poker_cli.specs.AnswerParts.{Answer, done, hand_numbered, no_hand, of_text, refusal}
 use Rattle.poker_cli.specs.declared.status.Status.TheVariants as statuses
-use Rattle.poker_cli.specs.Replies.{hand_numbered, no_hand, of_text}
 
 -- the hand with this number has fewer events
 abbrev pub no_event : ℕ → ℕ → ℕ → Answer

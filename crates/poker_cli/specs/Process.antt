@@ -7,13 +7,11 @@ use Rattle.std.specs.declared.string.String.{String}
 use Rattle.std.specs.declared.vec.IntoIter.{IntoIter}
 use Rattle.card_set.specs.Refusal.{WasRefused}
 use Rattle.command_words.specs.Words.{request_said}
-use Rattle.hand_records.specs.declared.writing.Keep.{Keep}
-use Rattle.poker_cli.specs.Answer.{FilesByName}
-use Rattle.poker_cli.specs.Headline.{AsksToConvert, Headline, IsTold}
-use Rattle.poker_cli.specs.Run.{AsksInTurn, EndsLeaving, LacksFile, Leaves, MakesHands, Sinks, Tells, WhereTold}
+use Rattle.poker_cli.specs.Files.{FilesByName}
+use Rattle.poker_cli.specs.Headline.{EndsOver, IsTold}
+use Rattle.poker_cli.specs.Run.{AsksInTurn, LacksFile, Leaves, MakesHands, Sinks, Tells, WhereTold}
 use Rattle.poker_cli.specs.declared.status.Status.{Status}
 use Rattle.poker_cli.specs.declared.status.Status.TheVariants as statuses
-use Rattle.poker_cli.specs.declared.task.Format.{Format}
 
 -- the words after the name of a process; none if they are not text
 abbrev pub words_given : {E : Type 0} → Result (IntoIter (String Global) Global) E → List (List ℕ)
@@ -29,11 +27,7 @@ pub record RunKeeps {S H K D : Type 0} (words : List (List ℕ)) (left : Option 
   pub memory : status ≡ statuses.Memory → WasRefused
   pub usage : (status ≡ statuses.Usage) ↔ (request_said words ≡ None)
   pub ends : IfSome (request_said words) (λ request. WhereTold request left told (λ files bytes.
-      EndsLeaving request files bytes out diag status (written ≡ sink)))
-  pub headline : IfSome (request_said words) (λ request.
-      WhereTold request left told (λ files bytes. (from to : Format) (keep : Keep)
-      → AsksToConvert files request from to keep
-      → Headline from to keep bytes out diag status))
+      EndsOver request files bytes out diag status (written ≡ sink)))
   pub tells : Tells status reads asks out diag
   pub leaves : Leaves status input read sink written lines heard
   pub in_turn : AsksInTurn Asked told (request_said words) status shelf seen

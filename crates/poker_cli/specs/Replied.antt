@@ -2,7 +2,7 @@
 use Rattle.std.specs.Prelude.{◌≡◌, ℕ, List, Option, Result, Ok, Err}
 use Rattle.command_words.specs.Words.{Request}
 use Rattle.host_io.specs.Faults.{Rose}
-use Rattle.poker_cli.specs.Answer.{FilesByName}
+use Rattle.poker_cli.specs.Files.{FilesByName}
 use Rattle.poker_cli.specs.Run.{AsksForFile, IsFileMissing, IsGameMissing, IsOwn, IsWithoutFile, ReadsHands, ReadsNothing, WhereTold}
 use Rattle.poker_cli.specs.declared.answer.Answer as made
 use Rattle.poker_cli.specs.declared.no_answer.NoAnswerError.{NoAnswerError}
@@ -36,3 +36,11 @@ Keeps input read reads asks (Err whys.ShelfFault) = Rose asks.0 asks.1 × (read 
 Keeps input read reads asks (Err whys.GameMissing) = read ≡ input
 Keeps input read reads asks (Err whys.FileMissing) = read ≡ input
 Keeps input read reads asks (Err (whys.Memory memory)) = Unit {0}
+
+-- this reason for having no answer comes before the input is read
+abbrev pub ComesFirst : NoAnswerError → Type 0
+ComesFirst whys.GameMissing = Unit {0}
+ComesFirst whys.FileMissing = Unit {0}
+ComesFirst whys.ShelfFault = Unit {0}
+ComesFirst whys.ReadFault = ⊥
+ComesFirst (whys.Memory memory) = ⊥

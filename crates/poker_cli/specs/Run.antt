@@ -9,7 +9,10 @@ use Rattle.host_io.specs.Bytes.{AppendsPart}
 use Rattle.poker_cli.specs.declared.entry.TheConstants.{USAGE}
 use Rattle.poker_cli.specs.declared.status.Status.{Status}
 use Rattle.poker_cli.specs.declared.status.Status.TheVariants as statuses
-use Rattle.poker_cli.specs.Answer.{Answer, Files, FilesByName, GivesGame, GivesNoGame, IsAnswerIn, most_input}
+use Rattle.poker_cli.specs.Answer.{IsAnswerIn}
+use Rattle.poker_cli.specs.AnswerParts.{Answer, most_input}
+use Rattle.poker_cli.specs.Files.{Files, FilesByName}
+use Rattle.poker_cli.specs.GameFiles.{GivesGame, GivesNoGame}
 
 -- the line if the words are no command
 abbrev pub usage_line : List ℕ

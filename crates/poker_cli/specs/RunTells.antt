@@ -8,7 +8,7 @@ use Rattle.poker_cli.specs.Headline.{ConversionEnds, IsTooLong, NamesFault}
 use Rattle.poker_cli.specs.Run.{Sinks}
 use Rattle.poker_cli.specs.declared.status.Status.{Status}
 use Rattle.poker_cli.specs.declared.status.Status.TheVariants as statuses
-use Rattle.poker_cli.specs.declared.task.Format.{Format}
+use Rattle.convert_core.specs.declared.format.Format.{Format}
 
 -- the fault of an input, except that an input that is too long says nothing about its hands
 abbrev pub limit_told : (from : Format) (bytes : List ℕ) (out diag : Sinks)

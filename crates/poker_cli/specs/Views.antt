@@ -3,13 +3,14 @@ use Rattle.std.specs.Prelude.{Bool, List, [], codes, false, length, true, ℕ, �
 use Rattle.acpc_game.specs.declared.game.Game.{Game}
 use Rattle.acpc_view.specs.View.{views_text}
 use Rattle.chip_ledger.specs.declared.numbers.Seat.{Seat}
-use Rattle.hand_records.specs.declared.trace.Play.{Play}
-use Rattle.poker_cli.specs.AnswerParts.{Answer, done, refusal}
-use Rattle.poker_cli.specs.Limits.{excess_line}
-use Rattle.poker_cli.specs.declared.status.Status.TheVariants as statuses
 use Rattle.convert_core.specs.Judged.{ArePlaysOf}
 use Rattle.hand_records.specs.declared.record.Record.{Record}
-use Rattle.poker_cli.specs.Replies.{of_text}
+use Rattle.hand_records.specs.declared.trace.Play.{Play}
+use Rattle.poker_cli.specs.AnswerParts.{Answer, done, of_text, refusal}
+use Rattle.poker_cli.specs.Limits.{excess_line}
+use Rattle.poker_cli.specs.declared.status.Status.TheVariants as statuses
+use Rattle.convert_core.specs.declared.format.Format.{Format}
+use Rattle.convert_core.specs.declared.format.Format.TheVariants as readers
 
 -- the game has no seat with this number, only this many
 abbrev pub no_seat : ℕ → ℕ → Answer
@@ -53,3 +54,9 @@ pub record AreViewsOf (game : Game) (seat : Seat) (records : List Record) (answe
     pub plays : List Play
     pub are : ArePlaysOf records plays
     pub said : AreViews game seat plays answer
+
+-- what a seat received of the hands: the lines of a log under its game; hands in other notations
+-- have no messages
+abbrev pub AreMessages : (reader : Format) → Seat → List Play → Answer → Type 0
+AreMessages (readers.Acpc game) seat plays answer = AreViews game seat plays answer
+AreMessages reader seat plays answer = answer ≡ done []

@@ -1,5 +1,7 @@
 -- How the hands of a request are read, and what is asked about them, under the game in its file.
+use Rattle.std.specs.Prelude.{◌≡◌, ℕ, List, Option}
 use Rattle.acpc_game.specs.declared.game.Game.{Game}
+use Rattle.command_words.specs.Words.{Compare, Load, Plain, Request, Under}
 use Rattle.command_words.specs.declared.command.Command.{Command}
 use Rattle.command_words.specs.declared.command.Command.TheVariants as commands
 use Rattle.command_words.specs.declared.notation.NotationName.{NotationName}
@@ -9,8 +11,10 @@ use Rattle.command_words.specs.declared.notation.PlainNotation.TheVariants as pl
 use Rattle.command_words.specs.declared.request.Logs.{Logs}
 use Rattle.command_words.specs.declared.request.Logs.TheVariants as logs_are
 use Rattle.ohh_members.specs.declared.dialect.Dialect.TheVariants as dialects
-use Rattle.poker_cli.specs.declared.task.Format.{Format}
-use Rattle.poker_cli.specs.declared.task.Format.TheVariants as readers
+use Rattle.poker_cli.specs.Files.{Files}
+use Rattle.poker_cli.specs.GameFiles.{GivesGame}
+use Rattle.convert_core.specs.declared.format.Format.{Format}
+use Rattle.convert_core.specs.declared.format.Format.TheVariants as readers
 use Rattle.poker_cli.specs.declared.task.Job.{Job}
 
 -- the notation of this name, which needs no game
@@ -53,3 +57,17 @@ job_under game (logs_are.Read command) =
     way (with_formats (format_under game) command) (readers.Acpc game)
 job_under game (logs_are.Written from keep) =
     way (commands.Convert (readers.Acpc game) keep) (plain_format from)
+
+-- Hands are read and handled this way if logs are under the game in this game file.
+pub record IsWayUnder (file : Option (List ℕ)) (logs : Logs) (way : Job) : Type 0 where
+  pub game : Game
+  pub gives : GivesGame file game
+  pub same : way ≡ job_under game logs
+
+-- how the hands of a request are read and handled, by its files; none for generated hands and for
+-- comparisons
+abbrev pub IsWay : Files → Request → Job → Type 0
+IsWay files (Load seed hands) way = ⊥
+IsWay files (Plain from command) way = way ≡ plain_job from command
+IsWay files (Under name logs) way = IsWayUnder files.game logs way
+IsWay files (Compare sides file notes) way = ⊥

@@ -1,7 +1,7 @@
 //! The line that is printed when a log cannot be read.
 ghost use Rattle.std.specs.Prelude.{◌≡◌, IfOk, Some, string_bytes};
 ghost use Rattle.convert_core.specs.declared.format_fault.FormatFault.TheVariants as formats;
-ghost use Rattle.poker_cli.specs.Answer as definition;
+ghost use Rattle.poker_cli.specs.AnswerParts as definition;
 ghost use Rattle.poker_cli.specs.AcpcFaults.{acpc_fault_text as fault_name_said, bad_acpc_line as bad_log_line_said, byte_of as byte_of_said, line_of as line_of_said};
 ghost use Rattle.poker_cli.specs.Told.{answer_told};
 

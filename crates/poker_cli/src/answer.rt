@@ -1,9 +1,10 @@
 //! The answer to the bytes of an input: how they are read, and what is done with their hands.
 ghost use Rattle.std.specs.Prelude.{◌≡◌, ◌≤◌, Some, length, IfOk, string_bytes};
-ghost use Rattle.poker_cli.specs.Answer as definition;
-ghost use Rattle.poker_cli.specs.Answer.{IsAnswer, IsAnswerOf, IsToldOf, IsToldPlaysFault, IsToldText, most_input};
-ghost use Rattle.poker_cli.specs.Inputs.{first_lines};
-ghost use Rattle.poker_cli.specs.Told.{answer_told};
+ghost use Rattle.poker_cli.specs.AnswerParts as definition;
+ghost use Rattle.poker_cli.specs.Answer.{IsAnswer, IsAnswerOf};
+ghost use Rattle.poker_cli.specs.AnswerParts.{most_input};
+ghost use Rattle.convert_core.specs.Formats.{HaveFault, SayRecords, first_lines};
+ghost use Rattle.poker_cli.specs.Told.{IsToldOf, IsToldPlaysFault, IsToldText, answer_told};
 
 use crate::acpc_faults::answer_to_acpc_fault;
 use crate::check::answer_with_check;
@@ -21,12 +22,11 @@ use crate::replay::answer_with_replay;
 use crate::report::answer_with_report;
 use crate::session::answer_with_session;
 use crate::status::Status;
-use crate::task::Format;
 use crate::unspelled::unspelled_line;
 use crate::views::answer_with_messages;
-use card_set::Memory;
+use card_set::{Memory, try_format};
 use command_words::Command;
-use convert_core::{Acpc, ConvertFault, FormatFault, Notation, Ohh, Phh, PlaysFault, Refusal};
+use convert_core::{ConvertFault, Format, FormatFault, PlaysFault, Refusal};
 use hand_records::Unspelled;
 use std::alloc::Global;
 
@@ -52,27 +52,18 @@ pub fn answer_to(
     requires { length bytes.now ≤ most_input }
     ensures { IfOk result (λ answer. IsAnswer command reader.now bytes.now (answer_told answer)) }
 {
-    match reader {
-        Format::Phh => answer_from(alloc, command, reader, &Phh, bytes),
-        Format::Ohh(dialect) => {
-            let from = Ohh { dialect: *dialect };
-            answer_from(alloc, command, reader, &from, bytes)
-        }
-        Format::Acpc(game) => answer_from(alloc, command, reader, &Acpc { game: *game }, bytes),
-    }
+    answer_from(alloc, command, reader, bytes)
 }
 
-// The answer to bytes in one notation, whose hands begin on the lines of this format.
-fn answer_from<N: Notation>(
+// The answer to a command about the hands in the bytes.
+fn answer_from(
     alloc: Global,
     command: Command<Format>,
-    reader: &Format,
-    from: &N,
+    from: &Format,
     bytes: &[u8],
 ) -> Result<Answer, Memory>
-    ensures { IfOk result (λ answer. IsAnswerOf command reader.now (N.Say from.now bytes.now)
-        (N.HaveFault from.now bytes.now) (first_lines reader.now bytes.now)
-        (answer_told answer)) }
+    ensures { IfOk result (λ answer. IsAnswerOf command from.now (SayRecords from.now bytes.now)
+        (HaveFault from.now bytes.now) (first_lines from.now bytes.now) (answer_told answer)) }
 {
     match command {
         Command::Check => answer_with_check(alloc, from, bytes),
@@ -82,8 +73,8 @@ fn answer_from<N: Notation>(
         Command::Game => answer_with_game(alloc, from, bytes),
         Command::Options { hand, events } => answer_with_options(alloc, hand, events, from, bytes),
         Command::Equity { hand, street } => answer_with_equity(alloc, hand, street, from, bytes),
-        Command::Judge { lines } => answer_with_verdicts(alloc, lines, reader, from, bytes),
-        Command::Views { seat } => answer_with_messages(alloc, seat, reader, from, bytes),
+        Command::Judge { lines } => answer_with_verdicts(alloc, lines, from, bytes),
+        Command::Views { seat } => answer_with_messages(alloc, seat, from, bytes),
         Command::Each(question) => answer_with_each(alloc, question, from, bytes),
         Command::Convert { to, keep } => answer_with_hands(alloc, from, &to, keep, bytes),
     }
@@ -146,6 +137,14 @@ pub fn answer_to_unspelled(alloc: Global, hand: u32, fact: Unspelled) -> Result<
 {
     let line = unspelled_line(alloc, hand, fact)?;
     Ok(refusal(alloc, Status::Unspelled, line))
+}
+
+/// Hand number past the end of the input, which has `hands` hands.
+pub fn no_hand(alloc: Global, hand: u32, hands: usize) -> Result<Answer, Memory>
+    ensures { IfOk result (λ answer. answer_told answer ≡ definition.no_hand hand hands) }
+{
+    let line = try_format!(in alloc; "no such hand: {hand} of {hands}\n")?;
+    Ok(refusal(alloc, Status::NoSuch, line))
 }
 
 /// The answer to an input that is too long.

@@ -1,9 +1,10 @@
 //! Answers `check`: what each player of each hand finishes with, and then the number of hands.
 ghost use Rattle.std.specs.Prelude.{◌≡◌, ◌≤◌, All, length, IfErr, IfOk, string_bytes};
+ghost use Rattle.convert_core.specs.Formats.{HaveFault, SayRecords};
 ghost use Rattle.convert_core.specs.Judged.{IsPlaysFaultOf};
 ghost use Rattle.first_fault.specs.declared.limits.TheConstants.{MOST_HANDS};
 ghost use Rattle.hand_records.specs.SoundRecord.{IsSoundRecord};
-ghost use Rattle.poker_cli.specs.Answer.{IsAnswerTo, done};
+ghost use Rattle.poker_cli.specs.AnswerParts.{IsAnswerTo, done};
 ghost use Rattle.poker_cli.specs.Texts.{IsTextOf};
 ghost use Rattle.poker_cli.specs.Told.{answer_told};
 ghost use Rattle.printed_hands.specs.Check.{check_line, check_said, each_hand};
@@ -11,7 +12,7 @@ ghost use Rattle.printed_hands.specs.Check.{check_line, check_said, each_hand};
 use crate::answer::{Answer, answer_to_fault, answer_with_text};
 use crate::hand_visitor::{HandVisitor, take_plays};
 use card_set::Memory;
-use convert_core::{Notation, PlaysFault, read_records};
+use convert_core::{Format, PlaysFault, read_records};
 use hand_records::{Play, Records};
 use printed_hands::{push_check_end, push_check_line};
 use std::alloc::Global;
@@ -32,13 +33,9 @@ impl HandVisitor for CheckLines {
 }
 
 /// The answer with a line for each hand in the bytes, and the last line.
-pub fn answer_with_check<N: Notation>(
-    alloc: Global,
-    from: &N,
-    bytes: &[u8],
-) -> Result<Answer, Memory>
-    ensures { IfOk result (λ answer. IsAnswerTo (N.Say from.now bytes.now)
-        (N.HaveFault from.now bytes.now) (λ plays told. told ≡ done (check_said plays))
+pub fn answer_with_check(alloc: Global, from: &Format, bytes: &[u8]) -> Result<Answer, Memory>
+    ensures { IfOk result (λ answer. IsAnswerTo (SayRecords from.now bytes.now)
+        (HaveFault from.now bytes.now) (λ plays told. told ≡ done (check_said plays))
         (answer_told answer)) }
 {
     match read_records(alloc, from, bytes) {

@@ -1,23 +1,19 @@
 //! Compares the hands of an input with those of another file, or reports what is wrong with one of
 //! the two.
-ghost use Rattle.std.specs.Prelude.{◌≡◌, ◌≤◌, ◌+◌, All, length, option_map, IfErr, IfOk};
-ghost use Rattle.std.specs.List.{AllByRecursion};
-ghost use Rattle.convert_core.specs.Conversion.{IsPlaysRefusal, ReadAsPlays};
+ghost use Rattle.std.specs.Prelude.{◌≡◌, ◌≤◌, ◌+◌, All, length, option_map, IfOk};
 ghost use Rattle.hand_canon.specs.Sound.{IsSound};
-ghost use Rattle.poker_cli.specs.Answer as definition;
-ghost use Rattle.poker_cli.specs.Answer.{IsComparedWith, IsComparison, in_file as in_file_said, most_input};
-ghost use Rattle.poker_cli.specs.Compare.{compared, hand_difference_said, first_different as first_different_said, to_different as to_different_said, to_other_count as to_other_count_said, to_same as to_same_said};
-ghost use Rattle.poker_cli.specs.Inputs.{HaveFault, SayRecords};
+ghost use Rattle.poker_cli.specs.Compare as definition;
+ghost use Rattle.poker_cli.specs.AnswerParts.{most_input};
+ghost use Rattle.poker_cli.specs.Compare.{IsComparedWith, IsComparison, compared, first_different as first_different_said, hand_difference_said, in_file as in_file_said, to_different as to_different_said, to_other_count as to_other_count_said, to_same as to_same_said};
 ghost use Rattle.poker_cli.specs.Told.{answer_told};
 
 use crate::answer::{Answer, answer_to_fault, done_with, refusal};
 use crate::status::Status;
-use crate::task::Format;
 use crate::ways::{format_under, plain_format};
 use acpc_game::Game;
 use card_set::{Memory, try_format};
 use command_words::{NotationName, PlainNotation};
-use convert_core::{Acpc, ConvertFault, Ohh, Phh, plays};
+use convert_core::{Format, plays as plays_in};
 use hand_differences::{Difference, difference_text, first_difference};
 use hand_records::Play;
 use std::alloc::Global;
@@ -122,21 +118,6 @@ fn in_file(alloc: Global, answer: Answer) -> Result<Answer, Memory>
         output,
         line,
     })
-}
-
-// The plays that bytes read as, in a notation.
-fn plays_in(alloc: Global, reader: &Format, bytes: &[u8]) -> Result<Vec<Play>, ConvertFault>
-    ensures plays { IfOk result (λ plays.
-        ReadAsPlays (SayRecords reader.now bytes.now) plays.items) }
-    ensures sound { IfOk result (λ plays. AllByRecursion IsSound plays.items) }
-    ensures refused { IfErr result (IsPlaysRefusal (SayRecords reader.now bytes.now)
-        (HaveFault reader.now bytes.now)) }
-{
-    match reader {
-        Format::Phh => plays(alloc, &Phh, bytes),
-        Format::Ohh(dialect) => plays(alloc, &Ohh { dialect: *dialect }, bytes),
-        Format::Acpc(game) => plays(alloc, &Acpc { game: *game }, bytes),
-    }
 }
 
 // The answer to the plays of two files.

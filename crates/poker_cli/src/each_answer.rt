@@ -1,9 +1,9 @@
 //! Answers questions that the hands of an input answer each by itself.
 ghost use Rattle.std.specs.Prelude.{◌≤◌, All, length, IfOk};
+ghost use Rattle.convert_core.specs.Formats.{HaveFault, SayRecords};
 ghost use Rattle.first_fault.specs.declared.limits.TheConstants.{MOST_HANDS};
 ghost use Rattle.hand_records.specs.SoundRecord.{IsSoundRecord};
-ghost use Rattle.poker_cli.specs.Answer.{IsAnswerOfEach};
-ghost use Rattle.poker_cli.specs.Each.{AreReplayedEach, IsReplyOfEach};
+ghost use Rattle.poker_cli.specs.Each.{AreReplayedEach, IsAnswerOfEach, IsReplyOfEach};
 ghost use Rattle.poker_cli.specs.Told.{answer_told};
 
 use crate::answer::{Answer, answer_to_fault, done_with};
@@ -11,20 +11,20 @@ use crate::each_options::{answer_with_point, answer_with_points};
 use crate::each_replay::replay_each;
 use card_set::Memory;
 use command_words::EachQuestion;
-use convert_core::{Notation, read_records};
+use convert_core::{Format, read_records};
 use hand_records::Records;
 use std::alloc::Global;
 
 /// The answer to a question that the hands in the bytes answer each by itself, whether or not the
 /// others are legal.
-pub fn answer_with_each<N: Notation>(
+pub fn answer_with_each(
     alloc: Global,
     question: EachQuestion,
-    from: &N,
+    from: &Format,
     bytes: &[u8],
 ) -> Result<Answer, Memory>
-    ensures { IfOk result (λ answer. IsAnswerOfEach (N.Say from.now bytes.now)
-        (N.HaveFault from.now bytes.now) question (answer_told answer)) }
+    ensures { IfOk result (λ answer. IsAnswerOfEach (SayRecords from.now bytes.now)
+        (HaveFault from.now bytes.now) question (answer_told answer)) }
 {
     match read_records(alloc, from, bytes) {
         Ok(records) => answer_to_each(alloc, question, &records),

@@ -5,10 +5,9 @@ ghost use Rattle.hand_records.specs.SoundRecord.{IsSoundRecord};
 ghost use Rattle.poker_cli.specs.Each.{IsEveryPoint, IsPoint, IsTextOfPoints};
 ghost use Rattle.poker_cli.specs.Told.{answer_told};
 
-use crate::answer::{Answer, done, done_with};
+use crate::answer::{Answer, done, done_with, no_hand};
 use crate::each_verdict::{outcome_of, push_refusal_line, verdict_on};
 use crate::options::no_event;
-use crate::replies::no_hand;
 use card_set::Memory;
 use hand_options::{options_at, options_text, push_every_point};
 use hand_records::{Record, Records};

@@ -4,19 +4,16 @@ ghost use Rattle.std.specs.Prelude.{◌≡◌, ◌↔◌, [], map, None, Some, I
 ghost use Rattle.card_set.specs.Refusal.{WasRefused};
 ghost use Rattle.command_words.specs.Requests.{request_in};
 ghost use Rattle.command_words.specs.Words.{Under, request_said};
-ghost use Rattle.hand_records.specs.declared.writing.Keep.{Keep};
 ghost use Rattle.host_io.specs.Faults.{Rose};
 ghost use Rattle.poker_cli.specs.Answer.{IsAnswerBy, IsAnswerIn, IsAnswerUnder};
-ghost use Rattle.poker_cli.specs.Headline.{AsksToConvert, Headline};
-ghost use Rattle.poker_cli.specs.Lacking.{ComesFirst};
-ghost use Rattle.poker_cli.specs.Replied.{HasNoAnswer, Keeps};
+ghost use Rattle.poker_cli.specs.Headline.{EndsOver};
+ghost use Rattle.poker_cli.specs.Replied.{ComesFirst, HasNoAnswer, Keeps};
 ghost use Rattle.poker_cli.specs.Run.{Asks, AsksInTurn, EndsLeaving, GivesNone, IsOwn, LacksFile, Leaves, MakesHands, MayEnd, OfBytes, OfFile, Tells, TellsLine, WhereTold, Writes, WritesNothing, change_of, line_of};
 ghost use Rattle.poker_cli.specs.Told.{answer_told};
-ghost use Rattle.poker_cli.specs.declared.task.Format.{Format};
 
 use crate::answer::{self, Answer, MOST_INPUT};
-use crate::comparing::reply_to_comparison;
-use crate::games::{NoGameError, fetch_game, game_file_answer};
+use crate::compared_files::reply_to_comparison;
+use crate::game_files::{NoGameError, fetch_game, game_file_answer};
 use crate::load::answer_to_load;
 use crate::no_answer::NoAnswerError;
 use crate::status::Status;
@@ -50,23 +47,16 @@ pub fn run<S: Source, H: Shelf, K: Sink, D: Sink>(
     ensures usage { (result ≡ Status.Usage) ↔ (request_said (map string_bytes words.now) ≡ None) }
 
     // If the words are a request, the run ends with the answer to the file on the shelf and to the
-    // input, or with a fault whose count rose in this call. This holds for every source and every
+    // input, or with a fault whose count rose in this call; and if they ask for a conversion, the
+    // headline holds over the same file and input. This is promised for every source and every
     // shelf: a source that does not show its bytes counts as one that has some bytes, and a shelf
     // that does not show its files as one that has some files. If there is nothing to write, the
     // output stays as it was.
     ensures ends { IfSome (request_said (map string_bytes words.now)) (λ request.
         WhereTold request (S.left input.old) (H.files shelf.old) (λ files bytes.
-        EndsLeaving request files bytes
+        EndsOver request files bytes
         (change_of K.held K.faults out.old out.new)
         (change_of D.held D.faults diag.old diag.new) result (out.new ≡ out.old))) }
-
-    // If the words ask for a conversion: hands are read by `from`, and written by `to` with `keep`.
-    ensures headline { IfSome (request_said (map string_bytes words.now)) (λ request.
-        WhereTold request (S.left input.old) (H.files shelf.old) (λ files bytes.
-        (from to : Format) (keep : Keep)
-        → AsksToConvert files request from to keep → Headline from to keep bytes
-        (change_of K.held K.faults out.old out.new)
-        (change_of D.held D.faults diag.old diag.new) result)) }
 
     // A device fault is reported only if its count rose, and the line of a fault does not depend on
     // the input. Nothing is written before all is done.

@@ -1,30 +1,30 @@
 //! Answers `equity`: how often each live seat of a hand would win.
 ghost use Rattle.std.specs.Prelude.{◌≡◌, ◌<◌, All, Some, IfOk};
+ghost use Rattle.convert_core.specs.Formats.{HaveFault, SayRecords};
 ghost use Rattle.hand_canon.specs.Sound.{IsSound};
 ghost use Rattle.poker_cli.specs.Equity as in_equity;
 ghost use Rattle.poker_cli.specs.Equity.{IsEquityAt};
-ghost use Rattle.poker_cli.specs.Answer.{IsAnswerTo};
+ghost use Rattle.poker_cli.specs.AnswerParts.{IsAnswerTo};
 ghost use Rattle.poker_cli.specs.Told.{answer_told};
 
-use crate::answer::{Answer, answer_to_fault, done, refusal};
-use crate::replies::no_hand;
+use crate::answer::{Answer, answer_to_fault, done, no_hand, refusal};
 use crate::status::Status;
 use card_set::{Memory, try_format};
-use convert_core::{Notation, plays};
+use convert_core::{Format, plays};
 use hand_equity::{NoEquity, equity_of, equity_text};
 use hand_records::Play;
 use std::alloc::Global;
 
 /// The answer with the equity of the hand with this number from a street on.
-pub fn answer_with_equity<N: Notation>(
+pub fn answer_with_equity(
     alloc: Global,
     hand: u32,
     street: u8,
-    from: &N,
+    from: &Format,
     bytes: &[u8],
 ) -> Result<Answer, Memory>
-    ensures { IfOk result (λ answer. IsAnswerTo (N.Say from.now bytes.now)
-        (N.HaveFault from.now bytes.now) (IsEquityAt hand street) (answer_told answer)) }
+    ensures { IfOk result (λ answer. IsAnswerTo (SayRecords from.now bytes.now)
+        (HaveFault from.now bytes.now) (IsEquityAt hand street) (answer_told answer)) }
 {
     match plays(alloc, from, bytes) {
         Ok(plays) => equity_in_plays(alloc, &plays, hand, street),

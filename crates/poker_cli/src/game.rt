@@ -1,25 +1,23 @@
 //! Answers `game`: the game file that fits the first hand.
 ghost use Rattle.std.specs.Prelude.{◌<◌, All, IfOk};
+ghost use Rattle.convert_core.specs.Formats.{HaveFault, SayRecords};
 ghost use Rattle.hand_canon.specs.Sound.{IsSound};
-ghost use Rattle.poker_cli.specs.Answer.{IsAnswerTo, IsGameReply};
+ghost use Rattle.poker_cli.specs.AnswerParts.{IsAnswerTo};
+ghost use Rattle.poker_cli.specs.Game.{IsGameReply};
 ghost use Rattle.poker_cli.specs.Told.{answer_told};
 
 use crate::answer::{Answer, answer_to_fault, answer_to_unspelled, done};
 use acpc_game::write_game;
 use acpc_writing::game_of;
 use card_set::Memory;
-use convert_core::{Notation, plays};
+use convert_core::{Format, plays};
 use hand_records::Play;
 use std::alloc::Global;
 
 /// The answer with the game file of the first hand in the bytes.
-pub fn answer_with_game<N: Notation>(
-    alloc: Global,
-    from: &N,
-    bytes: &[u8],
-) -> Result<Answer, Memory>
-    ensures { IfOk result (λ answer. IsAnswerTo (N.Say from.now bytes.now)
-        (N.HaveFault from.now bytes.now) IsGameReply (answer_told answer)) }
+pub fn answer_with_game(alloc: Global, from: &Format, bytes: &[u8]) -> Result<Answer, Memory>
+    ensures { IfOk result (λ answer. IsAnswerTo (SayRecords from.now bytes.now)
+        (HaveFault from.now bytes.now) IsGameReply (answer_told answer)) }
 {
     match plays(alloc, from, bytes) {
         Ok(plays) => answer_with_first_game(alloc, &plays),

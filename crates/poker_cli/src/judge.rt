@@ -4,21 +4,17 @@ ghost use Rattle.std.specs.Prelude.{All, IfOk, OnOk, Some, codes, false, length,
 ghost use Rattle.std.specs.Fmt.{decimal};
 ghost use Rattle.first_fault.specs.declared.limits.TheConstants.{MOST_HANDS};
 ghost use Rattle.hand_records.specs.SoundRecord.{IsSoundRecord};
-ghost use Rattle.poker_cli.specs.Judge.{ArePrinted, IsJudged, begins_text, judged_end};
-ghost use Rattle.poker_cli.specs.Answer.{IsJudgement};
-ghost use Rattle.poker_cli.specs.Inputs.{first_lines, if_asked};
+ghost use Rattle.poker_cli.specs.Judge.{ArePrinted, IsJudged, IsJudgement, begins_text, if_asked, judged_end};
+ghost use Rattle.convert_core.specs.Formats.{HaveFault, SayRecords, first_lines};
 ghost use Rattle.poker_cli.specs.Told.{answer_told};
 
 use crate::answer::{Answer, answer_to_fault, done_with};
 use crate::refusals::refusal_text;
-use crate::task::Format;
-use acpc_reading::hand_lines;
 use card_set::{Memory, TryWrite, try_write};
 use convert_core::{
-    Acpc, Notation, Ohh, Phh, PlaysFault, Refusal, VerdictVisitor, judge_all, read_records,
+    Format, Notation, PlaysFault, Refusal, VerdictVisitor, judge_all, read_records,
 };
 use hand_records::{Play, Records};
-use ohh_reading::block_lines;
 use std::alloc::Global;
 
 // The lines of the hands so far, and how many of these hands are legal. Each hand begins on the
@@ -144,20 +140,19 @@ fn push_end(text: &mut String, legal: usize, hands: usize) -> Result<(), Memory>
 
 /// The answer with the verdict on each hand in the bytes, and the line on which it begins if lines
 /// are asked for.
-pub fn answer_with_verdicts<N: Notation>(
+pub fn answer_with_verdicts(
     alloc: Global,
     asked: bool,
-    reader: &Format,
-    from: &N,
+    from: &Format,
     bytes: &[u8],
 ) -> Result<Answer, Memory>
-    ensures { IfOk result (λ answer. IsJudgement (N.Say from.now bytes.now)
-        (N.HaveFault from.now bytes.now) (if_asked asked (first_lines reader.now bytes.now))
+    ensures { IfOk result (λ answer. IsJudgement (SayRecords from.now bytes.now)
+        (HaveFault from.now bytes.now) (if_asked asked (first_lines from.now bytes.now))
         (answer_told answer)) }
 {
     match read_records(alloc, from, bytes) {
         Ok(records) => {
-            let lines = lines_if_asked(alloc, asked, reader, bytes)?;
+            let lines = lines_if_asked(alloc, asked, from, bytes)?;
             let text = judge_text(alloc, lines, records)?;
             Ok(done_with(alloc, text))
         }
@@ -169,18 +164,13 @@ pub fn answer_with_verdicts<N: Notation>(
 fn lines_if_asked(
     alloc: Global,
     asked: bool,
-    reader: &Format,
+    from: &Format,
     bytes: &[u8],
 ) -> Result<Vec<u64>, Memory>
-    ensures { IfOk result (λ lines. lines.items
-        ≡ if_asked asked (first_lines reader.now bytes.now)) }
+    ensures { IfOk result (λ lines. lines.items ≡ if_asked asked (first_lines from.now bytes.now)) }
 {
     if !asked {
         return Ok(Vec::new(alloc));
     }
-    match reader {
-        Format::Phh => Ok(Vec::new(alloc)),
-        Format::Ohh(_) => block_lines(alloc, bytes),
-        Format::Acpc(_) => hand_lines(alloc, bytes),
-    }
+    from.first_lines(alloc, bytes)
 }

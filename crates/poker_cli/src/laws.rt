@@ -6,6 +6,7 @@ ghost use Rattle.acpc_game.specs.declared.game.Game.{Game};
 ghost use Rattle.chip_ledger.specs.declared.numbers.Seat.{Seat};
 ghost use Rattle.command_words.specs.Words.{Load, Request};
 ghost use Rattle.command_words.specs.declared.command.Command.{Command};
+ghost use Rattle.command_words.specs.declared.command.EachQuestion.{EachQuestion};
 ghost use Rattle.hand_canon.specs.Sound.{IsSound};
 ghost use Rattle.hand_equity.specs.Street.{deals_board, first_unknown};
 ghost use Rattle.hand_records.specs.SameHands.{AreSameHands, kept_notes};
@@ -15,24 +16,24 @@ ghost use Rattle.hand_records.specs.declared.writing.Keep.{Keep};
 ghost use Rattle.hand_records.specs.declared.writing.Keep.TheVariants as keeps;
 ghost use Rattle.hand_records.specs.declared.writing.Unspelled.TheVariants as facts;
 ghost use Rattle.ohh_members.specs.declared.dialect.Dialect.{Dialect};
-ghost use Rattle.poker_cli.specs.Answer.{Answer, AsksToCompare, Files, IsAnswer, IsComparison, IsReply, IsWay, most_input};
-ghost use Rattle.poker_cli.specs.Compare.{compared};
+ghost use Rattle.poker_cli.specs.Answer.{IsAnswer, IsReply};
+ghost use Rattle.poker_cli.specs.AnswerParts.{Answer, hand_numbered, most_input};
+ghost use Rattle.poker_cli.specs.Files.{Files};
+ghost use Rattle.poker_cli.specs.Compare.{AsksToCompare, IsComparison, compared};
 ghost use Rattle.poker_cli.specs.ComparedRuns.{AreFoundOther, AreFoundSame, AreOther, AreSame, BothRead, FindsOther};
 ghost use Rattle.poker_cli.specs.Headline.{ConversionEnds, ConvertsInto};
-ghost use Rattle.poker_cli.specs.Inputs.{SayRecords, first_lines};
-ghost use Rattle.poker_cli.specs.LegalInputs.{AsksOfLegal, PrintsAll};
+ghost use Rattle.convert_core.specs.Formats.{AreSameIn, SayRecords, first_lines, first_refusal_in, kept_in, unspelled_in};
+ghost use Rattle.poker_cli.specs.LegalInputs.{AsksOfHands, AsksOfLegal, FindsNone, IsThere, PrintsAll};
 ghost use Rattle.poker_cli.specs.OneAnswer.{AreOneAnswer};
-ghost use Rattle.poker_cli.specs.Outputs.{AreSameIn, first_refusal_in, kept_in, unspelled_in};
-ghost use Rattle.poker_cli.specs.Replies.{hand_numbered};
 ghost use Rattle.poker_cli.specs.Views.{AreViews, each_view, most_view_bytes};
 ghost use Rattle.poker_cli.specs.Run.{Ends, NeedsNoInput, RefusesNothing, Sinks};
 ghost use Rattle.poker_cli.specs.RunTells.{told_by};
-ghost use Rattle.poker_cli.specs.Ways.{way};
+ghost use Rattle.poker_cli.specs.Ways.{IsWay, way};
 ghost use Rattle.poker_cli.specs.declared.compare.Comparison.{Comparison};
 ghost use Rattle.poker_cli.specs.declared.status.Status.{Status};
 ghost use Rattle.poker_cli.specs.declared.status.Status.TheVariants as statuses;
-ghost use Rattle.poker_cli.specs.declared.task.Format.{Format};
-ghost use Rattle.poker_cli.specs.declared.task.Format.TheVariants as readers;
+ghost use Rattle.convert_core.specs.declared.format.Format.{Format};
+ghost use Rattle.convert_core.specs.declared.format.Format.TheVariants as readers;
 ghost use Rattle.command_words.specs.declared.command.Command.TheVariants as commands;
 ghost use Rattle.convert_core.specs.Conversion.{ReadAsPlays};
 ghost use Rattle.convert_core.specs.SameAnswers.{AreSameAnswers};
@@ -58,11 +59,13 @@ pub fn law_of_one_answer()
 /// for is there: a hand with that number of events (`options`), a hand that deals a board on the
 /// street and whose live seats have known cards (`equity`), or a seat of the game whose lines are
 /// within the limit of bytes (`seen`). For a conversion, each fact that is to be kept can be
-/// written in the other notation. For `judge`, the hands need not be legal. For a comparison, all
-/// hands of the other file are legal and agree, too, and the status may also be that of the
-/// comparison: Differs, if the hands are not the same. A run that generates hands ends with Done,
-/// or the output failed, or the status is Memory, whatever the input and the files are. The
-/// function does nothing: its contract is a law.
+/// written in the other notation. For `judge`, the hands need not be legal. Nor need they be if
+/// hands answer each by itself: then a run may also end with NoSuch, if there is no such hand, or
+/// if an event before the point that is asked for is illegal or missing (`each`), and if so, it
+/// does not end with Done (`absent`). For a comparison, all hands of the other file are legal and
+/// agree, too, and the status may also be that of the comparison: Differs, if the hands are not the
+/// same. A run that generates hands ends with Done, or the output failed, or the status is Memory,
+/// whatever the input and the files are. The function does nothing: its contract is a law.
 pub fn law_of_legal_inputs()
     ensures show { (request : Request) (command : Command Format) (reader : Format)
         → (files : Files) (bytes : List ℕ) (plays : List Play) (out diag : Sinks)
@@ -104,6 +107,16 @@ pub fn law_of_legal_inputs()
         → IsWay files request (way (commands.Judge lines) reader)
         → length bytes ≤ most_input → SayRecords reader bytes records
         → Ends request files bytes out diag status → RefusesNothing status }
+    ensures each { (request : Request) (question : EachQuestion) (reader : Format) (files : Files)
+        → (bytes : List ℕ) (records : List Record) (out diag : Sinks) (status : Status)
+        → AsksOfHands files request (commands.Each question) reader bytes records
+        → Ends request files bytes out diag status
+        → RefusesNothing status ⊎ ((status ≡ statuses.NoSuch) × (IsThere question records → ⊥)) }
+    ensures absent { (request : Request) (question : EachQuestion) (reader : Format)
+        → (files : Files) (bytes : List ℕ) (records : List Record) (out diag : Sinks)
+        → (status : Status) → AsksOfHands files request (commands.Each question) reader bytes records
+        → (IsThere question records → ⊥)
+        → Ends request files bytes out diag status → FindsNone status }
     ensures convert { (request : Request) (reader target : Format) (keep : Keep) (files : Files)
         → (bytes : List ℕ) (plays : List Play) (out diag : Sinks) (status : Status)
         → AsksOfLegal files request (commands.Convert target keep) reader bytes plays

@@ -1,6 +1,6 @@
 //! Answers `load`: generates hands and sums them up.
 ghost use Rattle.std.specs.Prelude.{IfOk};
-ghost use Rattle.poker_cli.specs.Answer.{IsSummed};
+ghost use Rattle.poker_cli.specs.Load.{IsSummed};
 ghost use Rattle.poker_cli.specs.Told.{answer_told};
 
 use crate::answer::Answer;

@@ -2,7 +2,7 @@
 ghost use Rattle.std.specs.Prelude.{◌≡◌, IfOk, Some, string_bytes};
 ghost use Rattle.convert_core.specs.declared.format_fault.FormatFault.TheVariants as formats;
 ghost use Rattle.ohh_reading.specs.Reading.{wrong_of};
-ghost use Rattle.poker_cli.specs.Answer as definition;
+ghost use Rattle.poker_cli.specs.AnswerParts as definition;
 ghost use Rattle.poker_cli.specs.Told.{answer_told};
 ghost use Rattle.poker_cli.specs.OhhFaults.{bad_member_line, fault_name as fault_name_said, no_text_line as no_text_line_said};
 

@@ -1,30 +1,30 @@
 //! Answers `options`: what is legal at a point of a hand.
 ghost use Rattle.std.specs.Prelude.{◌≡◌, ◌<◌, All, Some, IfOk};
+ghost use Rattle.convert_core.specs.Formats.{HaveFault, SayRecords};
 ghost use Rattle.hand_canon.specs.Sound.{IsSound};
 ghost use Rattle.poker_cli.specs.Options as in_options;
 ghost use Rattle.poker_cli.specs.Options.{AreOptionsAt};
-ghost use Rattle.poker_cli.specs.Answer.{IsAnswerTo};
+ghost use Rattle.poker_cli.specs.AnswerParts.{IsAnswerTo};
 ghost use Rattle.poker_cli.specs.Told.{answer_told};
 
-use crate::answer::{Answer, answer_to_fault, done, refusal};
-use crate::replies::no_hand;
+use crate::answer::{Answer, answer_to_fault, done, no_hand, refusal};
 use crate::status::Status;
 use card_set::{Memory, try_format};
-use convert_core::{Notation, plays};
+use convert_core::{Format, plays};
 use hand_options::{options, options_text};
 use hand_records::Play;
 use std::alloc::Global;
 
 /// The answer with the legal moves after the first events of the hand with this number.
-pub fn answer_with_options<N: Notation>(
+pub fn answer_with_options(
     alloc: Global,
     hand: u32,
     events: u32,
-    from: &N,
+    from: &Format,
     bytes: &[u8],
 ) -> Result<Answer, Memory>
-    ensures { IfOk result (λ answer. IsAnswerTo (N.Say from.now bytes.now)
-        (N.HaveFault from.now bytes.now) (AreOptionsAt hand events) (answer_told answer)) }
+    ensures { IfOk result (λ answer. IsAnswerTo (SayRecords from.now bytes.now)
+        (HaveFault from.now bytes.now) (AreOptionsAt hand events) (answer_told answer)) }
 {
     match plays(alloc, from, bytes) {
         Ok(plays) => options_in_plays(alloc, &plays, hand, events),

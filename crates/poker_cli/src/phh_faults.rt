@@ -2,7 +2,7 @@
 ghost use Rattle.std.specs.Prelude.{◌≡◌, IfOk, Some};
 ghost use Rattle.convert_core.specs.declared.format_fault.FormatFault.TheVariants as formats;
 ghost use Rattle.phh_reading.specs.Reading.{wrong_of};
-ghost use Rattle.poker_cli.specs.Answer as definition;
+ghost use Rattle.poker_cli.specs.AnswerParts as definition;
 ghost use Rattle.poker_cli.specs.PhhFaults.{bad_hand_line, fault_name as fault_name_said};
 ghost use Rattle.poker_cli.specs.Told.{answer_told};
 

@@ -1,9 +1,10 @@
 //! Answers `replay`: the hands step by step.
 ghost use Rattle.std.specs.Prelude.{◌≡◌, ◌≤◌, All, length, IfErr, IfOk, string_bytes};
+ghost use Rattle.convert_core.specs.Formats.{HaveFault, SayRecords};
 ghost use Rattle.convert_core.specs.Judged.{IsPlaysFaultOf};
 ghost use Rattle.first_fault.specs.declared.limits.TheConstants.{MOST_HANDS};
 ghost use Rattle.hand_records.specs.SoundRecord.{IsSoundRecord};
-ghost use Rattle.poker_cli.specs.Answer.{IsAnswerTo, done};
+ghost use Rattle.poker_cli.specs.AnswerParts.{IsAnswerTo, done};
 ghost use Rattle.poker_cli.specs.Texts.{IsTextOf};
 ghost use Rattle.poker_cli.specs.Told.{answer_told};
 ghost use Rattle.printed_hands.specs.Check.{each_hand};
@@ -13,7 +14,7 @@ ghost use Rattle.printed_hands.specs.Replay.{replay_said};
 use crate::answer::{Answer, answer_to_fault, answer_with_text};
 use crate::hand_visitor::{HandVisitor, take_plays};
 use card_set::Memory;
-use convert_core::{Notation, PlaysFault, read_records};
+use convert_core::{Format, PlaysFault, read_records};
 use hand_records::{Play, Records};
 use printed_hands::push_replay_lines;
 use std::alloc::Global;
@@ -34,13 +35,9 @@ impl HandVisitor for ReplayLines {
 }
 
 /// The answer with the hands in the bytes step by step.
-pub fn answer_with_replay<N: Notation>(
-    alloc: Global,
-    from: &N,
-    bytes: &[u8],
-) -> Result<Answer, Memory>
-    ensures { IfOk result (λ answer. IsAnswerTo (N.Say from.now bytes.now)
-        (N.HaveFault from.now bytes.now) (λ plays told. told ≡ done (replay_said plays))
+pub fn answer_with_replay(alloc: Global, from: &Format, bytes: &[u8]) -> Result<Answer, Memory>
+    ensures { IfOk result (λ answer. IsAnswerTo (SayRecords from.now bytes.now)
+        (HaveFault from.now bytes.now) (λ plays told. told ≡ done (replay_said plays))
         (answer_told answer)) }
 {
     match read_records(alloc, from, bytes) {

@@ -1,9 +1,10 @@
 //! Answers `report`: takes each hand, and keeps a tally per name and the sums per game.
 ghost use Rattle.std.specs.Prelude.{◌≡◌, ◌≤◌, All, length, IfErr, IfOk, string_bytes};
+ghost use Rattle.convert_core.specs.Formats.{HaveFault, SayRecords};
 ghost use Rattle.convert_core.specs.Judged.{IsPlaysFaultOf};
 ghost use Rattle.first_fault.specs.declared.limits.TheConstants.{MOST_HANDS};
 ghost use Rattle.hand_records.specs.SoundRecord.{IsSoundRecord};
-ghost use Rattle.poker_cli.specs.Answer.{IsAnswerTo, done};
+ghost use Rattle.poker_cli.specs.AnswerParts.{IsAnswerTo, done};
 ghost use Rattle.poker_cli.specs.Texts.{IsTextOf};
 ghost use Rattle.poker_cli.specs.Told.{answer_told};
 ghost use Rattle.printed_report.specs.SoFar.{IsReportSoFar};
@@ -12,7 +13,7 @@ ghost use Rattle.printed_report.specs.Report.{report_said};
 use crate::answer::{Answer, answer_to_fault, answer_with_text};
 use crate::hand_visitor::{HandVisitor, take_plays};
 use card_set::Memory;
-use convert_core::{Notation, PlaysFault, read_records};
+use convert_core::{Format, PlaysFault, read_records};
 use hand_records::{Play, Records};
 use printed_report::OpenReport;
 use std::alloc::Global;
@@ -26,13 +27,9 @@ impl HandVisitor for OpenReport {
 }
 
 /// The answer with the report on the hands in the bytes.
-pub fn answer_with_report<N: Notation>(
-    alloc: Global,
-    from: &N,
-    bytes: &[u8],
-) -> Result<Answer, Memory>
-    ensures { IfOk result (λ answer. IsAnswerTo (N.Say from.now bytes.now)
-        (N.HaveFault from.now bytes.now) (λ plays told. told ≡ done (report_said plays))
+pub fn answer_with_report(alloc: Global, from: &Format, bytes: &[u8]) -> Result<Answer, Memory>
+    ensures { IfOk result (λ answer. IsAnswerTo (SayRecords from.now bytes.now)
+        (HaveFault from.now bytes.now) (λ plays told. told ≡ done (report_said plays))
         (answer_told answer)) }
 {
     match read_records(alloc, from, bytes) {

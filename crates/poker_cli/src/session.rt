@@ -1,10 +1,11 @@
 //! Answers `session`: takes each hand, and keeps a row per name and the steps.
 ghost use Rattle.std.specs.Prelude.{◌≡◌, ◌≤◌, All, length, IfErr, IfOk, string_bytes};
+ghost use Rattle.convert_core.specs.Formats.{HaveFault, SayRecords};
 ghost use Rattle.convert_core.specs.Judged.{IsPlaysFaultOf};
 ghost use Rattle.first_fault.specs.declared.limits.TheConstants.{MOST_HANDS};
 ghost use Rattle.hand_records.specs.SoundRecord.{IsSoundRecord};
 ghost use Rattle.hand_session.specs.SoFar.{IsSessionSoFar};
-ghost use Rattle.poker_cli.specs.Answer.{IsAnswerTo, done};
+ghost use Rattle.poker_cli.specs.AnswerParts.{IsAnswerTo, done};
 ghost use Rattle.poker_cli.specs.Texts.{IsTextOf};
 ghost use Rattle.poker_cli.specs.Told.{answer_told};
 ghost use Rattle.hand_session.specs.Printed.{session_printed};
@@ -13,7 +14,7 @@ ghost use Rattle.hand_session.specs.Sessions.{session_said};
 use crate::answer::{Answer, answer_to_fault, answer_with_text};
 use crate::hand_visitor::{HandVisitor, take_plays};
 use card_set::Memory;
-use convert_core::{Notation, PlaysFault, read_records};
+use convert_core::{Format, PlaysFault, read_records};
 use hand_records::{Play, Records};
 use hand_session::{OpenSession, session_text};
 use std::alloc::Global;
@@ -27,13 +28,9 @@ impl HandVisitor for OpenSession {
 }
 
 /// The answer with the session of the hands in the bytes.
-pub fn answer_with_session<N: Notation>(
-    alloc: Global,
-    from: &N,
-    bytes: &[u8],
-) -> Result<Answer, Memory>
-    ensures { IfOk result (λ answer. IsAnswerTo (N.Say from.now bytes.now)
-        (N.HaveFault from.now bytes.now) (λ plays told. told
+pub fn answer_with_session(alloc: Global, from: &Format, bytes: &[u8]) -> Result<Answer, Memory>
+    ensures { IfOk result (λ answer. IsAnswerTo (SayRecords from.now bytes.now)
+        (HaveFault from.now bytes.now) (λ plays told. told
         ≡ done (session_printed (session_said plays)))
         (answer_told answer)) }
 {

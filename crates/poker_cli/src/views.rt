@@ -2,25 +2,25 @@
 //! lines are within the limit of bytes.
 ghost use Rattle.std.specs.Prelude.{◌≡◌, ◌<◌, ◌≤◌, ◌+◌, ◌++◌, [], true, false, All, List, length, IfErr, IfOk, OnOk};
 ghost use Rattle.acpc_view.specs.View.{views_text};
+ghost use Rattle.convert_core.specs.Formats.{HaveFault, SayRecords};
 ghost use Rattle.convert_core.specs.Judged.{IsPlaysFaultOf};
 ghost use Rattle.first_fault.specs.declared.limits.TheConstants.{MOST_HANDS};
 ghost use Rattle.hand_canon.specs.Sound.{IsSound};
 ghost use Rattle.hand_records.specs.SoundRecord.{IsSoundRecord};
 ghost use Rattle.hand_records.specs.declared.trace.Play.{Play as AnyPlay};
-ghost use Rattle.poker_cli.specs.Answer.{AreMessages, IsAnswerTo, done as done_said};
-ghost use Rattle.poker_cli.specs.Views.{AreSeen, AreViews, AreViewsOf, most_view_bytes, no_seat as no_seat_said};
+ghost use Rattle.poker_cli.specs.AnswerParts.{IsAnswerTo, done as done_said};
+ghost use Rattle.poker_cli.specs.Views.{AreMessages, AreSeen, AreViews, AreViewsOf, most_view_bytes, no_seat as no_seat_said};
 ghost use Rattle.poker_cli.specs.Told.{answer_told};
 
 use crate::answer::{Answer, answer_to_fault, answer_to_refused, done, refusal};
 use crate::hand_visitor::{HandVisitor, take_plays};
 use crate::limits::excess_line;
 use crate::status::Status;
-use crate::task::Format;
 use acpc_game::Game;
 use acpc_view::{views, views_len};
 use card_set::{Memory, TryExtend, try_format};
 use chip_ledger::Seat;
-use convert_core::{Notation, PlaysFault, plays, read_records};
+use convert_core::{Format, PlaysFault, plays, read_records};
 use hand_records::{Play, Records};
 use std::alloc::Global;
 
@@ -57,17 +57,16 @@ impl HandVisitor for SeenLines {
 
 /// The answer with the messages that a seat received in the hands in the bytes, if they are logs;
 /// hands in other notations have no messages.
-pub fn answer_with_messages<N: Notation>(
+pub fn answer_with_messages(
     alloc: Global,
     seat: Seat,
-    reader: &Format,
-    from: &N,
+    from: &Format,
     bytes: &[u8],
 ) -> Result<Answer, Memory>
-    ensures { IfOk result (λ answer. IsAnswerTo (N.Say from.now bytes.now)
-        (N.HaveFault from.now bytes.now) (AreMessages reader.now seat) (answer_told answer)) }
+    ensures { IfOk result (λ answer. IsAnswerTo (SayRecords from.now bytes.now)
+        (HaveFault from.now bytes.now) (AreMessages from.now seat) (answer_told answer)) }
 {
-    match reader {
+    match from {
         Format::Phh => answer_without_messages(alloc, from, bytes),
         Format::Ohh(_) => answer_without_messages(alloc, from, bytes),
         Format::Acpc(game) => answer_with_views(alloc, game, seat, from, bytes),
@@ -75,13 +74,9 @@ pub fn answer_with_messages<N: Notation>(
 }
 
 // The answer to hands without messages.
-fn answer_without_messages<N: Notation>(
-    alloc: Global,
-    from: &N,
-    bytes: &[u8],
-) -> Result<Answer, Memory>
-    ensures { IfOk result (λ answer. IsAnswerTo (N.Say from.now bytes.now)
-        (N.HaveFault from.now bytes.now) (λ plays told. told ≡ done_said []) (answer_told answer)) }
+fn answer_without_messages(alloc: Global, from: &Format, bytes: &[u8]) -> Result<Answer, Memory>
+    ensures { IfOk result (λ answer. IsAnswerTo (SayRecords from.now bytes.now)
+        (HaveFault from.now bytes.now) (λ plays told. told ≡ done_said []) (answer_told answer)) }
 {
     match plays(alloc, from, bytes) {
         Ok(plays) => no_messages(alloc, &plays),
@@ -98,15 +93,15 @@ fn no_messages(alloc: Global, _: &[Play]) -> Result<Answer, Memory>
 
 // The answer with what a seat saw of the hands in the bytes, read as logs of a game: one line
 // before each move, and one after the last.
-fn answer_with_views<N: Notation>(
+fn answer_with_views(
     alloc: Global,
     game: &Game,
     seat: Seat,
-    from: &N,
+    from: &Format,
     bytes: &[u8],
 ) -> Result<Answer, Memory>
-    ensures { IfOk result (λ answer. IsAnswerTo (N.Say from.now bytes.now)
-        (N.HaveFault from.now bytes.now) (AreViews game.now seat) (answer_told answer)) }
+    ensures { IfOk result (λ answer. IsAnswerTo (SayRecords from.now bytes.now)
+        (HaveFault from.now bytes.now) (AreViews game.now seat) (answer_told answer)) }
 {
     match read_records(alloc, from, bytes) {
         Ok(records) => match views_of(alloc, game, seat, records) {

@@ -2,9 +2,10 @@
 ghost use Rattle.std.specs.Prelude.{◌≡◌};
 ghost use Rattle.poker_cli.specs.Ways as definition;
 
-use crate::task::{Format, Job};
+use crate::task::Job;
 use acpc_game::Game;
 use command_words::{Command, Logs, NotationName, PlainNotation};
+use convert_core::Format;
 use ohh_members::Dialect;
 
 /// How hands without a game are read, and what is asked about them.

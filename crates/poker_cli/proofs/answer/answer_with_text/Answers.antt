@@ -2,8 +2,7 @@
 use Rattle.std.proofs.Common.{Global, IfOk, Result, subst, sym}
 use Rattle.std.specs.declared.string.String.{String}
 use Rattle.convert_core.specs.declared.refusal.PlaysFault.{PlaysFault}
-use Rattle.poker_cli.specs.Answer.{IsToldText}
-use Rattle.poker_cli.specs.Told.{answer_told}
+use Rattle.poker_cli.specs.Told.{IsToldText, answer_told}
 use Rattle.poker_cli.proofs.answer.answer_with_text.Goals as goal
 
 pub returns-in-Ok : goal.returns-in-Ok

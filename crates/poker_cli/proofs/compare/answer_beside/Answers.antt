@@ -2,9 +2,9 @@
 use Rattle.std.proofs.Common.{◌≡◌, IfOk, List, subst, sym}
 use Rattle.std.proofs.lemmas.Result.{IfOk-weaker}
 use Rattle.hand_records.specs.declared.trace.Play.{Play}
-use Rattle.poker_cli.specs.Answer.{Answer, IsComparedWith}
-use Rattle.poker_cli.specs.Answer as answers
-use Rattle.poker_cli.specs.Compare.{compared}
+use Rattle.poker_cli.specs.AnswerParts.{Answer}
+use Rattle.poker_cli.specs.Compare as answers
+use Rattle.poker_cli.specs.Compare.{IsComparedWith, compared}
 use Rattle.poker_cli.specs.Told.{answer_told}
 use Rattle.poker_cli.proofs.Replying.{other_told}
 use Rattle.poker_cli.proofs.compare.answer_beside.Goals as goal

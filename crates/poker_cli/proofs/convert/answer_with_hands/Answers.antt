@@ -1,27 +1,16 @@
--- What is written in each notation is what the conversion to it writes.
-use Rattle.std.proofs.Common.{IfOk, subst, sym}
-use Rattle.poker_cli.specs.Answer.{IsAnswerTo, IsConversion}
+-- The bytes in the other notation are the output, or the answer says why there are none.
+use Rattle.std.proofs.Common.{ℕ, Global}
+use Rattle.std.specs.Prelude.{Vec}
+use Rattle.std.proofs.lemmas.Result.{IfOk-weaker}
 use Rattle.poker_cli.specs.Told.{answer_told}
-use Rattle.poker_cli.specs.declared.task.Format.{Format}
+use Rattle.poker_cli.proofs.Answering.{answer_converted, answer_unconverted}
 use Rattle.poker_cli.proofs.convert.answer_with_hands.Goals as goal
 
-pub returns-in-Phh : goal.returns-in-Phh
-returns-in-Phh g c =
-    subst
-    (λ (to : Format). IfOk c.answer_with_conversion.result (λ answer. IsAnswerTo (g.N.Notation.Say c.args.from.now c.args.bytes.now)
-    (g.N.Notation.HaveFault c.args.from.now c.args.bytes.now) (IsConversion to c.args.keep) (answer_told answer)))
-    (sym c.in-Phh.is) c.answer_with_conversion.ensures
+pub returns-in-Ok : goal.returns-in-Ok
+returns-in-Ok c =
+    answer_converted _ _ _ _ _ (answer_told c.done.result) c.in-Ok.output.items c.in-Ok.ensures c.done.ensures
 
-pub returns-in-Ohh : goal.returns-in-Ohh
-returns-in-Ohh g c =
-    subst
-    (λ (to : Format). IfOk c.answer_with_conversion-in-Ohh.result (λ answer. IsAnswerTo (g.N.Notation.Say c.args.from.now c.args.bytes.now)
-    (g.N.Notation.HaveFault c.args.from.now c.args.bytes.now) (IsConversion to c.args.keep) (answer_told answer)))
-    (sym c.in-Ohh.is) c.answer_with_conversion-in-Ohh.ensures
-
-pub returns-in-Acpc : goal.returns-in-Acpc
-returns-in-Acpc g c =
-    subst
-    (λ (to : Format). IfOk c.answer_with_conversion-in-Acpc.result (λ answer. IsAnswerTo (g.N.Notation.Say c.args.from.now c.args.bytes.now)
-    (g.N.Notation.HaveFault c.args.from.now c.args.bytes.now) (IsConversion to c.args.keep) (answer_told answer)))
-    (sym c.in-Acpc.is) c.answer_with_conversion-in-Acpc.ensures
+pub returns-in-Err : goal.returns-in-Err
+returns-in-Err c =
+    IfOk-weaker c.answer_to_fault.result _ _
+    (λ answer told. answer_unconverted _ _ _ _ _ (answer_told answer) {X = Vec ℕ Global} (λ output. output.items) c.in-Err.fault c.in-Err.ensures told) c.answer_to_fault.ensures

@@ -6,10 +6,9 @@ use Rattle.std.proofs.lemmas.Option.{get_or_from_slice_get, slice_get_within}
 use Rattle.std.proofs.lemmas.Result.{IfOk-weaker}
 use Rattle.hand_records.specs.SoundRecord.{IsSoundRecord}
 use Rattle.play_event.specs.Said.{said_of}
-use Rattle.poker_cli.specs.AnswerParts.{done}
+use Rattle.poker_cli.specs.AnswerParts.{done, no_hand}
 use Rattle.poker_cli.specs.Each as each
 use Rattle.poker_cli.specs.Each.{IsPoint}
-use Rattle.poker_cli.specs.Replies.{no_hand}
 use Rattle.poker_cli.proofs.EachHand.{not_numbered, numbered}
 use Rattle.poker_cli.proofs.each_options.answer_with_point.Goals as goal
 

@@ -3,7 +3,7 @@ use Rattle.std.proofs.Common.{◌≤◌, length, ap, subst, sym, ◌∙◌, stri
 use Rattle.std.proofs.lemmas.Result.{IfOk-weaker}
 use Rattle.poker_cli.specs.Each as each
 use Rattle.poker_cli.specs.Each.{IsEveryPoint}
-use Rattle.poker_cli.specs.Replies.{no_hand}
+use Rattle.poker_cli.specs.AnswerParts.{no_hand}
 use Rattle.poker_cli.proofs.EachHand.{not_numbered, numbered}
 use Rattle.poker_cli.proofs.each_options.answer_with_points.Goals as goal
 

@@ -4,11 +4,11 @@ use Rattle.std.proofs.Common.{ℕ, List, Option, subst, IfOk}
 use Rattle.std.proofs.lemmas.Result.{IfErr-weaker}
 use Rattle.poker_cli.specs.Answer.{IsAnswerBy}
 use Rattle.poker_cli.specs.declared.task.Job.{Job}
-use Rattle.poker_cli.specs.Lacking.{HasNoGame, IsGameFileErrorTold}
+use Rattle.poker_cli.specs.GameFiles.{HasNoGame, IsGameFileErrorTold}
 use Rattle.poker_cli.specs.Run.{OfBytes, OfFile}
 use Rattle.poker_cli.specs.Told.{answer_told}
-use Rattle.poker_cli.specs.declared.games.GameFileError.{GameFileError}
-use Rattle.poker_cli.specs.declared.games.NoGameError.{NoGameError}
+use Rattle.poker_cli.specs.declared.game_files.GameFileError.{GameFileError}
+use Rattle.poker_cli.specs.declared.game_files.NoGameError.{NoGameError}
 use Rattle.poker_cli.proofs.Answering.{game_reply, game_file_error_reply}
 use Rattle.poker_cli.proofs.OneAnswer.{not_lacking}
 use Rattle.poker_cli.proofs.OwnStatus.{of_way}

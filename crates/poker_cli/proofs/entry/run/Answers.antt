@@ -6,12 +6,16 @@ use Rattle.command_words.specs.Words.{request_said}
 use Rattle.poker_cli.specs.Run.{LacksFile, MakesHands}
 use Rattle.poker_cli.specs.declared.status.Status.TheVariants as statuses
 use Rattle.poker_cli.proofs.Answering.{ends_unread, kept_unread}
-use Rattle.poker_cli.proofs.Headline.{headline_read, headline_told}
+use Rattle.poker_cli.proofs.Headline.{ends_read, ends_told}
 use Rattle.poker_cli.proofs.entry.run.Goals as goal
 
 pub returns-in-Err-clause-ends : goal.returns-in-Err-clause-ends
 returns-in-Err-clause-ends g c =
-    ends_unread (request_said (map string_bytes c.args.words.now)) (g.S.Source.left c.args.input.now) (g.H.Shelf.files c.args.shelf.now) _ _ _ c.in-Err.memory.refused
+    let said = request_said (map string_bytes c.args.words.now) in
+    let left = g.S.Source.left c.args.input.now in
+    let told = g.H.Shelf.files c.args.shelf.now in
+    ends_told said left told _ _ statuses.Memory _ (ends_unread said left told _ _ _ c.in-Err.memory.refused)
+    (record { unwritten = λ nothing. refl; failed = λ is. cc; quiet = λ is. cc; fixed = c.print_line-in-Err.ensures })
 
 pub returns-in-Err-clause-without_file : goal.returns-in-Err-clause-without_file
 returns-in-Err-clause-without_file g c =
@@ -21,19 +25,11 @@ pub returns-in-Err-clause-without_input : goal.returns-in-Err-clause-without_inp
 returns-in-Err-clause-without_input g c =
     kept_unread (request_said (map string_bytes c.args.words.now)) (λ request. MakesHands request) _
 
-pub returns-in-Err-clause-headline : goal.returns-in-Err-clause-headline
-returns-in-Err-clause-headline g c =
-    let said = request_said (map string_bytes c.args.words.now) in
-    let left = g.S.Source.left c.args.input.now in
-    let told = g.H.Shelf.files c.args.shelf.now in
-    headline_told said left told _ _ statuses.Memory (Unit {0}) (ends_unread said left told _ _ _ c.in-Err.memory.refused)
-    (record { unwritten = λ nothing. refl; failed = λ is. cc; quiet = λ is. cc; fixed = c.print_line-in-Err.ensures })
-
 -- The headline follows from how the request in the words ends.
-pub returns-in-Ok-Some-clause-headline : goal.returns-in-Ok-Some-clause-headline
-returns-in-Ok-Some-clause-headline g c =
+pub returns-in-Ok-Some-clause-ends : goal.returns-in-Ok-Some-clause-ends
+returns-in-Ok-Some-clause-ends g c =
     let ends = c.run_request.ensures in
-    headline_read (request_in c.in-Ok-Some.request) (request_said (map string_bytes c.args.words.now)) (g.S.Source.left c.args.input.now)
+    ends_read (request_in c.in-Ok-Some.request) (request_said (map string_bytes c.args.words.now)) (g.S.Source.left c.args.input.now)
     (g.H.Shelf.files c.args.shelf.now) _ _ c.run_request.result _
     (sym (ap (option_map request_in) c.in-Ok-Some.field-0-is) ∙ c.in-Ok-Some.ensures.read) ends.ends
     (record {

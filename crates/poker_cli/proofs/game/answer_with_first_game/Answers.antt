@@ -1,6 +1,6 @@
 -- The output is the game file of the first of all plays.
 use Rattle.std.proofs.Common.{◌<◌, length, subst, sym, arith}
-use Rattle.poker_cli.specs.Answer.{IsGameReply}
+use Rattle.poker_cli.specs.Game.{IsGameReply}
 use Rattle.poker_cli.proofs.GameReplies.{first_of_all}
 use Rattle.poker_cli.proofs.game.answer_with_first_game.Goals as goal
 

@@ -2,20 +2,20 @@
 use Rattle.std.proofs.Common.{List, subst}
 use Rattle.std.proofs.lemmas.Result.{IfOk-weaker}
 use Rattle.hand_records.specs.declared.trace.Play.{Play}
-use Rattle.poker_cli.specs.Answer as answers
-use Rattle.poker_cli.specs.Answer.{IsGameReply}
+use Rattle.poker_cli.specs.AnswerParts as answers
+use Rattle.poker_cli.specs.Game.{IsGameReply}
 use Rattle.poker_cli.specs.Told.{answer_told}
 use Rattle.poker_cli.proofs.Answering.{answer_unplayed}
 use Rattle.poker_cli.proofs.game.answer_with_game.Goals as goal
 
 pub returns-in-Ok : goal.returns-in-Ok
-returns-in-Ok g c =
+returns-in-Ok c =
     IfOk-weaker c.answer_with_first_game.result _ _
     (λ answer is. answers.Played c.in-Ok.plays.items c.in-Ok.ensures.plays (answer_told answer)
     (subst (λ (plays : List Play). IsGameReply plays (answer_told answer)) c.deref.ensures.value is))
     c.answer_with_first_game.ensures
 
 pub returns-in-Err : goal.returns-in-Err
-returns-in-Err g c =
+returns-in-Err c =
     IfOk-weaker c.answer_to_fault.result _ _
     (λ answer told. answer_unplayed _ _ _ (answer_told answer) c.in-Err.fault c.in-Err.ensures.refused told) c.answer_to_fault.ensures

@@ -1,6 +1,7 @@
 use Rattle.command_words.specs.declared.command.Command.TheVariants as commands
-use Rattle.poker_cli.specs.declared.task.Format.TheVariants as readers
+use Rattle.convert_core.specs.declared.format.Format.TheVariants as readers
 use Rattle.poker_cli.proofs.Comparisons.{legal_compares}
+use Rattle.poker_cli.proofs.LegalEach.{absent_each, legal_each}
 use Rattle.poker_cli.proofs.LegalReplies.{legal_equity, legal_options, legal_seen}
 use Rattle.poker_cli.proofs.OneAnswer.{all_judged, legal_asks, legal_in_way, legal_load, legal_shown}
 use Rattle.poker_cli.proofs.laws.law_of_legal_inputs.Goals as goal
@@ -17,6 +18,8 @@ returns c = record {
       legal_asks request (commands.Views seat) (readers.Acpc game) files bytes is.read.records plays reply out diag status is.asks is.within is.read.say is.read.are to ends;
   seen = legal_seen;
   judge = all_judged;
+  each = legal_each;
+  absent = absent_each;
   convert = λ request reader target keep files bytes plays out diag status is spelled ends.
       legal_in_way request reader target keep files bytes is.read.records plays out diag status is.asks is.within is.read.say is.read.are spelled ends;
   compare = λ request by files text bytes plays others out diag status asks both ends.

@@ -3,7 +3,7 @@ use Rattle.std.proofs.Common.{rules, ◌≡◌, ◌∙◌, List, ℕ, Some, ap, 
 use Rattle.std.proofs.lemmas.Result.{IfOk-weaker}
 use Rattle.std.specs.Option.{option_map}
 use Rattle.ohh_reading.specs.Reading.{wrong_of}
-use Rattle.poker_cli.specs.Answer.{Answer, refusal, to_wrong_ohh}
+use Rattle.poker_cli.specs.AnswerParts.{Answer, refusal, to_wrong_ohh}
 use Rattle.poker_cli.specs.OhhFaults.{bad_member_line, fault_name}
 use Rattle.poker_cli.specs.declared.status.Status.TheVariants as statuses
 use Rattle.poker_cli.proofs.ohh_faults.answer_to_ohh_fault.Goals as goal

@@ -3,7 +3,7 @@ use Rattle.std.proofs.Common.{rules, ◌≡◌, ◌∙◌, List, ℕ, Some, ap, 
 use Rattle.std.proofs.lemmas.Result.{IfOk-weaker}
 use Rattle.std.specs.Option.{option_map}
 use Rattle.phh_reading.specs.Reading.{wrong_of}
-use Rattle.poker_cli.specs.Answer.{Answer, refusal, to_wrong_phh}
+use Rattle.poker_cli.specs.AnswerParts.{Answer, refusal, to_wrong_phh}
 use Rattle.poker_cli.specs.PhhFaults.{bad_hand_line, fault_name}
 use Rattle.poker_cli.specs.declared.status.Status.TheVariants as statuses
 use Rattle.poker_cli.proofs.phh_faults.answer_to_phh_fault.Goals as goal

@@ -8,7 +8,7 @@ use Rattle.std.specs.declared.io.ErrorKind.TheVariants.{OutOfMemory}
 use Rattle.std.specs.declared.string.String.{String}
 use Rattle.std.specs.declared.vec.IntoIter.{IntoIter}
 use Rattle.command_words.specs.Words.{request_said}
-use Rattle.poker_cli.specs.Answer.{FilesByName}
+use Rattle.poker_cli.specs.Files.{FilesByName}
 use Rattle.poker_cli.specs.Run.{Sinks}
 use Rattle.poker_cli.specs.Process.{RunKeeps, words_given}
 use Rattle.poker_cli.specs.declared.status.Status.{Status}
@@ -47,7 +47,6 @@ returns-in-Ok-clause-run g c =
       memory = run.memory;
       usage = run.usage;
       ends = run.ends;
-      headline = run.headline;
       tells = run.tells;
       leaves = run.leaves;
       in_turn = run.asks;

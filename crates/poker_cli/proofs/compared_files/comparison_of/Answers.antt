@@ -5,11 +5,13 @@ use Rattle.command_words.specs.Requests.{sides_in}
 use Rattle.command_words.specs.Words.{SidesUnder}
 use Rattle.command_words.specs.declared.notation.NotationName.{NotationName}
 use Rattle.command_words.specs.declared.request.Sides.{Sides}
-use Rattle.poker_cli.specs.Answer.{FilesByName, GivesGame, IsComparisonOf, comparison_under}
+use Rattle.poker_cli.specs.Compare.{IsComparisonOf, comparison_under}
+use Rattle.poker_cli.specs.Files.{FilesByName}
+use Rattle.poker_cli.specs.GameFiles.{GivesGame}
 use Rattle.poker_cli.specs.Run.{OfFile, OfGameFile}
 use Rattle.poker_cli.specs.declared.compare.Comparison.{Comparison}
 use Rattle.poker_cli.proofs.FilesTold.{of_file}
-use Rattle.poker_cli.proofs.comparing.comparison_of.Goals as goal
+use Rattle.poker_cli.proofs.compared_files.comparison_of.Goals as goal
 
 -- under the game that a file gives
 under_game : (told : Option FilesByName) (name : List ℕ) (from other : NotationName) (notes : Bool) (game : Game) (by : Comparison)

@@ -1,9 +1,9 @@
 -- More bytes than the limit are answered as such.
 use Rattle.std.proofs.Common.{◌∙◌, ℕ, List, ap, subst, Err}
-use Rattle.poker_cli.specs.Answer.{IsComparison}
+use Rattle.poker_cli.specs.Compare.{IsComparison}
 use Rattle.poker_cli.specs.Told.{answer_told}
 use Rattle.poker_cli.proofs.Replying.{compared_beyond, compared_within}
-use Rattle.poker_cli.proofs.comparing.reply_to_both.Goals as goal
+use Rattle.poker_cli.proofs.compared_files.reply_to_both.Goals as goal
 
 pub returns-in-Ok-input_too_long-clause-answer : goal.returns-in-Ok-input_too_long-clause-answer
 returns-in-Ok-input_too_long-clause-answer g c =

@@ -4,16 +4,17 @@ ghost use Rattle.std.specs.Prelude.{◌≡◌, ◌≤◌, length, IfErr, IfOk, I
 ghost use Rattle.command_words.specs.Requests.{sides_in};
 ghost use Rattle.command_words.specs.Words.{Compare};
 ghost use Rattle.host_io.specs.Faults.{Rose};
-ghost use Rattle.poker_cli.specs.Answer as definition;
-ghost use Rattle.poker_cli.specs.Answer.{IsComparedIn, IsComparedTo, IsComparison, IsComparisonOf, most_input};
-ghost use Rattle.poker_cli.specs.Lacking.{AreOfLogs, AsksForGame, ComesFirst, HasNoFile, HasNoGameFor};
-ghost use Rattle.poker_cli.specs.Replied.{HasNoAnswer, Keeps};
+ghost use Rattle.poker_cli.specs.Compare as definition;
+ghost use Rattle.poker_cli.specs.AnswerParts.{most_input};
+ghost use Rattle.poker_cli.specs.Compare.{IsComparedIn, IsComparedTo, IsComparison, IsComparisonOf};
+ghost use Rattle.poker_cli.specs.ComparedFiles.{AreOfLogs, AsksForGame, HasNoFile, HasNoGameFor};
+ghost use Rattle.poker_cli.specs.Replied.{ComesFirst, HasNoAnswer, Keeps};
 ghost use Rattle.poker_cli.specs.Run.{Asks, IsNotThere, LacksFile, OfBytes, OfFile, OfGameFile, WhereTold};
 ghost use Rattle.poker_cli.specs.Told.{answer_told};
 
 use crate::answer::{self, Answer, MOST_INPUT, refusal};
 use crate::compare::{Comparison, answer_to_comparison, comparison_under, plain_comparison};
-use crate::games::{NoGameError, fetch_game, game_file_answer};
+use crate::game_files::{NoGameError, fetch_game, game_file_answer};
 use crate::limits::excess_line;
 use crate::no_answer::NoAnswerError;
 use crate::status::Status;

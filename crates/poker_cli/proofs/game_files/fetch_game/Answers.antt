@@ -1,9 +1,9 @@
 -- What is read of the game file holds of the file that the shelf answered with.
 use Rattle.std.proofs.lemmas.Result.{IfErr-weaker, IfOk-weaker}
-use Rattle.poker_cli.specs.Answer.{GivesGame, most_input}
-use Rattle.poker_cli.specs.Lacking.{HasNoGame}
+use Rattle.poker_cli.specs.AnswerParts.{most_input}
+use Rattle.poker_cli.specs.GameFiles.{GivesGame, HasNoGame}
 use Rattle.poker_cli.proofs.FilesTold.{by_answer}
-use Rattle.poker_cli.proofs.games.fetch_game.Goals as goal
+use Rattle.poker_cli.proofs.game_files.fetch_game.Goals as goal
 
 pub returns-in-Ok-clause-game : goal.returns-in-Ok-clause-game
 returns-in-Ok-clause-game g c =

@@ -1,15 +1,17 @@
 -- The answer follows from the two files, or reports what is wrong with the game file.
 use Rattle.std.proofs.Common.{◌≡◌, ℕ, IfOk, IfSome, List, Option, None, subst}
 use Rattle.command_words.specs.Requests.{sides_in}
-use Rattle.poker_cli.specs.Answer.{FilesByName, IsComparedTo}
-use Rattle.poker_cli.specs.Lacking.{HasNoGameFor, IsGameFileErrorTold}
+use Rattle.poker_cli.specs.Compare.{IsComparedTo}
+use Rattle.poker_cli.specs.Files.{FilesByName}
+use Rattle.poker_cli.specs.ComparedFiles.{HasNoGameFor}
+use Rattle.poker_cli.specs.GameFiles.{IsGameFileErrorTold}
 use Rattle.poker_cli.specs.Run.{IsNotThere, OfBytes, OfFile, OfGameFile}
 use Rattle.poker_cli.specs.Told.{answer_told}
-use Rattle.poker_cli.specs.declared.games.GameFileError.{GameFileError}
-use Rattle.poker_cli.specs.declared.games.NoGameError.{NoGameError}
+use Rattle.poker_cli.specs.declared.game_files.GameFileError.{GameFileError}
+use Rattle.poker_cli.specs.declared.game_files.NoGameError.{NoGameError}
 use Rattle.poker_cli.proofs.Replied.{keeps_later, none_beside}
 use Rattle.poker_cli.proofs.Replying.{both_asked, compared_game_file_error, compared_reply, no_game_file, where_lacking}
-use Rattle.poker_cli.proofs.comparing.reply_to_comparison.Goals as goal
+use Rattle.poker_cli.proofs.compared_files.reply_to_comparison.Goals as goal
 
 pub returns-in-Ok-clause-answer : goal.returns-in-Ok-clause-answer
 returns-in-Ok-clause-answer g c =

@@ -2,8 +2,8 @@
 ghost use Rattle.std.specs.Prelude.{◌≡◌, ◌≤◌, List, ℕ, Option, IfErr, IfOk, IsErrOf, string_bytes};
 ghost use Rattle.host_io.specs.Faults.{Rose};
 ghost use Rattle.host_io.specs.Shelf.{IsAnswer};
-ghost use Rattle.poker_cli.specs.Answer.{GivesGame, most_input};
-ghost use Rattle.poker_cli.specs.Lacking.{HasNoGame, IsGameFileErrorTold};
+ghost use Rattle.poker_cli.specs.AnswerParts.{most_input};
+ghost use Rattle.poker_cli.specs.GameFiles.{GivesGame, HasNoGame, IsGameFileErrorTold};
 ghost use Rattle.poker_cli.specs.AcpcFaults.{bad_game_line as bad_game_line_said};
 ghost use Rattle.poker_cli.specs.Run.{OfFile};
 ghost use Rattle.poker_cli.specs.Told.{answer_told};

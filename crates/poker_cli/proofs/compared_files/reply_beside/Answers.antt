@@ -1,14 +1,14 @@
 -- The answer follows from the bytes of the file, or says that they exceed the limit.
 use Rattle.std.proofs.Common.{IfOk, List, Option, ℕ, subst}
-use Rattle.poker_cli.specs.Answer.{IsComparison}
-use Rattle.poker_cli.specs.Lacking.{HasNoFile}
+use Rattle.poker_cli.specs.Compare.{IsComparison}
+use Rattle.poker_cli.specs.ComparedFiles.{HasNoFile}
 use Rattle.poker_cli.specs.Run.{OfBytes, OfFile}
 use Rattle.poker_cli.specs.Told.{answer_told}
-use Rattle.poker_cli.specs.declared.comparing.NoFileError.{NoFileError}
+use Rattle.poker_cli.specs.declared.compared_files.NoFileError.{NoFileError}
 use Rattle.poker_cli.proofs.OwnStatus.{of_both}
 use Rattle.poker_cli.proofs.Replied.{keeps_read}
 use Rattle.poker_cli.proofs.Replying.{beside_reply, is_there, kept_there, long_reply}
-use Rattle.poker_cli.proofs.comparing.reply_beside.Goals as goal
+use Rattle.poker_cli.proofs.compared_files.reply_beside.Goals as goal
 
 pub returns-in-Ok-clause-answer : goal.returns-in-Ok-clause-answer
 returns-in-Ok-clause-answer g c =
