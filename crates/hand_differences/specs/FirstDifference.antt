@@ -51,26 +51,26 @@ difference_said (differences.Note name) = Note name
 
 -- one of the bet sizes differs: the bring-in, the small bet, the big bet or the minimum bet
 abbrev pub has_other_sizes : Setup → Setup → Bool
-has_other_sizes a b =
-    not ((a.bring_in == b.bring_in) && (a.small_bet == b.small_bet)
-    && (a.big_bet == b.big_bet) && (a.min_bet == b.min_bet))
+has_other_sizes setup other =
+    not ((setup.bring_in == other.bring_in) && (setup.small_bet == other.small_bet)
+    && (setup.big_bet == other.big_bet) && (setup.min_bet == other.min_bet))
 
 -- the antes differ: one of the amounts, or whether they are dead
 abbrev pub has_other_antes : Setup → Setup → Bool
-has_other_antes a b =
-    not (bytes_eq (amounts_in a.antes) (amounts_in b.antes)
-    && is_same_test a.dead_antes b.dead_antes)
+has_other_antes setup other =
+    not (bytes_eq (amounts_in setup.antes) (amounts_in other.antes)
+    && is_same_test setup.dead_antes other.dead_antes)
 
 -- what may differ in two setups, in the order in which it is reported
 abbrev pub setup_rows : Setup → Setup → List (Bool × PlainDifference)
-setup_rows a b =
-    (not (bytes_eq (code_text a.code) (code_text b.code)), Variant)
-    ∷ (not (a.stacks.seats == b.stacks.seats), SeatCount)
-    ∷ (not (bytes_eq (amounts_in a.stacks) (amounts_in b.stacks)), Stacks)
-    ∷ (has_other_sizes a b, BetSizes)
-    ∷ (has_other_antes a b, Antes)
-    ∷ (not (bytes_eq (amounts_in a.blinds) (amounts_in b.blinds)), Blinds)
-    ∷ (not (bytes_eq a.rakes.rakes b.rakes.rakes), Rake)
+setup_rows setup other =
+    (not (bytes_eq (code_text setup.code) (code_text other.code)), Variant)
+    ∷ (not (setup.stacks.seats == other.stacks.seats), SeatCount)
+    ∷ (not (bytes_eq (amounts_in setup.stacks) (amounts_in other.stacks)), Stacks)
+    ∷ (has_other_sizes setup other, BetSizes)
+    ∷ (has_other_antes setup other, Antes)
+    ∷ (not (bytes_eq (amounts_in setup.blinds) (amounts_in other.blinds)), Blinds)
+    ∷ (not (bytes_eq setup.rakes.rakes other.rakes.rakes), Rake)
     ∷ []
 
 -- the first row that holds, if one does
@@ -115,22 +115,23 @@ note_names =
 
 -- a note is the same in both; one that equals its default counts as missing
 abbrev pub is_same_note : SaidNotes → SaidNotes → NoteName → Bool
-is_same_note a b names.Players = are_same_entries is_same_text a.names b.names
-is_same_note a b names.Seats = is_same_text a.seats b.seats
-is_same_note a b names.SeatCount = is_same_number a.seat_count b.seat_count
-is_same_note a b names.Hand = is_same_text a.hand b.hand
-is_same_note a b names.Table = is_same_text a.table b.table
-is_same_note a b names.Venue = is_same_text a.venue b.venue
-is_same_note a b names.Currency = is_same_text a.currency b.currency
-is_same_note a b names.TimeZone = is_same_text a.zone b.zone
-is_same_note a b names.Year = is_same_number a.year b.year
-is_same_note a b names.Month = is_same_number a.month b.month
-is_same_note a b names.Day = is_same_number a.day b.day
-is_same_note a b names.Time = is_same_option is_same_clock a.time b.time
+is_same_note notes other names.Players = are_same_entries is_same_text notes.names other.names
+is_same_note notes other names.Seats = is_same_text notes.seats other.seats
+is_same_note notes other names.SeatCount = is_same_number notes.seat_count other.seat_count
+is_same_note notes other names.Hand = is_same_text notes.hand other.hand
+is_same_note notes other names.Table = is_same_text notes.table other.table
+is_same_note notes other names.Venue = is_same_text notes.venue other.venue
+is_same_note notes other names.Currency = is_same_text notes.currency other.currency
+is_same_note notes other names.TimeZone = is_same_text notes.zone other.zone
+is_same_note notes other names.Year = is_same_number notes.year other.year
+is_same_note notes other names.Month = is_same_number notes.month other.month
+is_same_note notes other names.Day = is_same_number notes.day other.day
+is_same_note notes other names.Time = is_same_option is_same_clock notes.time other.time
 
 -- the first note that differs
 abbrev pub note_difference : SaidNotes → SaidNotes → Option PlainDifference
-note_difference a b = option_map Note (find (λ name. not (is_same_note a b name)) note_names)
+note_difference notes other =
+    option_map Note (find (λ name. not (is_same_note notes other name)) note_names)
 
 -- what differs in two hands, leaving their notes aside
 abbrev pub play_difference : Play → Play → Option PlainDifference

@@ -1,7 +1,8 @@
 //! Compares two plays and names their first difference.
 ghost use Rattle.std.specs.Prelude.{◌≡◌, IfNone, option_map};
 ghost use Rattle.hand_canon.specs.Sound.{IsSound};
-ghost use Rattle.hand_differences.specs.FirstDifference.{difference_said, first_difference as first_difference_said, play_difference as play_difference_said};
+ghost use Rattle.hand_differences.specs.FirstDifference.{difference_said};
+ghost use Rattle.hand_differences.specs.FirstDifference as differences;
 
 use crate::difference::Difference;
 use crate::lists::{card_difference, move_difference, shown_difference};
@@ -19,7 +20,7 @@ pub fn first_difference(notes: bool, place: usize, play: &Play, other: &Play) ->
     requires play { IsSound play.now }
     requires other { IsSound other.now }
     ensures { option_map difference_said result
-        ≡ first_difference_said notes place play.now other.now }
+        ≡ differences.first_difference notes place play.now other.now }
 {
     let found = play_difference(play, other);
     if found.is_some() {
@@ -38,7 +39,8 @@ pub fn first_difference(notes: bool, place: usize, play: &Play, other: &Play) ->
 
 // The first difference of two plays, leaving their notes aside.
 fn play_difference(play: &Play, other: &Play) -> Option<Difference>
-    ensures told { option_map difference_said result ≡ play_difference_said play.now other.now }
+    ensures told { option_map difference_said result
+        ≡ differences.play_difference play.now other.now }
     ensures seats { IfNone result
         (play.now.trace.setup.stacks.seats ≡ other.now.trace.setup.stacks.seats) }
 {

@@ -2,9 +2,10 @@
 //! two hands shows.
 ghost use Rattle.std.specs.Prelude.{◌≡◌, max, not, option_map};
 ghost use Rattle.chip_ledger.specs.LiveRow.{flag_of};
-ghost use Rattle.hand_differences.specs.FirstDifference.{card_difference as card_difference_said, difference_said, move_difference as move_difference_said, shown_difference as shown_difference_said};
+ghost use Rattle.hand_differences.specs.FirstDifference.{difference_said};
+ghost use Rattle.hand_differences.specs.FirstDifference as differences;
 ghost use Rattle.hand_differences.specs.FirstNumbers.{entry_at, first_other_number, is_same_at};
-ghost use Rattle.hand_differences.specs.SameParts.{is_same_move as is_same_move_said, is_same_place as is_same_place_said, is_same_test as is_same_test_said};
+ghost use Rattle.hand_differences.specs.SameParts as same_parts;
 
 use crate::difference::Difference;
 use crate::rows::{is_same_move, is_same_place, is_same_test};
@@ -13,7 +14,8 @@ use play_event::{Move, Place};
 
 // The first move that differs.
 pub(crate) fn move_difference(played: &[Move], others: &[Move]) -> Option<Difference>
-    ensures { option_map difference_said result ≡ move_difference_said played.now others.now }
+    ensures { option_map difference_said result
+        ≡ differences.move_difference played.now others.now }
 {
     let Some(number) = first_other_move(played, others) else {
         return None;
@@ -30,7 +32,7 @@ pub(crate) fn move_difference(played: &[Move], others: &[Move]) -> Option<Differ
 
 // The number of the first move that differs.
 fn first_other_move(played: &[Move], others: &[Move]) -> Option<usize>
-    ensures { result ≡ first_other_number is_same_move_said played.now others.now }
+    ensures { result ≡ first_other_number same_parts.is_same_move played.now others.now }
 {
     for index in 0..greater(played.len(), others.len()) {
         if !is_same_move_at(played, others, index + 1) {
@@ -42,7 +44,7 @@ fn first_other_move(played: &[Move], others: &[Move]) -> Option<usize>
 
 // Both lists have the same move at this number, or neither has one.
 fn is_same_move_at(played: &[Move], others: &[Move], number: usize) -> bool
-    ensures { result ≡ is_same_at is_same_move_said played.now others.now number }
+    ensures { result ≡ is_same_at same_parts.is_same_move played.now others.now number }
 {
     let index = number.saturating_sub(1);
     match (played.get(index), others.get(index)) {
@@ -65,7 +67,7 @@ fn move_at(played: &[Move], others: &[Move], number: usize) -> Option<Move>
 
 // The first dealt card that differs.
 pub(crate) fn card_difference(dealt: &[Place], others: &[Place]) -> Option<Difference>
-    ensures { option_map difference_said result ≡ card_difference_said dealt.now others.now }
+    ensures { option_map difference_said result ≡ differences.card_difference dealt.now others.now }
 {
     let Some(number) = first_other_place(dealt, others) else {
         return None;
@@ -82,7 +84,7 @@ pub(crate) fn card_difference(dealt: &[Place], others: &[Place]) -> Option<Diffe
 
 // The number of the first dealt card that differs.
 fn first_other_place(dealt: &[Place], others: &[Place]) -> Option<usize>
-    ensures { result ≡ first_other_number is_same_place_said dealt.now others.now }
+    ensures { result ≡ first_other_number same_parts.is_same_place dealt.now others.now }
 {
     for index in 0..greater(dealt.len(), others.len()) {
         if !is_same_place_at(dealt, others, index + 1) {
@@ -94,7 +96,7 @@ fn first_other_place(dealt: &[Place], others: &[Place]) -> Option<usize>
 
 // Both lists have the same dealt card at this number, or neither has one.
 fn is_same_place_at(dealt: &[Place], others: &[Place], number: usize) -> bool
-    ensures { result ≡ is_same_at is_same_place_said dealt.now others.now number }
+    ensures { result ≡ is_same_at same_parts.is_same_place dealt.now others.now number }
 {
     let index = number.saturating_sub(1);
     match (dealt.get(index), others.get(index)) {
@@ -124,7 +126,8 @@ fn greater(a: usize, b: usize) -> usize
 
 // The lowest seat that is shown in only one of two hands.
 pub(crate) fn shown_difference(shown: &LiveRow, others: &LiveRow) -> Option<Difference>
-    ensures { option_map difference_said result ≡ shown_difference_said shown.now others.now }
+    ensures { option_map difference_said result
+        ≡ differences.shown_difference shown.now others.now }
 {
     for index in 0..shown.seats {
         let seat = Seat { number: index + 1 };
@@ -137,7 +140,7 @@ pub(crate) fn shown_difference(shown: &LiveRow, others: &LiveRow) -> Option<Diff
 
 // The seat is shown in only one of two hands.
 fn is_shown_in_one(shown: &LiveRow, others: &LiveRow, seat: Seat) -> bool
-    ensures { result ≡ not (is_same_test_said (flag_of shown.now seat.number)
+    ensures { result ≡ not (same_parts.is_same_test (flag_of shown.now seat.number)
         (flag_of others.now seat.number)) }
 {
     let index = seat.number as usize - 1;

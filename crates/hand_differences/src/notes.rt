@@ -5,8 +5,10 @@ ghost use Rattle.chip_ledger.specs.Seat.{seats_of};
 ghost use Rattle.hand_records.specs.AllowedNotes.{AreSeatNumbers};
 ghost use Rattle.hand_records.specs.SaidNotes.{kept_label, name_said, numbers_said, said_notes};
 ghost use Rattle.hand_differences.specs.BothAllowed.{AreBothAllowed};
-ghost use Rattle.hand_differences.specs.FirstDifference.{difference_said, is_same_note as is_same_note_said, note_difference as note_difference_said};
-ghost use Rattle.hand_differences.specs.SameParts.{are_same_entries, is_same_clock as is_same_clock_said, is_same_number, is_same_option, is_same_text as is_same_text_said};
+ghost use Rattle.hand_differences.specs.FirstDifference.{difference_said};
+ghost use Rattle.hand_differences.specs.FirstDifference as differences;
+ghost use Rattle.hand_differences.specs.SameParts.{are_same_entries, is_same_clock, is_same_number, is_same_option};
+ghost use Rattle.hand_differences.specs.SameParts as same_parts;
 
 use crate::difference::Difference;
 use first_fault::Text;
@@ -20,7 +22,7 @@ pub(crate) fn note_difference(
     others: &Notes,
 ) -> Option<Difference>
     requires { AreBothAllowed count notes.now others.now }
-    ensures { option_map difference_said result ≡ note_difference_said
+    ensures { option_map difference_said result ≡ differences.note_difference
         (said_notes place count notes.now) (said_notes place count others.now) }
 {
     let names = [
@@ -62,7 +64,7 @@ struct BothNotes<'a> {
 impl BothNotes<'_> {
     // The first of some notes that differs.
     fn first_other(&self, names: &[NoteName]) -> Option<NoteName>
-        ensures { result ≡ find (λ name. not (is_same_note_said
+        ensures { result ≡ find (λ name. not (differences.is_same_note
             (said_notes self.now.place self.now.count self.now.notes.now)
             (said_notes self.now.place self.now.count self.now.others.now) name)) names.now }
     {
@@ -80,7 +82,7 @@ impl BothNotes<'_> {
 
     // The note is the same in both.
     fn is_same_note(&self, name: NoteName) -> bool
-        ensures { result ≡ is_same_note_said
+        ensures { result ≡ differences.is_same_note
             (said_notes self.now.place self.now.count self.now.notes.now)
             (said_notes self.now.place self.now.count self.now.others.now) name }
     {
@@ -105,7 +107,7 @@ impl BothNotes<'_> {
 // The names of the players are the same, seat by seat.
 fn are_same_names(count: u8, names: &[Option<Text>; 10], others: &[Option<Text>; 10]) -> bool
     requires { count ≤ 10 }
-    ensures { result ≡ are_same_entries is_same_text_said
+    ensures { result ≡ are_same_entries same_parts.is_same_text
         (map (name_said names.now) (seats_of count)) (map (name_said others.now) (seats_of count)) }
 {
     for index in 0..count as usize {
@@ -122,7 +124,7 @@ fn are_same_seats(count: u8, seats: &Option<[u8; 10]>, others: &Option<[u8; 10]>
     requires few { count ≤ 10 }
     requires seats { IfSome seats.now (AreSeatNumbers count) }
     requires others { IfSome others.now (AreSeatNumbers count) }
-    ensures { result ≡ is_same_text_said (numbers_said count seats.now)
+    ensures { result ≡ same_parts.is_same_text (numbers_said count seats.now)
         (numbers_said count others.now) }
 {
     match (seats, others) {
@@ -134,7 +136,7 @@ fn are_same_seats(count: u8, seats: &Option<[u8; 10]>, others: &Option<[u8; 10]>
 
 // The names of two hands are the same. A name that is the hand's place counts as missing.
 fn is_same_label(place: usize, label: &Option<Text>, other: &Option<Text>) -> bool
-    ensures { result ≡ is_same_text_said (kept_label place label.now)
+    ensures { result ≡ same_parts.is_same_text (kept_label place label.now)
         (kept_label place other.now) }
 {
     match (label_behind(place, label), label_behind(place, other)) {
@@ -180,7 +182,7 @@ fn is_decimal(text: &[u8], number: u64) -> bool
 
 // Two optional texts are the same.
 fn is_same_text(a: &Option<Text>, b: &Option<Text>) -> bool
-    ensures { result ≡ is_same_text_said a.now b.now }
+    ensures { result ≡ same_parts.is_same_text a.now b.now }
 {
     match (a, b) {
         (Some(a), Some(b)) => a.as_str() == b.as_str(),
@@ -213,7 +215,7 @@ fn is_same_year(a: Option<u16>, b: Option<u16>) -> bool
 
 // Two optional times of day are the same.
 fn is_same_time(a: Option<Clock>, b: Option<Clock>) -> bool
-    ensures { result ≡ is_same_option is_same_clock_said a b }
+    ensures { result ≡ is_same_option is_same_clock a b }
 {
     match (a, b) {
         (Some(a), Some(b)) => {

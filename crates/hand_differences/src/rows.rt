@@ -1,8 +1,8 @@
 //! Compares single moves and dealt cards of two traces.
 ghost use Rattle.std.specs.Prelude.{◌≡◌};
 ghost use Rattle.play_event.specs.Said.{seat_named};
-ghost use Rattle.play_event.specs.Places.{is_same_owner as is_same_owner_said};
-ghost use Rattle.hand_differences.specs.SameParts.{is_same_act as is_same_act_said, is_same_move as is_same_move_said, is_same_place as is_same_place_said, is_same_slot as is_same_slot_said, is_same_test as is_same_test_said};
+ghost use Rattle.play_event.specs.Places as places;
+ghost use Rattle.hand_differences.specs.SameParts as same_parts;
 
 use card_set::{Slot, place_in_deck};
 use chip_ledger::Seat;
@@ -10,14 +10,14 @@ use play_event::{Act, Move, Place};
 
 // Both are true, or both are false.
 pub(crate) fn is_same_test(a: bool, b: bool) -> bool
-    ensures { result ≡ is_same_test_said a b }
+    ensures { result ≡ same_parts.is_same_test a b }
 {
     if a { b } else { !b }
 }
 
 // The moves are the same.
 pub(crate) fn is_same_move(a: &Move, b: &Move) -> bool
-    ensures { result ≡ is_same_move_said a.now b.now }
+    ensures { result ≡ same_parts.is_same_move a.now b.now }
 {
     a.street == b.street
         && a.seat.number == b.seat.number
@@ -31,7 +31,7 @@ pub(crate) fn is_same_move(a: &Move, b: &Move) -> bool
 
 // The acts are the same.
 fn is_same_act(a: Act, b: Act) -> bool
-    ensures { result ≡ is_same_act_said a b }
+    ensures { result ≡ same_parts.is_same_act a b }
 {
     match (a, b) {
         (Act::Fold, Act::Fold) => true,
@@ -44,7 +44,7 @@ fn is_same_act(a: Act, b: Act) -> bool
 
 // The dealt cards are the same, with owner and streets.
 pub(crate) fn is_same_place(a: &Place, b: &Place) -> bool
-    ensures { result ≡ is_same_place_said a.now b.now }
+    ensures { result ≡ same_parts.is_same_place a.now b.now }
 {
     is_same_owner(a.owner, b.owner)
         && a.street == b.street
@@ -54,7 +54,7 @@ pub(crate) fn is_same_place(a: &Place, b: &Place) -> bool
 
 // The owners are the same.
 fn is_same_owner(a: Option<Seat>, b: Option<Seat>) -> bool
-    ensures { result ≡ is_same_owner_said (seat_named a) (seat_named b) }
+    ensures { result ≡ places.is_same_owner (seat_named a) (seat_named b) }
 {
     match (a, b) {
         (Some(seat), Some(other)) => seat.number == other.number,
@@ -65,7 +65,7 @@ fn is_same_owner(a: Option<Seat>, b: Option<Seat>) -> bool
 
 // Both are the same known card, or both are unknown.
 fn is_same_slot(a: Slot, b: Slot) -> bool
-    ensures { result ≡ is_same_slot_said a b }
+    ensures { result ≡ same_parts.is_same_slot a b }
 {
     match (a, b) {
         (Slot::Known(card), Slot::Known(other)) => place_in_deck(card) == place_in_deck(other),

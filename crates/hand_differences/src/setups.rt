@@ -2,7 +2,8 @@
 ghost use Rattle.std.specs.Prelude.{◌≡◌, IfNone, bytes_eq, not, option_map};
 ghost use Rattle.chip_ledger.specs.SeatRow.{amounts_in};
 ghost use Rattle.play_event.specs.Code.{code_text};
-ghost use Rattle.hand_differences.specs.FirstDifference.{difference_said, first_row, has_other_antes as has_other_antes_said, has_other_sizes as has_other_sizes_said, setup_rows};
+ghost use Rattle.hand_differences.specs.FirstDifference.{difference_said, first_row, setup_rows};
+ghost use Rattle.hand_differences.specs.FirstDifference as differences;
 
 use crate::difference::Difference;
 use crate::rows::is_same_test;
@@ -54,7 +55,7 @@ fn are_other_amounts(a: &SeatRow, b: &SeatRow) -> bool
 
 // One of the bet sizes differs.
 fn has_other_sizes(a: &Setup, b: &Setup) -> bool
-    ensures { result ≡ has_other_sizes_said a.now b.now }
+    ensures { result ≡ differences.has_other_sizes a.now b.now }
 {
     !(a.bring_in == b.bring_in
         && a.small_bet == b.small_bet
@@ -64,7 +65,7 @@ fn has_other_sizes(a: &Setup, b: &Setup) -> bool
 
 // The antes differ, or whether they are dead.
 fn has_other_antes(a: &Setup, b: &Setup) -> bool
-    ensures { result ≡ has_other_antes_said a.now b.now }
+    ensures { result ≡ differences.has_other_antes a.now b.now }
 {
     are_other_amounts(&a.antes, &b.antes) || !is_same_test(a.dead_antes, b.dead_antes)
 }

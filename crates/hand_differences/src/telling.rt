@@ -1,6 +1,6 @@
 //! Prints the first difference of two plays.
 ghost use Rattle.std.specs.Prelude.{◌≡◌, IfOk, string_bytes};
-ghost use Rattle.hand_differences.specs.DifferenceText.{difference_text as difference_text_said, note_text as note_text_said, owner_text as owner_text_said};
+ghost use Rattle.hand_differences.specs.DifferenceText as texts;
 ghost use Rattle.hand_differences.specs.FirstDifference.{Card, difference_said};
 ghost use Rattle.play_event.specs.Said.{seat_named};
 
@@ -14,7 +14,7 @@ use std::alloc::Global;
 /// players`.
 pub fn difference_text(alloc: Global, difference: Difference) -> Result<String, Memory>
     ensures { IfOk result
-        (λ text. string_bytes text ≡ difference_text_said (difference_said difference)) }
+        (λ text. string_bytes text ≡ texts.difference_text (difference_said difference)) }
 {
     let word = match difference {
         Difference::Variant => "Variant",
@@ -57,7 +57,7 @@ fn card_text(
     owner: Option<Seat>,
 ) -> Result<String, Memory>
     ensures { IfOk result (λ text. string_bytes text
-        ≡ difference_text_said (Card number street (seat_named owner))) }
+        ≡ texts.difference_text (Card number street (seat_named owner))) }
 {
     let owner = owner_text(alloc, owner)?;
     let owner = owner.as_str();
@@ -66,7 +66,7 @@ fn card_text(
 
 // The text of a card's owner.
 fn owner_text(alloc: Global, owner: Option<Seat>) -> Result<String, Memory>
-    ensures { IfOk result (λ text. string_bytes text ≡ owner_text_said (seat_named owner)) }
+    ensures { IfOk result (λ text. string_bytes text ≡ texts.owner_text (seat_named owner)) }
 {
     match owner {
         Some(seat) => {
@@ -79,7 +79,7 @@ fn owner_text(alloc: Global, owner: Option<Seat>) -> Result<String, Memory>
 
 /// The printed name of a note, such as `players` or `time_zone`.
 pub fn note_text(note: NoteName) -> &'static str
-    ensures { result.now ≡ note_text_said note }
+    ensures { result.now ≡ texts.note_text note }
 {
     match note {
         NoteName::Players => "players",

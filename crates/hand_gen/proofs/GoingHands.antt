@@ -17,7 +17,7 @@ use Rattle.play_event.specs.Dealing.{board_cards_owed, cards_owed, next_to_draw}
 use Rattle.play_event.specs.Due.{turn}
 use Rattle.play_event.specs.HistoryRules.{history_rules}
 use Rattle.play_event.specs.Laws.{AreLegal}
-use Rattle.play_event.specs.Naming.{after_discard}
+use Rattle.play_event.specs.NameMatching.{after_discard}
 use Rattle.play_event.specs.Past.{Act, Boarded, Dealt, Discarded, Move, Moved, Past, Resolved, is_fold, moves_of}
 use Rattle.play_event.specs.Places.{Place, after_fold, is_held_by}
 use Rattle.play_event.specs.Reasons.{is_due_kind, is_over, why}

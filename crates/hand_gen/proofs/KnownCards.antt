@@ -12,7 +12,7 @@ use Rattle.card_set.specs.Known.{is_unknown, known_cards, known_slots}
 use Rattle.card_set.proofs.DeckLaws.{is_same_card-self}
 use Rattle.play_event.specs.declared.code.Code.{Code}
 use Rattle.play_event.specs.CardReasons.{has_no_place}
-use Rattle.play_event.specs.Naming.{after_discard, after_names, blanks_in, discarded_now, found_by, held_count, is_named, other_names, without}
+use Rattle.play_event.specs.NameMatching.{after_discard, after_matching, blanks_in, discarded_now, held_count, is_named, matched_card, unmatched_names, without_name}
 use Rattle.play_event.specs.Places.{Place, after_deal, after_fold, folded_place, gone_now, is_held_by, is_past_deck, is_in_group, places_dealt}
 use Rattle.play_event.specs.Taken.{has_misplaced_card, is_misplaced, newly_known}
 
@@ -81,7 +81,7 @@ fold_borne seat placed = each (length placed) placed
     each count (place ∷ rest) = ap (λ s. s ∷ borne (map (folded_place seat count) rest)) (one count place (is_held_by seat place)) ∙ ap (λ l. place.slot ∷ l) (each count rest)
 
 -- so does a discard of known cards
-names_borne : (covers : Place → Bool) (mark : Place → Place) (names others : List Card) (blanks : ℕ) (placed : List Place) → ((place : Place) → (mark place).slot ≡ place.slot) → AreKnown (borne placed) → borne (after_names covers mark names others blanks placed) ≡ borne placed
+names_borne : (covers : Place → Bool) (mark : Place → Place) (names others : List Card) (blanks : ℕ) (placed : List Place) → ((place : Place) → (mark place).slot ≡ place.slot) → AreKnown (borne placed) → borne (after_matching covers mark names others blanks placed) ≡ borne placed
 names_borne covers mark names others blanks [] marks known = refl
 names_borne covers mark names others blanks (place ∷ rest) marks known =
     by_cover (covers place) (λ left n. names_borne covers mark names left n rest marks (rest_known place.slot (borne rest) known))
@@ -90,19 +90,19 @@ names_borne covers mark names others blanks (place ∷ rest) marks known =
     marked true = marks place
     marked false = refl
 
-    by_slot : (slot : Slot) → AreKnown (slot ∷ borne rest) → ((left : List Card) (n : ℕ) → borne (after_names covers mark names left n rest) ≡ borne rest)
-        → borne (let found = found_by mark names slot others blanks place in found.place ∷ after_names covers mark names found.others found.blanks rest) ≡ place.slot ∷ borne rest
-    by_slot (slots.Known card) now later = ap (λ s. s ∷ borne (after_names covers mark names others blanks rest)) (marked (is_named card names)) ∙ ap (λ l. place.slot ∷ l) (later others blanks)
+    by_slot : (slot : Slot) → AreKnown (slot ∷ borne rest) → ((left : List Card) (n : ℕ) → borne (after_matching covers mark names left n rest) ≡ borne rest)
+        → borne (let found = matched_card mark names slot others blanks place in found.place ∷ after_matching covers mark names found.others found.blanks rest) ≡ place.slot ∷ borne rest
+    by_slot (slots.Known card) now later = ap (λ s. s ∷ borne (after_matching covers mark names others blanks rest)) (marked (is_named card names)) ∙ ap (λ l. place.slot ∷ l) (later others blanks)
     by_slot slots.Unknown now later = absurd now
 
-    by_cover : (b : Bool) → ((left : List Card) (n : ℕ) → borne (after_names covers mark names left n rest) ≡ borne rest)
-        → borne (if b then (let found = found_by mark names place.slot others blanks place in found.place ∷ after_names covers mark names found.others found.blanks rest) else (place ∷ after_names covers mark names others blanks rest)) ≡ place.slot ∷ borne rest
+    by_cover : (b : Bool) → ((left : List Card) (n : ℕ) → borne (after_matching covers mark names left n rest) ≡ borne rest)
+        → borne (if b then (let found = matched_card mark names place.slot others blanks place in found.place ∷ after_matching covers mark names found.others found.blanks rest) else (place ∷ after_matching covers mark names others blanks rest)) ≡ place.slot ∷ borne rest
     by_cover true later = by_slot place.slot known later
     by_cover false later = ap (λ l. place.slot ∷ l) (later others blanks)
 
 pub discard_borne : (street seat : ℕ) (names : List Slot) (placed : List Place) → AreKnown (borne placed) → borne (after_discard street seat names placed) ≡ borne placed
 discard_borne street seat names placed known =
-    names_borne (is_held_by seat) (discarded_now street (length placed)) (known_cards names) (other_names (filter (is_held_by seat) placed) (known_cards names)) (blanks_in names) placed (λ place. refl) known
+    names_borne (is_held_by seat) (discarded_now street (length placed)) (known_cards names) (unmatched_names (filter (is_held_by seat) placed) (known_cards names)) (blanks_in names) placed (λ place. refl) known
 
 -- and no card becomes known if all are
 none_new : (olds news : List Place) → AreKnown (borne olds) → newly_known olds news ≡ []
@@ -116,19 +116,19 @@ pub none_misplaced : (code : Code) (olds news : List Place) → AreKnown (borne 
 none_misplaced code olds news known = ap (list_any (is_misplaced code news)) (none_new olds news known)
 
 -- the first cards of a seat are matched with its cards
-without_none : (slot : Slot) → without slot [] ≡ []
+without_none : (slot : Slot) → without_name slot [] ≡ []
 without_none slots.Unknown = refl
 without_none (slots.Known card) = refl
 
-none_other : (covered : List Place) (count : ℕ) → AreKnown (borne covered) → other_names covered (known_cards (take count (borne covered))) ≡ []
+none_other : (covered : List Place) (count : ℕ) → AreKnown (borne covered) → unmatched_names covered (known_cards (take count (borne covered))) ≡ []
 none_other [] zero known = refl
 none_other [] (suc count) known = refl
-none_other (place ∷ rest) zero known = ap (other_names rest) (without_none place.slot) ∙ none_other rest zero (rest_known place.slot (borne rest) known)
+none_other (place ∷ rest) zero known = ap (unmatched_names rest) (without_none place.slot) ∙ none_other rest zero (rest_known place.slot (borne rest) known)
 none_other (place ∷ rest) (suc count) known = by_slot place.slot known (none_other rest count)
   where
-    by_slot : (slot : Slot) → AreKnown (slot ∷ borne rest) → (AreKnown (borne rest) → other_names rest (known_cards (take count (borne rest))) ≡ []) → other_names rest (without slot (known_cards (slot ∷ take count (borne rest)))) ≡ []
+    by_slot : (slot : Slot) → AreKnown (slot ∷ borne rest) → (AreKnown (borne rest) → unmatched_names rest (known_cards (take count (borne rest))) ≡ []) → unmatched_names rest (without_name slot (known_cards (slot ∷ take count (borne rest)))) ≡ []
     by_slot (slots.Known card) now later =
-        ap (λ b. other_names rest (if b then known_cards (take count (borne rest)) else (card ∷ without (slots.Known card) (known_cards (take count (borne rest)))))) (is_same_card-self card) ∙ later now
+        ap (λ b. unmatched_names rest (if b then known_cards (take count (borne rest)) else (card ∷ without_name (slots.Known card) (known_cards (take count (borne rest)))))) (is_same_card-self card) ∙ later now
     by_slot slots.Unknown now later = absurd now
 
 none_blank : (found : List Slot) (count : ℕ) → AreKnown found → blanks_in (take count found) ≡ 0
@@ -143,7 +143,7 @@ none_blank found count known = sym (length-filter is_unknown (take count found))
 
 pub has_places : (covered : List Place) (count : ℕ) → AreKnown (borne covered) → has_no_place covered (known_cards (take count (borne covered))) (blanks_in (take count (borne covered))) ≡ false
 has_places covered count known =
-    le-ltb (count_by (λ (place : Place). is_unknown place.slot) covered) (length (other_names covered (known_cards (take count (borne covered)))) + blanks_in (take count (borne covered)))
+    le-ltb (count_by (λ (place : Place). is_unknown place.slot) covered) (length (unmatched_names covered (known_cards (take count (borne covered)))) + blanks_in (take count (borne covered)))
     (omega (arith, ap (λ (l : List Card). length l) (none_other covered count known), none_blank (borne covered) count known))
 
 taken_few : (count : ℕ) (found : List Slot) → length (take count found) ≤ length found

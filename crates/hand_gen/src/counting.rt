@@ -1,9 +1,8 @@
 //! The numbers of one made hand.
-ghost use Rattle.std.specs.Prelude.{◌≡◌, ◌≤◌, ◌*◌, ◌^◌, ◌∷◌, [], Ok, IfOk, length};
+ghost use Rattle.std.specs.Prelude.{◌≡◌, ◌≤◌, ◌∷◌, [], Ok, IfOk, length};
 ghost use Rattle.std.specs.List.{AllByRecursion};
 ghost use Rattle.acpc_game.specs.GameView.{game_in};
 ghost use Rattle.acpc_writing.specs.GameOf as games;
-ghost use Rattle.hand_canon.specs.Agreement.{pot_total_of};
 ghost use Rattle.hand_canon.specs.Sound.{IsSound};
 ghost use Rattle.hand_records.specs.declared.trace.Play.{Play as PlayNow};
 ghost use Rattle.phh_writing.specs.Spelled as phh;
@@ -13,7 +12,8 @@ use crate::summary::{PlayCounts, SpelledSize};
 use acpc_game::Game;
 use acpc_writing::game_of;
 use card_set::Memory;
-use hand_records::{Keep, Play, Trace, WriteRefusal};
+use hand_canon::pot_total;
+use hand_records::{Keep, Play, WriteRefusal};
 use ohh_members::Dialect;
 use std::alloc::Global;
 
@@ -97,18 +97,6 @@ fn not_spelled() -> SpelledSize
     ensures bytes { result.bytes ≡ 0 }
 {
     SpelledSize { hands: 0, bytes: 0 }
-}
-
-// The total of all pots of a trace.
-fn pot_total(trace: &Trace) -> u128
-    ensures sum { result ≡ pot_total_of trace.now }
-    ensures few { result ≤ 11 * 2 ^ 64 }
-{
-    let mut all: u128 = 0;
-    for pot in &trace.pots.pots[..trace.pots.count as usize] {
-        all += u128::from(pot.chips);
-    }
-    all
 }
 
 // Whether the Poker Hand History format can express the hand, as 1 or 0.

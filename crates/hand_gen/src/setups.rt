@@ -6,7 +6,7 @@ ghost use Rattle.hand_gen.specs.Setups as setups;
 ghost use Rattle.hand_gen.specs.Setups.{IsMadeSetup, number_behind_setup};
 
 use crate::draws;
-use chip_ledger::{RakeRow, Seat, SeatRow};
+use chip_ledger::{PlayerCount, RakeRow, Seat, SeatRow};
 use play_event::{Code, Setup};
 
 // The games, in the order in which they take turns.
@@ -32,13 +32,15 @@ pub fn setup_at(place: u32, number: u64) -> Setup
     let stud = code.is_stud();
     let fixed = code.is_fixed();
     let first = draws::next_number(number);
-    let seats = 2 + draws::drawn(3, first) as u8;
+    let players = PlayerCount {
+        number: 2 + draws::drawn(3, first) as u8,
+    };
     Setup {
         code,
-        stacks: stacks(first, seats),
-        antes: even_row(seats, chips_where(stud, 1)),
+        stacks: stacks(first, players),
+        antes: even_row(players, chips_where(stud, 1)),
         dead_antes: false,
-        blinds: blinds(stud, seats),
+        blinds: blinds(stud, players),
         bring_in: chips_where(stud, 1),
         small_bet: chips_where(fixed, 2),
         big_bet: chips_where(fixed, 4),
@@ -56,16 +58,14 @@ fn game_at(place: u32) -> Code
 
 // The stacks, drawn after this number.
 #[tactic(auto, using(crate::proofs::DrawLaws::one_draw_more))]
-fn stacks(number: u64, seats: u8) -> SeatRow
-    requires least { 2 ≤ seats }
-    requires most { seats ≤ 10 }
-    ensures seats { result.seats ≡ seats }
-    ensures stacks { (seat : ℕ) → 1 ≤ seat → seat ≤ seats
+fn stacks(number: u64, players: PlayerCount) -> SeatRow
+    ensures seats { result.seats ≡ players.number }
+    ensures stacks { (seat : ℕ) → 1 ≤ seat → seat ≤ players.number
         → amount_of result seat ≡ 100 + drawn 401 (number_after seat number) }
 {
-    let mut row = SeatRow::new(seats);
+    let mut row = SeatRow::new(players.number);
     let mut number = number;
-    for index in 0..seats {
+    for index in 0..players.number {
         number = draws::next_number(number);
         row.set(Seat { number: index + 1 }, 100 + draws::drawn(401, number));
     }
@@ -73,15 +73,13 @@ fn stacks(number: u64, seats: u8) -> SeatRow
 }
 
 // A row with one amount for each seat.
-fn even_row(seats: u8, amount: u64) -> SeatRow
-    requires least { 2 ≤ seats }
-    requires most { seats ≤ 10 }
+fn even_row(players: PlayerCount, amount: u64) -> SeatRow
     requires few { amount ≤ 4 }
-    ensures seats { result.seats ≡ seats }
-    ensures even { (seat : ℕ) → 1 ≤ seat → seat ≤ seats → amount_of result seat ≡ amount }
+    ensures seats { result.seats ≡ players.number }
+    ensures even { (seat : ℕ) → 1 ≤ seat → seat ≤ players.number → amount_of result seat ≡ amount }
 {
-    let mut row = SeatRow::new(seats);
-    for index in 0..seats {
+    let mut row = SeatRow::new(players.number);
+    for index in 0..players.number {
         row.set(Seat { number: index + 1 }, amount);
     }
     row
@@ -95,31 +93,29 @@ fn chips_where(used: bool, chips: u64) -> u64
 }
 
 // The blinds of all seats.
-fn blinds(stud: bool, seats: u8) -> SeatRow
-    requires least { 2 ≤ seats }
-    requires most { seats ≤ 10 }
-    ensures seats { result.seats ≡ seats }
-    ensures blinds { (seat : ℕ) → 1 ≤ seat → seat ≤ seats
-        → amount_of result seat ≡ (if stud then 0 else setups.blind_of seats seat) }
+fn blinds(stud: bool, players: PlayerCount) -> SeatRow
+    ensures seats { result.seats ≡ players.number }
+    ensures blinds { (seat : ℕ) → 1 ≤ seat → seat ≤ players.number
+        → amount_of result seat ≡ (if stud then 0 else setups.blind_of players.number seat) }
 {
-    let mut row = SeatRow::new(seats);
-    for index in 0..seats {
-        row.set(Seat { number: index + 1 }, blind(stud, seats, index + 1));
+    let mut row = SeatRow::new(players.number);
+    for index in 0..players.number {
+        row.set(Seat { number: index + 1 }, blind(stud, players, index + 1));
     }
     row
 }
 
 // The blind of a seat.
-fn blind(stud: bool, seats: u8, seat: u8) -> u64
-    ensures value { result ≡ (if stud then 0 else setups.blind_of seats seat) }
+fn blind(stud: bool, players: PlayerCount, seat: u8) -> u64
+    ensures value { result ≡ (if stud then 0 else setups.blind_of players.number seat) }
     ensures few { result ≤ 2 }
 {
     if stud {
         0
     } else if seat == 1 {
-        if seats == 2 { 2 } else { 1 }
+        if players.number == 2 { 2 } else { 1 }
     } else if seat == 2 {
-        if seats == 2 { 1 } else { 2 }
+        if players.number == 2 { 1 } else { 2 }
     } else {
         0
     }

@@ -1,11 +1,11 @@
 //! The lines of a hand, step by step: what each event did, and the chips of the seats after it.
-ghost use Rattle.std.specs.Prelude.{◌≡◌, ◌++◌, ◌∷◌, List, true, false, Some, OnOk, IsTrue, string_bytes};
+ghost use Rattle.std.specs.Prelude.{◌≡◌, ◌++◌, ◌∷◌, List, Some, OnOk, IsTrue, string_bytes};
 ghost use Rattle.std.specs.Fmt.{decimal};
 ghost use Rattle.play_event.specs.CanonScript.{move_named, plain_move};
-ghost use Rattle.play_event.specs.PlayedScript.{is_move as is_move_said};
 ghost use Rattle.hand_canon.specs.Judged.{IsTraceOfLegal};
 ghost use Rattle.hand_canon.specs.Sound.{IsSound};
-ghost use Rattle.phh_actions.specs.Written.{event_text as text_of_event, has_words};
+ghost use Rattle.phh_actions.specs.Written.{has_words};
+ghost use Rattle.phh_actions.specs.Written as written;
 ghost use Rattle.play_event.specs.Past.{Move as PlainMove};
 ghost use Rattle.play_event.specs.Played.{move_said};
 ghost use Rattle.play_event.specs.Said.{kind_said};
@@ -98,7 +98,7 @@ fn push_steps(
             return Ok(());
         }
         number += 1;
-        if is_move(event.kind) {
+        if event.kind.is_move() {
             let moved = moves.get(made);
             made += 1;
             push_move(alloc, text, number, &moved, setup, &mut put)?;
@@ -121,20 +121,6 @@ fn push_head(text: &mut String, number: u64, setup: &Setup) -> Result<(), Memory
     Ok(())
 }
 
-// Whether the event is a move.
-fn is_move(kind: Kind) -> bool
-    ensures { result ≡ is_move_said (kind_said kind) }
-{
-    match kind {
-        Kind::Fold { .. } | Kind::Call { .. } | Kind::Raise { .. } | Kind::BringIn { .. } => true,
-        Kind::Hole { .. }
-        | Kind::Board { .. }
-        | Kind::Discard { .. }
-        | Kind::Show { .. }
-        | Kind::Muck { .. } => false,
-    }
-}
-
 // Appends the line of a move, and adds its chips to those of its seat.
 fn push_move(
     alloc: Global,
@@ -151,7 +137,8 @@ fn push_move(
         → HasPut setup.now (plain_move (move_said moved.now) ∷ moves) put.new }
     ensures line { (moves : List PlainMove) → HasPut setup.now moves put.old
         → OnOk result (string_bytes text.new ≡ string_bytes text.old
-        ++ (decimal number ++ (32 ∷ text_of_event (move_named (plain_move (move_said moved.now)))
+        ++ (decimal number
+        ++ (32 ∷ written.event_text (move_named (plain_move (move_said moved.now)))
         ++ chips_text setup.now (plain_move (move_said moved.now) ∷ moves)))) }
 {
     add(put, moved);
@@ -172,7 +159,7 @@ fn push_event(
     requires seats { put.now.seats ≡ setup.now.stacks.seats }
     ensures { (moves : List PlainMove) → HasPut setup.now moves put.now
         → OnOk result (string_bytes text.new ≡ string_bytes text.old
-        ++ (decimal number ++ (32 ∷ text_of_event (kind_said kind)
+        ++ (decimal number ++ (32 ∷ written.event_text (kind_said kind)
         ++ chips_text setup.now moves))) }
 {
     let event = event_text(alloc, kind)?;

@@ -1,5 +1,5 @@
 -- The sums of hands for the line of a game, and for the line of all hands.
-use Rattle.std.specs.Prelude.{◌≤◌, ◌==◌, ℕ, ◌+◌, ◌*◌, Bool, true, List, [], ◌∷◌, ◌++◌, length, map, filter, sum_by, codes, Option, None, Some, bytes_eq, if◌then◌else◌}
+use Rattle.std.specs.Prelude.{◌≤◌, ◌==◌, ℕ, ◌+◌, ◌*◌, ◌^◌, Bool, true, List, [], ◌∷◌, ◌++◌, length, map, filter, sum_by, codes, Option, None, Some, bytes_eq, if◌then◌else◌}
 use Rattle.std.specs.Fmt.{decimal}
 use Rattle.std.specs.Option.{option_map_or}
 use Rattle.play_event.specs.Code.{code_text}
@@ -15,7 +15,7 @@ is_counted wanted hand = option_map_or (λ code. bytes_eq (code_text code) hand.
 
 -- more than all pots of a hand can have together: eleven numbers of 64 bits
 abbrev pub MOST_POTS : ℕ
-MOST_POTS = 11 * 18446744073709551616
+MOST_POTS = 11 * 2 ^ 64
 
 -- one line per game, and after them one for all hands
 abbrev pub all_wanted : List (Option Code)

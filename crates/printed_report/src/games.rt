@@ -1,14 +1,15 @@
 //! Adds up hands and their pots by game.
 ghost use Rattle.std.specs.Prelude.{◌≡◌, ◌≤◌, ◌-◌, ◌++◌, [], flat_map, map, Some, IfOk, OnOk, string_bytes};
 ghost use Rattle.std.specs.List.{AllByRecursion};
-ghost use Rattle.hand_canon.specs.Agreement.{pot_total_of};
 ghost use Rattle.first_fault.specs.declared.limits.TheConstants.{MOST_HANDS};
-ghost use Rattle.printed_report.specs.Games.{AreFewSums, MOST_POTS, all_wanted, is_counted, line_for, sums_line, sums_of, with_hand as with_hand_said};
+ghost use Rattle.printed_report.specs.Games.{AreFewSums, MOST_POTS, all_wanted, is_counted, line_for, sums_line, sums_of};
+ghost use Rattle.printed_report.specs.Games as games;
 ghost use Rattle.printed_report.specs.Report.{hand_of};
 
 use crate::lines::push_hands_line;
 use card_set::{Memory, TryPush, list_with_room};
-use hand_records::{Play, Trace};
+use hand_canon::pot_total;
+use hand_records::Play;
 use play_event::Code;
 use std::alloc::Global;
 
@@ -61,7 +62,7 @@ fn none_of(wanted: Option<Code>) -> Sums
 /// Adds a hand to each of these sums that it counts for.
 pub fn add_to_sums(sums: &mut Vec<Sums>, play: &Play)
     requires few { AllByRecursion (AreFewSums (MOST_HANDS - 1)) sums.old.items }
-    ensures added { sums.new.items ≡ map (with_hand_said (hand_of play.now)) sums.old.items }
+    ensures added { sums.new.items ≡ map (games.with_hand (hand_of play.now)) sums.old.items }
     ensures bounded { (hand_of play.now).pots ≤ MOST_POTS }
 {
     let pots = pot_total(&play.trace);
@@ -75,7 +76,7 @@ fn with_hand(sums: Sums, play: &Play, pots: u128) -> Sums
     requires few { AreFewSums (MOST_HANDS - 1) sums }
     requires pots { pots ≡ (hand_of play.now).pots }
     requires bounded { pots ≤ MOST_POTS }
-    ensures { result ≡ with_hand_said (hand_of play.now) sums }
+    ensures { result ≡ games.with_hand (hand_of play.now) sums }
 {
     if counts(play, sums.wanted) {
         Sums {
@@ -96,18 +97,6 @@ fn counts(play: &Play, wanted: Option<Code>) -> bool
         None => true,
         Some(code) => code.text() == play.trace.setup.code.text(),
     }
-}
-
-// All pots of a hand together.
-fn pot_total(trace: &Trace) -> u128
-    ensures sum { result ≡ pot_total_of trace.now }
-    ensures bounded { result ≤ MOST_POTS }
-{
-    let mut all: u128 = 0;
-    for pot in &trace.pots.pots[..trace.pots.count as usize] {
-        all += u128::from(pot.chips);
-    }
-    all
 }
 
 /// Appends the lines of sums: one per game that was played, and one for all hands.

@@ -1,7 +1,8 @@
 //! A tally adds up the seats with one name.
 ghost use Rattle.std.specs.Prelude.{◌≡◌};
 ghost use Rattle.printed_report.specs.Report.{seated_in};
-ghost use Rattle.printed_report.specs.Tallies.{IsWithin, MOST_SEATS, no_tally as empty, with_seat as with_seat_said};
+ghost use Rattle.printed_report.specs.Tallies.{IsWithin, MOST_SEATS};
+ghost use Rattle.printed_report.specs.Tallies as tallies;
 
 use chip_ledger::Seat;
 use first_fault::Text;
@@ -29,7 +30,7 @@ pub struct NamedTally {
 
 /// The tally of a name that was not seen yet.
 pub fn no_tally() -> Tally
-    ensures { result ≡ empty }
+    ensures { result ≡ tallies.no_tally }
 {
     Tally {
         started: 0,
@@ -43,7 +44,7 @@ pub fn no_tally() -> Tally
 /// hand, the hand counts once.
 pub fn with_seat(tally: Tally, number: u64, play: &Play, seat: Seat) -> Tally
     requires { IsWithin MOST_SEATS tally }
-    ensures { result ≡ with_seat_said number tally (seated_in play.now seat.number) }
+    ensures { result ≡ tallies.with_seat number tally (seated_in play.now seat.number) }
 {
     let index = seat.number as usize - 1;
     Tally {

@@ -6,5 +6,5 @@ use Rattle.hand_gen.proofs.setups.blinds.Given as goal
 
 abbrev pub invariant-loop-index : goal.invariant-loop-index
 invariant-loop-index l =
-    (l.row.seats ≡ l.seats)
-    × ((seat : ℕ) → 1 ≤ seat → seat ≤ l.index → amount_of l.row seat ≡ (if l.stud then 0 else blind_of l.seats seat))
+    (l.row.seats ≡ l.players.number)
+    × ((seat : ℕ) → 1 ≤ seat → seat ≤ l.index → amount_of l.row seat ≡ (if l.stud then 0 else blind_of l.players.number seat))

@@ -5,4 +5,4 @@ use Rattle.hand_gen.proofs.setups.even_row.Given as goal
 
 abbrev pub invariant-loop-index : goal.invariant-loop-index
 invariant-loop-index l =
-    (l.row.seats ≡ l.seats) × ((seat : ℕ) → 1 ≤ seat → seat ≤ l.index → amount_of l.row seat ≡ l.amount)
+    (l.row.seats ≡ l.fn.players.number) × ((seat : ℕ) → 1 ≤ seat → seat ≤ l.index → amount_of l.row seat ≡ l.amount)

@@ -6,6 +6,6 @@ use Rattle.hand_gen.proofs.setups.stacks.Given as goal
 
 abbrev pub invariant-loop-index : goal.invariant-loop-index
 invariant-loop-index l =
-    (l.row.seats ≡ l.seats)
+    (l.row.seats ≡ l.fn.players.number)
     × (l.number ≡ number_after l.index l.initial.number)
     × ((seat : ℕ) → 1 ≤ seat → seat ≤ l.index → amount_of l.row seat ≡ 100 + drawn 401 (number_after seat l.initial.number))
