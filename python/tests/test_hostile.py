@@ -326,10 +326,11 @@ class Packed(Case):
             with gzip.open(path, "wb", 1) as file:
                 for _ in range(count):
                     file.write(text)
-            script = ("import handref, resource, sys\ntry:\n    "
+            # ru_maxrss would begin with that of the process of the tests.
+            script = ("import handref, re, sys\ntry:\n    "
                       "print(sum(1 for _ in handref.pieces(sys.argv[1], sys.argv[2])))\n"
                       "except handref.NotDone as error:\n    print(error.status)\n"
-                      "print(resource.getrusage(resource.RUSAGE_SELF).ru_maxrss)")
+                      "print(re.search(r'VmHWM:\\s*(\\d+)', open('/proc/self/status').read())[1])")
             kind = {".acpc": "acpc", ".ohh": "ohh"}.get(Path(name).suffix)
             if kind:
                 done = subprocess.run([sys.executable, "-c", script, path, kind],
