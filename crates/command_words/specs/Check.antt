@@ -6,4 +6,4 @@ use Rattle.command_words.specs.declared.command.Command.TheVariants as commands
 
 -- `check` takes --from, and --game for logs
 abbrev pub check_asked : GivenOptions → Option Request
-check_asked options = asked_alone commands.Check commands.Check options
+check_asked options = asked_alone commands.Check options

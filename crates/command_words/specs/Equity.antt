@@ -9,7 +9,6 @@ use Rattle.command_words.specs.declared.command.Command.TheVariants as commands
 abbrev pub equity_asked : GivenOptions → Option Request
 equity_asked options =
     if are_none (record options { from = None; game = None; hand = None; street = None })
-    then with_both
-    (λ hand street. asked options (commands.Equity hand street) (commands.Equity hand street))
+    then with_both (λ hand street. asked options (commands.Equity hand street))
     (option_and_then hand_said options.hand) (option_and_then street_said options.street)
     else None

@@ -7,5 +7,4 @@ use Rattle.command_words.specs.declared.command.Command.TheVariants as commands
 -- `game` takes --from, which may not be a log: a log has its game file already
 abbrev pub game_asked : GivenOptions → Option Request
 game_asked options =
-    if are_none (record options { from = None }) then asked options commands.Game commands.Game
-    else None
+    if are_none (record options { from = None }) then asked options commands.Game else None

@@ -12,7 +12,7 @@ use Rattle.command_words.specs.declared.command.Command.TheVariants as commands
 -- these are not given for the Poker Hand History format.
 abbrev pub judging_of : NotationName → (game : Option (List ℕ)) → (lines : Bool) → Option Request
 judging_of (names.Plain notations.Phh) game true = None
-judging_of from game lines = reading_of from game (commands.Judge lines) (commands.Judge lines)
+judging_of from game lines = reading_of from game (commands.Judge lines)
 
 -- `judge` takes --from, --game for logs, and --lines
 abbrev pub judge_asked : GivenOptions → Option Request

@@ -2,6 +2,7 @@
 pub mod GivenOptions
 pub mod Numbers
 pub mod Notations
+pub mod Command
 pub mod Request
 pub mod Check
 pub mod Replay

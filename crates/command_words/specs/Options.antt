@@ -10,7 +10,7 @@ use Rattle.command_words.specs.declared.command.EachQuestion.TheVariants as of_e
 abbrev pub point_asked : GivenOptions → (hand events : ℕ) → Option Request
 point_asked options hand events =
     if options.asks_each then asked_each options (of_each.Point hand events)
-    else asked options (commands.Options hand events) (commands.Options hand events)
+    else asked options (commands.Options hand events)
 
 -- the legal moves after the given number of events of a hand; at every point of it if none is given
 abbrev pub points_asked : GivenOptions → (after : Option (List ℕ)) → (hand : ℕ) → Option Request

@@ -10,5 +10,5 @@ abbrev pub replay_asked : GivenOptions → Option Request
 replay_asked options =
     if are_none (record options { from = None; game = None; asks_each = false })
     then if options.asks_each then asked_each options of_each.Replay
-    else asked options commands.Replay commands.Replay
+    else asked options commands.Replay
     else None

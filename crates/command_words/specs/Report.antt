@@ -6,4 +6,4 @@ use Rattle.command_words.specs.declared.command.Command.TheVariants as commands
 
 -- `report` takes --from, and --game for logs
 abbrev pub report_asked : GivenOptions → Option Request
-report_asked options = asked_alone commands.Report commands.Report options
+report_asked options = asked_alone commands.Report options

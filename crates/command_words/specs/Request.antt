@@ -1,5 +1,6 @@
 -- What a command line asks for, and what is asked about the hands of the input.
 use Rattle.std.specs.Prelude.{ℕ, Bool, if◌then◌else◌, List, [], ◌∷◌, Option, Some, None, option_and_then}
+use Rattle.command_words.specs.Command.{with_notations}
 use Rattle.command_words.specs.GivenOptions.{GivenOptions, are_none}
 use Rattle.command_words.specs.declared.command.Command.{Command}
 use Rattle.command_words.specs.declared.command.Command.TheVariants as commands
@@ -29,13 +30,13 @@ pub data Request : Type 0 where
 -- What to do with the hands of a notation. A log needs a game file, whose name is not empty; other
 -- notations may not have one.
 abbrev pub reading_of : NotationName → (game : Option (List ℕ)) → Command PlainNotation
-    → Command NotationName → Option Request
-reading_of (names.Plain from) None plain logs = Some (Plain from plain)
-reading_of (names.Plain from) (Some game) plain logs = None
-reading_of names.Acpc None plain logs = None
-reading_of names.Acpc (Some []) plain logs = None
-reading_of names.Acpc (Some (first ∷ others)) plain logs =
-    Some (Under (first ∷ others) (logs_are.Read logs))
+    → Option Request
+reading_of (names.Plain from) None command = Some (Plain from command)
+reading_of (names.Plain from) (Some game) command = None
+reading_of names.Acpc None command = None
+reading_of names.Acpc (Some []) command = None
+reading_of names.Acpc (Some (first ∷ others)) command =
+    Some (Under (first ∷ others) (logs_are.Read (with_notations names.Plain command)))
 
 -- what two values give, if both are given
 abbrev pub with_both : {X Y Z : Type 0} → (X → Y → Option Z) → Option X → Option Y → Option Z
@@ -44,17 +45,15 @@ with_both give (Some x) None = None
 with_both give (Some x) (Some y) = give x y
 
 -- a command about the hands of the input, in the given notation
-abbrev pub asked : GivenOptions → Command PlainNotation → Command NotationName → Option Request
-asked options plain logs =
-    option_and_then (λ from. reading_of from options.game plain logs) (notation_named options.from)
+abbrev pub asked : GivenOptions → Command PlainNotation → Option Request
+asked options command =
+    option_and_then (λ from. reading_of from options.game command) (notation_named options.from)
 
 -- a question that each hand of the input answers by itself, in the given notation
 abbrev pub asked_each : GivenOptions → EachQuestion → Option Request
-asked_each options question = asked options (commands.Each question) (commands.Each question)
+asked_each options question = asked options (commands.Each question)
 
 -- a command that takes --from, and --game for logs
-abbrev pub asked_alone : Command PlainNotation → Command NotationName → GivenOptions
-    → Option Request
-asked_alone plain logs options =
-    if are_none (record options { from = None; game = None }) then asked options plain logs
-    else None
+abbrev pub asked_alone : Command PlainNotation → GivenOptions → Option Request
+asked_alone command options =
+    if are_none (record options { from = None; game = None }) then asked options command else None

@@ -6,4 +6,4 @@ use Rattle.command_words.specs.declared.command.Command.TheVariants as commands
 
 -- `session` takes --from, and --game for logs
 abbrev pub session_asked : GivenOptions → Option Request
-session_asked options = asked_alone commands.Session commands.Session options
+session_asked options = asked_alone commands.Session options

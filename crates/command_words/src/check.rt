@@ -11,5 +11,5 @@ use crate::request::{Request, asked_alone};
 pub fn request<'a>(options: GivenOptions<'a>) -> Option<Request<'a>>
     ensures { option_map request_in result ≡ check_asked (options_in options.entry) }
 {
-    asked_alone(Command::Check, Command::Check, options)
+    asked_alone(Command::Check, options)
 }

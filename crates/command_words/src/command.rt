@@ -1,4 +1,7 @@
 //! What is asked about the hands of the input: one case for each command, with what it needs.
+ghost use Rattle.std.specs.Prelude.{◌≡◌};
+ghost use Rattle.command_words.specs.Command.{with_notations};
+
 use chip_ledger::Seat;
 use hand_records::Keep;
 
@@ -29,6 +32,33 @@ pub enum Command<N> {
     Each(EachQuestion),
     /// The same hands in another notation; `keep` says which notes are kept.
     Convert { to: N, keep: Keep },
+}
+
+impl<N> Command<N> {
+    /// The same command, where each name of a notation is what `notation` gives for it.
+    pub fn map<M, F: FnOnce(N) -> M>(self, notation: F) -> Command<M>
+        requires { F.IsAlwaysCallable notation }
+        ensures { (meaning : N → M)
+            → ((name : N) (given : M) → F.post notation name given → given ≡ meaning name)
+            → result ≡ with_notations meaning self }
+    {
+        match self {
+            Command::Check => Command::Check,
+            Command::Replay => Command::Replay,
+            Command::Report => Command::Report,
+            Command::Session => Command::Session,
+            Command::Game => Command::Game,
+            Command::Options { hand, events } => Command::Options { hand, events },
+            Command::Equity { hand, street } => Command::Equity { hand, street },
+            Command::Judge { lines } => Command::Judge { lines },
+            Command::Views { seat } => Command::Views { seat },
+            Command::Each(question) => Command::Each(question),
+            Command::Convert { to, keep } => Command::Convert {
+                to: notation(to),
+                keep,
+            },
+        }
+    }
 }
 
 /// What is asked about hands of the input each by itself: a refused hand is answered up to its

@@ -24,9 +24,5 @@ pub fn request<'a>(options: GivenOptions<'a>) -> Option<Request<'a>>
     }
     let hand = read_hand(options.hand?)?;
     let street = read_street(options.street?)?;
-    asked(
-        options,
-        Command::Equity { hand, street },
-        Command::Equity { hand, street },
-    )
+    asked(options, Command::Equity { hand, street })
 }

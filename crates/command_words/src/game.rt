@@ -18,5 +18,5 @@ pub fn request<'a>(options: GivenOptions<'a>) -> Option<Request<'a>>
     if !are_none(others) {
         return None;
     }
-    asked(options, Command::Game, Command::Game)
+    asked(options, Command::Game)
 }

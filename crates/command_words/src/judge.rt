@@ -33,11 +33,6 @@ fn judging_of<'a>(from: NotationName, game: Option<&'a str>, lines: bool) -> Opt
 {
     match from {
         NotationName::Plain(PlainNotation::Phh) if lines => None,
-        from => reading_of(
-            from,
-            game,
-            Command::Judge { lines },
-            Command::Judge { lines },
-        ),
+        from => reading_of(from, game, Command::Judge { lines }),
     }
 }

@@ -48,9 +48,5 @@ fn point<'a>(options: GivenOptions<'a>, hand: u32, events: u32) -> Option<Reques
     if options.asks_each {
         return asked_each(options, EachQuestion::Point { hand, events });
     }
-    asked(
-        options,
-        Command::Options { hand, events },
-        Command::Options { hand, events },
-    )
+    asked(options, Command::Options { hand, events })
 }

@@ -24,5 +24,5 @@ pub fn request<'a>(options: GivenOptions<'a>) -> Option<Request<'a>>
     if options.asks_each {
         return asked_each(options, EachQuestion::Replay);
     }
-    asked(options, Command::Replay, Command::Replay)
+    asked(options, Command::Replay)
 }

@@ -11,5 +11,5 @@ use crate::request::{Request, asked_alone};
 pub fn request<'a>(options: GivenOptions<'a>) -> Option<Request<'a>>
     ensures { option_map request_in result ≡ report_asked (options_in options.entry) }
 {
-    asked_alone(Command::Report, Command::Report, options)
+    asked_alone(Command::Report, options)
 }

@@ -62,12 +62,10 @@ pub enum Logs {
 
 /// A command that takes only the notation and the game.
 pub fn asked_alone<'a>(
-    plain: Command<PlainNotation>,
-    logs: Command<NotationName>,
+    command: Command<PlainNotation>,
     options: GivenOptions<'a>,
 ) -> Option<Request<'a>>
-    ensures { option_map request_in result
-        ≡ asked_alone_said plain logs (options_in options.entry) }
+    ensures { option_map request_in result ≡ asked_alone_said command (options_in options.entry) }
 {
     let others = GivenOptions {
         from: None,
@@ -77,46 +75,38 @@ pub fn asked_alone<'a>(
     if !are_none(others) {
         return None;
     }
-    asked(options, plain, logs)
+    asked(options, command)
 }
 
 /// A command about the hands of the input, in the given notation.
-pub fn asked<'a>(
-    options: GivenOptions<'a>,
-    plain: Command<PlainNotation>,
-    logs: Command<NotationName>,
-) -> Option<Request<'a>>
-    ensures { option_map request_in result ≡ asked_said (options_in options.entry) plain logs }
+pub fn asked<'a>(options: GivenOptions<'a>, command: Command<PlainNotation>) -> Option<Request<'a>>
+    ensures { option_map request_in result ≡ asked_said (options_in options.entry) command }
 {
     let from = notation_named(options.from)?;
-    reading_of(from, options.game, plain, logs)
+    reading_of(from, options.game, command)
 }
 
 /// A question that each hand of the input answers by itself, in the given notation.
 pub fn asked_each<'a>(options: GivenOptions<'a>, question: EachQuestion) -> Option<Request<'a>>
     ensures { option_map request_in result ≡ asked_each_said (options_in options.entry) question }
 {
-    asked(options, Command::Each(question), Command::Each(question))
+    asked(options, Command::Each(question))
 }
 
 /// What to do with the hands of a notation, with the game file for logs.
 pub fn reading_of<'a>(
     from: NotationName,
     game: Option<&'a str>,
-    plain: Command<PlainNotation>,
-    logs: Command<NotationName>,
+    command: Command<PlainNotation>,
 ) -> Option<Request<'a>>
     ensures { option_map request_in result
-        ≡ reading_of_said from (option_map (λ s. s.now) game.entry) plain logs }
+        ≡ reading_of_said from (option_map (λ s. s.now) game.entry) command }
 {
     match (from, game) {
-        (NotationName::Plain(from), None) => Some(Request::Plain {
-            from,
-            command: plain,
-        }),
+        (NotationName::Plain(from), None) => Some(Request::Plain { from, command }),
         (NotationName::Acpc, Some(game)) if !game.is_empty() => Some(Request::Under {
             game,
-            logs: Logs::Read(logs),
+            logs: Logs::Read(command.map(NotationName::Plain)),
         }),
         _ => None,
     }

@@ -1,6 +1,7 @@
 -- How the hands of a request are read, and what is asked about them, under the game in its file.
 use Rattle.std.specs.Prelude.{◌≡◌, ℕ, List, Option}
 use Rattle.acpc_game.specs.declared.game.Game.{Game}
+use Rattle.command_words.specs.Command.{with_notations}
 use Rattle.command_words.specs.Words.{Compare, Load, Plain, Request, Under}
 use Rattle.command_words.specs.declared.command.Command.{Command}
 use Rattle.command_words.specs.declared.command.Command.TheVariants as commands
@@ -28,33 +29,19 @@ abbrev pub format_under : Game → NotationName → Format
 format_under game (notations.Plain notation) = plain_format notation
 format_under game notations.Acpc = readers.Acpc game
 
--- a command, where each name of a notation means this format
-abbrev pub with_formats : {N : Type 0} → (N → Format) → Command N → Command Format
-with_formats format commands.Check = commands.Check
-with_formats format commands.Replay = commands.Replay
-with_formats format commands.Report = commands.Report
-with_formats format commands.Session = commands.Session
-with_formats format commands.Game = commands.Game
-with_formats format (commands.Options hand events) = commands.Options hand events
-with_formats format (commands.Equity hand street) = commands.Equity hand street
-with_formats format (commands.Judge lines) = commands.Judge lines
-with_formats format (commands.Views seat) = commands.Views seat
-with_formats format (commands.Each question) = commands.Each question
-with_formats format (commands.Convert to keep) = commands.Convert (format to) keep
-
 -- how hands are read, and what is asked about them
 abbrev pub way : Command Format → Format → Job
 way command reader = record { reader = reader; command = command }
 
 -- how hands without a game are read, and what is asked about them
 abbrev pub plain_job : PlainNotation → Command PlainNotation → Job
-plain_job from command = way (with_formats plain_format command) (plain_format from)
+plain_job from command = way (with_notations plain_format command) (plain_format from)
 
 -- how hands are read if logs are under a game, and what is asked about them: logs are read, or
 -- hands of another notation are written as logs
 abbrev pub job_under : Game → Logs → Job
 job_under game (logs_are.Read command) =
-    way (with_formats (format_under game) command) (readers.Acpc game)
+    way (with_notations (format_under game) command) (readers.Acpc game)
 job_under game (logs_are.Written from keep) =
     way (commands.Convert (readers.Acpc game) keep) (plain_format from)
 

@@ -13,7 +13,7 @@ pub fn plain_job(from: PlainNotation, command: Command<PlainNotation>) -> Job
     ensures { result ≡ definition.plain_job from command }
 {
     let reader = plain_format(from);
-    let command = plain_command(command);
+    let command = command.map(plain_format);
     Job { reader, command }
 }
 
@@ -24,7 +24,7 @@ pub fn job_under(game: Game, logs: Logs) -> Job
     match logs {
         Logs::Read(command) => {
             let reader = Format::Acpc(game);
-            let command = command_under(game, command);
+            let command = command.map(|notation| format_under(game, notation));
             Job { reader, command }
         }
         Logs::Written { from, keep } => {
@@ -33,50 +33,6 @@ pub fn job_under(game: Game, logs: Logs) -> Job
             let command = Command::Convert { to, keep };
             Job { reader, command }
         }
-    }
-}
-
-// The command, in a notation that needs no game.
-fn plain_command(command: Command<PlainNotation>) -> Command<Format>
-    ensures { result ≡ definition.with_formats definition.plain_format command }
-{
-    match command {
-        Command::Check => Command::Check,
-        Command::Replay => Command::Replay,
-        Command::Report => Command::Report,
-        Command::Session => Command::Session,
-        Command::Game => Command::Game,
-        Command::Options { hand, events } => Command::Options { hand, events },
-        Command::Equity { hand, street } => Command::Equity { hand, street },
-        Command::Judge { lines } => Command::Judge { lines },
-        Command::Views { seat } => Command::Views { seat },
-        Command::Each(question) => Command::Each(question),
-        Command::Convert { to, keep } => Command::Convert {
-            to: plain_format(to),
-            keep,
-        },
-    }
-}
-
-// The command, with logs under a game.
-fn command_under(game: Game, command: Command<NotationName>) -> Command<Format>
-    ensures { result ≡ definition.with_formats (definition.format_under game) command }
-{
-    match command {
-        Command::Check => Command::Check,
-        Command::Replay => Command::Replay,
-        Command::Report => Command::Report,
-        Command::Session => Command::Session,
-        Command::Game => Command::Game,
-        Command::Options { hand, events } => Command::Options { hand, events },
-        Command::Equity { hand, street } => Command::Equity { hand, street },
-        Command::Judge { lines } => Command::Judge { lines },
-        Command::Views { seat } => Command::Views { seat },
-        Command::Each(question) => Command::Each(question),
-        Command::Convert { to, keep } => Command::Convert {
-            to: format_under(game, to),
-            keep,
-        },
     }
 }
 
