@@ -1,5 +1,6 @@
 -- How logs and game files are cut into lines, parts and letters, and which faults they have.
 pub mod Faults
+pub mod FaultText
 pub mod Parts
 pub mod Letters
 -- Game files: keys, line forms, and the game that a file says.

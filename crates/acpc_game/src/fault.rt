@@ -1,9 +1,11 @@
 //! The faults of a log or a game file, each with its line and the byte that shows it.
-ghost use Rattle.std.specs.Prelude.{◌≡◌};
+ghost use Rattle.std.specs.Prelude.{◌≡◌, Some};
+ghost use Rattle.acpc_game.specs.FaultText as texts;
 ghost use Rattle.acpc_game.specs.Faults as faults;
 
 use card_set::Memory;
 use first_fault::{Quantity, saturating_u32};
+use std::fmt;
 
 /// What is wrong with a line.
 #[derive(Clone, Copy, Debug, PartialEq, Eq)]
@@ -74,6 +76,73 @@ pub enum AcpcFault {
         byte: u32,
     },
     Memory(Memory),
+}
+
+impl AcpcFault {
+    /// The name of the fault.
+    pub fn name(&self) -> &'static str
+        ensures { result.now ≡ texts.fault_name self.now }
+    {
+        match self {
+            AcpcFault::LineShape { .. } => "LineShape",
+            AcpcFault::BadBetting { .. } => "BadBetting",
+            AcpcFault::BadCards { .. } => "BadCards",
+            AcpcFault::BadValue { .. } => "BadValue",
+            AcpcFault::SeatCount { .. } => "SeatCount",
+            AcpcFault::GameShape { .. } => "GameShape",
+            AcpcFault::UnsupportedGame { .. } => "UnsupportedGame",
+            AcpcFault::AmountLimit { .. } => "AmountLimit",
+            AcpcFault::TooMany { .. } => "TooMany",
+            AcpcFault::Memory(_) => "Memory",
+        }
+    }
+
+    /// The line of the file that has the fault, from 1; 0 if memory ran out.
+    pub fn line(&self) -> u32
+        ensures { result ≡ texts.line_of self.now }
+    {
+        match *self {
+            AcpcFault::LineShape { line, .. }
+            | AcpcFault::BadBetting { line, .. }
+            | AcpcFault::BadCards { line, .. }
+            | AcpcFault::BadValue { line, .. }
+            | AcpcFault::SeatCount { line, .. }
+            | AcpcFault::GameShape { line, .. }
+            | AcpcFault::UnsupportedGame { line, .. }
+            | AcpcFault::AmountLimit { line, .. }
+            | AcpcFault::TooMany { line, .. } => line,
+            AcpcFault::Memory(_) => 0,
+        }
+    }
+
+    /// The byte of this line that shows the fault, from 1; 0 if memory ran out.
+    pub fn byte(&self) -> u32
+        ensures { result ≡ texts.byte_of self.now }
+    {
+        match *self {
+            AcpcFault::LineShape { byte, .. }
+            | AcpcFault::BadBetting { byte, .. }
+            | AcpcFault::BadCards { byte, .. }
+            | AcpcFault::BadValue { byte, .. }
+            | AcpcFault::SeatCount { byte, .. }
+            | AcpcFault::GameShape { byte, .. }
+            | AcpcFault::UnsupportedGame { byte, .. }
+            | AcpcFault::AmountLimit { byte, .. }
+            | AcpcFault::TooMany { byte, .. } => byte,
+            AcpcFault::Memory(_) => 0,
+        }
+    }
+}
+
+impl fmt::Display for AcpcFault {
+    ghost output = { λ fault. Some (texts.fault_text fault) };
+
+    fn fmt<W: fmt::Write>(&self, f: &mut fmt::Formatter<W>) -> fmt::Result {
+        let line = self.line();
+        let byte = self.byte();
+        let name = self.name();
+        write!(f, "line {line}, byte {byte}: {name}")
+    }
 }
 
 /// The fault of a line with this number.

@@ -2,6 +2,7 @@
 -- conversions have the same answer.
 pub mod Judged
 pub mod Faults
+pub mod FaultText
 pub mod Records
 pub mod Meaning
 pub mod Lawful

@@ -1,11 +1,14 @@
 //! Why bytes cannot be read, one case for each notation.
-ghost use Rattle.std.specs.Prelude.{◌≡◌, is_some};
-ghost use Rattle.convert_core.specs.Faults.{is_out_of_memory};
+ghost use Rattle.std.specs.Prelude.{◌≡◌, Some, is_some};
+ghost use Rattle.convert_core.specs.FaultText.{format_text};
+ghost use Rattle.convert_core.specs.Faults.{excess_of, is_out_of_memory};
 
 use acpc_format::AcpcFault;
 use card_set::Memory;
+use first_fault::Quantity;
 use ohh_format::OhhFault;
 use phh_format::PhhFault;
+use std::fmt;
 
 /// The first fault of bytes in their notation.
 #[derive(Debug, Drop)]
@@ -25,6 +28,30 @@ impl FormatFault {
             FormatFault::Ohh(OhhFault::Memory(memory)) => Some(*memory),
             FormatFault::Acpc(AcpcFault::Memory(memory)) => Some(*memory),
             _ => None,
+        }
+    }
+
+    /// What the bytes have too many of, if that is the fault.
+    pub fn excess(&self) -> Option<Quantity>
+        ensures { result ≡ excess_of self.now }
+    {
+        match self {
+            FormatFault::Phh(PhhFault::TooMany { quantity, .. }) => Some(*quantity),
+            FormatFault::Ohh(OhhFault::TooMany { quantity, .. }) => Some(*quantity),
+            FormatFault::Acpc(AcpcFault::TooMany { quantity, .. }) => Some(*quantity),
+            _ => None,
+        }
+    }
+}
+
+impl fmt::Display for FormatFault {
+    ghost output = { λ fault. Some (format_text fault) };
+
+    fn fmt<W: fmt::Write>(&self, f: &mut fmt::Formatter<W>) -> fmt::Result {
+        match self {
+            FormatFault::Phh(fault) => write!(f, "{fault}"),
+            FormatFault::Ohh(fault) => write!(f, "{fault}"),
+            FormatFault::Acpc(fault) => write!(f, "{fault}"),
         }
     }
 }

@@ -1,10 +1,12 @@
 //! Why a hand is refused, and which one is.
-ghost use Rattle.std.specs.Prelude.{◌≡◌};
+ghost use Rattle.std.specs.Prelude.{◌≡◌, Some};
+ghost use Rattle.convert_core.specs.FaultText.{refusal_text};
 ghost use Rattle.convert_core.specs.declared.refusal.PlaysFault.TheVariants.{Memory as OfMemory};
 
 use card_set::Memory;
 use hand_canon::FactDiffers;
 use replay_core::ReplayFault;
+use std::fmt;
 
 /// Why a hand is refused.
 #[derive(Clone, Copy, Debug, PartialEq, Eq)]
@@ -14,6 +16,17 @@ pub enum Refusal {
     Replay(ReplayFault),
     /// Its script can be replayed, and this is the first stated fact that differs from its trace.
     Fact(FactDiffers),
+}
+
+impl fmt::Display for Refusal {
+    ghost output = { λ why. Some (refusal_text why) };
+
+    fn fmt<W: fmt::Write>(&self, f: &mut fmt::Formatter<W>) -> fmt::Result {
+        match self {
+            Refusal::Replay(fault) => write!(f, "{fault}"),
+            Refusal::Fact(differs) => write!(f, "{differs}"),
+        }
+    }
 }
 
 /// Why there are no plays.

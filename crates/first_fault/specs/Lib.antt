@@ -5,3 +5,4 @@ pub mod Digits
 pub mod Numbers
 pub mod Words
 pub mod Conditions
+pub mod Quantities

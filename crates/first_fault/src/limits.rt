@@ -1,4 +1,8 @@
 //! The limits of what is read, except those of a hand. Each is a decision of this project.
+ghost use Rattle.std.specs.Prelude.{Some};
+ghost use Rattle.first_fault.specs.Quantities.{quantity_text};
+
+use std::fmt;
 
 /// The most hands of a file.
 pub const MOST_HANDS: usize = 65_536;
@@ -20,4 +24,18 @@ pub enum Quantity {
     FileMoves,
     /// The bytes of the text of a note.
     TextBytes,
+}
+
+impl fmt::Display for Quantity {
+    ghost output = { λ quantity. Some (quantity_text quantity) };
+
+    fn fmt<W: fmt::Write>(&self, f: &mut fmt::Formatter<W>) -> fmt::Result {
+        f.write_str(match self {
+            Quantity::Hands => "hands",
+            Quantity::Moves => "moves of a hand",
+            Quantity::OtherEvents => "other events of a hand",
+            Quantity::FileMoves => "moves of the file",
+            Quantity::TextBytes => "text bytes",
+        })
+    }
 }

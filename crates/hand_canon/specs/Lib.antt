@@ -9,6 +9,7 @@ pub mod LegalHand
 pub mod WholeTrace
 pub mod Sound
 pub mod Agreement
+pub mod DifferingFact
 pub mod Judged
 pub mod ReadAgain
 pub mod Numbers

@@ -1,14 +1,16 @@
 //! Finds the first stated fact that differs from the trace, with both numbers.
-ghost use Rattle.std.specs.Prelude.{◌≡◌, ◌≤◌, ◌*◌, ◌^◌, find, option_map, pos};
+ghost use Rattle.std.specs.Prelude.{◌≡◌, ◌≤◌, ◌*◌, ◌^◌, Some, find, option_map, pos};
 ghost use Rattle.std.specs.Option.{ForSome};
 ghost use Rattle.std.specs.Result.{result_err};
 ghost use Rattle.chip_ledger.specs.SeatRow.{amount_of};
 ghost use Rattle.chip_ledger.specs.declared.seat_row.TheConstants.{MOST_AMOUNT};
 ghost use Rattle.hand_canon.specs.Agreement.{HasBoundedPots, comparison, difference_of, difference_said, finish_compared, first_difference, is_different, pot_total_of, row_compared, total_compared, value_compared, value_of, which_said, win_compared, win_of};
+ghost use Rattle.hand_canon.specs.DifferingFact.{differs_text, which_text};
 ghost use Rattle.hand_records.specs.SoundRecord.{IsStatedFor};
 
 use chip_ledger::{Seat, SeatRow};
 use hand_records::{NetRow, Stated, Trace};
+use std::fmt;
 
 /// A fact that a record may state of the end of a hand.
 #[derive(Clone, Copy, Debug, PartialEq, Eq)]
@@ -29,6 +31,39 @@ pub struct FactDiffers {
     pub which: Which,
     pub stated: i64,
     pub replayed: i64,
+}
+
+impl fmt::Display for Which {
+    ghost output = { λ which. Some (which_text which) };
+
+    fn fmt<W: fmt::Write>(&self, f: &mut fmt::Formatter<W>) -> fmt::Result {
+        match *self {
+            Which::Finish(seat) => {
+                let number = seat.number;
+                write!(f, "finish p{number}")
+            }
+            Which::Win(seat) => {
+                let number = seat.number;
+                write!(f, "win p{number}")
+            }
+            Which::Pots => f.write_str("pots"),
+            Which::Value(seat) => {
+                let number = seat.number;
+                write!(f, "value p{number}")
+            }
+        }
+    }
+}
+
+impl fmt::Display for FactDiffers {
+    ghost output = { λ differs. Some (differs_text differs) };
+
+    fn fmt<W: fmt::Write>(&self, f: &mut fmt::Formatter<W>) -> fmt::Result {
+        let which = self.which;
+        let stated = self.stated;
+        let replayed = self.replayed;
+        write!(f, "{which} stated {stated}, replayed {replayed}")
+    }
 }
 
 /// Checks what a record states of the end of a hand against its trace: the finishing stacks first,

@@ -7,7 +7,6 @@ ghost use Rattle.play_event.specs.Said.{seat_named};
 use crate::difference::Difference;
 use card_set::{Memory, string_from, try_format};
 use chip_ledger::Seat;
-use hand_records::NoteName;
 use std::alloc::Global;
 
 /// The text of a difference, such as `move 3, street 1, p2`, `card 9, street 2, board` or `Note
@@ -42,7 +41,6 @@ pub fn difference_text(alloc: Global, difference: Difference) -> Result<String, 
             return try_format!(in alloc; "shown p{seat}");
         }
         Difference::Note(name) => {
-            let name = note_text(name);
             return try_format!(in alloc; "Note {name}");
         }
     };
@@ -74,25 +72,5 @@ fn owner_text(alloc: Global, owner: Option<Seat>) -> Result<String, Memory>
             try_format!(in alloc; "p{seat}")
         }
         None => string_from(alloc, "board"),
-    }
-}
-
-/// The printed name of a note, such as `players` or `time_zone`.
-pub fn note_text(note: NoteName) -> &'static str
-    ensures { result.now ≡ texts.note_text note }
-{
-    match note {
-        NoteName::Players => "players",
-        NoteName::Seats => "seats",
-        NoteName::SeatCount => "seat_count",
-        NoteName::Hand => "hand",
-        NoteName::Table => "table",
-        NoteName::Venue => "venue",
-        NoteName::Currency => "currency",
-        NoteName::TimeZone => "time_zone",
-        NoteName::Year => "year",
-        NoteName::Month => "month",
-        NoteName::Day => "day",
-        NoteName::Time => "time",
     }
 }

@@ -9,6 +9,7 @@ pub mod SameHands
 pub mod SoundRecord
 pub mod Moves
 pub mod WriteRefusals
+pub mod FactTexts
 pub mod Histories
 pub mod Plays
 pub mod StatedFacts

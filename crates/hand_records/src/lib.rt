@@ -3,6 +3,7 @@
 #![tactic(auto)]
 
 mod calendar;
+mod fact_texts;
 mod moves;
 mod notes;
 mod places;

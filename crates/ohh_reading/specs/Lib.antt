@@ -4,3 +4,4 @@ pub mod Begins
 pub mod Sizes
 pub mod Hand
 pub mod Reading
+pub mod FaultText

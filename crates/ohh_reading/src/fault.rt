@@ -1,8 +1,13 @@
 //! Why bytes cannot be read as hands in Open Hand History: their first fault, with its hand and the
 //! path of its member.
+ghost use Rattle.std.specs.Prelude.{◌≡◌, Some};
+ghost use Rattle.ohh_reading.specs.FaultText.{fault_text, name_of};
+ghost use Rattle.ohh_reading.specs.Reading.{wrong_of};
+
 use card_set::Memory;
 use first_fault::{Quantity, Text};
 use ohh_members::fault::MemberFault;
+use std::fmt;
 
 /// The first fault of bytes, in the order in which members are examined. `hand` counts from 1 in
 /// the order of reading. `path` is the path of the member, as `ohh.rounds[0].actions[4].amount`.
@@ -70,6 +75,55 @@ pub enum OhhFault {
     },
     /// There was not enough memory.
     Memory(Memory),
+}
+
+impl OhhFault {
+    /// The name of the fault.
+    pub fn name(&self) -> &'static str
+        ensures { result.now ≡ name_of (wrong_of self.now) }
+    {
+        match self {
+            OhhFault::Text { .. } => "Text",
+            OhhFault::MissingMember { .. } => "MissingMember",
+            OhhFault::WrongType { .. } => "WrongType",
+            OhhFault::AmountNotWhole { .. } => "AmountNotWhole",
+            OhhFault::AmountLimit { .. } => "AmountLimit",
+            OhhFault::UnsupportedGame { .. } => "UnsupportedGame",
+            OhhFault::BadPlayer { .. } => "BadPlayer",
+            OhhFault::UnsupportedAction { .. } => "UnsupportedAction",
+            OhhFault::BadStreet { .. } => "BadStreet",
+            OhhFault::BadPost { .. } => "BadPost",
+            OhhFault::RakePlace { .. } => "RakePlace",
+            OhhFault::TooMany { .. } => "TooMany",
+            OhhFault::Memory(_) => "Memory",
+        }
+    }
+}
+
+impl fmt::Display for OhhFault {
+    ghost output = { λ fault. Some (fault_text fault) };
+
+    fn fmt<W: fmt::Write>(&self, f: &mut fmt::Formatter<W>) -> fmt::Result {
+        match self {
+            OhhFault::Text { hand } => write!(f, "hand {hand}: Text"),
+            OhhFault::MissingMember { hand, path }
+            | OhhFault::WrongType { hand, path }
+            | OhhFault::AmountNotWhole { hand, path }
+            | OhhFault::AmountLimit { hand, path }
+            | OhhFault::UnsupportedGame { hand, path }
+            | OhhFault::BadPlayer { hand, path }
+            | OhhFault::UnsupportedAction { hand, path }
+            | OhhFault::BadStreet { hand, path }
+            | OhhFault::BadPost { hand, path }
+            | OhhFault::RakePlace { hand, path }
+            | OhhFault::TooMany { hand, path, .. } => {
+                let path = path.as_str();
+                let name = self.name();
+                write!(f, "hand {hand}, {path}: {name}")
+            }
+            OhhFault::Memory(_) => f.write_str("out of memory"),
+        }
+    }
 }
 
 /// What is wrong with a hand: its block is not JSON, or a member has a fault.

@@ -11,4 +11,5 @@ pub mod Hand
 pub mod Stripped
 pub mod Order
 pub mod Reading
+pub mod FaultText
 pub mod NextTable

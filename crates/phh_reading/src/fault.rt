@@ -1,8 +1,13 @@
 //! Why bytes cannot be read as hands in the Poker Hand History format: their first fault, with its
 //! hand and its key.
+ghost use Rattle.std.specs.Prelude.{◌≡◌, Some};
+ghost use Rattle.phh_reading.specs.FaultText.{fault_text, name_of};
+ghost use Rattle.phh_reading.specs.Reading.{wrong_of};
+
 use crate::field_fault::FieldFault;
 use card_set::Memory;
 use first_fault::{Quantity, Text};
+use std::fmt;
 
 /// The first fault of bytes, in the order in which fields are examined. `hand` counts from 1 in the
 /// order of reading. `key` is the key of the field, and for an item of a list the key, a space and
@@ -59,6 +64,51 @@ pub enum PhhFault {
     },
     /// There was not enough memory.
     Memory(Memory),
+}
+
+impl PhhFault {
+    /// The name of the fault.
+    pub fn name(&self) -> &'static str
+        ensures { result.now ≡ name_of (wrong_of self.now) }
+    {
+        match self {
+            PhhFault::Text => "Text",
+            PhhFault::MissingField { .. } => "MissingField",
+            PhhFault::WrongType { .. } => "WrongType",
+            PhhFault::AmountNotWhole { .. } => "AmountNotWhole",
+            PhhFault::AmountLimit { .. } => "AmountLimit",
+            PhhFault::UnknownVariant { .. } => "UnknownVariant",
+            PhhFault::SeatCount { .. } => "SeatCount",
+            PhhFault::ListLength { .. } => "ListLength",
+            PhhFault::BadAction { .. } => "BadAction",
+            PhhFault::TooMany { .. } => "TooMany",
+            PhhFault::Memory(_) => "Memory",
+        }
+    }
+}
+
+impl fmt::Display for PhhFault {
+    ghost output = { λ fault. Some (fault_text fault) };
+
+    fn fmt<W: fmt::Write>(&self, f: &mut fmt::Formatter<W>) -> fmt::Result {
+        match self {
+            PhhFault::Text => f.write_str("Text"),
+            PhhFault::MissingField { hand, key }
+            | PhhFault::WrongType { hand, key }
+            | PhhFault::AmountNotWhole { hand, key }
+            | PhhFault::AmountLimit { hand, key }
+            | PhhFault::UnknownVariant { hand, key }
+            | PhhFault::SeatCount { hand, key }
+            | PhhFault::ListLength { hand, key }
+            | PhhFault::BadAction { hand, key }
+            | PhhFault::TooMany { hand, key, .. } => {
+                let key = key.as_str();
+                let name = self.name();
+                write!(f, "hand {hand}, {key}: {name}")
+            }
+            PhhFault::Memory(_) => f.write_str("out of memory"),
+        }
+    }
 }
 
 /// A fault of a hand of a file.

@@ -31,6 +31,7 @@ pub mod Taken
 pub mod CardReasons
 pub mod MoveReasons
 pub mod Reasons
+pub mod ReasonText
 pub mod Scripts
 pub mod ValidSetup
 pub mod Trace

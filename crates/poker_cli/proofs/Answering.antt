@@ -1,19 +1,18 @@
 -- The answer to what a source has left, if the source shows it, and how a run ends with this
 -- answer.
-use Rattle.std.proofs.Common.{◌≡◌, ◌⊎◌, ◌∙◌, ℕ, ◌<◌, suc, true, List, [], length, Option, Some, None, IfErr, IfOk, IfSome, Result, Ok, Err, Global, ap, refl, string_bytes, subst, sym, inl, inr, arith}
+use Rattle.std.proofs.Common.{◌≡◌, ◌⊎◌, ◌∙◌, ℕ, ◌<◌, suc, Bool, true, false, if◌then◌else◌, List, [], length, Option, Some, None, IfErr, IfOk, IfSome, Result, Ok, Err, Global, ap, refl, string_bytes, subst, sym, inl, inr, arith}
 use Rattle.std.specs.declared.string.String.{String}
 use Rattle.std.proofs.Math.ListN.{replicate}
 use Rattle.std.proofs.lemmas.List.{length-replicate}
+use Rattle.std.proofs.lemmas.Option.{same_Some}
 use Rattle.acpc_game.specs.declared.game.Game.{Game}
-use Rattle.acpc_game.specs.declared.fault.AcpcFault.{AcpcFault}
-use Rattle.acpc_game.specs.declared.fault.AcpcFault.TheVariants as in_acpc
 use Rattle.card_set.specs.Refusal.{WasRefused}
 use Rattle.command_words.specs.Words.{Load, Plain, Request, Under, Compare}
 use Rattle.command_words.specs.declared.request.Logs.{Logs}
 use Rattle.command_words.specs.declared.command.Command.{Command}
 use Rattle.command_words.specs.declared.command.EachQuestion.{EachQuestion}
 use Rattle.convert_core.specs.Conversion.{IsConversion as IsConverting, IsConverted, IsPlaysRefusal, IsReadFault, ReadAsRefused}
-use Rattle.convert_core.specs.Faults.{is_out_of_memory_in_acpc, is_out_of_memory_in_ohh, is_out_of_memory_in_phh, is_out_of_memory}
+use Rattle.convert_core.specs.Faults.{excess_of, is_out_of_memory}
 use Rattle.convert_core.specs.declared.convert_fault.ConvertFault.{ConvertFault}
 use Rattle.convert_core.specs.declared.convert_fault.ConvertFault.TheVariants as convert_faults
 use Rattle.convert_core.specs.Judged.{IsPlaysFaultOf}
@@ -21,16 +20,11 @@ use Rattle.convert_core.specs.declared.refusal.PlaysFault.{PlaysFault}
 use Rattle.convert_core.specs.declared.refusal.PlaysFault.TheVariants as plays_faults
 use Rattle.convert_core.specs.declared.refusal.Refusal.{Refusal}
 use Rattle.convert_core.specs.declared.format_fault.FormatFault.{FormatFault}
-use Rattle.convert_core.specs.declared.format_fault.FormatFault.TheVariants as formats
 use Rattle.hand_records.specs.declared.record.Record.{Record}
 use Rattle.hand_records.specs.declared.trace.Play.{Play}
 use Rattle.hand_records.specs.declared.writing.Unspelled.{Unspelled}
-use Rattle.ohh_reading.specs.declared.fault.OhhFault.{OhhFault}
-use Rattle.ohh_reading.specs.declared.fault.OhhFault.TheVariants as in_ohh
-use Rattle.phh_reading.specs.declared.fault.PhhFault.{PhhFault}
-use Rattle.phh_reading.specs.declared.fault.PhhFault.TheVariants as in_phh
 use Rattle.poker_cli.specs.Answer.{IsAnswer, IsAnswerBy, IsAnswerIn, IsAnswerUnder}
-use Rattle.poker_cli.specs.AnswerParts.{Answer, IsAnswerTo, done, most_input, to_excess, to_fault, to_refusal}
+use Rattle.poker_cli.specs.AnswerParts.{Answer, IsAnswerTo, done, most_input, to_excess, to_fault, to_refusal, to_unread}
 use Rattle.poker_cli.specs.Convert.{IsWritten}
 use Rattle.poker_cli.specs.Each.{IsAnswerOfEach}
 use Rattle.poker_cli.specs.Files.{Files, FilesByName}
@@ -73,51 +67,20 @@ pub answer_beyond : (command : Command Format) (reader : Format) (left : Option 
 answer_beyond command reader left answer many is =
     beyond most_input left _ many (λ bytes more. subst (λ (a : Answer). IsAnswer command reader bytes a) (sym is) (answers.TooLong more))
 
+-- an answer that is given unless memory ran out
+pub given_unless : (out : Bool) (made answer : Answer) → (if out then None else Some made) ≡ Some answer → (out ≡ false) × (made ≡ answer)
+given_unless true made answer told = absurd (cc (told))
+given_unless false made answer told = (refl, same_Some _ _ told)
+
+-- the answer to a fault
+pub is_to_unread : (fault : FormatFault) (answer : Answer) → to_fault fault ≡ Some answer → to_unread fault (excess_of fault) ≡ answer
+is_to_unread fault answer told = (given_unless (is_out_of_memory fault) (to_unread fault (excess_of fault)) answer told).1
+
 -- running out of memory is not reported as a fault
-history_memory : (fault : PhhFault) (answer : Answer) → to_fault (formats.Phh fault) ≡ Some answer → is_out_of_memory_in_phh fault ≡ true → ⊥
-history_memory (in_phh.Memory none_left) answer told memory = cc (told)
-history_memory in_phh.Text answer told memory = cc (memory)
-history_memory (in_phh.MissingField hand key) answer told memory = cc (memory)
-history_memory (in_phh.WrongType hand key) answer told memory = cc (memory)
-history_memory (in_phh.AmountNotWhole hand key) answer told memory = cc (memory)
-history_memory (in_phh.AmountLimit hand key) answer told memory = cc (memory)
-history_memory (in_phh.UnknownVariant hand key) answer told memory = cc (memory)
-history_memory (in_phh.SeatCount hand key) answer told memory = cc (memory)
-history_memory (in_phh.ListLength hand key) answer told memory = cc (memory)
-history_memory (in_phh.BadAction hand key) answer told memory = cc (memory)
-history_memory (in_phh.TooMany quantity hand key) answer told memory = cc (memory)
-
-tree_memory : (fault : OhhFault) (answer : Answer) → to_fault (formats.Ohh fault) ≡ Some answer → is_out_of_memory_in_ohh fault ≡ true → ⊥
-tree_memory (in_ohh.Memory none_left) answer told memory = cc (told)
-tree_memory (in_ohh.Text hand) answer told memory = cc (memory)
-tree_memory (in_ohh.MissingMember hand path) answer told memory = cc (memory)
-tree_memory (in_ohh.WrongType hand path) answer told memory = cc (memory)
-tree_memory (in_ohh.AmountNotWhole hand path) answer told memory = cc (memory)
-tree_memory (in_ohh.AmountLimit hand path) answer told memory = cc (memory)
-tree_memory (in_ohh.UnsupportedGame hand path) answer told memory = cc (memory)
-tree_memory (in_ohh.BadPlayer hand path) answer told memory = cc (memory)
-tree_memory (in_ohh.UnsupportedAction hand path) answer told memory = cc (memory)
-tree_memory (in_ohh.BadStreet hand path) answer told memory = cc (memory)
-tree_memory (in_ohh.BadPost hand path) answer told memory = cc (memory)
-tree_memory (in_ohh.RakePlace hand path) answer told memory = cc (memory)
-tree_memory (in_ohh.TooMany quantity hand path) answer told memory = cc (memory)
-
-log_memory : (fault : AcpcFault) (answer : Answer) → to_fault (formats.Acpc fault) ≡ Some answer → is_out_of_memory_in_acpc fault ≡ true → ⊥
-log_memory (in_acpc.Memory none_left) answer told memory = cc (told)
-log_memory (in_acpc.LineShape line byte) answer told memory = cc (memory)
-log_memory (in_acpc.BadBetting line byte) answer told memory = cc (memory)
-log_memory (in_acpc.BadCards line byte) answer told memory = cc (memory)
-log_memory (in_acpc.BadValue line byte) answer told memory = cc (memory)
-log_memory (in_acpc.SeatCount line byte) answer told memory = cc (memory)
-log_memory (in_acpc.GameShape line byte) answer told memory = cc (memory)
-log_memory (in_acpc.UnsupportedGame line byte) answer told memory = cc (memory)
-log_memory (in_acpc.AmountLimit line byte) answer told memory = cc (memory)
-log_memory (in_acpc.TooMany quantity line byte) answer told memory = cc (memory)
-
 no_memory : (fault : FormatFault) (answer : Answer) → to_fault fault ≡ Some answer → is_out_of_memory fault ≡ true → ⊥
-no_memory (formats.Phh fault) answer told memory = history_memory fault answer told memory
-no_memory (formats.Ohh fault) answer told memory = tree_memory fault answer told memory
-no_memory (formats.Acpc fault) answer told memory = log_memory fault answer told memory
+no_memory fault answer told memory =
+    let other = (given_unless (is_out_of_memory fault) (to_unread fault (excess_of fault)) answer told).0 in
+    cc (other, memory)
 
 module _ (Say : List Record → Type 0) (HaveFault : FormatFault → Type 0) where
   module _ (IsMade : List Play → Answer → Type 0) (answer : Answer) where

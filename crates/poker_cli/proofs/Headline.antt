@@ -1,43 +1,33 @@
 -- How a conversion ends follows from the answer to its input.
 use Rattle.std.proofs.Common.{◌≡◌, ◌⊎◌, ℕ, ◌≤◌, List, length, Option, Some, None, IfSome, refl, sym, subst, ap, inl, inr, arith}
-use Rattle.std.specs.Option.{option_map}
-use Rattle.acpc_game.specs.declared.fault.AcpcFault.{AcpcFault}
-use Rattle.acpc_game.specs.declared.fault.AcpcFault.TheVariants as in_acpc
 use Rattle.command_words.specs.Words.{Load, Plain, Request, Under, Compare}
 use Rattle.command_words.specs.declared.request.Logs.TheVariants as logs_are
 use Rattle.command_words.specs.declared.command.Command.TheVariants as commands
 use Rattle.convert_core.specs.FormatLaws.{lawful_of}
 use Rattle.convert_core.proofs.LawfulNotations.{no_fault}
+use Rattle.convert_core.specs.Faults.{excess_of}
 use Rattle.convert_core.specs.declared.format_fault.FormatFault.{FormatFault}
-use Rattle.convert_core.specs.declared.format_fault.FormatFault.TheVariants as formats
+use Rattle.first_fault.specs.declared.limits.Quantity.{Quantity}
 use Rattle.hand_records.specs.declared.record.Record.{Record}
 use Rattle.hand_records.specs.declared.trace.Play.{Play}
 use Rattle.hand_records.specs.declared.writing.Keep.{Keep}
 use Rattle.host_io.specs.Faults.{Rose}
-use Rattle.ohh_members.specs.declared.fault.MemberFaultKind.TheVariants as members
-use Rattle.ohh_reading.specs.Reading.{Wrong as WrongTree, NoText, InHand as InTree}
-use Rattle.ohh_reading.specs.Reading as in_ohh
-use Rattle.phh_reading.specs.declared.field_fault.FieldFaultKind.TheVariants as whats
-use Rattle.phh_reading.specs.Reading.{InHand, NoDocument, Wrong}
-use Rattle.phh_reading.specs.Reading as in_phh
 use Rattle.poker_cli.specs.Answer.{IsAnswer}
-use Rattle.poker_cli.specs.AnswerParts.{Answer, most_input, to_fault, to_wrong_acpc, to_wrong_ohh, to_wrong_phh}
+use Rattle.poker_cli.specs.AnswerParts.{Answer, most_input, to_fault, to_unread}
 use Rattle.poker_cli.specs.Files.{Files, FilesByName}
 use Rattle.poker_cli.specs.Answer as answers
 use Rattle.poker_cli.specs.AnswerParts as parts
 use Rattle.poker_cli.specs.Convert as in_convert
-use Rattle.poker_cli.specs.PhhFaults.{phh_status}
 use Rattle.poker_cli.specs.Headline.{AsksToConvert, CanConvert, ConversionEnds, ConvertsInto, EndsOver, Headline, IsOfHands, IsOfLogs, NamesFault, IsTooLong, NamesRefused, NamesUnspelled, TellsAlone}
 use Rattle.convert_core.specs.Formats.{SayRecords}
 use Rattle.poker_cli.specs.Run.{AsksForFile, Ends, EndsLeaving, RefusesNothing, Sinks, TellsLine, WhereTold, WritesNothing, fixed_line}
-use Rattle.poker_cli.specs.OhhFaults.{ohh_status}
 use Rattle.poker_cli.specs.Ways.{way}
 use Rattle.poker_cli.specs.declared.status.Status.{Status}
 use Rattle.poker_cli.specs.declared.status.Status.TheVariants as statuses
 use Rattle.convert_core.specs.declared.format.Format.{Format}
 use Rattle.convert_core.specs.declared.format.Format.TheVariants as readers
 use Rattle.poker_cli.specs.declared.task.Job.{Job}
-use Rattle.poker_cli.proofs.Answering.{where_told}
+use Rattle.poker_cli.proofs.Answering.{is_to_unread, where_told}
 use Rattle.poker_cli.proofs.OneAnswer.{in_way, legal_in_way, no_file_missing, no_missing}
 use Rattle.card_set.proofs.Options.{some_more}
 
@@ -47,61 +37,14 @@ IsUnread statuses.BadInput = Unit {0}
 IsUnread statuses.Limit = Unit {0}
 IsUnread status = ⊥
 
-history_unread : (wrong : Wrong) → IsUnread (phh_status wrong)
+excess_unread : (fault : FormatFault) (excess : Option Quantity) → IsUnread (to_unread fault excess).status
 unfolding IsUnread
-history_unread NoDocument = tt
-history_unread (InHand hand key whats.MissingField) = tt
-history_unread (InHand hand key whats.WrongType) = tt
-history_unread (InHand hand key whats.AmountNotWhole) = tt
-history_unread (InHand hand key whats.AmountLimit) = tt
-history_unread (InHand hand key whats.UnknownVariant) = tt
-history_unread (InHand hand key whats.SeatCount) = tt
-history_unread (InHand hand key whats.ListLength) = tt
-history_unread (InHand hand key whats.BadAction) = tt
-history_unread (InHand hand key (whats.TooMany quantity)) = tt
-
-tree_unread : (wrong : WrongTree) → IsUnread (ohh_status wrong)
-unfolding IsUnread
-tree_unread (NoText hand) = tt
-tree_unread (InTree hand path members.MissingMember) = tt
-tree_unread (InTree hand path members.WrongType) = tt
-tree_unread (InTree hand path members.AmountNotWhole) = tt
-tree_unread (InTree hand path members.AmountLimit) = tt
-tree_unread (InTree hand path members.UnsupportedGame) = tt
-tree_unread (InTree hand path members.BadPlayer) = tt
-tree_unread (InTree hand path members.UnsupportedAction) = tt
-tree_unread (InTree hand path members.BadStreet) = tt
-tree_unread (InTree hand path members.BadPost) = tt
-tree_unread (InTree hand path members.RakePlace) = tt
-tree_unread (InTree hand path (members.TooMany quantity)) = tt
-
-IsToldUnread : Option Answer → Type 0
-IsToldUnread told = IfSome told (λ answer. IsUnread answer.status)
-
-log_unread : (fault : AcpcFault) → IsToldUnread (to_wrong_acpc fault)
-unfolding IsUnread IsToldUnread
-log_unread (in_acpc.Memory memory) = tt
-log_unread (in_acpc.LineShape line byte) = tt
-log_unread (in_acpc.BadBetting line byte) = tt
-log_unread (in_acpc.BadCards line byte) = tt
-log_unread (in_acpc.BadValue line byte) = tt
-log_unread (in_acpc.SeatCount line byte) = tt
-log_unread (in_acpc.GameShape line byte) = tt
-log_unread (in_acpc.UnsupportedGame line byte) = tt
-log_unread (in_acpc.AmountLimit line byte) = tt
-log_unread (in_acpc.TooMany quantity line byte) = tt
-
-mapped_unread : {W : Type 0} (to : W → Answer) (found : Option W) (answer : Answer) → ((w : W) → IsUnread (to w).status)
-    → option_map to found ≡ Some answer → IsUnread answer.status
-unfolding IsToldUnread
-mapped_unread to (Some wrong) answer each told = subst IsToldUnread told (each wrong)
-mapped_unread to None answer each told = absurd (cc (told))
+excess_unread fault None = tt
+excess_unread fault (Some quantity) = tt
 
 fault_unread : (fault : FormatFault) (answer : Answer) → to_fault fault ≡ Some answer → IsUnread answer.status
-unfolding IsToldUnread
-fault_unread (formats.Phh fault) answer told = mapped_unread to_wrong_phh (in_phh.wrong_of fault) answer history_unread told
-fault_unread (formats.Ohh fault) answer told = mapped_unread to_wrong_ohh (in_ohh.wrong_of fault) answer tree_unread told
-fault_unread (formats.Acpc fault) answer told = subst IsToldUnread told (log_unread fault)
+fault_unread fault answer told =
+    subst (λ (a : Answer). IsUnread a.status) (is_to_unread fault answer told) (excess_unread fault (excess_of fault))
 
 -- no other status is that of a fault
 pub not_unread : (fault : FormatFault) (answer : Answer) (status : Status) → (IsUnread status → ⊥) → to_fault fault ≡ Some answer → answer.status ≡ status → ⊥

@@ -1,26 +1,19 @@
 -- The status of an answer does not come from a device or memory, whatever the input.
 use Rattle.std.proofs.Common.{◌≡◌, ℕ, ◌==◌, Bool, true, false, if◌then◌else◌, List, [], ◌∷◌, length, Option, Some, None, IfOk, Result, Ok, Err, subst, sym}
-use Rattle.std.specs.Option.{option_map}
-use Rattle.std.proofs.lemmas.Option.{same_Some}
 use Rattle.acpc_game.specs.GameFile.{GameSaid}
 use Rattle.acpc_game.specs.declared.game.Game.{Game}
-use Rattle.acpc_game.specs.declared.fault.AcpcFault.{AcpcFault}
-use Rattle.acpc_game.specs.declared.fault.AcpcFault.TheVariants as in_acpc
 use Rattle.acpc_writing.specs.GameOf.{game_of}
 use Rattle.chip_ledger.specs.declared.numbers.Seat.{Seat}
 use Rattle.command_words.specs.declared.command.EachQuestion.{EachQuestion}
 use Rattle.command_words.specs.declared.command.EachQuestion.TheVariants as of_each
+use Rattle.convert_core.specs.Faults.{excess_of}
 use Rattle.convert_core.specs.declared.format_fault.FormatFault.{FormatFault}
-use Rattle.convert_core.specs.declared.format_fault.FormatFault.TheVariants as formats
+use Rattle.first_fault.specs.declared.limits.Quantity.{Quantity}
 use Rattle.hand_records.specs.declared.record.Record.{Record}
 use Rattle.hand_records.specs.declared.trace.Play.{Play}
 use Rattle.hand_records.specs.declared.writing.Unspelled.{Unspelled}
-use Rattle.ohh_members.specs.declared.fault.MemberFaultKind.TheVariants as in_member
-use Rattle.ohh_reading.specs.Reading as in_ohh
-use Rattle.phh_reading.specs.declared.field_fault.FieldFaultKind.TheVariants as in_field
-use Rattle.phh_reading.specs.Reading as in_phh
 use Rattle.poker_cli.specs.Answer.{IsAnswer, IsAnswerBy, IsAnswerOf, IsReply}
-use Rattle.poker_cli.specs.AnswerParts.{Answer, IsAnswerTo, to_fault, to_wrong_acpc, to_wrong_ohh, to_wrong_phh}
+use Rattle.poker_cli.specs.AnswerParts.{Answer, IsAnswerTo, to_fault, to_unread}
 use Rattle.poker_cli.specs.Convert.{IsWritten}
 use Rattle.poker_cli.specs.Game.{to_first_game, to_game}
 use Rattle.poker_cli.specs.Judge.{IsJudgement}
@@ -32,8 +25,6 @@ use Rattle.poker_cli.specs.Judge as in_judge
 use Rattle.poker_cli.specs.Compare.{DifferentHand, IsComparedWith, IsComparison, compared_by, first_different, to_other_count, to_same}
 use Rattle.poker_cli.specs.Each as each
 use Rattle.poker_cli.specs.Each.{AreReplayedEach, IsAnswerOfEach, IsEveryPoint, IsPoint, IsReplyOfEach}
-use Rattle.poker_cli.specs.OhhFaults.{ohh_status}
-use Rattle.poker_cli.specs.PhhFaults.{phh_status}
 use Rattle.poker_cli.specs.Equity.{IsEquityAt}
 use Rattle.poker_cli.specs.Options.{AreOptionsAt}
 use Rattle.poker_cli.specs.Views.{AreMessages, AreViews}
@@ -53,6 +44,7 @@ use Rattle.convert_core.specs.declared.format.Format.TheVariants as readers
 use Rattle.command_words.specs.declared.command.Command.{Command}
 use Rattle.command_words.specs.declared.command.Command.TheVariants as commands
 use Rattle.poker_cli.specs.declared.task.Job.{Job}
+use Rattle.poker_cli.proofs.Answering.{is_to_unread}
 
 -- a status of an answer to what was read of the input is not that of a fault, and comes after the
 -- reading
@@ -74,30 +66,12 @@ same_own answer other same of = subst (λ (a : Answer). IsOfInput a.status) (sym
 
 -- ---- bytes that cannot be read
 
-phh_own : (wrong : in_phh.Wrong) → IsOfInput (phh_status wrong)
-phh_own in_phh.NoDocument = tt
-phh_own (in_phh.InHand hand key (in_field.TooMany quantity)) = tt
-phh_own (in_phh.InHand hand key what) = tt
-
-ohh_own : (wrong : in_ohh.Wrong) → IsOfInput (ohh_status wrong)
-ohh_own (in_ohh.NoText hand) = tt
-ohh_own (in_ohh.InHand hand path (in_member.TooMany quantity)) = tt
-ohh_own (in_ohh.InHand hand path what) = tt
-
-wrong_own : {W : Type 0} (to_wrong : W → Answer) → ((wrong : W) → IsOfInput (to_wrong wrong).status)
-    → (found : Option W) (answer : Answer) → option_map to_wrong found ≡ Some answer → IsOfInput answer.status
-wrong_own to_wrong each (Some wrong) answer told = subst (λ (a : Answer). IsOfInput a.status) (same_Some _ _ told) (each wrong)
-wrong_own to_wrong each None answer told = cc
-
-acpc_own : (fault : AcpcFault) (answer : Answer) → to_wrong_acpc fault ≡ Some answer → IsOfInput answer.status
-acpc_own (in_acpc.Memory memory) answer told = cc
-acpc_own (in_acpc.TooMany quantity line byte) answer told = subst (λ (a : Answer). IsOfInput a.status) (same_Some _ _ told) tt
-acpc_own fault answer told = subst (λ (a : Answer). IsOfInput a.status) (same_Some _ _ told) tt
+unread_own : (fault : FormatFault) (excess : Option Quantity) → IsOfInput (to_unread fault excess).status
+unread_own fault None = tt
+unread_own fault (Some quantity) = tt
 
 fault_own : (fault : FormatFault) (answer : Answer) → to_fault fault ≡ Some answer → IsOfInput answer.status
-fault_own (formats.Phh fault) answer told = wrong_own to_wrong_phh phh_own (in_phh.wrong_of fault) answer told
-fault_own (formats.Ohh fault) answer told = wrong_own to_wrong_ohh ohh_own (in_ohh.wrong_of fault) answer told
-fault_own (formats.Acpc fault) answer told = acpc_own fault answer told
+fault_own fault answer told = subst (λ (a : Answer). IsOfInput a.status) (is_to_unread fault answer told) (unread_own fault (excess_of fault))
 
 -- ---- what is made of hands
 

@@ -1,25 +1,19 @@
 -- What all commands share: an answer has an exit status, an output and a diagnostic line; and the
 -- answers to an input that is too long, that cannot be read as hands, or that has a refused hand; and
 -- to a hand number that is too high.
-use Rattle.std.specs.Prelude.{ℕ, List, [], ◌≡◌, codes, Option, Some, None, option_map, ◌+◌, ◌-◌, ◌++◌, slice_get}
+use Rattle.std.specs.Prelude.{ℕ, List, [], ◌≡◌, codes, Option, Some, None, if◌then◌else◌, ◌+◌, ◌-◌, ◌++◌, slice_get}
 use Rattle.std.specs.Fmt.{decimal}
-use Rattle.acpc_game.specs.declared.fault.AcpcFault.{AcpcFault}
-use Rattle.acpc_game.specs.declared.fault.AcpcFault.TheVariants as acpc_faults
 use Rattle.convert_core.specs.Conversion.{ReadAsPlays, ReadAsRefused}
+use Rattle.convert_core.specs.FaultText.{format_text, refusal_text}
+use Rattle.convert_core.specs.Faults.{excess_of, is_out_of_memory}
 use Rattle.convert_core.specs.declared.format_fault.FormatFault.{FormatFault}
-use Rattle.convert_core.specs.declared.format_fault.FormatFault.TheVariants as formats
 use Rattle.convert_core.specs.declared.refusal.Refusal.{Refusal}
+use Rattle.first_fault.specs.declared.limits.Quantity.{Quantity}
+use Rattle.hand_records.specs.FactTexts.{fact_text}
 use Rattle.hand_records.specs.declared.record.Record.{Record}
 use Rattle.hand_records.specs.declared.trace.Play.{Play}
 use Rattle.hand_records.specs.declared.writing.Unspelled.{Unspelled}
-use Rattle.ohh_reading.specs.Reading as in_ohh
-use Rattle.phh_reading.specs.Reading as in_phh
-use Rattle.poker_cli.specs.AcpcFaults.{acpc_fault_line, acpc_status}
-use Rattle.poker_cli.specs.Limits.{excess_line}
-use Rattle.poker_cli.specs.OhhFaults.{ohh_fault_line, ohh_status}
-use Rattle.poker_cli.specs.PhhFaults.{phh_fault_line, phh_status}
-use Rattle.poker_cli.specs.Refusals.{refused_line}
-use Rattle.poker_cli.specs.Unspelled.{unspelled_line}
+use Rattle.poker_cli.specs.Limits.{excess_line, limit_line}
 use Rattle.poker_cli.specs.declared.status.Status.{Status}
 use Rattle.poker_cli.specs.declared.status.Status.TheVariants as statuses
 
@@ -45,30 +39,31 @@ most_input = 16777216
 abbrev pub to_excess : Answer
 to_excess = refusal statuses.Limit (excess_line (codes "input bytes") most_input)
 
--- the answer to a file of the Poker Hand History format that cannot be read as hands, by its first
--- fault
-abbrev pub to_wrong_phh : in_phh.Wrong → Answer
-to_wrong_phh wrong = refusal (phh_status wrong) (phh_fault_line wrong)
+-- the answer to an input that cannot be read as hands, by its first fault in its notation, and by
+-- what it has too many of, if that is the fault
+abbrev pub to_unread : FormatFault → Option Quantity → Answer
+to_unread fault None =
+    refusal statuses.BadInput (codes "bad input: " ++ (format_text fault ++ codes "\n"))
+to_unread fault (Some quantity) = refusal statuses.Limit (limit_line quantity)
 
--- the answer to a file of Open Hand History that cannot be read as hands, by its first fault
-abbrev pub to_wrong_ohh : in_ohh.Wrong → Answer
-to_wrong_ohh wrong = refusal (ohh_status wrong) (ohh_fault_line wrong)
-
--- the answer to a log that cannot be read as hands, by its first fault; none if memory ran out
-abbrev pub to_wrong_acpc : AcpcFault → Option Answer
-to_wrong_acpc (acpc_faults.Memory memory) = None
-to_wrong_acpc fault = Some (refusal (acpc_status fault) (acpc_fault_line fault))
-
--- the answer to an input that cannot be read as hands, by its first fault in its notation; none if
--- memory ran out
+-- the answer to an input that cannot be read as hands; none if memory ran out
 abbrev pub to_fault : FormatFault → Option Answer
-to_fault (formats.Phh fault) = option_map to_wrong_phh (in_phh.wrong_of fault)
-to_fault (formats.Ohh fault) = option_map to_wrong_ohh (in_ohh.wrong_of fault)
-to_fault (formats.Acpc fault) = to_wrong_acpc fault
+to_fault fault =
+    if is_out_of_memory fault then None else Some (to_unread fault (excess_of fault))
+
+-- the line of the refused hand with this number
+abbrev pub refused_line : ℕ → Refusal → List ℕ
+refused_line number why =
+    codes "refused: hand " ++ (decimal number ++ (codes ": " ++ (refusal_text why ++ codes "\n")))
 
 -- the answer to a refused hand
 abbrev pub to_refusal : ℕ → Refusal → Answer
 to_refusal number why = refusal statuses.Refused (refused_line number why)
+
+-- the line of the hand with this number if this fact of it cannot be written
+abbrev pub unspelled_line : ℕ → Unspelled → List ℕ
+unspelled_line number fact =
+    codes "unspelled: hand " ++ (decimal number ++ (codes ": " ++ (fact_text fact ++ codes "\n")))
 
 -- the answer if this fact of the hand with this number cannot be written
 abbrev pub to_unspelled : ℕ → Unspelled → Answer

@@ -16,13 +16,11 @@ use Rattle.hand_records.specs.declared.writing.Keep.{Keep}
 use Rattle.hand_records.specs.declared.writing.Unspelled.{Unspelled}
 use Rattle.host_io.specs.Bytes.{AppendsPart}
 use Rattle.host_io.specs.Faults.{Rose}
-use Rattle.poker_cli.specs.AnswerParts.{Answer, most_input, to_fault}
+use Rattle.poker_cli.specs.AnswerParts.{Answer, most_input, refused_line, to_fault, unspelled_line}
 use Rattle.poker_cli.specs.Files.{Files}
 use Rattle.convert_core.specs.Formats.{HaveFault, ReadsBack, SayRecords, SpellPlays, first_refusal_in, unspelled_in}
 use Rattle.poker_cli.specs.Limits.{excess_line}
-use Rattle.poker_cli.specs.Refusals.{refused_line}
 use Rattle.poker_cli.specs.Run.{EndsLeaving, RefusesNothing, Sinks, TellsLine}
-use Rattle.poker_cli.specs.Unspelled.{unspelled_line}
 use Rattle.poker_cli.specs.Ways.{IsWay, way}
 use Rattle.poker_cli.specs.declared.status.Status.{Status}
 use Rattle.poker_cli.specs.declared.status.Status.TheVariants as statuses

@@ -1,11 +1,11 @@
 -- What `judge` prints: one line per hand with its verdict, and then the number of legal hands.
 use Rattle.std.specs.Prelude.{◌≡◌, ℕ, ◌+◌, Bool, true, false, List, [], ◌∷◌, ◌++◌, length, codes, slice_get, Option, Some, None}
 use Rattle.std.specs.Fmt.{decimal}
+use Rattle.convert_core.specs.FaultText.{refusal_text}
 use Rattle.convert_core.specs.Verdicts.{AreVerdictsOn, Legal, Refused, Verdict, legal_plays}
 use Rattle.convert_core.specs.declared.format_fault.FormatFault.{FormatFault}
 use Rattle.hand_records.specs.declared.record.Record.{Record}
 use Rattle.poker_cli.specs.AnswerParts.{Answer, done, to_fault}
-use Rattle.poker_cli.specs.Refusals.{refusal_text}
 
 -- these lines if they are asked for
 abbrev pub if_asked : Bool → (lines : List ℕ) → List ℕ

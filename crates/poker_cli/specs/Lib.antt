@@ -1,11 +1,7 @@
 -- What the program answers, prints and writes.
 pub mod Status
 pub mod Limits
-pub mod PhhFaults
-pub mod OhhFaults
 pub mod AcpcFaults
-pub mod Refusals
-pub mod Unspelled
 pub mod AnswerParts
 pub mod Files
 pub mod GameFiles

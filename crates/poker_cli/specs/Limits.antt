@@ -2,6 +2,7 @@
 use Rattle.std.specs.Prelude.{ℕ, List, ◌++◌, codes}
 use Rattle.std.specs.Fmt.{decimal}
 use Rattle.play_event.specs.declared.hand_limits.TheConstants.{MOST_MOVES, MOST_OTHER_EVENTS}
+use Rattle.first_fault.specs.Quantities.{quantity_text}
 use Rattle.first_fault.specs.declared.limits.Quantity.{Quantity}
 use Rattle.first_fault.specs.declared.limits.Quantity.TheVariants as quantities
 use Rattle.first_fault.specs.declared.limits.TheConstants.{MOST_FILE_MOVES, MOST_HANDS, MOST_TEXT_BYTES}
@@ -10,15 +11,7 @@ use Rattle.first_fault.specs.declared.limits.TheConstants.{MOST_FILE_MOVES, MOST
 abbrev pub excess_line : (what : List ℕ) (most : ℕ) → List ℕ
 excess_line what most = codes "limit: " ++ (what ++ (codes " " ++ (decimal most ++ codes "\n")))
 
--- what a file has too many of
-abbrev pub quantity_name : Quantity → List ℕ
-quantity_name quantities.Hands = codes "hands"
-quantity_name quantities.Moves = codes "moves of a hand"
-quantity_name quantities.OtherEvents = codes "other events of a hand"
-quantity_name quantities.FileMoves = codes "moves of the file"
-quantity_name quantities.TextBytes = codes "text bytes"
-
--- the most of it that a file may have
+-- the most of a quantity that a file may have
 abbrev pub most_of : Quantity → ℕ
 most_of quantities.Hands = MOST_HANDS
 most_of quantities.Moves = MOST_MOVES
@@ -28,4 +21,4 @@ most_of quantities.TextBytes = MOST_TEXT_BYTES
 
 -- the line of a limit that the hands of a file pass
 abbrev pub limit_line : Quantity → List ℕ
-limit_line quantity = excess_line (quantity_name quantity) (most_of quantity)
+limit_line quantity = excess_line (quantity_text quantity) (most_of quantity)

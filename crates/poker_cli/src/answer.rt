@@ -3,26 +3,22 @@ ghost use Rattle.std.specs.Prelude.{◌≡◌, ◌≤◌, Some, length, IfOk, st
 ghost use Rattle.poker_cli.specs.AnswerParts as definition;
 ghost use Rattle.poker_cli.specs.Answer.{IsAnswer, IsAnswerOf};
 ghost use Rattle.poker_cli.specs.AnswerParts.{most_input};
+ghost use Rattle.convert_core.specs.Faults.{excess_of};
 ghost use Rattle.convert_core.specs.Formats.{HaveFault, SayRecords, first_lines};
 ghost use Rattle.poker_cli.specs.Told.{IsToldOf, IsToldPlaysFault, IsToldText, answer_told};
 
-use crate::acpc_faults::answer_to_acpc_fault;
 use crate::check::answer_with_check;
 use crate::convert::answer_with_hands;
 use crate::each_answer::answer_with_each;
 use crate::equity::answer_with_equity;
 use crate::game::answer_with_game;
 use crate::judge::answer_with_verdicts;
-use crate::limits::excess_line;
-use crate::ohh_faults::answer_to_ohh_fault;
+use crate::limits::{excess_line, limit_line};
 use crate::options::answer_with_options;
-use crate::phh_faults::answer_to_phh_fault;
-use crate::refusals::refused_line;
 use crate::replay::answer_with_replay;
 use crate::report::answer_with_report;
 use crate::session::answer_with_session;
 use crate::status::Status;
-use crate::unspelled::unspelled_line;
 use crate::views::answer_with_messages;
 use card_set::{Memory, try_format};
 use command_words::Command;
@@ -116,10 +112,26 @@ pub fn answer_to_fault(alloc: Global, fault: &ConvertFault) -> Result<Answer, Me
 fn answer_to_unread(alloc: Global, fault: &FormatFault) -> Result<Answer, Memory>
     ensures { IfOk result (λ answer. definition.to_fault fault.now ≡ Some (answer_told answer)) }
 {
-    match fault {
-        FormatFault::Phh(fault) => answer_to_phh_fault(alloc, fault),
-        FormatFault::Ohh(fault) => answer_to_ohh_fault(alloc, fault),
-        FormatFault::Acpc(fault) => answer_to_acpc_fault(alloc, fault),
+    match fault.memory() {
+        Some(memory) => Err(memory),
+        None => answer_to_wrong(alloc, fault),
+    }
+}
+
+// The answer to bytes that have this fault.
+fn answer_to_wrong(alloc: Global, fault: &FormatFault) -> Result<Answer, Memory>
+    ensures { IfOk result (λ answer. answer_told answer
+        ≡ definition.to_unread fault.now (excess_of fault.now)) }
+{
+    match fault.excess() {
+        Some(quantity) => {
+            let line = limit_line(alloc, quantity)?;
+            Ok(refusal(alloc, Status::Limit, line))
+        }
+        None => {
+            let line = try_format!(in alloc; "bad input: {fault}\n")?;
+            Ok(refusal(alloc, Status::BadInput, line))
+        }
     }
 }
 
@@ -127,7 +139,7 @@ fn answer_to_unread(alloc: Global, fault: &FormatFault) -> Result<Answer, Memory
 pub fn answer_to_refused(alloc: Global, hand: u32, why: &Refusal) -> Result<Answer, Memory>
     ensures { IfOk result (λ answer. answer_told answer ≡ definition.to_refusal hand why.now) }
 {
-    let line = refused_line(alloc, hand, why)?;
+    let line = try_format!(in alloc; "refused: hand {hand}: {why}\n")?;
     Ok(refusal(alloc, Status::Refused, line))
 }
 
@@ -135,7 +147,7 @@ pub fn answer_to_refused(alloc: Global, hand: u32, why: &Refusal) -> Result<Answ
 pub fn answer_to_unspelled(alloc: Global, hand: u32, fact: Unspelled) -> Result<Answer, Memory>
     ensures { IfOk result (λ answer. answer_told answer ≡ definition.to_unspelled hand fact) }
 {
-    let line = unspelled_line(alloc, hand, fact)?;
+    let line = try_format!(in alloc; "unspelled: hand {hand}: {fact}\n")?;
     Ok(refusal(alloc, Status::Unspelled, line))
 }
 

@@ -41,7 +41,7 @@ fn text_of_points(alloc: Global, number: u32, hand: &Record) -> Result<String, M
     let part = legal_part(alloc, &hand.setup, &hand.rules, &hand.script)?;
     let mut text = String::new(alloc);
     push_every_point(alloc, &mut text, number, hand, part.events)?;
-    push_refusal_line(alloc, &mut text, number as usize, &why)?;
+    push_refusal_line(&mut text, number as usize, &why)?;
     Ok(text)
 }
 

@@ -42,7 +42,7 @@ fn push_hand(alloc: Global, text: &mut String, number: usize, hand: &Record) -> 
     let outcome = outcome_of(alloc, hand);
     let why = verdict_on(hand, &outcome)?;
     push_own_lines(alloc, text, number, hand, &outcome)?;
-    push_refusal_line(alloc, text, number, &why)
+    push_refusal_line(text, number, &why)
 }
 
 // Appends the lines of the hand with this number.

@@ -5,7 +5,6 @@ ghost use Rattle.hand_records.specs.declared.record.Record.{Record as AnyRecord}
 ghost use Rattle.poker_cli.specs.Each.{IsOutcomeOf, IsVerdictOn, refusal_line};
 
 use crate::judge::push_refused;
-use crate::refusals::refusal_text;
 use card_set::Memory;
 use convert_core::Refusal;
 use hand_canon::check_stated;
@@ -47,7 +46,6 @@ pub fn verdict_on(
 
 /// Appends the line of the verdict on the hand with this number, if it is refused.
 pub fn push_refusal_line(
-    alloc: Global,
     text: &mut String,
     number: usize,
     why: &Option<Refusal>,
@@ -58,6 +56,5 @@ pub fn push_refusal_line(
     let Some(why) = why else {
         return Ok(());
     };
-    let why = refusal_text(alloc, why)?;
-    push_refused(text, number, None, &why)
+    push_refused(text, number, None, why)
 }

@@ -8,7 +8,6 @@ ghost use Rattle.poker_cli.specs.AcpcFaults.{bad_game_line as bad_game_line_said
 ghost use Rattle.poker_cli.specs.Run.{OfFile};
 ghost use Rattle.poker_cli.specs.Told.{answer_told};
 
-use crate::acpc_faults::{fault_name, line_of};
 use crate::answer::{Answer, MOST_INPUT, refusal};
 use crate::limits::excess_line;
 use crate::status::Status;
@@ -92,7 +91,7 @@ pub fn game_file_answer(alloc: Global, lack: GameFileError) -> Result<Answer, Me
 fn bad_game_line(alloc: Global, fault: &AcpcFault) -> Result<String, Memory>
     ensures { IfOk result (λ line. string_bytes line ≡ bad_game_line_said fault.now) }
 {
-    let line = line_of(fault);
-    let name = fault_name(fault);
+    let line = fault.line();
+    let name = fault.name();
     try_format!(in alloc; "bad game: line {line}: {name}\n")
 }

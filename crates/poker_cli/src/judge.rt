@@ -5,11 +5,11 @@ ghost use Rattle.std.specs.Fmt.{decimal};
 ghost use Rattle.first_fault.specs.declared.limits.TheConstants.{MOST_HANDS};
 ghost use Rattle.hand_records.specs.SoundRecord.{IsSoundRecord};
 ghost use Rattle.poker_cli.specs.Judge.{ArePrinted, IsJudged, IsJudgement, begins_text, if_asked, judged_end};
+ghost use Rattle.convert_core.specs.FaultText.{refusal_text};
 ghost use Rattle.convert_core.specs.Formats.{HaveFault, SayRecords, first_lines};
 ghost use Rattle.poker_cli.specs.Told.{answer_told};
 
 use crate::answer::{Answer, answer_to_fault, done_with};
-use crate::refusals::refusal_text;
 use card_set::{Memory, TryWrite, try_write};
 use convert_core::{
     Format, Notation, PlaysFault, Refusal, VerdictVisitor, judge_all, read_records,
@@ -50,14 +50,10 @@ impl VerdictVisitor for VerdictLines {
         Ok(())
     }
 
-    fn pass(&mut self, alloc: Global, place: usize, why: &Refusal) -> Result<(), Memory> {
+    fn pass(&mut self, _: Global, place: usize, why: &Refusal) -> Result<(), Memory> {
         let number = place + 1;
-        let why = match refusal_text(alloc, why) {
-            Ok(why) => why,
-            Err(memory) => return Err(memory),
-        };
         let line = line_at(&self.lines, place);
-        push_refused(&mut self.text, number, line, &why)?;
+        push_refused(&mut self.text, number, line, why)?;
         Ok(())
     }
 }
@@ -114,13 +110,12 @@ pub fn push_refused(
     text: &mut String,
     number: usize,
     line: Option<u64>,
-    why: &String,
+    why: &Refusal,
 ) -> Result<(), Memory>
     ensures { OnOk result (string_bytes text.new ≡ string_bytes text.old
         ++ (codes "hand " ++ (decimal number ++ (begins_text line ++ (codes ": "
-        ++ (string_bytes why.now ++ codes "\n")))))) }
+        ++ (refusal_text why.now ++ codes "\n")))))) }
 {
-    let why = why.as_str();
     let Some(line) = line else {
         try_write!(text, "hand {number}: {why}\n")?;
         return Ok(());

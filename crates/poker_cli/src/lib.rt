@@ -2,7 +2,6 @@
 //! the output and the diagnostic line of the program.
 #![tactic(auto)]
 
-mod acpc_faults;
 mod answer;
 mod check;
 mod compare;
@@ -22,17 +21,13 @@ mod laws;
 mod limits;
 mod load;
 mod no_answer;
-mod ohh_faults;
 mod options;
-mod phh_faults;
 mod process;
-mod refusals;
 mod replay;
 mod report;
 mod session;
 mod status;
 mod task;
-mod unspelled;
 mod views;
 mod ways;
 

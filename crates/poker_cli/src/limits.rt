@@ -11,7 +11,8 @@ use std::alloc::Global;
 pub fn limit_line(alloc: Global, quantity: Quantity) -> Result<String, Memory>
     ensures { IfOk result (λ line. string_bytes line ≡ limits.limit_line quantity) }
 {
-    excess_line(alloc, quantity_name(quantity), most_of(quantity))
+    let most = most_of(quantity);
+    try_format!(in alloc; "limit: {quantity} {most}\n")
 }
 
 /// The line of a limit: what is counted, and the most of it that may be there.
@@ -21,20 +22,7 @@ pub fn excess_line(alloc: Global, what: &str, most: usize) -> Result<String, Mem
     try_format!(in alloc; "limit: {what} {most}\n")
 }
 
-// What a file has too many of.
-fn quantity_name(quantity: Quantity) -> &'static str
-    ensures { result.now ≡ limits.quantity_name quantity }
-{
-    match quantity {
-        Quantity::Hands => "hands",
-        Quantity::Moves => "moves of a hand",
-        Quantity::OtherEvents => "other events of a hand",
-        Quantity::FileMoves => "moves of the file",
-        Quantity::TextBytes => "text bytes",
-    }
-}
-
-// The most of it that a file may have.
+// The most of a quantity that a file may have.
 fn most_of(quantity: Quantity) -> usize
     ensures { result ≡ limits.most_of quantity }
 {

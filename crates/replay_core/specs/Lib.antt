@@ -10,3 +10,4 @@ pub mod Showdowns
 pub mod AtEnd
 pub mod Replayed
 pub mod Faults
+pub mod FaultText

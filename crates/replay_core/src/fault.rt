@@ -1,6 +1,10 @@
 //! Why a script has no trace.
+ghost use Rattle.std.specs.Prelude.{Some};
+ghost use Rattle.replay_core.specs.FaultText.{fault_text};
+
 use card_set::Memory;
 use play_event::Illegal;
+use std::fmt;
 
 /// Why a script has no trace, in the order in which faults are looked for. Out of memory may come
 /// instead of each.
@@ -16,4 +20,20 @@ pub enum ReplayFault {
     /// The first pot, from 1, that two or more seats may win, but none of these seats has shown.
     NoShownHand { pot: u8 },
     Memory(Memory),
+}
+
+impl fmt::Display for ReplayFault {
+    ghost output = { λ fault. Some (fault_text fault) };
+
+    fn fmt<W: fmt::Write>(&self, f: &mut fmt::Formatter<W>) -> fmt::Result {
+        match *self {
+            ReplayFault::Illegal { event, at, why } => {
+                write!(f, "event {event}, action {at}: {why}")
+            }
+            ReplayFault::EndsEarly { events } => write!(f, "ends early after {events} events"),
+            ReplayFault::RakeTooBig { pot } => write!(f, "pot {pot}: rake too big"),
+            ReplayFault::NoShownHand { pot } => write!(f, "pot {pot}: no shown hand"),
+            ReplayFault::Memory(_) => f.write_str("out of memory"),
+        }
+    }
 }

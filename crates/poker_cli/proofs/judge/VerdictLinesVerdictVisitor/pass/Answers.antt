@@ -1,6 +1,7 @@
 -- The line of a refused hand.
-use Rattle.std.proofs.Common.{List, ℕ, Option, ◌+◌, ◌++◌, refl, string_bytes, ap₂, ◌∙◌, codes}
+use Rattle.std.proofs.Common.{ℕ, Option, ◌+◌, ◌++◌, refl, string_bytes, ap, ◌∙◌, codes}
 use Rattle.std.specs.Fmt.{decimal}
+use Rattle.convert_core.specs.FaultText.{refusal_text}
 use Rattle.poker_cli.specs.Judge.{begins_text}
 use Rattle.poker_cli.proofs.JudgedLines.{now_refused}
 use Rattle.poker_cli.proofs.judge.VerdictLinesVerdictVisitor.pass.Goals as goal
@@ -11,6 +12,6 @@ returns c = λ start before hand on counted refused printed.
     now_refused start.lines.items c.args.self.now.lines.items old (string_bytes c.push_refused.new.text) c.args.self.now.legal c.args.self.now.legal c.args.place
     before hand c.args.why.now printed counted
     (c.in_ok-push_refused.ensures
-    ∙ ap₂ (λ (line : Option ℕ) (w : List ℕ). old ++ (codes "hand " ++ (decimal (c.args.place + 1) ++ (begins_text line ++ (codes ": " ++ (w ++ codes "\n"))))))
-    c.line_at-line.ensures c.in-Ok.ensures)
+    ∙ ap (λ (line : Option ℕ). old ++ (codes "hand " ++ (decimal (c.args.place + 1) ++ (begins_text line ++ (codes ": " ++ (refusal_text c.args.why.now ++ codes "\n"))))))
+    c.line_at-line.ensures)
     refl

@@ -1,9 +1,24 @@
--- The line that is printed when a fact of a hand cannot be written.
+-- The printed names of notes, and of the facts that a notation cannot express.
 use Rattle.std.specs.Prelude.{ℕ, List, ◌++◌, codes}
-use Rattle.std.specs.Fmt.{decimal}
-use Rattle.hand_differences.specs.DifferenceText.{note_text}
+use Rattle.hand_records.specs.declared.notes.NoteName.{NoteName}
+use Rattle.hand_records.specs.declared.notes.NoteName.TheVariants as names
 use Rattle.hand_records.specs.declared.writing.Unspelled.{Unspelled}
 use Rattle.hand_records.specs.declared.writing.Unspelled.TheVariants as facts
+
+-- the printed name of a note
+abbrev pub note_text : NoteName → List ℕ
+note_text names.Players = codes "players"
+note_text names.Seats = codes "seats"
+note_text names.SeatCount = codes "seat_count"
+note_text names.Hand = codes "hand"
+note_text names.Table = codes "table"
+note_text names.Venue = codes "venue"
+note_text names.Currency = codes "currency"
+note_text names.TimeZone = codes "time_zone"
+note_text names.Year = codes "year"
+note_text names.Month = codes "month"
+note_text names.Day = codes "day"
+note_text names.Time = codes "time"
 
 -- the name of a fact
 abbrev pub fact_text : Unspelled → List ℕ
@@ -22,8 +37,3 @@ fact_text facts.PartCards = codes "PartCards"
 fact_text facts.Muck = codes "Muck"
 fact_text facts.OddChip = codes "OddChip"
 fact_text (facts.Note name) = codes "Note " ++ note_text name
-
--- the line of the hand with this number if this fact of it cannot be written
-abbrev pub unspelled_line : ℕ → Unspelled → List ℕ
-unspelled_line number fact =
-    codes "unspelled: hand " ++ (decimal number ++ (codes ": " ++ (fact_text fact ++ codes "\n")))

@@ -1,0 +1,52 @@
+//! The printed names of notes, and of the facts that a notation cannot express.
+ghost use Rattle.std.specs.Prelude.{Some};
+ghost use Rattle.hand_records.specs.FactTexts.{fact_text, note_text};
+
+use crate::notes::NoteName;
+use crate::writing::Unspelled;
+use std::fmt;
+
+impl fmt::Display for NoteName {
+    ghost output = { λ note. Some (note_text note) };
+
+    fn fmt<W: fmt::Write>(&self, f: &mut fmt::Formatter<W>) -> fmt::Result {
+        f.write_str(match self {
+            NoteName::Players => "players",
+            NoteName::Seats => "seats",
+            NoteName::SeatCount => "seat_count",
+            NoteName::Hand => "hand",
+            NoteName::Table => "table",
+            NoteName::Venue => "venue",
+            NoteName::Currency => "currency",
+            NoteName::TimeZone => "time_zone",
+            NoteName::Year => "year",
+            NoteName::Month => "month",
+            NoteName::Day => "day",
+            NoteName::Time => "time",
+        })
+    }
+}
+
+impl fmt::Display for Unspelled {
+    ghost output = { λ fact. Some (fact_text fact) };
+
+    fn fmt<W: fmt::Write>(&self, f: &mut fmt::Formatter<W>) -> fmt::Result {
+        f.write_str(match self {
+            Unspelled::Variant => "Variant",
+            Unspelled::SeatCount => "SeatCount",
+            Unspelled::Stacks => "Stacks",
+            Unspelled::BetSizes => "BetSizes",
+            Unspelled::Antes => "Antes",
+            Unspelled::Blinds => "Blinds",
+            Unspelled::Rake => "Rake",
+            Unspelled::ReopenedShort => "ReopenedShort",
+            Unspelled::FreeFold => "FreeFold",
+            Unspelled::TooManyRaises => "TooManyRaises",
+            Unspelled::RaiseTarget => "RaiseTarget",
+            Unspelled::PartCards => "PartCards",
+            Unspelled::Muck => "Muck",
+            Unspelled::OddChip => "OddChip",
+            Unspelled::Note(note) => return write!(f, "Note {note}"),
+        })
+    }
+}
