@@ -1,25 +1,9 @@
 -- The printed text of the first difference of two plays.
 use Rattle.std.specs.Prelude.{ℕ, List, ◌++◌, codes, Option, Some, None}
 use Rattle.std.specs.Fmt.{decimal}
-use Rattle.hand_records.specs.declared.notes.NoteName.{NoteName}
-use Rattle.hand_records.specs.declared.notes.NoteName.TheVariants as names
+use Rattle.hand_records.specs.NoteTable.{note_text}
 use Rattle.hand_differences.specs.FirstDifference as found
 use Rattle.hand_differences.specs.FirstDifference.{PlainDifference}
-
--- the printed name of a note
-abbrev pub note_text : NoteName → List ℕ
-note_text names.Players = codes "players"
-note_text names.Seats = codes "seats"
-note_text names.SeatCount = codes "seat_count"
-note_text names.Hand = codes "hand"
-note_text names.Table = codes "table"
-note_text names.Venue = codes "venue"
-note_text names.Currency = codes "currency"
-note_text names.TimeZone = codes "time_zone"
-note_text names.Year = codes "year"
-note_text names.Month = codes "month"
-note_text names.Day = codes "day"
-note_text names.Time = codes "time"
 
 -- the text of a card's owner
 abbrev pub owner_text : Option ℕ → List ℕ

@@ -1,5 +1,6 @@
 //! Prints the first difference of two plays.
 ghost use Rattle.std.specs.Prelude.{◌≡◌, IfOk, string_bytes};
+ghost use Rattle.hand_records.specs.NoteTable as note_table;
 ghost use Rattle.hand_differences.specs.DifferenceText as texts;
 ghost use Rattle.hand_differences.specs.FirstDifference.{Card, difference_said};
 ghost use Rattle.play_event.specs.Said.{seat_named};
@@ -79,20 +80,7 @@ fn owner_text(alloc: Global, owner: Option<Seat>) -> Result<String, Memory>
 
 /// The printed name of a note, such as `players` or `time_zone`.
 pub fn note_text(note: NoteName) -> &'static str
-    ensures { result.now ≡ texts.note_text note }
+    ensures { result.now ≡ note_table.note_text note }
 {
-    match note {
-        NoteName::Players => "players",
-        NoteName::Seats => "seats",
-        NoteName::SeatCount => "seat_count",
-        NoteName::Hand => "hand",
-        NoteName::Table => "table",
-        NoteName::Venue => "venue",
-        NoteName::Currency => "currency",
-        NoteName::TimeZone => "time_zone",
-        NoteName::Year => "year",
-        NoteName::Month => "month",
-        NoteName::Day => "day",
-        NoteName::Time => "time",
-    }
+    note.text()
 }

@@ -1,7 +1,7 @@
 -- The line that is printed when a fact of a hand cannot be written.
 use Rattle.std.specs.Prelude.{ℕ, List, ◌++◌, codes}
 use Rattle.std.specs.Fmt.{decimal}
-use Rattle.hand_differences.specs.DifferenceText.{note_text}
+use Rattle.hand_records.specs.NoteTable.{note_text}
 use Rattle.hand_records.specs.declared.writing.Unspelled.{Unspelled}
 use Rattle.hand_records.specs.declared.writing.Unspelled.TheVariants as facts
 
