@@ -5,7 +5,7 @@ use Rattle.std.specs.List.{list_any}
 use Rattle.std.proofs.lemmas.Bool.{cases_lt}
 use Rattle.acpc_format.specs.Again.{kept_name}
 use Rattle.acpc_game.specs.declared.game.Game.{Game}
-use Rattle.acpc_writing.specs.NoteFacts.{is_unspelled_hand, is_unspelled_name, text_conditions, time_conditions}
+use Rattle.acpc_writing.specs.NoteFacts.{is_unspelled_hand, is_unspelled_name, plain_condition, text_conditions, time_conditions}
 use Rattle.acpc_writing.specs.Names.{is_spelled_hand, is_spelled_name}
 use Rattle.acpc_writing.specs.PlayFacts.{play_conditions}
 use Rattle.acpc_writing.specs.SetupFacts.{setup_conditions}
@@ -16,9 +16,11 @@ use Rattle.first_fault.specs.declared.limits.TheConstants.{MOST_HANDS}
 use Rattle.hand_records.specs.SaidNotes.{SaidNotes, kept_label, name_said, notes_of, numbers_said, said_notes}
 use Rattle.hand_canon.specs.Sound.{IsSound}
 use Rattle.hand_records.specs.AllowedNotes.{AreAllowed}
+use Rattle.hand_records.specs.NoteTable.{no_texts, text_names, texts_of}
 use Rattle.hand_records.specs.WriteRefusals.{or_behind}
 use Rattle.hand_records.specs.declared.notes.NoteName.TheVariants as names
 use Rattle.hand_records.specs.declared.notes.Notes.{Notes}
+use Rattle.hand_records.specs.declared.notes.TextNotes.{TextNotes}
 use Rattle.hand_records.specs.declared.trace.Play.{Play}
 use Rattle.hand_records.specs.declared.trace.Trace.{Trace}
 use Rattle.hand_records.specs.declared.writing.Keep.{Keep}
@@ -29,6 +31,7 @@ use Rattle.play_event.specs.declared.setup.Setup.{Setup}
 use Rattle.acpc_format.proofs.OneForm.{hand_fact, numbers_some}
 use Rattle.acpc_format.specs.KeptNotes.{kept_in_acpc, number_spelled}
 use Rattle.hand_records.proofs.NoteLaws.{AreUnusual, all_alike, at_seat, fails_all, fails_at, notes_same, tests_alike}
+use Rattle.hand_records.proofs.NoteTexts as note_texts
 use Rattle.hand_records.specs.SameHands.{AreSameHand}
 use Rattle.hand_canon.proofs.UnusualNumbers.{unusual}
 use Rattle.hand_records.proofs.Refusals.{both_none, none_both}
@@ -49,9 +52,8 @@ module _ (place count : ℕ) (few : place < MOST_HANDS) (a b : Notes) (is : AreA
       let seats : is_some a.seats ≡ is_some b.seats = numbers_some count a.seats unusual_is ∙ ap (λ (n : SaidNotes). is_some n.seats) same ∙ sym (numbers_some count b.seats unusual_it) in
       let hand : is_unspelled_hand a.hand ≡ is_unspelled_hand b.hand = hand_fact place a.hand few ∙ ap (λ (n : SaidNotes). is_unspelled_hand n.hand) same ∙ sym (hand_fact place b.hand few) in
       let seat_count : a.seat_count ≡ b.seat_count = ap (λ (n : SaidNotes). n.seat_count) same in
-      let table : a.table ≡ b.table = ap (λ (n : SaidNotes). n.table) same in
-      let venue : a.venue ≡ b.venue = ap (λ (n : SaidNotes). n.venue) same in
-      let currency : a.currency ≡ b.currency = ap (λ (n : SaidNotes). n.currency) same in
+      let plain : map (plain_condition (texts_of a)) text_names ≡ map (plain_condition (texts_of b)) text_names =
+      ap (λ (n : SaidNotes). map (plain_condition n.texts) text_names) same in
       cc
 
   times_same : time_conditions a ≡ time_conditions b
@@ -94,14 +96,36 @@ record AreSpelled (a : Notes) : Type 0 where
   seats : is_some a.seats ≡ false
   seat_count : is_some a.seat_count ≡ false
   hand : is_unspelled_hand a.hand ≡ false
-  table : is_some a.table ≡ false
-  venue : is_some a.venue ≡ false
-  currency : is_some a.currency ≡ false
+  texts : texts_of a ≡ no_texts
   zone : is_some a.zone ≡ false
   year : is_some a.year ≡ false
   month : is_some a.month ≡ false
   day : is_some a.day ≡ false
   time : is_some a.time ≡ false
+
+none_is : {A : Type 0} (said : Option A) → is_some said ≡ false → said ≡ None
+none_is None none = refl
+none_is (Some a) none = absurd (true≢false none)
+
+-- none of the plain texts is noted
+record IsNoPlain (texts : TextNotes) : Type 0 where
+  table : is_some texts.table ≡ false
+  venue : is_some texts.venue ≡ false
+  currency : is_some texts.currency ≡ false
+
+plain_none : (texts : TextNotes) → first_where (map (plain_condition texts) text_names) ≡ None → texts ≡ no_texts
+plain_none texts none =
+    let table = where_none (is_some texts.table) (facts.Note names.Table) _ none in
+    let venue = where_none (is_some texts.venue) (facts.Note names.Venue) _ table.1 in
+    let currency = where_none (is_some texts.currency) (facts.Note names.Currency) _ venue.1 in
+    note_texts.texts_same texts no_texts (record {
+      table = none_is texts.table table.0;
+      venue = none_is texts.venue venue.0;
+      currency = none_is texts.currency currency.0;
+    })
+
+none_plain : (texts : TextNotes) → texts ≡ no_texts → IsNoPlain texts
+none_plain texts none = subst IsNoPlain (sym none) (record { table = refl; venue = refl; currency = refl })
 
 spelled_notes : (a : Notes) → unspelled_note keeps.All a ≡ None → AreSpelled a
 unfolding unspelled_note
@@ -111,37 +135,29 @@ spelled_notes a none =
     let two = where_none (is_some a.seats) (facts.Note names.Seats) _ one.1 in
     let three = where_none (is_some a.seat_count) (facts.Note names.SeatCount) _ two.1 in
     let four = where_none (is_unspelled_hand a.hand) (facts.Note names.Hand) _ three.1 in
-    let five = where_none (is_some a.table) (facts.Note names.Table) _ four.1 in
-    let six = where_none (is_some a.venue) (facts.Note names.Venue) _ five.1 in
-    let seven = where_none (is_some a.currency) (facts.Note names.Currency) _ six.1 in
-    let eight = where_none (is_some a.zone) (facts.Note names.TimeZone) _ both.1 in
-    let nine = where_none (is_some a.year) (facts.Note names.Year) _ eight.1 in
-    let ten = where_none (is_some a.month) (facts.Note names.Month) _ nine.1 in
-    let eleven = where_none (is_some a.day) (facts.Note names.Day) _ ten.1 in
-    let twelve = where_none (is_some a.time) (facts.Note names.Time) _ eleven.1 in
+    let five = where_none (is_some a.zone) (facts.Note names.TimeZone) _ both.1 in
+    let six = where_none (is_some a.year) (facts.Note names.Year) _ five.1 in
+    let seven = where_none (is_some a.month) (facts.Note names.Month) _ six.1 in
+    let eight = where_none (is_some a.day) (facts.Note names.Day) _ seven.1 in
+    let nine = where_none (is_some a.time) (facts.Note names.Time) _ eight.1 in
     record {
       names = one.0;
       seats = two.0;
       seat_count = three.0;
       hand = four.0;
-      table = five.0;
-      venue = six.0;
-      currency = seven.0;
-      zone = eight.0;
-      year = nine.0;
-      month = ten.0;
-      day = eleven.0;
-      time = twelve.0;
+      texts = plain_none (texts_of a) four.1;
+      zone = five.0;
+      year = six.0;
+      month = seven.0;
+      day = eight.0;
+      time = nine.0;
     }
 
 notes_spelled : (a : Notes) → AreSpelled a → unspelled_note keeps.All a ≡ None
 unfolding unspelled_note
 notes_spelled a are =
-    rw (are.names, are.seats, are.seat_count, are.hand, are.table, are.venue, are.currency, are.zone, are.year, are.month, are.day, are.time) refl
-
-none_is : {A : Type 0} (said : Option A) → is_some said ≡ false → said ≡ None
-none_is None none = refl
-none_is (Some a) none = absurd (true≢false none)
+    let texts = none_plain (texts_of a) are.texts in
+    rw (are.names, are.seats, are.seat_count, are.hand, texts.table, texts.venue, texts.currency, are.zone, are.year, are.month, are.day, are.time) refl
 
 -- a name that can be written is kept, and a name that is kept can be written
 name_kept : (name : Option (List ℕ)) → is_unspelled_name name ≡ false → kept_name name ≡ name
@@ -194,9 +210,7 @@ module _ (place count : ℕ) (few : place < MOST_HANDS) (a : Notes) (is : AreAll
         seats = sym (ap (numbers_said count) (none_is a.seats are.seats));
         seat_count = sym (none_is a.seat_count are.seat_count);
         hand = number_kept (kept_label place a.hand) (sym (hand_fact place a.hand few) ∙ are.hand);
-        table = sym (none_is a.table are.table);
-        venue = sym (none_is a.venue are.venue);
-        currency = sym (none_is a.currency are.currency);
+        texts = sym are.texts;
         year = sym (none_is a.year are.year);
         month = sym (none_is a.month are.month);
         day = sym (none_is a.day are.day);
@@ -226,9 +240,7 @@ module _ (place count : ℕ) (few : place < MOST_HANDS) (a : Notes) (is : AreAll
         seats = numbers_some count a.seats unusual_is ∙ none_some (numbers_said count a.seats) (ap (λ (n : SaidNotes). n.seats) kept);
         seat_count = none_some a.seat_count (ap (λ (n : SaidNotes). n.seat_count) kept);
         hand = hand_fact place a.hand few ∙ kept_number (kept_label place a.hand) (ap (λ (n : SaidNotes). n.hand) kept);
-        table = none_some a.table (ap (λ (n : SaidNotes). n.table) kept);
-        venue = none_some a.venue (ap (λ (n : SaidNotes). n.venue) kept);
-        currency = none_some a.currency (ap (λ (n : SaidNotes). n.currency) kept);
+        texts = sym (ap (λ (n : SaidNotes). n.texts) kept);
         zone = none_some a.zone (ap (λ (n : SaidNotes). n.zone) kept);
         year = none_some a.year (ap (λ (n : SaidNotes). n.year) kept);
         month = none_some a.month (ap (λ (n : SaidNotes). n.month) kept);

@@ -2,6 +2,7 @@
 use Rattle.std.specs.Prelude.{ℕ, List, map, Option, Some, None, if◌then◌else◌, option_and_then}
 use Rattle.acpc_format.specs.Again.{kept_name}
 use Rattle.acpc_writing.specs.Names.{is_spelled_hand}
+use Rattle.hand_records.specs.NoteTable.{no_texts}
 use Rattle.hand_records.specs.SaidNotes.{SaidNotes}
 
 -- the hand number if a line can write it, else none
@@ -16,9 +17,7 @@ kept_in_acpc notes =
       seats = None;
       seat_count = None;
       hand = option_and_then number_spelled notes.hand;
-      table = None;
-      venue = None;
-      currency = None;
+      texts = no_texts;
       year = None;
       month = None;
       day = None;

@@ -8,6 +8,8 @@ use Rattle.hand_records.specs.declared.notes.Notes.{Notes}
 use Rattle.hand_records.specs.declared.record.Record.{Record}
 use Rattle.hand_records.specs.declared.record.NetRow.{NetRow}
 use Rattle.hand_records.specs.AllowedNotes.{AreAllowed, IsName, IsNoteText}
+use Rattle.hand_records.specs.NoteTable.{texts_of}
+use Rattle.hand_records.proofs.NoteTexts.{none_allowed}
 use Rattle.hand_records.specs.SoundRecord.{script_said, IsSoundRecord}
 use Rattle.acpc_game.specs.declared.game.Game.{Game}
 use Rattle.acpc_reading.specs.RecordView.{AreOfGame, IsOfGame, IsSetupOf, NotesNames, StatesValues}
@@ -25,9 +27,7 @@ notes_allowed players notes alone each no_more hand = record {
   seats = rw alone.seats tt;
   seat_count = rw alone.seat_count tt;
   hand = hand;
-  table = rw alone.table tt;
-  venue = rw alone.venue tt;
-  currency = rw alone.currency tt;
+  texts = none_allowed (texts_of notes) alone.texts;
   year = rw alone.year tt;
   month = rw alone.month tt;
   day = rw alone.day tt;

@@ -12,6 +12,7 @@ use Rattle.play_event.specs.declared.setup.Rules.{Rules}
 use Rattle.play_event.specs.declared.setup.Reopen.TheVariants as reopen
 use Rattle.play_event.specs.Said.{numbered}
 use Rattle.first_fault.specs.declared.limits.TheConstants.{MOST_FILE_MOVES, MOST_HANDS}
+use Rattle.hand_records.specs.NoteTable.{no_texts, texts_of}
 use Rattle.hand_records.specs.declared.notes.Notes.{Notes}
 use Rattle.hand_records.specs.declared.record.Record.{Record}
 use Rattle.hand_records.specs.declared.record.Stated.{Stated}
@@ -70,9 +71,7 @@ pub record StatesValues (stated : Stated) : Type 0 where
 pub record NotesNames (notes : Notes) : Type 0 where
   pub seats : notes.seats ≡ None
   pub seat_count : notes.seat_count ≡ None
-  pub table : notes.table ≡ None
-  pub venue : notes.venue ≡ None
-  pub currency : notes.currency ≡ None
+  pub texts : texts_of notes ≡ no_texts
   pub year : notes.year ≡ None
   pub month : notes.month ≡ None
   pub day : notes.day ≡ None

@@ -64,16 +64,7 @@ fn noting(names: [Option<Text>; 10], hand: Option<Text>) -> Notes
 {
     Notes {
         names,
-        seats: None,
-        seat_count: None,
         hand,
-        table: None,
-        venue: None,
-        currency: None,
-        year: None,
-        month: None,
-        day: None,
-        time: None,
-        zone: None,
+        ..Notes::none()
     }
 }

@@ -1,8 +1,11 @@
 -- Which notes of a hand a line can write: names of players, and the number of the hand.
-use Rattle.std.specs.Prelude.{ℕ, Bool, false, not, List, [], ◌∷◌, Option, Some, None, is_some}
+use Rattle.std.specs.Prelude.{ℕ, Bool, false, not, List, [], ◌∷◌, map, Option, Some, None, is_some}
 use Rattle.std.specs.List.{list_any}
+use Rattle.hand_records.specs.NoteTable.{text_named, text_names, texts_of}
 use Rattle.hand_records.specs.declared.notes.Notes.{Notes}
+use Rattle.hand_records.specs.declared.notes.NoteName.{NoteName}
 use Rattle.hand_records.specs.declared.notes.NoteName.TheVariants as names
+use Rattle.hand_records.specs.declared.notes.TextNotes.{TextNotes}
 use Rattle.hand_records.specs.declared.writing.Unspelled.{Unspelled}
 use Rattle.hand_records.specs.declared.writing.Unspelled.TheVariants as facts
 use Rattle.acpc_writing.specs.Names.{is_spelled_hand, is_spelled_name}
@@ -17,6 +20,10 @@ abbrev pub is_unspelled_hand : Option (List ℕ) → Bool
 is_unspelled_hand None = false
 is_unspelled_hand (Some text) = not (is_spelled_hand text)
 
+-- a line can write none of the plain texts
+abbrev pub plain_condition : TextNotes → NoteName → Bool × Unspelled
+plain_condition texts name = (is_some (text_named texts name), facts.Note name)
+
 -- each case in which a line cannot write a note, with that note: of seats and texts
 abbrev pub text_conditions : Notes → List (Bool × Unspelled)
 text_conditions notes =
@@ -24,10 +31,7 @@ text_conditions notes =
     ∷ (is_some notes.seats, facts.Note names.Seats)
     ∷ (is_some notes.seat_count, facts.Note names.SeatCount)
     ∷ (is_unspelled_hand notes.hand, facts.Note names.Hand)
-    ∷ (is_some notes.table, facts.Note names.Table)
-    ∷ (is_some notes.venue, facts.Note names.Venue)
-    ∷ (is_some notes.currency, facts.Note names.Currency)
-    ∷ []
+    ∷ map (plain_condition (texts_of notes)) text_names
 
 -- and of the day and its time
 abbrev pub time_conditions : Notes → List (Bool × Unspelled)

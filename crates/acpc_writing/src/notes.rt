@@ -1,8 +1,9 @@
 //! Looks through the notes of a hand for one that a line cannot write.
-ghost use Rattle.std.specs.Prelude.{◌≡◌};
+ghost use Rattle.std.specs.Prelude.{◌≡◌, map};
 ghost use Rattle.std.specs.List.{list_any};
+ghost use Rattle.hand_records.specs.NoteTable.{texts_of};
 ghost use Rattle.hand_records.specs.declared.writing.Keep.TheVariants as keeps;
-ghost use Rattle.acpc_writing.specs.NoteFacts.{text_conditions, time_conditions};
+ghost use Rattle.acpc_writing.specs.NoteFacts.{plain_condition, text_conditions, time_conditions};
 ghost use Rattle.acpc_writing.specs.NoteFacts as note_facts;
 ghost use Rattle.acpc_writing.specs.Spelled.{unspelled_note};
 ghost use Rattle.first_fault.specs.Conditions.{first_where};
@@ -49,16 +50,20 @@ fn find_text(notes: &Notes) -> Option<Unspelled>
     if is_unspelled_hand(&notes.hand) {
         return Some(Unspelled::Note(NoteName::Hand));
     }
-    if notes.table.is_some() {
-        return Some(Unspelled::Note(NoteName::Table));
+    find_plain(notes, NoteName::texts().as_slice())
+}
+
+// The first of some plain texts that is noted: a line can write none of them.
+fn find_plain(notes: &Notes, names: &[NoteName]) -> Option<Unspelled>
+    ensures { result ≡ first_where (map (plain_condition (texts_of notes.now)) names.now) }
+{
+    match names {
+        [] => None,
+        [name, rest @ ..] => match notes.text(*name) {
+            Some(_) => Some(Unspelled::Note(*name)),
+            None => find_plain(notes, rest),
+        },
     }
-    if notes.venue.is_some() {
-        return Some(Unspelled::Note(NoteName::Venue));
-    }
-    if notes.currency.is_some() {
-        return Some(Unspelled::Note(NoteName::Currency));
-    }
-    None
 }
 
 // Whether a line cannot write one of the names.

@@ -137,9 +137,7 @@ module _ (game : Game) (a b : Record) (is : IsOfGame game a) (it : IsOfGame game
               ap (option_map (take a.setup.stacks.seats)) (is.notes.seats ∙ sym it.notes.seats);
           seat_count = is.notes.seat_count ∙ sym it.notes.seat_count;
           hand = ap (λ (hand : HandSaid). hand.hand) same;
-          table = is.notes.table ∙ sym it.notes.table;
-          venue = is.notes.venue ∙ sym it.notes.venue;
-          currency = is.notes.currency ∙ sym it.notes.currency;
+          texts = is.notes.texts ∙ sym it.notes.texts;
           year = is.notes.year ∙ sym it.notes.year;
           month = is.notes.month ∙ sym it.notes.month;
           day = is.notes.day ∙ sym it.notes.day;

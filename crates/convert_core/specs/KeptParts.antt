@@ -6,7 +6,10 @@ use Rattle.std.proofs.lemmas.Slice.Eq.{bytes_eq-Decides}
 use Rattle.acpc_format.specs.Again.{kept_name}
 use Rattle.acpc_format.specs.KeptNotes.{kept_in_acpc, number_spelled}
 use Rattle.acpc_writing.specs.Names.{is_spelled_hand, is_spelled_name}
+use Rattle.hand_records.specs.NoteTable.{no_texts, text_named, text_names, texts_listed}
 use Rattle.hand_records.specs.SaidNotes.{SaidNotes}
+use Rattle.hand_records.specs.declared.notes.NoteName.{NoteName}
+use Rattle.hand_records.specs.declared.notes.NoteName.TheVariants as names
 use Rattle.hand_records.specs.declared.notes.Clock.{Clock}
 use Rattle.card_set.proofs.Options.{from_none_some}
 use Rattle.ohh_format.specs.KeptNotes.{kept_in_ohh, moment_in_notes, numbers_round}
@@ -24,6 +27,16 @@ said_here (Some value) = refl
 names_here : (names : List (Option (List ℕ))) → AreSaidThere names names
 names_here [] = tt
 names_here (name ∷ names) = (said_here name, names_here names)
+
+-- no texts are a part of all texts
+no_text : (name : NoteName) (there : Option (List ℕ)) → IsSaidThere (text_named no_texts name) there
+no_text names.Players there = tt
+no_text name there = tt
+
+nothing_there : (listed : List NoteName) (there : NoteName → Option (List ℕ))
+    → AreSaidThere (map (text_named no_texts) listed) (map there listed)
+nothing_there [] there = tt
+nothing_there (name ∷ rest) there = (no_text name (there name), nothing_there rest there)
 
 -- a note that is kept only if a test holds is said
 said_if : {A : Type 0} (test : Bool) (value : A)
@@ -50,9 +63,7 @@ all_part notes =
       seats = said_here notes.seats;
       seat_count = said_here notes.seat_count;
       hand = said_here notes.hand;
-      table = said_here notes.table;
-      venue = said_here notes.venue;
-      currency = said_here notes.currency;
+      texts = names_here (texts_listed notes.texts);
       year = said_here notes.year;
       month = said_here notes.month;
       day = said_here notes.day;
@@ -109,9 +120,7 @@ part_in_ohh notes =
       seats = numbers_part notes.seats;
       seat_count = said_here notes.seat_count;
       hand = said_here notes.hand;
-      table = said_here notes.table;
-      venue = said_here notes.venue;
-      currency = said_here notes.currency;
+      texts = names_here (texts_listed notes.texts);
       year = moment.year;
       month = moment.month;
       day = moment.day;
@@ -153,9 +162,7 @@ most_in_ohh part notes of_it same =
           (ap (λ (n : SaidNotes). n.seats) same) of_it.seats;
       seat_count = of_it.seat_count;
       hand = of_it.hand;
-      table = of_it.table;
-      venue = of_it.venue;
-      currency = of_it.currency;
+      texts = of_it.texts;
       year =
           part_there (λ m. m.day.year) part.year mine other there
           (ap (λ (n : SaidNotes). n.year) same);
@@ -194,9 +201,7 @@ part_in_acpc notes =
       seats = tt;
       seat_count = tt;
       hand = number_part notes.hand;
-      table = tt;
-      venue = tt;
-      currency = tt;
+      texts = nothing_there text_names (text_named notes.texts);
       year = tt;
       month = tt;
       day = tt;
@@ -225,9 +230,9 @@ most_in_acpc part notes of_it same =
       hand =
           said_kept (option_and_then number_spelled) part.hand notes.hand
           (ap (λ (n : SaidNotes). n.hand) same) of_it.hand;
-      table = none_said part.table None (ap (λ (n : SaidNotes). n.table) same);
-      venue = none_said part.venue None (ap (λ (n : SaidNotes). n.venue) same);
-      currency = none_said part.currency None (ap (λ (n : SaidNotes). n.currency) same);
+      texts =
+          subst (λ texts. AreSaidThere (texts_listed texts) (texts_listed no_texts))
+          (ap (λ (n : SaidNotes). n.texts) same) (names_here (texts_listed no_texts));
       year = none_said part.year None (ap (λ (n : SaidNotes). n.year) same);
       month = none_said part.month None (ap (λ (n : SaidNotes). n.month) same);
       day = none_said part.day None (ap (λ (n : SaidNotes). n.day) same);

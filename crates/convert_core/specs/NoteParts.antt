@@ -1,12 +1,14 @@
 -- Notes that are a part of others: each of them is either left out, or the others say it as well.
 use Rattle.std.specs.Prelude.{◌≡◌, ℕ, List, [], ◌∷◌, Option, Some, IfSome}
+use Rattle.hand_records.specs.NoteTable.{texts_listed}
 use Rattle.hand_records.specs.SaidNotes.{SaidNotes}
 
 -- if a note is said here, it is said there as well
 abbrev pub IsSaidThere : {A : Type 0} → (here there : Option A) → Type 0
 IsSaidThere here there = IfSome here (λ note. there ≡ Some note)
 
--- names of the same number of seats, where each that is said here is said there as well
+-- names of the same number of seats, or texts of the same notes, where each that is said here is said
+-- there as well
 abbrev pub AreSaidThere : (here there : List (Option (List ℕ))) → Type 0
 AreSaidThere [] [] = Unit {0}
 AreSaidThere [] (other ∷ there) = ⊥
@@ -19,9 +21,7 @@ pub record ArePartOf (part whole : SaidNotes) : Type 0 where
   pub seats : IsSaidThere part.seats whole.seats
   pub seat_count : IsSaidThere part.seat_count whole.seat_count
   pub hand : IsSaidThere part.hand whole.hand
-  pub table : IsSaidThere part.table whole.table
-  pub venue : IsSaidThere part.venue whole.venue
-  pub currency : IsSaidThere part.currency whole.currency
+  pub texts : AreSaidThere (texts_listed part.texts) (texts_listed whole.texts)
   pub year : IsSaidThere part.year whole.year
   pub month : IsSaidThere part.month whole.month
   pub day : IsSaidThere part.day whole.day

@@ -57,9 +57,7 @@ module _ (a b : Record) (is : IsHistory a) (it : IsHistory b) (same : plain a 鈮
               seats = numbers;
               seat_count = ap (位 (hand : PlainHand). hand.notes.seat_count) same;
               hand = ap (位 (hand : PlainHand). hand.notes.hand) same;
-              table = ap (位 (hand : PlainHand). hand.notes.table) same;
-              venue = ap (位 (hand : PlainHand). hand.notes.venue) same;
-              currency = ap (位 (hand : PlainHand). hand.notes.currency) same;
+              texts = ap (位 (hand : PlainHand). hand.notes.texts) same;
               year = ap (位 (hand : PlainHand). hand.notes.year) same;
               month = ap (位 (hand : PlainHand). hand.notes.month) same;
               day = ap (位 (hand : PlainHand). hand.notes.day) same;

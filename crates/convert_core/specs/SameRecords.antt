@@ -1,5 +1,6 @@
 -- Records that say the same, so that bytes cannot tell them apart.
 use Rattle.std.specs.Prelude.{◌≡◌, ℕ, List, [], ◌∷◌, take, None, option_map, slice_index_or}
+use Rattle.hand_records.specs.NoteTable.{texts_of}
 use Rattle.hand_records.specs.declared.notes.Notes.{Notes}
 use Rattle.hand_records.specs.declared.record.Record.{Record}
 use Rattle.hand_records.specs.declared.trace.Play.{Play}
@@ -17,9 +18,7 @@ pub record NoteTheSame (count : ℕ) (a b : Notes) : Type 0 where
   pub seats : option_map (take count) a.seats ≡ option_map (take count) b.seats
   pub seat_count : a.seat_count ≡ b.seat_count
   pub hand : a.hand ≡ b.hand
-  pub table : a.table ≡ b.table
-  pub venue : a.venue ≡ b.venue
-  pub currency : a.currency ≡ b.currency
+  pub texts : texts_of a ≡ texts_of b
   pub year : a.year ≡ b.year
   pub month : a.month ≡ b.month
   pub day : a.day ≡ b.day

@@ -12,6 +12,8 @@ use Rattle.chip_ledger.specs.Seat.{seats_of}
 use Rattle.chip_ledger.specs.declared.live_row.LiveRow.{LiveRow}
 use Rattle.hand_canon.specs.Sound.{IsSound}
 use Rattle.hand_records.proofs.NoteLaws.{notes_same}
+use Rattle.hand_records.proofs.NoteTexts.{texts_same}
+use Rattle.hand_records.specs.NoteTable.{note_names, text_named}
 use Rattle.hand_records.specs.SaidNotes.{SaidNotes, notes_of}
 use Rattle.hand_records.specs.SameHands.{AreSameHand}
 use Rattle.hand_records.specs.declared.notes.NoteName.{NoteName}
@@ -23,7 +25,7 @@ use Rattle.hand_differences.proofs.ExactTests.{exact_bytes, exact_clocks, exact_
 use Rattle.hand_differences.proofs.FirstNumbers.{find_never, none_of_same, same_of_none}
 use Rattle.hand_differences.proofs.SameCores.{AreAlike, one_trace}
 use Rattle.hand_differences.proofs.SameSetups.{no_rows, setup_of_rows}
-use Rattle.hand_differences.specs.FirstDifference.{PlainDifference, Note, Shown, card_difference, card_told, first_difference, first_row, is_same_note, move_difference, move_told, note_difference, note_names, play_difference, setup_rows, shown_difference}
+use Rattle.hand_differences.specs.FirstDifference.{PlainDifference, Note, Shown, card_difference, card_told, first_difference, first_row, is_same_note, move_difference, move_told, note_difference, play_difference, setup_rows, shown_difference}
 use Rattle.hand_differences.specs.FirstNumbers.{entry_at, first_other_number, is_same_at}
 use Rattle.hand_differences.specs.SameParts.{is_same_clock, is_same_move, is_same_option, is_same_place, is_same_test, is_same_text}
 
@@ -139,9 +141,11 @@ notes_of_none a b none =
       seats = text.one a.seats b.seats seats.0;
       seat_count = number.one a.seat_count b.seat_count seat_count.0;
       hand = text.one a.hand b.hand hand.0;
-      table = text.one a.table b.table table.0;
-      venue = text.one a.venue b.venue venue.0;
-      currency = text.one a.currency b.currency currency.0;
+      texts = texts_same a.texts b.texts (record {
+        table = text.one a.texts.table b.texts.table table.0;
+        venue = text.one a.texts.venue b.texts.venue venue.0;
+        currency = text.one a.texts.currency b.texts.currency currency.0;
+      });
       year = number.one a.year b.year year.0;
       month = number.one a.month b.month month.0;
       day = number.one a.day b.day day.0;
@@ -154,14 +158,12 @@ own_note a names.Players = (exact_lists is_same_text (exact_options bytes_eq exa
 own_note a names.Seats = (exact_options bytes_eq exact_bytes).own a.seats
 own_note a names.SeatCount = (exact_options (λ (x y : ℕ). x == y) exact_numbers).own a.seat_count
 own_note a names.Hand = (exact_options bytes_eq exact_bytes).own a.hand
-own_note a names.Table = (exact_options bytes_eq exact_bytes).own a.table
-own_note a names.Venue = (exact_options bytes_eq exact_bytes).own a.venue
-own_note a names.Currency = (exact_options bytes_eq exact_bytes).own a.currency
 own_note a names.TimeZone = (exact_options bytes_eq exact_bytes).own a.zone
 own_note a names.Year = (exact_options (λ (x y : ℕ). x == y) exact_numbers).own a.year
 own_note a names.Month = (exact_options (λ (x y : ℕ). x == y) exact_numbers).own a.month
 own_note a names.Day = (exact_options (λ (x y : ℕ). x == y) exact_numbers).own a.day
 own_note a names.Time = (exact_options is_same_clock exact_clocks).own a.time
+own_note a name = (exact_options bytes_eq exact_bytes).own (text_named a.texts name)
 
 no_note : (a : SaidNotes) (some : List NoteName) → find (λ name. not (is_same_note a a name)) some ≡ None
 no_note a [] = refl

@@ -6,6 +6,7 @@ use Rattle.chip_ledger.specs.LiveRow.{flag_of}
 use Rattle.chip_ledger.specs.Seat.{seats_of}
 use Rattle.chip_ledger.specs.SeatRow.{amounts_in}
 use Rattle.chip_ledger.specs.declared.live_row.LiveRow.{LiveRow}
+use Rattle.hand_records.specs.NoteTable.{note_names, text_named}
 use Rattle.hand_records.specs.SaidNotes.{SaidNotes, notes_of}
 use Rattle.hand_records.specs.declared.notes.NoteName.{NoteName}
 use Rattle.hand_records.specs.declared.notes.NoteName.TheVariants as names
@@ -107,26 +108,19 @@ shown_difference shown others =
     (find (λ seat. not (is_same_test (flag_of shown seat) (flag_of others seat)))
     (seats_of shown.seats))
 
--- the notes, in the order in which they are compared
-abbrev pub note_names : List NoteName
-note_names =
-    names.Players ∷ names.Seats ∷ names.SeatCount ∷ names.Hand ∷ names.Table ∷ names.Venue
-    ∷ names.Currency ∷ names.TimeZone ∷ names.Year ∷ names.Month ∷ names.Day ∷ names.Time ∷ []
-
 -- a note is the same in both; one that equals its default counts as missing
 abbrev pub is_same_note : SaidNotes → SaidNotes → NoteName → Bool
 is_same_note notes other names.Players = are_same_entries is_same_text notes.names other.names
 is_same_note notes other names.Seats = is_same_text notes.seats other.seats
 is_same_note notes other names.SeatCount = is_same_number notes.seat_count other.seat_count
 is_same_note notes other names.Hand = is_same_text notes.hand other.hand
-is_same_note notes other names.Table = is_same_text notes.table other.table
-is_same_note notes other names.Venue = is_same_text notes.venue other.venue
-is_same_note notes other names.Currency = is_same_text notes.currency other.currency
 is_same_note notes other names.TimeZone = is_same_text notes.zone other.zone
 is_same_note notes other names.Year = is_same_number notes.year other.year
 is_same_note notes other names.Month = is_same_number notes.month other.month
 is_same_note notes other names.Day = is_same_number notes.day other.day
 is_same_note notes other names.Time = is_same_option is_same_clock notes.time other.time
+is_same_note notes other name =
+    is_same_text (text_named notes.texts name) (text_named other.texts name)
 
 -- the first note that differs
 abbrev pub note_difference : SaidNotes → SaidNotes → Option PlainDifference

@@ -25,20 +25,7 @@ pub(crate) fn note_difference(
     ensures { option_map difference_said result ≡ differences.note_difference
         (said_notes place count notes.now) (said_notes place count others.now) }
 {
-    let names = [
-        NoteName::Players,
-        NoteName::Seats,
-        NoteName::SeatCount,
-        NoteName::Hand,
-        NoteName::Table,
-        NoteName::Venue,
-        NoteName::Currency,
-        NoteName::TimeZone,
-        NoteName::Year,
-        NoteName::Month,
-        NoteName::Day,
-        NoteName::Time,
-    ];
+    let names = NoteName::all();
     let both = BothNotes {
         place,
         count,
@@ -92,14 +79,12 @@ impl BothNotes<'_> {
             NoteName::Seats => are_same_seats(self.count, &notes.seats, &others.seats),
             NoteName::SeatCount => is_same_byte(notes.seat_count, others.seat_count),
             NoteName::Hand => is_same_label(self.place, &notes.hand, &others.hand),
-            NoteName::Table => is_same_text(&notes.table, &others.table),
-            NoteName::Venue => is_same_text(&notes.venue, &others.venue),
-            NoteName::Currency => is_same_text(&notes.currency, &others.currency),
             NoteName::TimeZone => is_same_text(&notes.zone, &others.zone),
             NoteName::Year => is_same_year(notes.year, others.year),
             NoteName::Month => is_same_byte(notes.month, others.month),
             NoteName::Day => is_same_byte(notes.day, others.day),
             NoteName::Time => is_same_time(notes.time, others.time),
+            _ => are_same_texts(notes.text(name), others.text(name)),
         }
     }
 }
@@ -183,6 +168,18 @@ fn is_decimal(text: &[u8], number: u64) -> bool
 // Two optional texts are the same.
 fn is_same_text(a: &Option<Text>, b: &Option<Text>) -> bool
     ensures { result ≡ same_parts.is_same_text a.now b.now }
+{
+    match (a, b) {
+        (Some(a), Some(b)) => a.as_str() == b.as_str(),
+        (None, None) => true,
+        (Some(_), None) | (None, Some(_)) => false,
+    }
+}
+
+// Two plain texts, each of which may be missing, are the same.
+fn are_same_texts(a: Option<&Text>, b: Option<&Text>) -> bool
+    ensures { result ≡ same_parts.is_same_text (option_map (λ text. text.now) a.entry)
+        (option_map (λ text. text.now) b.entry) }
 {
     match (a, b) {
         (Some(a), Some(b)) => a.as_str() == b.as_str(),

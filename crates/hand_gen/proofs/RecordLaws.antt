@@ -4,7 +4,9 @@ use Rattle.card_set.specs.declared.card.Card.{Card}
 use Rattle.chip_ledger.specs.declared.seat_row.TheConstants.{MOST_AMOUNT}
 use Rattle.chip_ledger.specs.Fillers.{index-replicate}
 use Rattle.hand_records.specs.AllowedNotes.{AreNoNotes, AreAllowed}
+use Rattle.hand_records.specs.NoteTable.{texts_of}
 use Rattle.hand_records.specs.SoundRecord.{IsStatedFor}
+use Rattle.hand_records.proofs.NoteTexts as note_texts
 use Rattle.hand_records.specs.declared.notes.Notes.{Notes}
 use Rattle.hand_records.specs.declared.record.Stated.{Stated}
 use Rattle.hand_records.specs.declared.trace.Play.{Play}
@@ -35,9 +37,7 @@ none_allowed seats notes none =
       seats = if_none _ _ none.seats;
       seat_count = if_none _ _ none.seat_count;
       hand = if_none _ _ none.hand;
-      table = if_none _ _ none.table;
-      venue = if_none _ _ none.venue;
-      currency = if_none _ _ none.currency;
+      texts = note_texts.none_allowed (texts_of notes) none.texts;
       year = if_none _ _ none.year;
       month = if_none _ _ none.month;
       day = if_none _ _ none.day;

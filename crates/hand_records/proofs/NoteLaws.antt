@@ -8,6 +8,7 @@ use Rattle.std.proofs.lemmas.Slice.Eq.{bytes_eq-Decides}
 use Rattle.chip_ledger.specs.Seat.{seats_of}
 use Rattle.hand_records.specs.AllowedNotes.{non_default_seats}
 use Rattle.hand_records.specs.declared.notes.Clock.{Clock}
+use Rattle.hand_records.specs.declared.notes.TextNotes.{TextNotes}
 use Rattle.card_set.proofs.Bytes.{different_bytes}
 use Rattle.card_set.proofs.NumbersOfRange.{map_agree}
 use Rattle.card_set.proofs.Tests.{neither}
@@ -21,25 +22,21 @@ pub record HaveSameNotes (a b : SaidNotes) : Type 0 where
   pub seats : a.seats ≡ b.seats
   pub seat_count : a.seat_count ≡ b.seat_count
   pub hand : a.hand ≡ b.hand
-  pub table : a.table ≡ b.table
-  pub venue : a.venue ≡ b.venue
-  pub currency : a.currency ≡ b.currency
+  pub texts : a.texts ≡ b.texts
   pub year : a.year ≡ b.year
   pub month : a.month ≡ b.month
   pub day : a.day ≡ b.day
   pub time : a.time ≡ b.time
   pub zone : a.zone ≡ b.zone
 
-notes_from : List (Option (List ℕ)) → Option (List ℕ) → Option ℕ → Option (List ℕ) → Option (List ℕ) → Option (List ℕ) → Option (List ℕ) → Option ℕ → Option ℕ → Option ℕ → Option Clock → Option (List ℕ) → SaidNotes
-notes_from names seats seat_count hand table venue currency year month day time zone =
+notes_from : List (Option (List ℕ)) → Option (List ℕ) → Option ℕ → Option (List ℕ) → TextNotes → Option ℕ → Option ℕ → Option ℕ → Option Clock → Option (List ℕ) → SaidNotes
+notes_from names seats seat_count hand texts year month day time zone =
     record {
       names = names;
       seats = seats;
       seat_count = seat_count;
       hand = hand;
-      table = table;
-      venue = venue;
-      currency = currency;
+      texts = texts;
       year = year;
       month = month;
       day = day;
@@ -47,7 +44,7 @@ notes_from names seats seat_count hand table venue currency year month day time 
       zone = zone;
     }
 
-notes_parts : (a : SaidNotes) → a ≡ notes_from a.names a.seats a.seat_count a.hand a.table a.venue a.currency a.year a.month a.day a.time a.zone
+notes_parts : (a : SaidNotes) → a ≡ notes_from a.names a.seats a.seat_count a.hand a.texts a.year a.month a.day a.time a.zone
 unfolding notes_from
 notes_parts a = refl
 
@@ -60,9 +57,7 @@ notes_same a b same =
       same.seats,
       same.seat_count,
       same.hand,
-      same.table,
-      same.venue,
-      same.currency,
+      same.texts,
       same.year,
       same.month,
       same.day,

@@ -1,10 +1,12 @@
 -- Which notes a record may have: texts that are not too long, numbers in their range, a date of the
 -- calendar, and no defaults.
 use Rattle.std.specs.Prelude.{◌≡◌, ◌≢◌, ℕ, ◌-◌, ◌%◌, ◌≤◌, ◌==◌, ◌&&◌, ◌||◌, Bool, not, if◌then◌else◌, List, length, take, slice_index, slice_index_or, replicate, None, IfSome, Option, Some, bytes_eq, unwrap_or, nat_le, Result, Ok, Err}
-use Rattle.std.specs.List.{range_with_len}
+use Rattle.std.specs.List.{AllByRecursion, range_with_len}
 use Rattle.first_fault.specs.declared.limits.TheConstants.{MOST_TEXT_BYTES}
+use Rattle.hand_records.specs.NoteTable.{no_texts, texts_listed, texts_of}
 use Rattle.hand_records.specs.declared.notes.Clock.{Clock}
 use Rattle.hand_records.specs.declared.notes.Notes.{Notes}
+use Rattle.hand_records.specs.declared.notes.TextNotes.{TextNotes}
 use Rattle.chip_ledger.specs.SeatsSaid.{default_name}
 
 -- a number lies between two others, or is one of them
@@ -14,6 +16,10 @@ IsWithin least most number = (least ≤ number) × (number ≤ most)
 -- a text of a note
 abbrev pub IsNoteText : List ℕ → Type 0
 IsNoteText text = IsWithin 1 MOST_TEXT_BYTES (length text)
+
+-- each of the plain texts of a hand, if it is noted, is a text of a note
+abbrev pub AreNoteTexts : TextNotes → Type 0
+AreNoteTexts texts = AllByRecursion (λ text. IfSome text IsNoteText) (texts_listed texts)
 
 -- a text of a note that differs from its default
 pub record IsUnusualNote (default note : List ℕ) : Type 0 where
@@ -65,9 +71,7 @@ pub record AreAllowed (count : ℕ) (notes : Notes) : Type 0 where
   pub seats : IfSome notes.seats (AreSeatNumbers count)
   pub seat_count : IfSome notes.seat_count (IsSeatCount count)
   pub hand : IfSome notes.hand IsNoteText
-  pub table : IfSome notes.table IsNoteText
-  pub venue : IfSome notes.venue IsNoteText
-  pub currency : IfSome notes.currency IsNoteText
+  pub texts : AreNoteTexts (texts_of notes)
   pub year : IfSome notes.year (IsWithin 1 9999)
   pub month : IfSome notes.month (IsWithin 1 12)
   pub day : IfSome notes.day (IsWithin 1 31)
@@ -101,9 +105,7 @@ pub record AreNoNotes (notes : Notes) : Type 0 where
   pub seats : notes.seats ≡ None
   pub seat_count : notes.seat_count ≡ None
   pub hand : notes.hand ≡ None
-  pub table : notes.table ≡ None
-  pub venue : notes.venue ≡ None
-  pub currency : notes.currency ≡ None
+  pub texts : texts_of notes ≡ no_texts
   pub year : notes.year ≡ None
   pub month : notes.month ≡ None
   pub day : notes.day ≡ None

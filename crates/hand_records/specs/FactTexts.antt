@@ -1,24 +1,8 @@
 -- The printed names of notes, and of the facts that a notation cannot express.
 use Rattle.std.specs.Prelude.{ℕ, List, ◌++◌, codes}
-use Rattle.hand_records.specs.declared.notes.NoteName.{NoteName}
-use Rattle.hand_records.specs.declared.notes.NoteName.TheVariants as names
+use Rattle.hand_records.specs.NoteTable.{note_text}
 use Rattle.hand_records.specs.declared.writing.Unspelled.{Unspelled}
 use Rattle.hand_records.specs.declared.writing.Unspelled.TheVariants as facts
-
--- the printed name of a note
-abbrev pub note_text : NoteName → List ℕ
-note_text names.Players = codes "players"
-note_text names.Seats = codes "seats"
-note_text names.SeatCount = codes "seat_count"
-note_text names.Hand = codes "hand"
-note_text names.Table = codes "table"
-note_text names.Venue = codes "venue"
-note_text names.Currency = codes "currency"
-note_text names.TimeZone = codes "time_zone"
-note_text names.Year = codes "year"
-note_text names.Month = codes "month"
-note_text names.Day = codes "day"
-note_text names.Time = codes "time"
 
 -- the name of a fact
 abbrev pub fact_text : Unspelled → List ℕ

@@ -2,6 +2,7 @@
 -- as a reader returns it, what it says with plain lists, and when hands are the same.
 pub mod NetRow
 pub mod TraceRows
+pub mod NoteTable
 pub mod AllowedNotes
 pub mod SaidNotes
 pub mod PlainHands

@@ -3,8 +3,10 @@ use Rattle.std.specs.Prelude.{◌≡◌, ℕ, ◌-◌, if◌then◌else◌, byte
 use Rattle.std.specs.Fmt.{decimal}
 use Rattle.chip_ledger.specs.Seat.{seats_of}
 use Rattle.hand_records.specs.AllowedNotes.{non_default_seats}
+use Rattle.hand_records.specs.NoteTable.{texts_of}
 use Rattle.hand_records.specs.declared.notes.Clock.{Clock}
 use Rattle.hand_records.specs.declared.notes.Notes.{Notes}
+use Rattle.hand_records.specs.declared.notes.TextNotes.{TextNotes}
 use Rattle.hand_records.specs.declared.trace.Play.{Play}
 
 -- the notes of a hand, each of which is either said, and then not a default, or not said; there is
@@ -14,9 +16,7 @@ pub record SaidNotes : Type 0 where
   pub seats : Option (List ℕ)
   pub seat_count : Option ℕ
   pub hand : Option (List ℕ)
-  pub table : Option (List ℕ)
-  pub venue : Option (List ℕ)
-  pub currency : Option (List ℕ)
+  pub texts : TextNotes
   pub year : Option ℕ
   pub month : Option ℕ
   pub day : Option ℕ
@@ -46,9 +46,7 @@ said_notes place count notes =
       seats = numbers_said count notes.seats;
       seat_count = notes.seat_count;
       hand = kept_label place notes.hand;
-      table = notes.table;
-      venue = notes.venue;
-      currency = notes.currency;
+      texts = texts_of notes;
       year = notes.year;
       month = notes.month;
       day = notes.day;
@@ -64,9 +62,7 @@ plain_notes count notes =
       seats = option_map (take count) notes.seats;
       seat_count = notes.seat_count;
       hand = notes.hand;
-      table = notes.table;
-      venue = notes.venue;
-      currency = notes.currency;
+      texts = texts_of notes;
       year = notes.year;
       month = notes.month;
       day = notes.day;

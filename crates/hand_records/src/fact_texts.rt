@@ -1,6 +1,7 @@
 //! The printed names of notes, and of the facts that a notation cannot express.
 ghost use Rattle.std.specs.Prelude.{Some};
-ghost use Rattle.hand_records.specs.FactTexts.{fact_text, note_text};
+ghost use Rattle.hand_records.specs.FactTexts.{fact_text};
+ghost use Rattle.hand_records.specs.NoteTable.{note_text};
 
 use crate::notes::NoteName;
 use crate::writing::Unspelled;
@@ -10,20 +11,7 @@ impl fmt::Display for NoteName {
     ghost output = { λ note. Some (note_text note) };
 
     fn fmt<W: fmt::Write>(&self, f: &mut fmt::Formatter<W>) -> fmt::Result {
-        f.write_str(match self {
-            NoteName::Players => "players",
-            NoteName::Seats => "seats",
-            NoteName::SeatCount => "seat_count",
-            NoteName::Hand => "hand",
-            NoteName::Table => "table",
-            NoteName::Venue => "venue",
-            NoteName::Currency => "currency",
-            NoteName::TimeZone => "time_zone",
-            NoteName::Year => "year",
-            NoteName::Month => "month",
-            NoteName::Day => "day",
-            NoteName::Time => "time",
-        })
+        f.write_str(self.text())
     }
 }
 

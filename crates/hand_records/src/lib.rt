@@ -15,7 +15,7 @@ mod writing;
 
 pub use calendar::has_day;
 pub use moves::Moves;
-pub use notes::{CivilDate, Clock, Moment, NoteName, Notes, name_of, non_default_seats};
+pub use notes::{CivilDate, Clock, Moment, NoteName, Notes, TextNotes, name_of, non_default_seats};
 pub use places::Places;
 pub use record::{NetRow, Record, Records, Stated};
 pub use sizes::Sizes;

@@ -4,6 +4,7 @@ ghost use Rattle.std.specs.List.{range_with_len};
 ghost use Rattle.chip_ledger.specs.SeatsSaid as seats_said;
 ghost use Rattle.hand_records.specs.AllowedNotes.{AreNoNotes, name_written};
 ghost use Rattle.hand_records.specs.AllowedNotes as allowed_notes;
+ghost use Rattle.hand_records.specs.NoteTable.{note_names, note_text, notes_with, text_named, text_names, texts_of};
 
 use chip_ledger::Seat;
 use first_fault::Text;
@@ -65,25 +66,72 @@ pub struct Notes {
     pub zone: Option<Text>,
 }
 
+/// The notes of a hand that are plain texts and empty by default. The zone is not one of them: it
+/// is a part of when the hand was played.
+#[derive(Debug, Drop)]
+pub struct TextNotes {
+    pub table: Option<Text>,
+    pub venue: Option<Text>,
+    pub currency: Option<Text>,
+}
+
 impl Notes {
     /// A record without notes.
     pub fn none() -> Self
         ensures { AreNoNotes result }
     {
+        Notes::with_texts(TextNotes {
+            table: None,
+            venue: None,
+            currency: None,
+        })
+    }
+
+    /// Notes that are these texts and nothing else.
+    pub fn with_texts(texts: TextNotes) -> Self
+        ensures { result ≡ notes_with texts }
+    {
+        let TextNotes {
+            table,
+            venue,
+            currency,
+        } = texts;
         Notes {
             names: [None, None, None, None, None, None, None, None, None, None],
             seats: None,
             seat_count: None,
             hand: None,
-            table: None,
-            venue: None,
-            currency: None,
+            table,
+            venue,
+            currency,
             year: None,
             month: None,
             day: None,
             time: None,
             zone: None,
         }
+    }
+
+    /// The text of the note with this name, if it is one of [`NoteName::texts`].
+    pub fn text(&self, name: NoteName) -> Option<&Text>
+        ensures { option_map (λ text. text.now) result ≡ text_named (texts_of self.now) name }
+    {
+        match name {
+            NoteName::Table => reference(&self.table),
+            NoteName::Venue => reference(&self.venue),
+            NoteName::Currency => reference(&self.currency),
+            _ => None,
+        }
+    }
+}
+
+// A reference to the text of a note.
+fn reference(note: &Option<Text>) -> Option<&Text>
+    ensures { option_map (λ text. text.now) result ≡ note.now }
+{
+    match note {
+        Some(text) => Some(text),
+        None => None,
     }
 }
 
@@ -102,6 +150,55 @@ pub enum NoteName {
     Month,
     Day,
     Time,
+}
+
+impl NoteName {
+    /// The printed name of a note, such as `players` or `time_zone`.
+    pub fn text(self) -> &'static str
+        ensures { result.now ≡ note_text self }
+    {
+        match self {
+            NoteName::Players => "players",
+            NoteName::Seats => "seats",
+            NoteName::SeatCount => "seat_count",
+            NoteName::Hand => "hand",
+            NoteName::Table => "table",
+            NoteName::Venue => "venue",
+            NoteName::Currency => "currency",
+            NoteName::TimeZone => "time_zone",
+            NoteName::Year => "year",
+            NoteName::Month => "month",
+            NoteName::Day => "day",
+            NoteName::Time => "time",
+        }
+    }
+
+    /// All notes, in the order in which they are compared.
+    pub fn all() -> [NoteName; 12]
+        ensures { result ≡ note_names }
+    {
+        [
+            NoteName::Players,
+            NoteName::Seats,
+            NoteName::SeatCount,
+            NoteName::Hand,
+            NoteName::Table,
+            NoteName::Venue,
+            NoteName::Currency,
+            NoteName::TimeZone,
+            NoteName::Year,
+            NoteName::Month,
+            NoteName::Day,
+            NoteName::Time,
+        ]
+    }
+
+    /// The notes that are plain texts and empty by default.
+    pub fn texts() -> [NoteName; 3]
+        ensures { result ≡ text_names }
+    {
+        [NoteName::Table, NoteName::Venue, NoteName::Currency]
+    }
 }
 
 /// The name of a seat's player: the one that is noted, or the default name of the seat, such as

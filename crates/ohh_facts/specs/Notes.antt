@@ -49,11 +49,9 @@ labels_said place count ohh = do
   Ok
       (record {
         hand = hand;
-        table = table;
+        texts = record { table = table; venue = venue; currency = currency };
         seat_count = seat_count;
         moment = moment;
-        currency = currency;
-        venue = venue;
       })
 
 -- the names of players; the first of them has this seat in the hand
@@ -70,9 +68,7 @@ notes_of players labels =
       seats = non_default_seats (length players) (map (λ player. player.seat) players);
       seat_count = labels.seat_count;
       hand = labels.hand;
-      table = labels.table;
-      venue = labels.venue;
-      currency = labels.currency;
+      texts = labels.texts;
       year = option_map (λ moment. moment.day.year) labels.moment;
       month = option_map (λ moment. moment.day.month) labels.moment;
       day = option_map (λ moment. moment.day.day) labels.moment;

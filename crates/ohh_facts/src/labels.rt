@@ -14,7 +14,7 @@ use crate::moment::read_moment;
 use crate::texts::{label_at, text_at};
 use card_set::displayed;
 use first_fault::{ReadError, Text};
-use hand_records::Moment;
+use hand_records::{Moment, TextNotes};
 use ohh_members::fault::{MemberFault, Path};
 use ohh_members::values::{field, read_number};
 use serde_json::Value;
@@ -24,11 +24,9 @@ use std::alloc::Global;
 #[derive(Debug, Drop)]
 pub struct Labels {
     pub hand: Option<Text>,
-    pub table: Option<Text>,
+    pub texts: TextNotes,
     pub seat_count: Option<u8>,
     pub moment: Option<Moment>,
-    pub currency: Option<Text>,
-    pub venue: Option<Text>,
 }
 
 /// The labels of a hand with `seats` seats, at this place of its file, from 0.
@@ -51,11 +49,13 @@ pub fn read_labels(
     let venue = text_at(alloc, ohh, Path::SiteName)?;
     Ok(Labels {
         hand,
-        table,
+        texts: TextNotes {
+            table,
+            venue,
+            currency,
+        },
         seat_count,
         moment,
-        currency,
-        venue,
     })
 }
 

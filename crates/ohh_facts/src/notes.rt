@@ -38,11 +38,9 @@ pub fn read_notes(
     let names = names_of(alloc, seated)?;
     let Labels {
         hand,
-        table,
+        texts,
         seat_count,
         moment,
-        currency,
-        venue,
     } = labels;
     let zone = zone_of(alloc, moment)?;
     Ok(Notes {
@@ -50,14 +48,12 @@ pub fn read_notes(
         seats: unusual_seats(seated),
         seat_count,
         hand,
-        table,
-        venue,
-        currency,
         year: year_of(moment),
         month: month_of(moment),
         day: day_of(moment),
         time: time_of(moment),
         zone,
+        ..Notes::with_texts(texts)
     })
 }
 

@@ -155,9 +155,7 @@ module _ (place count : ℕ) (a : Notes) (are_unusual : AreUnusual count a.seats
         seats = round_kept (numbers_said count a.seats) (sym (numbers_round_said count a.seats are_unusual) ∙ are.seats);
         seat_count = refl;
         hand = refl;
-        table = refl;
-        venue = refl;
-        currency = refl;
+        texts = refl;
         year = part_kept (λ m. m.day.year) a.year (moment_of a) are.year (λ m same. (parts m same).year);
         month = part_kept (λ m. m.day.month) a.month (moment_of a) are.month (λ m same. (parts m same).month);
         day = part_kept (λ m. m.day.day) a.day (moment_of a) are.day (λ m same. (parts m same).day);

@@ -33,6 +33,7 @@ use Rattle.card_set.proofs.Entries.{zero_taken_at}
 use Rattle.card_set.proofs.Options.{from_none_some, none_anyway}
 use Rattle.hand_records.proofs.NoteTexts.{not_empty, noted_again}
 use Rattle.chip_ledger.specs.SeatsSaid.{default_name}
+use Rattle.hand_records.specs.NoteTable.{texts_of}
 use Rattle.hand_records.specs.SaidNotes.{kept_label}
 
 -- ---- texts
@@ -117,22 +118,22 @@ module _ (place count : ℕ) (stacks : SeatRow) (notes : Notes) (ohh : Data) (fe
   numbers = numbers_spelled count notes.seats
 
   labels_again : labels_said place count ohh
-      ≡ Ok (record { hand = kept_label place notes.hand; table = notes.table; seat_count = notes.seat_count; moment = moment_of notes; currency = notes.currency; venue = notes.venue })
+      ≡ Ok (record { hand = kept_label place notes.hand; texts = texts_of notes; seat_count = notes.seat_count; moment = moment_of notes })
   unfolding labels_said
   labels_again =
       rw (
         has.hand,
         label_again place paths.GameNumber notes.hand few are.hand,
         has.table,
-        text_again paths.TableName notes.table are.table,
+        text_again paths.TableName notes.table are.texts.0,
         has.seat_count,
         count_again count notes.seat_count (omega (arith, some)) (omega (arith, ten)) are.seat_count,
         has.date,
         date_again (moment_of notes) (good_moment count notes are (moment_of notes) refl),
         has.currency,
-        text_again paths.Currency notes.currency are.currency,
+        text_again paths.Currency notes.currency are.texts.1.1.0,
         has.venue,
-        text_again paths.SiteName notes.venue are.venue,
+        text_again paths.SiteName notes.venue are.texts.1.0,
       ) refl
 
   one_name : (seat : ℕ) (said : Option (List ℕ)) → IfSome said (IsName seat) → noted (default_name seat) (unwrap_or said (default_name seat)) ≡ said

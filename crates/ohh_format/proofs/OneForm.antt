@@ -71,9 +71,7 @@ kept_again notes =
       seats = round_twice notes.seats;
       seat_count = refl;
       hand = refl;
-      table = refl;
-      venue = refl;
-      currency = refl;
+      texts = refl;
       year = ap (option_map (λ m. m.day.year)) moment;
       month = ap (option_map (λ m. m.day.month)) moment;
       day = ap (option_map (λ m. m.day.day)) moment;
@@ -131,9 +129,9 @@ module _ (dialect : Dialect) (place : ℕ) (trace : Trace) (a b : Notes) (are : 
       let dealer = numbers_same count (omega (arith, trace.setup.stacks.least)) (omega arith) in
       let hand : unwrap_or a.hand (decimal place) ≡ unwrap_or b.hand (decimal place) =
       label_or_place place a.hand ∙ ap (λ (n : SaidNotes). unwrap_or n.hand (decimal place)) same ∙ sym (label_or_place place b.hand) in
-      let currency : a.currency ≡ b.currency = ap (λ (n : SaidNotes). n.currency) same in
-      let venue : a.venue ≡ b.venue = ap (λ (n : SaidNotes). n.venue) same in
-      let table : a.table ≡ b.table = ap (λ (n : SaidNotes). n.table) same in
+      let currency : a.currency ≡ b.currency = ap (λ (n : SaidNotes). n.texts.currency) same in
+      let venue : a.venue ≡ b.venue = ap (λ (n : SaidNotes). n.texts.venue) same in
+      let table : a.table ≡ b.table = ap (λ (n : SaidNotes). n.texts.table) same in
       let seat_count : a.seat_count ≡ b.seat_count = ap (λ (n : SaidNotes). n.seat_count) same in
       cc
 

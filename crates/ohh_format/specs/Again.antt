@@ -26,6 +26,7 @@ use Rattle.ohh_writing.specs.Moment.{moment_of}
 use Rattle.ohh_writing.specs.Seating.{numbers_spelled}
 use Rattle.first_fault.specs.Numbers.{kept_number}
 use Rattle.hand_records.specs.AllowedNotes.{non_default_seats}
+use Rattle.hand_records.specs.NoteTable.{texts_of}
 use Rattle.hand_records.specs.PlainHands.{PlainHand, plain_setup}
 use Rattle.hand_records.specs.SaidNotes.{SaidNotes, kept_label}
 
@@ -108,9 +109,7 @@ notes_again place count notes =
           (numbers_spelled count notes.seats);
       seat_count = notes.seat_count;
       hand = kept_label place notes.hand;
-      table = notes.table;
-      venue = notes.venue;
-      currency = notes.currency;
+      texts = texts_of notes;
       year = option_map (λ moment. moment.day.year) (moment_of notes);
       month = option_map (λ moment. moment.day.month) (moment_of notes);
       day = option_map (λ moment. moment.day.day) (moment_of notes);

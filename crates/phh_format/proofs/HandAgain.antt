@@ -31,6 +31,7 @@ use Rattle.phh_format.proofs.EventsAgain.{HaveRoom, counts_with, events_again}
 use Rattle.card_set.proofs.Entries.{cut_zeros, each_taken}
 use Rattle.card_set.proofs.Any.{zero_from_none_taken}
 use Rattle.chip_ledger.specs.SeatRow.{amounts_in}
+use Rattle.hand_records.specs.NoteTable.{texts_of}
 use Rattle.hand_records.specs.SaidNotes.{SaidNotes, kept_label, said_notes}
 use Rattle.hand_records.specs.AllowedNotes.{IsWithin}
 
@@ -93,7 +94,7 @@ module _ (place : ℕ) (play : Play) (is : IsReadable play) where
         calendar_again notes.year notes.month notes.day is.notes.date,
       ) refl
 
-  labels_again : labels_said place members ≡ Ok (record { hand = kept_label place play.hand.notes.hand; table = play.hand.notes.table; venue = play.hand.notes.venue; currency = play.hand.notes.currency })
+  labels_again : labels_said place members ≡ Ok (record { hand = kept_label place play.hand.notes.hand; texts = texts_of play.hand.notes })
   unfolding labels_said
   labels_again =
       let notes = play.hand.notes in
@@ -103,13 +104,13 @@ module _ (place : ℕ) (play : Play) (is : IsReadable play) where
         name_again place (at_key keys.Hand) notes.hand is.notes.hand,
         here keys.Table,
         field_alone (option_map label notes.table),
-        table_again (at_key keys.Table) notes.table is.notes.table,
+        table_again (at_key keys.Table) notes.table is.notes.texts.0,
         here keys.Venue,
         field_alone (option_map string notes.venue),
-        text_note_again (at_key keys.Venue) notes.venue is.notes.venue,
+        text_note_again (at_key keys.Venue) notes.venue is.notes.texts.1.0,
         here keys.Currency,
         field_alone (option_map string notes.currency),
-        text_note_again (at_key keys.Currency) notes.currency is.notes.currency,
+        text_note_again (at_key keys.Currency) notes.currency is.notes.texts.1.1.0,
       ) refl
 
   seating_again : seating_said seats members ≡ Ok (seating_of (said_notes place seats play.hand.notes))

@@ -73,9 +73,9 @@ fields_same place count a b unusual no_usual same =
     let hand : hand_field place a.hand ≡ hand_field place b.hand =
     label_field place a.hand ∙ ap (λ (n : SaidNotes). option_map label n.hand) same ∙ sym (label_field place b.hand) in
     let seat_count : a.seat_count ≡ b.seat_count = ap (λ (n : SaidNotes). n.seat_count) same in
-    let table_is : a.table ≡ b.table = ap (λ (n : SaidNotes). n.table) same in
-    let venue : a.venue ≡ b.venue = ap (λ (n : SaidNotes). n.venue) same in
-    let currency : a.currency ≡ b.currency = ap (λ (n : SaidNotes). n.currency) same in
+    let table_is : a.table ≡ b.table = ap (λ (n : SaidNotes). n.texts.table) same in
+    let venue : a.venue ≡ b.venue = ap (λ (n : SaidNotes). n.texts.venue) same in
+    let currency : a.currency ≡ b.currency = ap (λ (n : SaidNotes). n.texts.currency) same in
     let year : a.year ≡ b.year = ap (λ (n : SaidNotes). n.year) same in
     let month : a.month ≡ b.month = ap (λ (n : SaidNotes). n.month) same in
     let day : a.day ≡ b.day = ap (λ (n : SaidNotes). n.day) same in

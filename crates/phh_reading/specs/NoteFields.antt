@@ -98,7 +98,11 @@ labels_said place members = do
   table ← or_none (label_said [] (at_key keys.Table)) (field keys.Table members)
   venue ← or_none (text_note_said [] (at_key keys.Venue)) (field keys.Venue members)
   currency ← or_none (text_note_said [] (at_key keys.Currency)) (field keys.Currency members)
-  Ok (record { hand = hand; table = table; venue = venue; currency = currency })
+  Ok
+      (record {
+        hand = hand;
+        texts = record { table = table; venue = venue; currency = currency };
+      })
 
 -- year, month and day are a date of the calendar, if all three are given
 abbrev pub is_in_calendar : Option ℕ → Option ℕ → Option ℕ → Bool
@@ -163,9 +167,7 @@ notes_from seating labels date time zone =
       seats = seating.seats;
       seat_count = seating.seat_count;
       hand = labels.hand;
-      table = labels.table;
-      venue = labels.venue;
-      currency = labels.currency;
+      texts = labels.texts;
       year = date.year;
       month = date.month;
       day = date.day;

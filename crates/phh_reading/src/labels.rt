@@ -2,7 +2,7 @@
 ghost use Rattle.std.specs.Prelude.{[], IfOk, IfSome};
 ghost use Rattle.std.specs.Fmt.{decimal};
 ghost use Rattle.toml.specs.View.{table_view};
-ghost use Rattle.hand_records.specs.AllowedNotes.{IsNoteText};
+ghost use Rattle.hand_records.specs.AllowedNotes.{AreNoteTexts, IsNoteText};
 ghost use Rattle.first_fault.specs.Reading.{Gives, or_none};
 ghost use Rattle.phh_reading.specs.declared.field_fault.FieldKey.TheVariants as keys;
 ghost use Rattle.phh_reading.specs.Fields.{at_key};
@@ -14,6 +14,7 @@ use crate::texts::{read_label, read_text_note};
 use crate::values::field;
 use card_set::displayed;
 use first_fault::{ReadError, Text};
+use hand_records::TextNotes;
 use std::alloc::Global;
 use toml::Table;
 
@@ -21,9 +22,7 @@ use toml::Table;
 #[derive(Debug, Drop)]
 pub struct Labels {
     pub hand: Option<Text>,
-    pub table: Option<Text>,
-    pub venue: Option<Text>,
-    pub currency: Option<Text>,
+    pub texts: TextNotes,
 }
 
 /// The labels of the hand at this place of its file, from 0.
@@ -35,9 +34,7 @@ pub fn read_labels(
 ) -> Result<Labels, ReadError<FieldFault>>
     ensures said { Gives (λ labels. labels) result (labels_said place (table_view table.now)) }
     ensures hand { IfOk result (λ labels. IfSome labels.hand IsNoteText) }
-    ensures table { IfOk result (λ labels. IfSome labels.table IsNoteText) }
-    ensures venue { IfOk result (λ labels. IfSome labels.venue IsNoteText) }
-    ensures currency { IfOk result (λ labels. IfSome labels.currency IsNoteText) }
+    ensures texts { IfOk result (λ labels. AreNoteTexts labels.texts) }
 {
     let hand = hand_at(alloc, table, place)?;
     let label = label_at(alloc, table, FieldKey::Table)?;
@@ -45,9 +42,11 @@ pub fn read_labels(
     let currency = text_at(alloc, table, FieldKey::Currency)?;
     Ok(Labels {
         hand,
-        table: label,
-        venue,
-        currency,
+        texts: TextNotes {
+            table: label,
+            venue,
+            currency,
+        },
     })
 }
 

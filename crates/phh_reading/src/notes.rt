@@ -38,25 +38,18 @@ pub fn read_notes(
         seats: numbers,
         seat_count,
     } = seating;
-    let Labels {
-        hand,
-        table: label,
-        venue,
-        currency,
-    } = labels;
+    let Labels { hand, texts } = labels;
     let PartialDate { year, month, day } = date;
     Ok(Notes {
         names,
         seats: numbers,
         seat_count,
         hand,
-        table: label,
-        venue,
-        currency,
         year,
         month,
         day,
         time,
         zone,
+        ..Notes::with_texts(texts)
     })
 }

@@ -28,9 +28,7 @@ allowed_with seats seat_count table year month day time numbered counted texted 
       seats = numbered;
       seat_count = counted;
       hand = tt;
-      table = texted;
-      venue = tt;
-      currency = tt;
+      texts = (texted, (tt, (tt, tt)));
       year = in_years;
       month = in_months;
       day = in_days;

@@ -1,24 +1,11 @@
 -- Notes that are written out, one fact after another.
 use Rattle.std.specs.Prelude.{ℕ, List, ◌∷◌, Option, Some, None, replicate}
+use Rattle.hand_records.specs.NoteTable.{no_texts, notes_with}
 use Rattle.hand_records.specs.declared.notes.Notes.{Notes}
 
 -- nothing is noted
 abbrev pub no_notes : Notes
-no_notes =
-    record {
-      names = replicate 10 None;
-      seats = None;
-      seat_count = None;
-      hand = None;
-      table = None;
-      venue = None;
-      currency = None;
-      year = None;
-      month = None;
-      day = None;
-      time = None;
-      zone = None;
-    }
+no_notes = notes_with no_texts
 
 -- the table has a name
 abbrev pub at_table : List ℕ → Notes

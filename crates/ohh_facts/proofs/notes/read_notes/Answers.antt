@@ -1,3 +1,7 @@
+use Rattle.std.proofs.Common.{subst, sym}
+use Rattle.hand_records.specs.AllowedNotes.{AreNoteTexts}
+use Rattle.hand_records.specs.NoteTable.{texts_of}
+use Rattle.hand_records.specs.declared.notes.Notes.{Notes}
 use Rattle.ohh_facts.proofs.Dated.{year_within, month_within, day_within, date_within, time_within}
 use Rattle.ohh_facts.proofs.notes.read_notes.Goals as goal
 
@@ -11,9 +15,7 @@ returns-clause-allowed c =
       seats = c.unusual_seats.ensures.allowed;
       seat_count = fit.seat_count;
       hand = fit.hand;
-      table = fit.table;
-      venue = fit.venue;
-      currency = fit.currency;
+      texts = subst (λ (notes : Notes). AreNoteTexts (texts_of notes)) (sym c.with_texts.ensures) fit.texts;
       year = rw c.year_of.ensures (year_within moment fit.moment);
       month = rw c.month_of.ensures (month_within moment fit.moment);
       day = rw c.day_of.ensures (day_within moment fit.moment);

@@ -3,6 +3,8 @@ use Rattle.std.specs.Prelude.{◌≡◌, ◌≤◌, ℕ, ◌∷◌, codes, None,
 use Rattle.std.proofs.Common.{ap, arith, lit≤, refl, suc, sym, zero, ◌++◌, ◌∙◌}
 use Rattle.std.proofs.lemmas.Fmt.{decimal_digit}
 use Rattle.chip_ledger.specs.Fillers.{index-replicate}
+use Rattle.hand_records.proofs.NoteTexts.{none_allowed}
+use Rattle.hand_records.specs.NoteTable.{no_texts}
 use Rattle.worked_hands.proofs.BlankNotes.{allowed_with}
 use Rattle.worked_hands.proofs.notes.players.Goals as goal
 use Rattle.card_set.proofs.Numbers.{by_three}
@@ -18,9 +20,7 @@ returns-clause-two_names c =
       seats = tt;
       seat_count = tt;
       hand = tt;
-      table = tt;
-      venue = tt;
-      currency = tt;
+      texts = none_allowed no_texts refl;
       year = tt;
       month = tt;
       day = tt;

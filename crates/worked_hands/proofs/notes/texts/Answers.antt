@@ -14,7 +14,7 @@ pub returns-clause-bytes_255 : goal.returns-clause-bytes_255
 returns-clause-bytes_255 c = allowed_with None None (Some (replicate 255 65)) None None None None tt tt (lit≤ tt, lit≤ tt) tt tt tt tt tt
 
 pub returns-clause-no_byte : goal.returns-clause-no_byte
-returns-clause-no_byte c = λ allowed. let within : 1 ≤ 0 = allowed.table.0 in omega (arith, within)
+returns-clause-no_byte c = λ allowed. let within : 1 ≤ 0 = allowed.texts.0.0 in omega (arith, within)
 
 pub returns-clause-bytes_256 : goal.returns-clause-bytes_256
-returns-clause-bytes_256 c = λ allowed. let within : 256 ≤ 255 = allowed.table.1 in omega (arith, within)
+returns-clause-bytes_256 c = λ allowed. let within : 256 ≤ 255 = allowed.texts.0.1 in omega (arith, within)
