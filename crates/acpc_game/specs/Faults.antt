@@ -6,6 +6,8 @@ use Rattle.acpc_game.specs.declared.fault.LineFault.{LineFault}
 use Rattle.acpc_game.specs.declared.fault.AcpcFault.{AcpcFault}
 use Rattle.acpc_game.specs.declared.fault.AcpcFault.TheVariants as faults
 use Rattle.first_fault.specs.Numbers.{kept_number}
+use Rattle.first_fault.specs.declared.stop.ReadError.{ReadError}
+use Rattle.first_fault.specs.declared.stop.ReadError.TheVariants as stops
 
 -- the fault of this kind at a line and a byte
 abbrev pub fault_of : LineFaultKind → ℕ → ℕ → AcpcFault
@@ -22,6 +24,11 @@ fault_of (whats.TooMany quantity) line byte = faults.TooMany quantity line byte
 -- the fault of a line as a fault of the file
 abbrev pub fault_in_line : ℕ → LineFault → AcpcFault
 fault_in_line line fault = fault_of fault.what (kept_number line) (kept_number fault.byte)
+
+-- why a reader stopped, as a fault
+abbrev pub fault_of_stop : ReadError AcpcFault → AcpcFault
+fault_of_stop (stops.Memory memory) = faults.Memory memory
+fault_of_stop (stops.Fault fault) = fault
 
 -- a line is wrong at a byte
 abbrev pub wrong : {A : Type 0} → LineFaultKind → ℕ → Result A LineFault

@@ -4,7 +4,7 @@ ghost use Rattle.acpc_game.specs.FaultText as texts;
 ghost use Rattle.acpc_game.specs.Faults as faults;
 
 use card_set::Memory;
-use first_fault::{Quantity, saturating_u32};
+use first_fault::{Quantity, ReadError, saturating_u32};
 use std::fmt;
 
 /// What is wrong with a line.
@@ -130,6 +130,17 @@ impl AcpcFault {
             | AcpcFault::AmountLimit { byte, .. }
             | AcpcFault::TooMany { byte, .. } => byte,
             AcpcFault::Memory(_) => 0,
+        }
+    }
+}
+
+impl From<ReadError<AcpcFault>> for AcpcFault {
+    ghost from_gives = { λ stop fault. fault ≡ faults.fault_of_stop stop };
+
+    fn from(stop: ReadError<AcpcFault>) -> Self {
+        match stop {
+            ReadError::Memory(memory) => AcpcFault::Memory(memory),
+            ReadError::Fault(fault) => fault,
         }
     }
 }

@@ -34,11 +34,7 @@ const DEFAULT_STACK: u64 = 2_147_483_647;
 pub fn read_game(alloc: Global, bytes: &[u8]) -> Result<Game, AcpcFault>
     ensures { Answers game_in result (game_said bytes.now) }
 {
-    match read(alloc, bytes) {
-        Ok(game) => Ok(game),
-        Err(ReadError::Memory(memory)) => Err(AcpcFault::Memory(memory)),
-        Err(ReadError::Fault(fault)) => Err(fault),
-    }
+    Ok(read(alloc, bytes)?)
 }
 
 // The game of a file.

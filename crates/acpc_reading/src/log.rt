@@ -33,11 +33,7 @@ pub fn read(alloc: Global, game: &Game, bytes: &[u8]) -> Result<Records, AcpcFau
     ensures few { IfOk result (λ records. length records ≤ MOST_HANDS) }
     ensures moves { IfOk result (λ records. sum_by moves_of records ≤ MOST_FILE_MOVES) }
 {
-    match read_lines(alloc, game, bytes) {
-        Ok(records) => Ok(records),
-        Err(ReadError::Memory(memory)) => Err(AcpcFault::Memory(memory)),
-        Err(ReadError::Fault(fault)) => Err(fault),
-    }
+    Ok(read_lines(alloc, game, bytes)?)
 }
 
 // The hands of a log.

@@ -5,14 +5,14 @@ ghost use Rattle.first_fault.specs.declared.limits.TheConstants.{MOST_FILE_MOVES
 ghost use Rattle.play_event.specs.Said.{kind_said, numbered};
 ghost use Rattle.first_fault.specs.Reading.{Gives};
 ghost use Rattle.phh_actions.specs.Action.{action_said};
-ghost use Rattle.phh_reading.specs.Events.{AreCounted, AreFew, IsAfter, IsOneMore, action_fault, at_place, counted, counts_after, event_said, events_said, listed_event, one_event};
+ghost use Rattle.phh_reading.specs.Events.{AreCounted, AreFew, IsAfter, IsOneMore, at_place, counted, counts_after, event_said, events_said, listed_event, one_event};
 
 use crate::field_fault::{FieldFault, FieldFaultKind, FieldKey, FieldPlace};
 use crate::values::{field_fault_at, read_text};
 use card_set::Memory;
 use chip_ledger::PlayerCount;
 use first_fault::{MOST_FILE_MOVES, Quantity, ReadError, saturating_u32};
-use phh_actions::{ActionFault, read_action};
+use phh_actions::read_action;
 use play_event::{Event, Kind, MOST_MOVES, MOST_OTHER_EVENTS, Script};
 use std::alloc::Global;
 use toml::Value;
@@ -92,18 +92,7 @@ fn read_kind(
 {
     match read_action(text, players) {
         Ok(kind) => Ok(kind),
-        Err(fault) => Err(field_fault_at(fault_of(fault), place)),
-    }
-}
-
-// What is wrong with an action.
-fn fault_of(fault: ActionFault) -> FieldFaultKind
-    ensures { result ≡ action_fault fault }
-{
-    match fault {
-        ActionFault::BadAction => FieldFaultKind::BadAction,
-        ActionFault::AmountNotWhole => FieldFaultKind::AmountNotWhole,
-        ActionFault::AmountLimit => FieldFaultKind::AmountLimit,
+        Err(fault) => Err(field_fault_at(FieldFaultKind::from(fault), place)),
     }
 }
 

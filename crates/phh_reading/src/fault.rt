@@ -3,6 +3,7 @@
 ghost use Rattle.std.specs.Prelude.{◌≡◌, Some};
 ghost use Rattle.phh_reading.specs.FaultText.{fault_text, name_of};
 ghost use Rattle.phh_reading.specs.Reading.{wrong_of};
+ghost use Rattle.phh_reading.specs.declared.fault.PhhFault.TheVariants as faults;
 
 use crate::field_fault::FieldFault;
 use card_set::Memory;
@@ -108,6 +109,14 @@ impl fmt::Display for PhhFault {
             }
             PhhFault::Memory(_) => f.write_str("out of memory"),
         }
+    }
+}
+
+impl From<Memory> for PhhFault {
+    ghost from_gives = { λ memory fault. fault ≡ faults.Memory memory };
+
+    fn from(memory: Memory) -> Self {
+        PhhFault::Memory(memory)
     }
 }
 

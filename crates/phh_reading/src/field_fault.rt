@@ -1,9 +1,11 @@
 //! What is wrong with a hand, and where: the first fault in the order in which fields are examined.
 ghost use Rattle.std.specs.Prelude.{◌≡◌};
+ghost use Rattle.phh_reading.specs.Events.{action_fault};
 ghost use Rattle.phh_reading.specs.Fields.{key_text};
 ghost use Rattle.phh_reading.specs.Fields as fields;
 
 use first_fault::Quantity;
+use phh_actions::ActionFault;
 
 /// What is wrong.
 #[derive(Clone, Copy, Debug, PartialEq, Eq)]
@@ -26,6 +28,18 @@ pub enum FieldFaultKind {
     BadAction,
     /// There is more than the limit of the quantity allows.
     TooMany { quantity: Quantity },
+}
+
+impl From<ActionFault> for FieldFaultKind {
+    ghost from_gives = { λ fault what. what ≡ action_fault fault };
+
+    fn from(fault: ActionFault) -> Self {
+        match fault {
+            ActionFault::BadAction => FieldFaultKind::BadAction,
+            ActionFault::AmountNotWhole => FieldFaultKind::AmountNotWhole,
+            ActionFault::AmountLimit => FieldFaultKind::AmountLimit,
+        }
+    }
 }
 
 /// The keys of the fields, in the order in which they are examined.

@@ -41,10 +41,9 @@ fn read_text(alloc: Global, text: &str) -> Result<Records, PhhFault>
     ensures reads { Reads result (document_said (parse_document text.now)) }
     ensures hands { IfOk result AreHistories }
 {
-    match read_by_table(alloc, text) {
-        Ok(Some(records)) => Ok(records),
-        Ok(None) => read_whole(alloc, text),
-        Err(memory) => Err(PhhFault::Memory(memory)),
+    match read_by_table(alloc, text)? {
+        Some(records) => Ok(records),
+        None => read_whole(alloc, text),
     }
 }
 
@@ -53,10 +52,9 @@ fn read_whole(alloc: Global, text: &str) -> Result<Records, PhhFault>
     ensures reads { Reads result (document_said (parse_document text.now)) }
     ensures hands { IfOk result AreHistories }
 {
-    match document(alloc, text) {
-        Ok(Some(table)) => read_document(alloc, &table),
-        Ok(None) => Err(PhhFault::Text),
-        Err(memory) => Err(PhhFault::Memory(memory)),
+    match document(alloc, text)? {
+        Some(table) => read_document(alloc, &table),
+        None => Err(PhhFault::Text),
     }
 }
 
