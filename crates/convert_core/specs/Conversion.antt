@@ -8,6 +8,8 @@ use Rattle.hand_records.specs.declared.writing.WriteRefusal.TheVariants as refus
 use Rattle.convert_core.specs.Judged.{ArePlaysOf, IsFirstRefused}
 use Rattle.convert_core.specs.declared.convert_fault.ConvertFault.{ConvertFault}
 use Rattle.convert_core.specs.declared.convert_fault.ConvertFault.TheVariants as faults
+use Rattle.convert_core.specs.declared.refusal.PlaysFault.{PlaysFault}
+use Rattle.convert_core.specs.declared.refusal.PlaysFault.TheVariants as whys
 use Rattle.convert_core.specs.declared.refusal.Refusal.{Refusal}
 use Rattle.convert_core.specs.declared.format_fault.FormatFault.{FormatFault}
 use Rattle.hand_records.specs.WriteRefusals.{first_refusal}
@@ -44,6 +46,11 @@ pub record IsConverted (Say : List Record → Type 0) (unspelled : Play → Opti
   pub spelled : first_refusal unspelled plays ≡ None
   pub spell : Spell plays output
   pub back : ReadBack plays output
+
+-- why hands have no plays, as why they are not converted
+abbrev pub of_plays : PlaysFault → ConvertFault
+of_plays (whys.Refused number why) = faults.Refused number why
+of_plays (whys.Memory memory) = faults.Memory memory
 
 -- why bytes cannot be read; out of memory says nothing about them
 abbrev pub IsReadFault : (FormatFault → Type 0) → ConvertFault → Type 0

@@ -31,10 +31,7 @@ fn read_acpc(alloc: Global, game: &Game, bytes: &[u8]) -> Result<Records, Format
     ensures fault { IfErr result (λ fault.
         (is_out_of_memory fault ≡ true) ⊎ in_acpc.HaveFault game.now bytes.now fault) }
 {
-    match acpc_format::read(alloc, game, bytes) {
-        Ok(records) => Ok(records),
-        Err(fault) => Err(FormatFault::Acpc(fault)),
-    }
+    Ok(acpc_format::read(alloc, game, bytes)?)
 }
 
 // Writes plays as a log.

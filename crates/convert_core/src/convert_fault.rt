@@ -1,7 +1,9 @@
 //! Why nothing is converted.
+ghost use Rattle.std.specs.Prelude.{◌≡◌};
+ghost use Rattle.convert_core.specs.Conversion.{of_plays};
 
 use crate::format_fault::FormatFault;
-use crate::refusal::Refusal;
+use crate::refusal::{PlaysFault, Refusal};
 use card_set::Memory;
 use hand_records::Unspelled;
 
@@ -17,4 +19,15 @@ pub enum ConvertFault {
     /// express, and its first such fact.
     Unspelled { hand: u32, fact: Unspelled },
     Memory(Memory),
+}
+
+impl From<PlaysFault> for ConvertFault {
+    ghost from_gives = { λ why fault. fault ≡ of_plays why };
+
+    fn from(why: PlaysFault) -> Self {
+        match why {
+            PlaysFault::Refused { hand, why } => ConvertFault::Refused { hand, why },
+            PlaysFault::Memory(memory) => ConvertFault::Memory(memory),
+        }
+    }
 }

@@ -11,7 +11,6 @@ use crate::convert_fault::ConvertFault;
 use crate::kept_plays::plays_of;
 use crate::lines::write_records;
 use crate::notation::Notation;
-use crate::refusal::PlaysFault;
 use hand_records::{Keep, Play, Records, WriteRefusal};
 use std::alloc::Global;
 
@@ -67,15 +66,8 @@ pub fn plays<N: Notation>(alloc: Global, from: &N, bytes: &[u8]) -> Result<Vec<P
     ensures refused { IfErr result (IsPlaysRefusal ((N.meaning from.now).Say bytes.now)
         ((N.meaning from.now).HaveFault bytes.now)) }
 {
-    let records = match read_records(alloc, from, bytes) {
-        Ok(records) => records,
-        Err(fault) => return Err(fault),
-    };
-    match plays_of(alloc, records) {
-        Ok(plays) => Ok(plays),
-        Err(PlaysFault::Refused { hand, why }) => Err(ConvertFault::Refused { hand, why }),
-        Err(PlaysFault::Memory(memory)) => Err(ConvertFault::Memory(memory)),
-    }
+    let records = read_records(alloc, from, bytes)?;
+    Ok(plays_of(alloc, records)?)
 }
 
 /// The records in `bytes`: sound, and at most as many as a file may have.

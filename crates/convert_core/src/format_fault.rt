@@ -2,6 +2,7 @@
 ghost use Rattle.std.specs.Prelude.{◌≡◌, Some, is_some};
 ghost use Rattle.convert_core.specs.FaultText.{format_text};
 ghost use Rattle.convert_core.specs.Faults.{excess_of, is_out_of_memory};
+ghost use Rattle.convert_core.specs.declared.format_fault.FormatFault.TheVariants as formats;
 
 use acpc_format::AcpcFault;
 use card_set::Memory;
@@ -41,6 +42,30 @@ impl FormatFault {
             FormatFault::Acpc(AcpcFault::TooMany { quantity, .. }) => Some(*quantity),
             _ => None,
         }
+    }
+}
+
+impl From<PhhFault> for FormatFault {
+    ghost from_gives = { λ found fault. fault ≡ formats.Phh found };
+
+    fn from(found: PhhFault) -> Self {
+        FormatFault::Phh(found)
+    }
+}
+
+impl From<OhhFault> for FormatFault {
+    ghost from_gives = { λ found fault. fault ≡ formats.Ohh found };
+
+    fn from(found: OhhFault) -> Self {
+        FormatFault::Ohh(found)
+    }
+}
+
+impl From<AcpcFault> for FormatFault {
+    ghost from_gives = { λ found fault. fault ≡ formats.Acpc found };
+
+    fn from(found: AcpcFault) -> Self {
+        FormatFault::Acpc(found)
     }
 }
 

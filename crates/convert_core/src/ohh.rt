@@ -31,10 +31,7 @@ fn read_ohh(alloc: Global, dialect: Dialect, bytes: &[u8]) -> Result<Records, Fo
     ensures fault { IfErr result (λ fault.
         (is_out_of_memory fault ≡ true) ⊎ in_ohh.HaveFault dialect bytes.now fault) }
 {
-    match ohh_format::read(alloc, dialect, bytes) {
-        Ok(records) => Ok(records),
-        Err(fault) => Err(FormatFault::Ohh(fault)),
-    }
+    Ok(ohh_format::read(alloc, dialect, bytes)?)
 }
 
 // Writes plays in a dialect.

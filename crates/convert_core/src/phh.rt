@@ -26,10 +26,7 @@ fn read_phh(alloc: Global, bytes: &[u8]) -> Result<Records, FormatFault>
     ensures fault { IfErr result (λ fault.
         (is_out_of_memory fault ≡ true) ⊎ in_phh.HaveFault bytes.now fault) }
 {
-    match phh_format::read(alloc, bytes) {
-        Ok(records) => Ok(records),
-        Err(fault) => Err(FormatFault::Phh(fault)),
-    }
+    Ok(phh_format::read(alloc, bytes)?)
 }
 
 // Writes plays.
