@@ -61,10 +61,7 @@ pub fn reply_to_comparison<S: Source, H: Shelf>(
 {
     match comparison_of(alloc, sides, notes, shelf) {
         Ok(by) => reply_beside(alloc, &by, name, input, shelf),
-        Err(NoGameError::Lacking(lack)) => match game_file_answer(alloc, lack) {
-            Ok(answer) => Ok(answer),
-            Err(memory) => Err(NoAnswerError::Memory(memory)),
-        },
+        Err(NoGameError::Lacking(lack)) => Ok(game_file_answer(alloc, lack)?),
         Err(NoGameError::Missing) => Err(NoAnswerError::GameMissing),
         Err(NoGameError::ShelfFault) => Err(NoAnswerError::ShelfFault),
         Err(NoGameError::Memory(memory)) => Err(NoAnswerError::Memory(memory)),
@@ -93,10 +90,10 @@ fn comparison_of<H: Shelf>(
 {
     match sides {
         Sides::Plain { from, other } => Ok(plain_comparison(from, other, notes)),
-        Sides::Under { game, from, other } => match fetch_game(alloc, shelf, game) {
-            Ok(game) => Ok(comparison_under(game, from, other, notes)),
-            Err(reason) => Err(reason),
-        },
+        Sides::Under { game, from, other } => {
+            let game = fetch_game(alloc, shelf, game)?;
+            Ok(comparison_under(game, from, other, notes))
+        }
     }
 }
 
@@ -124,10 +121,7 @@ fn reply_beside<S: Source, H: Shelf>(
 {
     match fetch_file(alloc, shelf, name) {
         Ok(file) => reply_to_both(alloc, by, &file, input),
-        Err(NoFileError::TooLong) => match answer_to_long_file(alloc) {
-            Ok(answer) => Ok(answer),
-            Err(memory) => Err(NoAnswerError::Memory(memory)),
-        },
+        Err(NoFileError::TooLong) => Ok(answer_to_long_file(alloc)?),
         Err(NoFileError::Missing) => Err(NoAnswerError::FileMissing),
         Err(NoFileError::ShelfFault) => Err(NoAnswerError::ShelfFault),
         Err(NoFileError::Memory(memory)) => Err(NoAnswerError::Memory(memory)),
@@ -175,14 +169,8 @@ fn reply_to_both<S: Source>(
     ensures read_alone { IfErr result (λ why. ComesFirst why → ⊥) }
 {
     match read_all(alloc, input, MOST_INPUT) {
-        Ok(bytes) => match answer_to_comparison(alloc, by, file, &bytes) {
-            Ok(answer) => Ok(answer),
-            Err(memory) => Err(NoAnswerError::Memory(memory)),
-        },
-        Err(InFault::TooLong) => match answer::input_too_long(alloc) {
-            Ok(answer) => Ok(answer),
-            Err(memory) => Err(NoAnswerError::Memory(memory)),
-        },
+        Ok(bytes) => Ok(answer_to_comparison(alloc, by, file, &bytes)?),
+        Err(InFault::TooLong) => Ok(answer::input_too_long(alloc)?),
         Err(InFault::ReadFault) => Err(NoAnswerError::ReadFault),
         Err(InFault::Memory(memory)) => Err(NoAnswerError::Memory(memory)),
     }

@@ -159,10 +159,7 @@ fn reply<S: Source, H: Shelf>(
     ensures without_input { MakesHands (request_in request.entry) → input.new ≡ input.old }
 {
     match request {
-        Request::Load { seed, hands } => match answer_to_load(alloc, seed, hands) {
-            Ok(answer) => Ok(answer),
-            Err(memory) => Err(NoAnswerError::Memory(memory)),
-        },
+        Request::Load { seed, hands } => Ok(answer_to_load(alloc, seed, hands)?),
         Request::Plain { from, command } => reply_with(alloc, plain_job(from, command), input),
         Request::Under { game, logs } => reply_under(alloc, game, logs, input, shelf),
         Request::Compare { sides, file, notes } => {
@@ -192,10 +189,7 @@ fn reply_under<S: Source, H: Shelf>(
 {
     match fetch_game(alloc, shelf, name) {
         Ok(game) => reply_with(alloc, job_under(game, logs), input),
-        Err(NoGameError::Lacking(lack)) => match game_file_answer(alloc, lack) {
-            Ok(answer) => Ok(answer),
-            Err(memory) => Err(NoAnswerError::Memory(memory)),
-        },
+        Err(NoGameError::Lacking(lack)) => Ok(game_file_answer(alloc, lack)?),
         Err(NoGameError::Missing) => Err(NoAnswerError::GameMissing),
         Err(NoGameError::ShelfFault) => Err(NoAnswerError::ShelfFault),
         Err(NoGameError::Memory(memory)) => Err(NoAnswerError::Memory(memory)),
@@ -211,14 +205,8 @@ fn reply_with<S: Source>(alloc: Global, way: Job, input: &mut S) -> Result<Answe
     ensures read_alone { IfErr result (λ why. ComesFirst why → ⊥) }
 {
     match read_all(alloc, input, MOST_INPUT) {
-        Ok(bytes) => match answer::answer_to(alloc, way.command, &way.reader, &bytes) {
-            Ok(answer) => Ok(answer),
-            Err(memory) => Err(NoAnswerError::Memory(memory)),
-        },
-        Err(InFault::TooLong) => match answer::input_too_long(alloc) {
-            Ok(answer) => Ok(answer),
-            Err(memory) => Err(NoAnswerError::Memory(memory)),
-        },
+        Ok(bytes) => Ok(answer::answer_to(alloc, way.command, &way.reader, &bytes)?),
+        Err(InFault::TooLong) => Ok(answer::input_too_long(alloc)?),
         Err(InFault::ReadFault) => Err(NoAnswerError::ReadFault),
         Err(InFault::Memory(memory)) => Err(NoAnswerError::Memory(memory)),
     }

@@ -1,4 +1,6 @@
 //! Why a request has no answer.
+ghost use Rattle.std.specs.Prelude.{◌≡◌};
+ghost use Rattle.poker_cli.specs.declared.no_answer.NoAnswerError.TheVariants.{Memory as OutOfMemory};
 
 use card_set::Memory;
 
@@ -14,4 +16,12 @@ pub enum NoAnswerError {
     /// A file could not be read.
     ShelfFault,
     Memory(Memory),
+}
+
+impl From<Memory> for NoAnswerError {
+    ghost from_gives = { λ memory why. why ≡ OutOfMemory memory };
+
+    fn from(memory: Memory) -> NoAnswerError {
+        NoAnswerError::Memory(memory)
+    }
 }

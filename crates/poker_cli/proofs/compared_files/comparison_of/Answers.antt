@@ -21,11 +21,11 @@ under_game told name from other notes game by same gives =
     of_file told name (λ file. GivesGame file game) (λ file. IsComparisonOf file (SidesUnder name from other) notes by)
     (λ file given. record { game = game; gives = given; same = same }) gives
 
-pub returns-in-Ok-clause-comparison : goal.returns-in-Ok-clause-comparison
-returns-in-Ok-clause-comparison g c =
+pub returns-in_ok-game-in-Under-clause-comparison : goal.returns-in_ok-game-in-Under-clause-comparison
+returns-in_ok-game-in-Under-clause-comparison g c =
     let told = g.H.Shelf.files c.args.shelf.now in
     subst
     (λ (sides : Sides). OfGameFile told (sides_in sides) (λ (game : Option (List ℕ)). IsComparisonOf game (sides_in sides) c.args.notes c.comparison_under.result))
     (sym c.in-Under.is)
-    (under_game told c.in-Under.game.now c.in-Under.from c.in-Under.other c.args.notes c.in-Ok.game c.comparison_under.result
-    c.comparison_under.ensures c.in-Ok.ensures.game)
+    (under_game told c.in-Under.game.now c.in-Under.from c.in-Under.other c.args.notes c.in_ok-game-in-Under.game c.comparison_under.result
+    c.comparison_under.ensures c.in_ok-game-in-Under.ensures.game)

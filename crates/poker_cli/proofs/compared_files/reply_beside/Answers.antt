@@ -17,12 +17,12 @@ returns-in-Ok-clause-answer g c =
     (subst (λ (file : List ℕ). IfOk c.reply_to_both.result (λ answer. OfBytes left (λ bytes. IsComparison c.args.by.now file bytes (answer_told answer))))
     c.deref.ensures.value c.reply_to_both.ensures.answer)
 
-pub returns-in-Ok-answer_to_long_file-clause-answer : goal.returns-in-Ok-answer_to_long_file-clause-answer
-returns-in-Ok-answer_to_long_file-clause-answer g c =
+pub returns-in_ok-answer_to_long_file-in-Err-TooLong-clause-answer : goal.returns-in_ok-answer_to_long_file-in-Err-TooLong-clause-answer
+returns-in_ok-answer_to_long_file-in-Err-TooLong-clause-answer g c =
     let told = g.H.Shelf.files c.args.shelf.now in
-    long_reply told (g.S.Source.left c.args.input.now) c.args.name.now c.args.by.now (answer_told c.in-Ok-answer_to_long_file.answer)
+    long_reply told (g.S.Source.left c.args.input.now) c.args.name.now c.args.by.now (answer_told c.in_ok-answer_to_long_file-in-Err-TooLong.field-0)
     (subst (λ (reason : NoFileError). OfFile told c.args.name.now (λ (file : Option (List ℕ)). HasNoFile file reason)) c.in-Err-TooLong.field-0-is c.in-Err-TooLong.ensures.none)
-    c.in-Ok-answer_to_long_file.ensures
+    c.in_ok-answer_to_long_file-in-Err-TooLong.ensures
 
 pub returns-in-Ok-clause-kept : goal.returns-in-Ok-clause-kept
 returns-in-Ok-clause-kept g c =

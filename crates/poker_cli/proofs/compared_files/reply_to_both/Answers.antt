@@ -5,14 +5,14 @@ use Rattle.poker_cli.specs.Told.{answer_told}
 use Rattle.poker_cli.proofs.Replying.{compared_beyond, compared_within}
 use Rattle.poker_cli.proofs.compared_files.reply_to_both.Goals as goal
 
-pub returns-in-Ok-input_too_long-clause-answer : goal.returns-in-Ok-input_too_long-clause-answer
-returns-in-Ok-input_too_long-clause-answer g c =
-    compared_beyond c.args.by.now c.args.file.now (g.S.Source.left c.args.input.now) (answer_told c.in-Ok-input_too_long.answer)
-    (c.read_all.ensures.too_long (c.in-Err-TooLong.is ∙ ap (λ fault. Err fault) c.in-Err-TooLong.field-0-is)) c.in-Ok-input_too_long.ensures
+pub returns-in_ok-input_too_long-in-Err-TooLong-clause-answer : goal.returns-in_ok-input_too_long-in-Err-TooLong-clause-answer
+returns-in_ok-input_too_long-in-Err-TooLong-clause-answer g c =
+    compared_beyond c.args.by.now c.args.file.now (g.S.Source.left c.args.input.now) (answer_told c.in_ok-input_too_long-in-Err-TooLong.field-0)
+    (c.read_all.ensures.too_long (c.in-Err-TooLong.is ∙ ap (λ fault. Err fault) c.in-Err-TooLong.field-0-is)) c.in_ok-input_too_long-in-Err-TooLong.ensures
 
-pub returns-in-Ok-answer_to_comparison-clause-answer : goal.returns-in-Ok-answer_to_comparison-clause-answer
-returns-in-Ok-answer_to_comparison-clause-answer g c =
-    compared_within c.args.by.now c.args.file.now (g.S.Source.left c.args.input.now) c.in-Ok.bytes.items (answer_told c.in-Ok-answer_to_comparison.answer)
+pub returns-in_ok-answer_to_comparison-in-Ok-clause-answer : goal.returns-in_ok-answer_to_comparison-in-Ok-clause-answer
+returns-in_ok-answer_to_comparison-in-Ok-clause-answer g c =
+    compared_within c.args.by.now c.args.file.now (g.S.Source.left c.args.input.now) c.in-Ok.bytes.items (answer_told c.in_ok-answer_to_comparison-in-Ok.field-0)
     c.in-Ok.ensures.bytes
-    (subst (λ (bytes : List ℕ). IsComparison c.args.by.now c.args.file.now bytes (answer_told c.in-Ok-answer_to_comparison.answer)) c.deref.ensures.value
-    c.in-Ok-answer_to_comparison.ensures)
+    (subst (λ (bytes : List ℕ). IsComparison c.args.by.now c.args.file.now bytes (answer_told c.in_ok-answer_to_comparison-in-Ok.field-0)) c.deref.ensures.value
+    c.in_ok-answer_to_comparison-in-Ok.ensures)

@@ -28,13 +28,13 @@ returns-in-Ok-clause-without_file g c =
     (subst (λ (shelf : Option FilesByName). IfSome shelf (λ files. IsNotThere (files c.args.name.now) → c.reply_beside.new.input ≡ c.args.input.now)) c.in-Ok.ensures.unchanged
     c.reply_beside.ensures.without_file)
 
-pub returns-in-Ok-game_file_answer-clause-answer : goal.returns-in-Ok-game_file_answer-clause-answer
-returns-in-Ok-game_file_answer-clause-answer g c =
+pub returns-in_ok-game_file_answer-in-Err-Lacking-clause-answer : goal.returns-in_ok-game_file_answer-in-Err-Lacking-clause-answer
+returns-in_ok-game_file_answer-in-Err-Lacking-clause-answer g c =
     let told = g.H.Shelf.files c.args.shelf.now in
     compared_game_file_error told (g.S.Source.left c.args.input.now) (sides_in c.args.sides) c.args.name.now c.args.notes c.in-Err-Lacking.lack
-    (answer_told c.in-Ok-game_file_answer.answer)
+    (answer_told c.in_ok-game_file_answer-in-Err-Lacking.field-0)
     (subst (λ (reason : NoGameError). OfGameFile told (sides_in c.args.sides) (λ (game : Option (List ℕ)). HasNoGameFor game (sides_in c.args.sides) reason)) c.in-Err-Lacking.field-0-is c.in-Err-Lacking.ensures.none)
-    (subst (λ (lack : GameFileError). IsGameFileErrorTold lack (answer_told c.in-Ok-game_file_answer.answer)) c.in-Err-Lacking.lack-is c.in-Ok-game_file_answer.ensures)
+    (subst (λ (lack : GameFileError). IsGameFileErrorTold lack (answer_told c.in_ok-game_file_answer-in-Err-Lacking.field-0)) c.in-Err-Lacking.lack-is c.in_ok-game_file_answer-in-Err-Lacking.ensures)
 
 pub returns-in-Ok-clause-asks : goal.returns-in-Ok-clause-asks
 returns-in-Ok-clause-asks g c =

@@ -23,13 +23,13 @@ returns-in-Ok-clause-answer g c =
     c.reply_with.result c.in-Ok.ensures.game
     (subst (λ (by : Job). IfOk c.reply_with.result (λ answer. OfBytes left (λ bytes. IsAnswerBy by bytes (answer_told answer)))) c.job_under.ensures c.reply_with.ensures.answer)
 
-pub returns-in-Ok-game_file_answer-clause-answer : goal.returns-in-Ok-game_file_answer-clause-answer
-returns-in-Ok-game_file_answer-clause-answer g c =
+pub returns-in_ok-game_file_answer-in-Err-Lacking-clause-answer : goal.returns-in_ok-game_file_answer-in-Err-Lacking-clause-answer
+returns-in_ok-game_file_answer-in-Err-Lacking-clause-answer g c =
     let told = g.H.Shelf.files c.args.shelf.now in
     game_file_error_reply told (g.S.Source.left c.args.input.now) c.args.name.now c.args.logs c.in-Err-Lacking.lack
-    (answer_told c.in-Ok-game_file_answer.answer)
+    (answer_told c.in_ok-game_file_answer-in-Err-Lacking.field-0)
     (subst (λ (reason : NoGameError). OfFile told c.args.name.now (λ (file : Option (List ℕ)). HasNoGame file reason)) c.in-Err-Lacking.field-0-is c.in-Err-Lacking.ensures.none)
-    (subst (λ (lack : GameFileError). IsGameFileErrorTold lack (answer_told c.in-Ok-game_file_answer.answer)) c.in-Err-Lacking.lack-is c.in-Ok-game_file_answer.ensures)
+    (subst (λ (lack : GameFileError). IsGameFileErrorTold lack (answer_told c.in_ok-game_file_answer-in-Err-Lacking.field-0)) c.in-Err-Lacking.lack-is c.in_ok-game_file_answer-in-Err-Lacking.ensures)
 
 pub returns-in-Ok-clause-without_game : goal.returns-in-Ok-clause-without_game
 returns-in-Ok-clause-without_game g c =
