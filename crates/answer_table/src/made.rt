@@ -5,7 +5,7 @@ ghost use Rattle.hand_canon.specs.Sound.{IsSound};
 
 use crate::pieces::parted;
 use card_set::{Memory, TryPush, string_from, try_format};
-use convert_core::{PlaysFault, plays_of};
+use convert_core::{PlaysFault, SoundRecords, plays_of};
 use hand_gen::make;
 use hand_records::{Keep, Play, WriteRefusal};
 use host_io::{MemShelf, MemSink, MemSource};
@@ -87,7 +87,7 @@ fn plays_made(alloc: Global, seed: u64, count: u32) -> Result<Vec<Play>, PlaysFa
     ensures sound { IfOk result (λ plays. All IsSound plays.items) }
 {
     match make(alloc, seed, count) {
-        Ok(hands) => plays_of(alloc, hands),
+        Ok(hands) => plays_of(alloc, SoundRecords::new(hands)),
         Err(memory) => Err(PlaysFault::Memory(memory)),
     }
 }

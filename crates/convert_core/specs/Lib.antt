@@ -4,6 +4,7 @@ pub mod Judged
 pub mod Faults
 pub mod FaultText
 pub mod Records
+pub mod SoundOnce
 pub mod Meaning
 pub mod Lawful
 pub mod ReadBack

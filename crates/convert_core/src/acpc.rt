@@ -1,14 +1,8 @@
 //! Logs of the Annual Computer Poker Competition, read and written under a game.
-ghost use Rattle.std.specs.Prelude.{◌≡◌, ◌⊎◌, ◌≤◌, ◌++◌, [], ◌∷◌, true, List, length, None, Some, IfErr, IfOk, OnErr, OnOk};
-ghost use Rattle.std.specs.List.{AllByRecursion};
-ghost use Rattle.acpc_writing.specs.Spelled as facts;
-ghost use Rattle.first_fault.specs.declared.limits.TheConstants.{MOST_HANDS};
-ghost use Rattle.hand_canon.specs.Sound.{IsSound};
-ghost use Rattle.hand_records.specs.declared.trace.Play.{Play as AnyPlay};
+ghost use Rattle.std.specs.Prelude.{◌≡◌, ◌⊎◌, true, IfErr, IfOk};
 ghost use Rattle.convert_core.specs.Faults.{is_out_of_memory};
 ghost use Rattle.convert_core.specs.AcpcLaws as laws;
 ghost use Rattle.convert_core.specs.Acpc as in_acpc;
-ghost use Rattle.hand_records.specs.WriteRefusals.{IsOutOfMemory, first_refusal};
 
 use crate::format_fault::FormatFault;
 use crate::notation::Notation;
@@ -32,42 +26,6 @@ fn read_acpc(alloc: Global, game: &Game, bytes: &[u8]) -> Result<Records, Format
         (is_out_of_memory fault ≡ true) ⊎ in_acpc.HaveFault game.now bytes.now fault) }
 {
     Ok(acpc_format::read(alloc, game, bytes)?)
-}
-
-// Writes plays as a log.
-fn write_acpc(
-    alloc: Global,
-    game: &Game,
-    plays: &[Play],
-    keep: Keep,
-) -> Result<Vec<u8>, WriteRefusal>
-    requires few { length plays.now ≤ MOST_HANDS }
-    requires sound { AllByRecursion IsSound plays.now }
-    ensures spell { IfOk result (λ bytes. in_acpc.Spell game.now plays.now bytes.items) }
-    ensures spelled { OnOk result (first_refusal (facts.unspelled game.now keep) plays.now ≡ None) }
-    ensures refused { IfErr result (λ refusal. IsOutOfMemory refusal
-        ⊎ (first_refusal (facts.unspelled game.now keep) plays.now ≡ Some refusal)) }
-{
-    acpc_format::write(alloc, game, plays, keep)
-}
-
-// Appends the line of a play to the lines of the plays before it.
-#[tactic(auto, using(crate::specs::AcpcLaws::one_line_more))]
-fn push_acpc_line(
-    alloc: Global,
-    game: &Game,
-    out: &mut Vec<u8>,
-    place: usize,
-    play: &Play,
-) -> Result<(), Memory>
-    requires { IsSound play.now }
-    ensures line { (before : List AnyPlay)
-        → length before ≡ place → in_acpc.Spell game.now before out.old.items
-        → OnOk result (in_acpc.Spell game.now (before ++ play.now ∷ []) out.new.items) }
-    ensures unchanged { OnErr result (out.new.items ≡ out.old.items) }
-{
-    acpc_format::push_line(alloc, out, game.no_limit, place, play)?;
-    Ok(())
 }
 
 impl Notation for Acpc {
@@ -96,7 +54,7 @@ impl Notation for Acpc {
     }
 
     fn write(&self, alloc: Global, plays: &[Play], keep: Keep) -> Result<Vec<u8>, WriteRefusal> {
-        write_acpc(alloc, &self.game, plays, keep)
+        acpc_format::write(alloc, &self.game, plays, keep)
     }
 
     fn has_lines(&self) -> bool {
@@ -110,6 +68,7 @@ impl Notation for Acpc {
         place: usize,
         play: &Play,
     ) -> Result<(), Memory> {
-        push_acpc_line(alloc, &self.game, out, place, play)
+        acpc_format::push_line(alloc, out, self.game.no_limit, place, play)?;
+        Ok(())
     }
 }

@@ -11,7 +11,8 @@ use crate::convert_fault::ConvertFault;
 use crate::kept_plays::plays_of;
 use crate::lines::write_records;
 use crate::notation::Notation;
-use hand_records::{Keep, Play, Records, WriteRefusal};
+use crate::sound_records::SoundRecords;
+use hand_records::{Keep, Play, WriteRefusal};
 use std::alloc::Global;
 
 /// Writes the hands of `bytes` in another notation, if it can express each fact to be kept. The
@@ -70,7 +71,7 @@ pub fn plays<N: Notation>(alloc: Global, from: &N, bytes: &[u8]) -> Result<Vec<P
     Ok(plays_of(alloc, records)?)
 }
 
-/// The records in `bytes`: sound, and at most as many as a file may have.
+/// The records in `bytes`.
 ///
 /// # Errors
 ///
@@ -79,13 +80,13 @@ pub fn read_records<N: Notation>(
     alloc: Global,
     from: &N,
     bytes: &[u8],
-) -> Result<Records, ConvertFault>
+) -> Result<SoundRecords, ConvertFault>
     ensures said { IfOk result ((N.meaning from.now).Say bytes.now) }
     ensures of_file { IfOk result (AreOfFile (N.meaning from.now).rules) }
     ensures refused { IfErr result (IsReadFault ((N.meaning from.now).HaveFault bytes.now)) }
 {
     match from.read(alloc, bytes) {
-        Ok(records) => Ok(records),
+        Ok(records) => Ok(SoundRecords::new(records)),
         Err(fault) => {
             if let Some(memory) = fault.memory() {
                 return Err(ConvertFault::Memory(memory));

@@ -1,10 +1,10 @@
 //! Replays each record and compares what it states with its trace.
-ghost use Rattle.std.specs.Prelude.{◌≡◌, ◌<◌, ◌+◌, IfErr, OnErr, OnOk};
+ghost use Rattle.std.specs.Prelude.{◌≡◌, ◌+◌, IfErr, OnErr, OnOk};
 ghost use Rattle.hand_records.specs.SoundRecord.{IsSoundRecord};
-ghost use Rattle.first_fault.specs.declared.limits.TheConstants.{MOST_HANDS};
 ghost use Rattle.convert_core.specs.Judged.{IsFaultAt, IsOneMorePlay};
 ghost use Rattle.convert_core.specs.declared.refusal.PlaysFault.TheVariants as plays_faults;
 
+use crate::judged_play::HandPlace;
 use crate::refusal::{PlaysFault, Refusal};
 use card_set::TryPush;
 use hand_canon::check_stated;
@@ -12,9 +12,8 @@ use hand_records::{Play, Record};
 use replay_core::{ReplayFault, replay};
 use std::alloc::Global;
 
-/// Replays the record and appends its play to a list; `place` counts the records before it in its
-/// file. The play is made where it is kept: it is a few thousand bytes, which would be copied again
-/// and again.
+/// Replays the record at this place of its file and appends its play to a list. The play is made
+/// where it is kept: it is a few thousand bytes, which would be copied again and again.
 ///
 /// # Errors
 ///
@@ -22,16 +21,15 @@ use std::alloc::Global;
 pub fn replay_and_check(
     alloc: Global,
     plays: &mut Vec<Play>,
-    before: usize,
+    place: HandPlace,
     hand: Record,
 ) -> Result<(), PlaysFault>
-    requires sound { IsSoundRecord hand }
-    requires few { before < MOST_HANDS }
+    requires { IsSoundRecord hand }
     ensures pushed { OnOk result (IsOneMorePlay plays.old.items hand plays.new.items) }
-    ensures refused { IfErr result (IsFaultAt hand (before + 1)) }
+    ensures refused { IfErr result (IsFaultAt hand (place.index + 1)) }
     ensures unchanged { OnErr result (plays.new.items ≡ plays.old.items) }
 {
-    let number = before as u32 + 1;
+    let number = place.index as u32 + 1;
     match replay(alloc, &hand.setup, &hand.rules, &hand.script) {
         Ok(trace) => {
             if let Err(differs) = check_stated(&trace, &hand.stated) {

@@ -1,15 +1,15 @@
 //! Collects the plays of all records.
-ghost use Rattle.std.specs.Prelude.{◌≤◌, true, false, All, length, IfErr, IfOk, ⊤};
+ghost use Rattle.std.specs.Prelude.{true, false, All, IfErr, IfOk, ⊤};
 ghost use Rattle.convert_core.specs.Judged.{ArePlaysOf, IsPlaysFaultOf};
-ghost use Rattle.first_fault.specs.declared.limits.TheConstants.{MOST_HANDS};
 ghost use Rattle.hand_canon.specs.Sound.{IsSound};
-ghost use Rattle.hand_records.specs.SoundRecord.{IsSoundRecord};
 
+use crate::judged_play::{HandPlace, JudgedPlay};
 use crate::refusal::{PlaysFault, Refusal};
+use crate::sound_records::SoundRecords;
 use crate::taking::judge_all;
 use crate::visitor::VerdictVisitor;
 use card_set::Memory;
-use hand_records::{Play, Records};
+use hand_records::Play;
 use std::alloc::Global;
 
 // Visits hands and does nothing with them but retain their plays.
@@ -31,11 +31,11 @@ impl VerdictVisitor for Keeper {
         true
     }
 
-    fn take(&mut self, _: Global, _: usize, _: &Play) -> Result<(), Memory> {
+    fn take(&mut self, _: Global, _: HandPlace, _: &JudgedPlay<'_>) -> Result<(), Memory> {
         Ok(())
     }
 
-    fn pass(&mut self, _: Global, _: usize, _: &Refusal) -> Result<(), Memory> {
+    fn pass(&mut self, _: Global, _: HandPlace, _: &Refusal) -> Result<(), Memory> {
         Ok(())
     }
 }
@@ -47,9 +47,7 @@ impl VerdictVisitor for Keeper {
 /// # Errors
 ///
 /// The first refused hand, with its first fault; or out of memory.
-pub fn plays_of(alloc: Global, records: Records) -> Result<Vec<Play>, PlaysFault>
-    requires sound { All IsSoundRecord records }
-    requires few { length records ≤ MOST_HANDS }
+pub fn plays_of(alloc: Global, records: SoundRecords) -> Result<Vec<Play>, PlaysFault>
     ensures plays { IfOk result (λ plays. ArePlaysOf records plays.items) }
     ensures sound { IfOk result (λ plays. All IsSound plays.items) }
     ensures refused { IfErr result (IsPlaysFaultOf records) }

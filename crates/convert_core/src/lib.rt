@@ -8,6 +8,7 @@ mod convert_fault;
 mod converting;
 mod format;
 mod format_fault;
+mod judged_play;
 mod judging;
 mod kept_plays;
 mod laws;
@@ -16,6 +17,7 @@ mod notation;
 mod ohh;
 mod phh;
 mod refusal;
+mod sound_records;
 mod taking;
 mod visitor;
 
@@ -24,6 +26,7 @@ pub use convert_fault::ConvertFault;
 pub use converting::{convert, plays, read_records};
 pub use format::Format;
 pub use format_fault::FormatFault;
+pub use judged_play::{HandPlace, JudgedPlay};
 pub use kept_plays::plays_of;
 pub use laws::{
     law_of_converting_again, law_of_converting_by_way, law_of_equal_outputs, law_of_kept_notes,
@@ -34,5 +37,6 @@ pub use notation::Notation;
 pub use ohh::Ohh;
 pub use phh::Phh;
 pub use refusal::{PlaysFault, Refusal};
+pub use sound_records::{SoundRecord, SoundRecords};
 pub use taking::judge_all;
 pub use visitor::VerdictVisitor;

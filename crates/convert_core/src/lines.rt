@@ -1,18 +1,18 @@
 //! Writes records line by line, in a notation with one line per hand.
-ghost use Rattle.std.specs.Prelude.{◌≡◌, ◌≤◌, true, false, All, length};
+ghost use Rattle.std.specs.Prelude.{◌≡◌, true, false, All};
 ghost use Rattle.convert_core.specs.Conversion.{IsConversion};
-ghost use Rattle.first_fault.specs.declared.limits.TheConstants.{MOST_HANDS};
 ghost use Rattle.hand_canon.specs.Sound.{IsSound};
-ghost use Rattle.hand_records.specs.SoundRecord.{IsSoundRecord};
 ghost use Rattle.convert_core.specs.Lines.{IsWritten};
 
 use crate::convert_fault::ConvertFault;
+use crate::judged_play::{HandPlace, JudgedPlay};
 use crate::notation::Notation;
 use crate::refusal::{PlaysFault, Refusal};
+use crate::sound_records::SoundRecords;
 use crate::taking::judge_all;
 use crate::visitor::VerdictVisitor;
 use card_set::Memory;
-use hand_records::{Keep, Play, Records, WriteRefusal};
+use hand_records::{Keep, WriteRefusal};
 use std::alloc::Global;
 
 // The lines of the hands so far.
@@ -42,21 +42,27 @@ impl<'a, N: Notation> VerdictVisitor for Writer<'a, N> {
         false
     }
 
-    fn take(&mut self, alloc: Global, place: usize, play: &Play) -> Result<(), Memory> {
+    fn take(
+        &mut self,
+        alloc: Global,
+        place: HandPlace,
+        judged: &JudgedPlay<'_>,
+    ) -> Result<(), Memory> {
         if self.refusal.is_some() {
             return Ok(());
         }
+        let play = judged.play();
         match self.to.spells(play, self.keep) {
-            None => self.to.push_line(alloc, &mut self.out, place, play)?,
+            None => self.to.push_line(alloc, &mut self.out, place.index, play)?,
             Some(fact) => {
-                let hand = place as u32 + 1;
+                let hand = place.index as u32 + 1;
                 self.refusal = Some(WriteRefusal::Unspelled { hand, fact });
             }
         }
         Ok(())
     }
 
-    fn pass(&mut self, _: Global, _: usize, _: &Refusal) -> Result<(), Memory> {
+    fn pass(&mut self, _: Global, _: HandPlace, _: &Refusal) -> Result<(), Memory> {
         Ok(())
     }
 }
@@ -72,11 +78,9 @@ pub fn write_records<N: Notation>(
     alloc: Global,
     to: &N,
     keep: Keep,
-    records: Records,
+    records: SoundRecords,
 ) -> Result<Vec<u8>, ConvertFault>
-    requires lined { (N.meaning to.now).is_lined ≡ true }
-    requires sound { All IsSoundRecord records }
-    requires few { length records ≤ MOST_HANDS }
+    requires { (N.meaning to.now).is_lined ≡ true }
     ensures { IsConversion (λ hands. hands ≡ records) (λ _. ⊥)
         ((N.meaning to.now).unspelled keep) (N.meaning to.now).Spell
         (λ plays _. All IsSound plays) (λ output. output.items) result }

@@ -1,14 +1,8 @@
 //! Open Hand History, in a dialect.
-ghost use Rattle.std.specs.Prelude.{◌≡◌, ◌⊎◌, ◌≤◌, ◌++◌, [], ◌∷◌, true, List, length, None, Some, IfErr, IfOk, OnErr, OnOk};
-ghost use Rattle.std.specs.List.{AllByRecursion};
-ghost use Rattle.first_fault.specs.declared.limits.TheConstants.{MOST_HANDS};
-ghost use Rattle.hand_canon.specs.Sound.{IsSound};
-ghost use Rattle.hand_records.specs.declared.trace.Play.{Play as AnyPlay};
-ghost use Rattle.ohh_writing.specs.Spelled as facts;
+ghost use Rattle.std.specs.Prelude.{◌≡◌, ◌⊎◌, true, IfErr, IfOk};
 ghost use Rattle.convert_core.specs.Faults.{is_out_of_memory};
 ghost use Rattle.convert_core.specs.OhhLaws as laws;
 ghost use Rattle.convert_core.specs.Ohh as in_ohh;
-ghost use Rattle.hand_records.specs.WriteRefusals.{IsOutOfMemory, first_refusal};
 
 use crate::format_fault::FormatFault;
 use crate::notation::Notation;
@@ -32,43 +26,6 @@ fn read_ohh(alloc: Global, dialect: Dialect, bytes: &[u8]) -> Result<Records, Fo
         (is_out_of_memory fault ≡ true) ⊎ in_ohh.HaveFault dialect bytes.now fault) }
 {
     Ok(ohh_format::read(alloc, dialect, bytes)?)
-}
-
-// Writes plays in a dialect.
-fn write_ohh(
-    alloc: Global,
-    dialect: Dialect,
-    plays: &[Play],
-    keep: Keep,
-) -> Result<Vec<u8>, WriteRefusal>
-    requires few { length plays.now ≤ MOST_HANDS }
-    requires sound { AllByRecursion IsSound plays.now }
-    ensures spell { IfOk result (λ bytes. in_ohh.Spell dialect plays.now bytes.items) }
-    ensures spelled { OnOk result (first_refusal (facts.unspelled keep) plays.now ≡ None) }
-    ensures refused { IfErr result (λ refusal. IsOutOfMemory refusal
-        ⊎ (first_refusal (facts.unspelled keep) plays.now ≡ Some refusal)) }
-{
-    ohh_format::write(alloc, dialect, plays, keep)
-}
-
-// Appends the line of a play to the lines of the plays before it.
-fn push_ohh_line(
-    alloc: Global,
-    dialect: Dialect,
-    out: &mut Vec<u8>,
-    place: usize,
-    play: &Play,
-) -> Result<(), Memory>
-    requires { IsSound play.now }
-    ensures line { (before : List AnyPlay)
-        → length before ≡ place → in_ohh.Spell dialect before out.old.items
-        → OnOk result (in_ohh.Spell dialect (before ++ play.now ∷ []) out.new.items) }
-    ensures unchanged { OnErr result (out.new.items ≡ out.old.items) }
-{
-    match ohh_format::push_line(alloc, out, dialect, place, play) {
-        Ok(()) => Ok(()),
-        Err(memory) => Err(memory),
-    }
 }
 
 impl Notation for Ohh {
@@ -97,7 +54,7 @@ impl Notation for Ohh {
     }
 
     fn write(&self, alloc: Global, plays: &[Play], keep: Keep) -> Result<Vec<u8>, WriteRefusal> {
-        write_ohh(alloc, self.dialect, plays, keep)
+        ohh_format::write(alloc, self.dialect, plays, keep)
     }
 
     fn has_lines(&self) -> bool {
@@ -111,6 +68,6 @@ impl Notation for Ohh {
         place: usize,
         play: &Play,
     ) -> Result<(), Memory> {
-        push_ohh_line(alloc, self.dialect, out, place, play)
+        ohh_format::push_line(alloc, out, self.dialect, place, play)
     }
 }

@@ -1,13 +1,8 @@
 //! Hand histories in the Poker Hand History format.
-ghost use Rattle.std.specs.Prelude.{◌≡◌, ◌⊎◌, ◌≤◌, true, length, None, Some, IfErr, IfOk, OnOk};
-ghost use Rattle.std.specs.List.{AllByRecursion};
-ghost use Rattle.first_fault.specs.declared.limits.TheConstants.{MOST_HANDS};
-ghost use Rattle.hand_canon.specs.Sound.{IsSound};
-ghost use Rattle.phh_writing.specs.Spelled as facts;
+ghost use Rattle.std.specs.Prelude.{◌≡◌, ◌⊎◌, true, IfErr, IfOk};
 ghost use Rattle.convert_core.specs.Faults.{is_out_of_memory};
 ghost use Rattle.convert_core.specs.Phh as in_phh;
 ghost use Rattle.convert_core.specs.PhhLaws as laws;
-ghost use Rattle.hand_records.specs.WriteRefusals.{IsOutOfMemory, first_refusal};
 
 use crate::format_fault::FormatFault;
 use crate::notation::Notation;
@@ -27,18 +22,6 @@ fn read_phh(alloc: Global, bytes: &[u8]) -> Result<Records, FormatFault>
         (is_out_of_memory fault ≡ true) ⊎ in_phh.HaveFault bytes.now fault) }
 {
     Ok(phh_format::read(alloc, bytes)?)
-}
-
-// Writes plays.
-fn write_phh(alloc: Global, plays: &[Play], keep: Keep) -> Result<Vec<u8>, WriteRefusal>
-    requires few { length plays.now ≤ MOST_HANDS }
-    requires sound { AllByRecursion IsSound plays.now }
-    ensures spell { IfOk result (λ bytes. in_phh.Spell plays.now bytes.items) }
-    ensures spelled { OnOk result (first_refusal facts.unspelled plays.now ≡ None) }
-    ensures refused { IfErr result (λ refusal. IsOutOfMemory refusal
-        ⊎ (first_refusal facts.unspelled plays.now ≡ Some refusal)) }
-{
-    phh_format::write(alloc, plays, keep)
 }
 
 impl Notation for Phh {
@@ -68,7 +51,7 @@ impl Notation for Phh {
     }
 
     fn write(&self, alloc: Global, plays: &[Play], keep: Keep) -> Result<Vec<u8>, WriteRefusal> {
-        write_phh(alloc, plays, keep)
+        phh_format::write(alloc, plays, keep)
     }
 
     fn has_lines(&self) -> bool {

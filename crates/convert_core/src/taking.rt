@@ -1,5 +1,5 @@
 //! The one loop over the records of a file.
-ghost use Rattle.std.specs.Prelude.{◌≡◌, ◌<◌, ◌≤◌, ◌+◌, ◌++◌, ◌⊎◌, [], ◌∷◌, true, false, All, List, length, IfErr, IfOk, OnOk};
+ghost use Rattle.std.specs.Prelude.{◌≡◌, ◌≤◌, ◌+◌, ◌++◌, ◌⊎◌, [], ◌∷◌, true, false, All, List, length, IfErr, IfOk, OnOk};
 ghost use Rattle.card_set.specs.declared.room.TheConstants.{MOST_ROOM};
 ghost use Rattle.convert_core.specs.Judged.{IsFaultAt, IsPlaysFaultOf, IsPlaysOutOfMemory, IsRefusedFor};
 ghost use Rattle.convert_core.specs.declared.refusal.PlaysFault.TheVariants as plays_faults;
@@ -9,11 +9,13 @@ ghost use Rattle.hand_records.specs.declared.record.Record.{Record as AnyRecord}
 ghost use Rattle.hand_records.specs.declared.trace.Play.{Play as AnyPlay};
 ghost use Rattle.convert_core.specs.Taking.{AreTaken, HasTaken};
 
+use crate::judged_play::{HandPlace, JudgedPlay};
 use crate::judging::replay_and_check;
 use crate::refusal::{PlaysFault, Refusal};
+use crate::sound_records::SoundRecords;
 use crate::visitor::VerdictVisitor;
 use card_set::list_with_room;
-use hand_records::{Play, Record, Records};
+use hand_records::{Play, Record};
 use std::alloc::Global;
 
 /// Passes the verdict on each record to a visitor, in their order, and returns the plays that are
@@ -28,25 +30,26 @@ use std::alloc::Global;
 pub fn judge_all<T: VerdictVisitor>(
     alloc: Global,
     visitor: &mut T,
-    records: Records,
+    records: SoundRecords,
 ) -> Result<Vec<Play>, PlaysFault>
-    requires sound { All IsSoundRecord records }
-    requires few { length records ≤ MOST_HANDS }
-    requires begun { T.Took visitor.old visitor.old [] }
+    requires { T.Took visitor.old visitor.old [] }
+    ensures sound { All IsSoundRecord records }
     ensures taken { IfOk result (λ kept. AreTaken T.CONTINUES T.KEEPS
         (T.Took visitor.old visitor.new)
         records (length records) kept.items) }
     ensures refused { IfErr result (IsPlaysFaultOf records) }
     ensures continues { T.CONTINUES ≡ true → IfErr result IsPlaysOutOfMemory }
 {
-    let mut kept = list_with_room(alloc, room(visitor, records.len()))?;
-    let mut place = 0;
-    for hand in records.into_vec() {
+    let hands = records.into_vec();
+    let mut kept = list_with_room(alloc, room(visitor, hands.len()))?;
+    let mut index = 0;
+    for hand in hands {
+        let place = HandPlace { index };
         match take_hand(alloc, visitor, &mut kept, place, hand) {
             Ok(()) => {}
             Err(fault) => return Err(fault),
         }
-        place += 1;
+        index += 1;
     }
     Ok(kept)
 }
@@ -74,24 +77,24 @@ fn take_hand<T: VerdictVisitor>(
     alloc: Global,
     visitor: &mut T,
     kept: &mut Vec<Play>,
-    place: usize,
+    place: HandPlace,
     hand: Record,
 ) -> Result<(), PlaysFault>
     requires sound { IsSoundRecord hand }
-    requires begun { (start : T) × HasTaken (T.Took start visitor.old) place }
-    requires few { place < MOST_HANDS }
+    requires begun { (start : T) × HasTaken (T.Took start visitor.old) place.index }
     ensures taken { (start : T) (hands : List AnyRecord)
-        → AreTaken T.CONTINUES T.KEEPS (T.Took start visitor.old) hands place kept.old.items
+        → AreTaken T.CONTINUES T.KEEPS (T.Took start visitor.old) hands place.index kept.old.items
         → OnOk result (AreTaken T.CONTINUES T.KEEPS (T.Took start visitor.new) (hands ++ hand ∷ [])
-        (place + 1) kept.new.items) }
-    ensures refused { IfErr result (IsFaultAt hand (place + 1)) }
+        (place.index + 1) kept.new.items) }
+    ensures refused { IfErr result (IsFaultAt hand (place.index + 1)) }
     ensures continues { T.CONTINUES ≡ true → IfErr result IsPlaysOutOfMemory }
 {
     drop_taken(visitor, kept);
     let behind = kept.len();
     match replay_and_check(alloc, kept, place, hand) {
         Ok(()) => {
-            visitor.take(alloc, place, &kept[behind])?;
+            let play = JudgedPlay::new(&kept[behind]);
+            visitor.take(alloc, place, &play)?;
             Ok(())
         }
         Err(PlaysFault::Refused { hand: number, why }) => {
@@ -105,17 +108,16 @@ fn take_hand<T: VerdictVisitor>(
 fn pass_hand<T: VerdictVisitor>(
     alloc: Global,
     visitor: &mut T,
-    place: usize,
+    place: HandPlace,
     number: u32,
     why: Refusal,
 ) -> Result<(), PlaysFault>
-    requires begun { (start : T) × HasTaken (T.Took start visitor.old) place }
-    requires few { place < MOST_HANDS }
+    requires { (start : T) × HasTaken (T.Took start visitor.old) place.index }
     ensures passed { (start : T) (kept : List AnyPlay) (hands : List AnyRecord) (hand : AnyRecord)
         → IsRefusedFor hand why
-        → AreTaken T.CONTINUES T.KEEPS (T.Took start visitor.old) hands place kept
+        → AreTaken T.CONTINUES T.KEEPS (T.Took start visitor.old) hands place.index kept
         → OnOk result (AreTaken T.CONTINUES T.KEEPS (T.Took start visitor.new) (hands ++ hand ∷ [])
-        (place + 1) kept) }
+        (place.index + 1) kept) }
     ensures refused { IfErr result (λ fault. IsPlaysOutOfMemory fault
         ⊎ (fault ≡ plays_faults.Refused number why)) }
     ensures continues { T.CONTINUES ≡ true → IfErr result IsPlaysOutOfMemory }

@@ -1,16 +1,13 @@
 //! A visitor of the verdicts on hands.
-ghost use Rattle.std.specs.Prelude.{◌≡◌, ◌<◌, ◌++◌, [], ◌∷◌, Bool, true, List, length, OnOk};
+ghost use Rattle.std.specs.Prelude.{◌≡◌, ◌++◌, [], ◌∷◌, Bool, true, List, length, OnOk};
 ghost use Rattle.convert_core.specs.Judged.{IsRefusedFor};
-ghost use Rattle.first_fault.specs.declared.limits.TheConstants.{MOST_HANDS};
-ghost use Rattle.hand_canon.specs.Judged.{IsJudged};
-ghost use Rattle.hand_canon.specs.Sound.{IsSound};
 ghost use Rattle.hand_records.specs.declared.record.Record.{Record as AnyRecord};
 ghost use Rattle.convert_core.specs.Taking.{HasTaken};
 ghost use Rattle.convert_core.specs.Verdicts.{AreLegalUnless, Legal, Refused, Verdict};
 
+use crate::judged_play::{HandPlace, JudgedPlay};
 use crate::refusal::Refusal;
 use card_set::Memory;
-use hand_records::Play;
 use std::alloc::Global;
 
 /// Visits the verdicts on the hands of a file, in their order.
@@ -38,12 +35,9 @@ pub trait VerdictVisitor {
     /// # Errors
     ///
     /// Out of memory.
-    fn take(&mut self, alloc: Global, place: usize, play: &Play) -> Result<(), Memory>
-        requires taken { (start : Self) × HasTaken (Took start self.old) place }
-        requires few { place < MOST_HANDS }
-        requires sound { IsSound play.now }
-        requires judged { IsJudged play.now }
-        ensures { (start : Self) (before : List Verdict) → length before ≡ place
+    fn take(&mut self, alloc: Global, place: HandPlace, play: &JudgedPlay<'_>) -> Result<(), Memory>
+        requires { (start : Self) × HasTaken (Took start self.old) place.index }
+        ensures { (start : Self) (before : List Verdict) → length before ≡ place.index
             → AreLegalUnless CONTINUES before → Took start self.old before
             → OnOk result (Took start self.new (before ++ Legal play.now ∷ [])) };
 
@@ -53,10 +47,9 @@ pub trait VerdictVisitor {
     /// # Errors
     ///
     /// Out of memory.
-    fn pass(&mut self, alloc: Global, place: usize, why: &Refusal) -> Result<(), Memory>
-        requires taken { (start : Self) × HasTaken (Took start self.old) place }
-        requires few { place < MOST_HANDS }
+    fn pass(&mut self, alloc: Global, place: HandPlace, why: &Refusal) -> Result<(), Memory>
+        requires { (start : Self) × HasTaken (Took start self.old) place.index }
         ensures { (start : Self) (before : List Verdict) (hand : AnyRecord) → CONTINUES ≡ true
-            → length before ≡ place → IsRefusedFor hand why.now → Took start self.old before
+            → length before ≡ place.index → IsRefusedFor hand why.now → Took start self.old before
             → OnOk result (Took start self.new (before ++ Refused hand why.now ∷ [])) };
 }

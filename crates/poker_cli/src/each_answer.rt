@@ -1,8 +1,6 @@
 //! Answers questions that the hands of an input answer each by itself.
-ghost use Rattle.std.specs.Prelude.{◌≤◌, All, length, IfOk};
+ghost use Rattle.std.specs.Prelude.{IfOk};
 ghost use Rattle.convert_core.specs.Formats.{HaveFault, SayRecords};
-ghost use Rattle.first_fault.specs.declared.limits.TheConstants.{MOST_HANDS};
-ghost use Rattle.hand_records.specs.SoundRecord.{IsSoundRecord};
 ghost use Rattle.poker_cli.specs.Each.{AreReplayedEach, IsAnswerOfEach, IsReplyOfEach};
 ghost use Rattle.poker_cli.specs.Told.{answer_told};
 
@@ -11,8 +9,7 @@ use crate::each_options::{answer_with_point, answer_with_points};
 use crate::each_replay::replay_each;
 use card_set::Memory;
 use command_words::EachQuestion;
-use convert_core::{Format, read_records};
-use hand_records::Records;
+use convert_core::{Format, SoundRecords, read_records};
 use std::alloc::Global;
 
 /// The answer to a question that the hands in the bytes answer each by itself, whether or not the
@@ -36,10 +33,8 @@ pub fn answer_with_each(
 fn answer_to_each(
     alloc: Global,
     question: EachQuestion,
-    records: &Records,
+    records: &SoundRecords,
 ) -> Result<Answer, Memory>
-    requires sound { All IsSoundRecord records.now }
-    requires few { length records.now ≤ MOST_HANDS }
     ensures { IfOk result (λ answer. IsReplyOfEach question records.now (answer_told answer)) }
 {
     match question {
@@ -50,9 +45,7 @@ fn answer_to_each(
 }
 
 // The answer with these hands step by step.
-fn answer_with_replay(alloc: Global, records: &Records) -> Result<Answer, Memory>
-    requires sound { All IsSoundRecord records.now }
-    requires few { length records.now ≤ MOST_HANDS }
+fn answer_with_replay(alloc: Global, records: &SoundRecords) -> Result<Answer, Memory>
     ensures { IfOk result (λ answer. AreReplayedEach records.now (answer_told answer)) }
 {
     let text = replay_each(alloc, records)?;

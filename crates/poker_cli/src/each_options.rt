@@ -1,7 +1,6 @@
 //! Answers `options` about one hand by itself: the legal moves at every point of it, or at one,
 //! whatever the other hands are.
-ghost use Rattle.std.specs.Prelude.{All, IfOk, string_bytes};
-ghost use Rattle.hand_records.specs.SoundRecord.{IsSoundRecord};
+ghost use Rattle.std.specs.Prelude.{IfOk, string_bytes};
 ghost use Rattle.poker_cli.specs.Each.{IsEveryPoint, IsPoint, IsTextOfPoints};
 ghost use Rattle.poker_cli.specs.Told.{answer_told};
 
@@ -9,15 +8,18 @@ use crate::answer::{Answer, done, done_with, no_hand};
 use crate::each_verdict::{outcome_of, push_refusal_line, verdict_on};
 use crate::options::no_event;
 use card_set::Memory;
+use convert_core::{SoundRecord, SoundRecords};
 use hand_options::{options_at, options_text, push_every_point};
-use hand_records::{Record, Records};
 use replay_core::legal_part;
 use std::alloc::Global;
 
 /// The answer with the legal moves at every point of the hand with this number, up to its first
 /// illegal event, and the verdict on it if it is refused.
-pub fn answer_with_points(alloc: Global, hand: u32, records: &Records) -> Result<Answer, Memory>
-    requires sound { All IsSoundRecord records.now }
+pub fn answer_with_points(
+    alloc: Global,
+    hand: u32,
+    records: &SoundRecords,
+) -> Result<Answer, Memory>
     ensures { IfOk result (λ answer. IsEveryPoint hand records.now (answer_told answer)) }
 {
     let place = (hand as usize).saturating_sub(1);
@@ -26,21 +28,21 @@ pub fn answer_with_points(alloc: Global, hand: u32, records: &Records) -> Result
         return no_hand(alloc, hand, count);
     }
     let record = records.get(place);
-    let text = text_of_points(alloc, hand, record)?;
+    let text = text_of_points(alloc, hand, &record)?;
     Ok(done_with(alloc, text))
 }
 
 // The legal moves at every point of the hand with this number, and the verdict on it if it is
 // refused.
-fn text_of_points(alloc: Global, number: u32, hand: &Record) -> Result<String, Memory>
-    requires sound { IsSoundRecord hand.now }
-    ensures { IfOk result (λ text. IsTextOfPoints number hand.now (string_bytes text)) }
+fn text_of_points(alloc: Global, number: u32, hand: &SoundRecord<'_>) -> Result<String, Memory>
+    ensures { IfOk result (λ text. IsTextOfPoints number hand.now.record.now (string_bytes text)) }
 {
     let outcome = outcome_of(alloc, hand);
     let why = verdict_on(hand, &outcome)?;
-    let part = legal_part(alloc, &hand.setup, &hand.rules, &hand.script)?;
+    let record = hand.record;
+    let part = legal_part(alloc, &record.setup, &record.rules, &record.script)?;
     let mut text = String::new(alloc);
-    push_every_point(alloc, &mut text, number, hand, part.events)?;
+    push_every_point(alloc, &mut text, number, record, part.events)?;
     push_refusal_line(&mut text, number as usize, &why)?;
     Ok(text)
 }
@@ -51,9 +53,8 @@ pub fn answer_with_point(
     alloc: Global,
     hand: u32,
     events: u32,
-    records: &Records,
+    records: &SoundRecords,
 ) -> Result<Answer, Memory>
-    requires sound { All IsSoundRecord records.now }
     ensures { IfOk result (λ answer. IsPoint hand events records.now (answer_told answer)) }
 {
     let place = (hand as usize).saturating_sub(1);
@@ -61,7 +62,8 @@ pub fn answer_with_point(
     if count <= place {
         return no_hand(alloc, hand, count);
     }
-    let record = records.get(place);
+    let sound = records.get(place);
+    let record = sound.record;
     let part = legal_part(alloc, &record.setup, &record.rules, &record.script)?;
     if part.events < events {
         return no_event(alloc, hand, events, part.events as usize);

@@ -1,14 +1,13 @@
 //! Answers `replay --each`: the hands step by step, each by itself, and the verdict on each refused
 //! one.
-ghost use Rattle.std.specs.Prelude.{◌≤◌, All, length, IfOk, OnOk, string_bytes};
+ghost use Rattle.std.specs.Prelude.{IfOk, OnOk, string_bytes};
 ghost use Rattle.convert_core.specs.Judged.{IsReplayFaultOf};
-ghost use Rattle.first_fault.specs.declared.limits.TheConstants.{MOST_HANDS};
-ghost use Rattle.hand_records.specs.SoundRecord.{IsSoundRecord};
 ghost use Rattle.poker_cli.specs.Each.{Adds, AreOwnLines, AreReplayedAlone, IsOutcomeOf, IsReplayedAlone};
 
 use crate::each_verdict::{outcome_of, push_refusal_line, verdict_on};
 use card_set::Memory;
-use hand_records::{Record, Records, Trace};
+use convert_core::{SoundRecord, SoundRecords};
+use hand_records::Trace;
 use printed_hands::{push_begun_lines, push_whole_lines};
 use replay_core::{ReplayFault, legal_part};
 use std::alloc::Global;
@@ -19,24 +18,26 @@ use std::alloc::Global;
 /// # Errors
 ///
 /// Out of memory.
-pub fn replay_each(alloc: Global, records: &Records) -> Result<String, Memory>
-    requires sound { All IsSoundRecord records.now }
-    requires few { length records.now ≤ MOST_HANDS }
+pub fn replay_each(alloc: Global, records: &SoundRecords) -> Result<String, Memory>
     ensures { IfOk result (λ text. AreReplayedAlone 1 records.now (string_bytes text)) }
 {
     let mut text = String::new(alloc);
     let count = records.len();
     for place in 0..count {
         let hand = records.get(place);
-        push_hand(alloc, &mut text, place + 1, hand)?;
+        push_hand(alloc, &mut text, place + 1, &hand)?;
     }
     Ok(text)
 }
 
 // Appends the lines of the hand with this number, and the verdict on it if it is refused.
-fn push_hand(alloc: Global, text: &mut String, number: usize, hand: &Record) -> Result<(), Memory>
-    requires sound { IsSoundRecord hand.now }
-    ensures { OnOk result (Adds (IsReplayedAlone number hand.now)
+fn push_hand(
+    alloc: Global,
+    text: &mut String,
+    number: usize,
+    hand: &SoundRecord<'_>,
+) -> Result<(), Memory>
+    ensures { OnOk result (Adds (IsReplayedAlone number hand.now.record.now)
         (string_bytes text.old) (string_bytes text.new)) }
 {
     let outcome = outcome_of(alloc, hand);
@@ -50,16 +51,15 @@ fn push_own_lines(
     alloc: Global,
     text: &mut String,
     number: usize,
-    hand: &Record,
+    hand: &SoundRecord<'_>,
     outcome: &Result<Trace, ReplayFault>,
 ) -> Result<(), Memory>
-    requires sound { IsSoundRecord hand.now }
-    requires outcome { IsOutcomeOf hand.now outcome.now }
-    ensures { OnOk result (Adds (AreOwnLines number hand.now)
+    requires { IsOutcomeOf hand.now.record.now outcome.now }
+    ensures { OnOk result (Adds (AreOwnLines number hand.now.record.now)
         (string_bytes text.old) (string_bytes text.new)) }
 {
     match outcome {
-        Ok(trace) => push_whole_lines(alloc, text, number as u64, hand, trace),
+        Ok(trace) => push_whole_lines(alloc, text, number as u64, hand.record, trace),
         Err(ReplayFault::Memory(memory)) => Err(*memory),
         Err(fault) => push_legal_part(alloc, text, number, hand, fault),
     }
@@ -71,15 +71,15 @@ fn push_legal_part(
     alloc: Global,
     text: &mut String,
     number: usize,
-    hand: &Record,
+    hand: &SoundRecord<'_>,
     _fault: &ReplayFault,
 ) -> Result<(), Memory>
-    requires sound { IsSoundRecord hand.now }
-    requires fault { IsReplayFaultOf hand.now _fault.now }
-    ensures { OnOk result (Adds (AreOwnLines number hand.now)
+    requires { IsReplayFaultOf hand.now.record.now _fault.now }
+    ensures { OnOk result (Adds (AreOwnLines number hand.now.record.now)
         (string_bytes text.old) (string_bytes text.new)) }
 {
-    let part = legal_part(alloc, &hand.setup, &hand.rules, &hand.script)?;
+    let record = hand.record;
+    let part = legal_part(alloc, &record.setup, &record.rules, &record.script)?;
     let events = part.events as u64;
-    push_begun_lines(alloc, text, number as u64, hand, &part.moves, events)
+    push_begun_lines(alloc, text, number as u64, record, &part.moves, events)
 }

@@ -1,23 +1,22 @@
 //! The verdict on one hand, and its line if the hand is refused.
 ghost use Rattle.std.specs.Prelude.{◌≡◌, ◌++◌, IfOk, OnOk, string_bytes};
-ghost use Rattle.hand_records.specs.SoundRecord.{IsSoundRecord};
 ghost use Rattle.hand_records.specs.declared.record.Record.{Record as AnyRecord};
 ghost use Rattle.poker_cli.specs.Each.{IsOutcomeOf, IsVerdictOn, refusal_line};
 
 use crate::judge::push_refused;
 use card_set::Memory;
-use convert_core::Refusal;
+use convert_core::{Refusal, SoundRecord};
 use hand_canon::check_stated;
-use hand_records::{Record, Trace};
+use hand_records::Trace;
 use replay_core::{ReplayFault, replay};
 use std::alloc::Global;
 
 /// What the replay of a hand gives: its trace, or what is wrong with its script.
-pub fn outcome_of(alloc: Global, hand: &Record) -> Result<Trace, ReplayFault>
-    requires sound { IsSoundRecord hand.now }
-    ensures { IsOutcomeOf hand.now result }
+pub fn outcome_of(alloc: Global, hand: &SoundRecord<'_>) -> Result<Trace, ReplayFault>
+    ensures { IsOutcomeOf hand.now.record.now result }
 {
-    replay(alloc, &hand.setup, &hand.rules, &hand.script)
+    let record = hand.record;
+    replay(alloc, &record.setup, &record.rules, &record.script)
 }
 
 /// Why a hand is refused, by what its replay gave; `None` if it is legal and agrees with what is
@@ -27,15 +26,15 @@ pub fn outcome_of(alloc: Global, hand: &Record) -> Result<Trace, ReplayFault>
 ///
 /// Out of memory.
 pub fn verdict_on(
-    hand: &Record,
+    hand: &SoundRecord<'_>,
     outcome: &Result<Trace, ReplayFault>,
 ) -> Result<Option<Refusal>, Memory>
-    requires sound { IsSoundRecord hand.now }
-    requires outcome { IsOutcomeOf hand.now outcome.now }
-    ensures { IfOk result (IsVerdictOn hand.now) }
+    requires { IsOutcomeOf hand.now.record.now outcome.now }
+    ensures { IfOk result (IsVerdictOn hand.now.record.now) }
 {
+    let record = hand.record;
     match outcome {
-        Ok(trace) => match check_stated(trace, &hand.stated) {
+        Ok(trace) => match check_stated(trace, &record.stated) {
             Ok(()) => Ok(None),
             Err(differs) => Ok(Some(Refusal::Fact(differs))),
         },

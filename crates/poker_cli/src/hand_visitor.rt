@@ -1,16 +1,14 @@
 //! Takes the plays of hands one after the other, up to the first refused hand.
-ghost use Rattle.std.specs.Prelude.{◌≡◌, ◌<◌, ◌≤◌, ◌++◌, [], ◌∷◌, false, All, List, length, IfErr, IfOk, OnOk};
+ghost use Rattle.std.specs.Prelude.{◌≡◌, ◌++◌, [], ◌∷◌, false, List, length, IfErr, IfOk, OnOk};
 ghost use Rattle.convert_core.specs.Judged.{IsPlaysFaultOf};
 ghost use Rattle.convert_core.specs.Verdicts.{legal_plays};
-ghost use Rattle.first_fault.specs.declared.limits.TheConstants.{MOST_HANDS};
-ghost use Rattle.hand_canon.specs.Sound.{IsSound};
-ghost use Rattle.hand_records.specs.SoundRecord.{IsSoundRecord};
 ghost use Rattle.hand_records.specs.declared.trace.Play.{Play as AnyPlay};
 ghost use Rattle.poker_cli.specs.Played.{HasTakenPlays, HaveTaken};
 
 use card_set::Memory;
-use convert_core::{PlaysFault, Refusal, VerdictVisitor, judge_all};
-use hand_records::{Play, Records};
+use convert_core::{
+    HandPlace, JudgedPlay, PlaysFault, Refusal, SoundRecords, VerdictVisitor, judge_all,
+};
 use std::alloc::Global;
 
 /// Takes the plays of a file, one after the other. Each is dropped before the next is made.
@@ -23,11 +21,14 @@ pub trait HandVisitor {
     /// # Errors
     ///
     /// Out of memory.
-    fn take_play(&mut self, alloc: Global, place: usize, play: &Play) -> Result<(), Memory>
-        requires taken { (start : Self) × HasTakenPlays (TookPlays start self.old) place }
-        requires few { place < MOST_HANDS }
-        requires sound { IsSound play.now }
-        ensures { (start : Self) (before : List AnyPlay) → length before ≡ place
+    fn take_play(
+        &mut self,
+        alloc: Global,
+        place: HandPlace,
+        play: &JudgedPlay<'_>,
+    ) -> Result<(), Memory>
+        requires { (start : Self) × HasTakenPlays (TookPlays start self.old) place.index }
+        ensures { (start : Self) (before : List AnyPlay) → length before ≡ place.index
             → TookPlays start self.old before
             → OnOk result (TookPlays start self.new (before ++ play.now ∷ [])) };
 }
@@ -54,14 +55,19 @@ impl<T: HandVisitor + Drop> VerdictVisitor for LegalPlays<T> {
         false
     }
 
-    fn take(&mut self, alloc: Global, place: usize, play: &Play) -> Result<(), Memory> {
+    fn take(
+        &mut self,
+        alloc: Global,
+        place: HandPlace,
+        play: &JudgedPlay<'_>,
+    ) -> Result<(), Memory> {
         match self.visitor.take_play(alloc, place, play) {
             Ok(()) => Ok(()),
             Err(memory) => Err(memory),
         }
     }
 
-    fn pass(&mut self, _: Global, _: usize, _: &Refusal) -> Result<(), Memory> {
+    fn pass(&mut self, _: Global, _: HandPlace, _: &Refusal) -> Result<(), Memory> {
         Ok(())
     }
 }
@@ -74,11 +80,9 @@ impl<T: HandVisitor + Drop> VerdictVisitor for LegalPlays<T> {
 pub fn take_plays<T: HandVisitor + Drop>(
     alloc: Global,
     visitor: T,
-    records: Records,
+    records: SoundRecords,
 ) -> Result<T, PlaysFault>
-    requires sound { All IsSoundRecord records }
-    requires few { length records ≤ MOST_HANDS }
-    requires begun { T.TookPlays visitor visitor [] }
+    requires { T.TookPlays visitor visitor [] }
     ensures taken { IfOk result (λ it. HaveTaken (T.TookPlays visitor it) records) }
     ensures refused { IfErr result (IsPlaysFaultOf records) }
 {

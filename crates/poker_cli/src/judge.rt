@@ -1,9 +1,7 @@
 //! Answers `judge`: one line per hand with its verdict, and the line of the input on which it
 //! begins if that is asked for; and then a line with the number of legal hands.
-ghost use Rattle.std.specs.Prelude.{All, IfOk, OnOk, Some, codes, false, length, slice_get, string_bytes, true, ◌++◌, ◌≡◌, ◌≤◌};
+ghost use Rattle.std.specs.Prelude.{IfOk, OnOk, Some, codes, false, slice_get, string_bytes, true, ◌++◌, ◌≡◌};
 ghost use Rattle.std.specs.Fmt.{decimal};
-ghost use Rattle.first_fault.specs.declared.limits.TheConstants.{MOST_HANDS};
-ghost use Rattle.hand_records.specs.SoundRecord.{IsSoundRecord};
 ghost use Rattle.poker_cli.specs.Judge.{ArePrinted, IsJudged, IsJudgement, begins_text, if_asked, judged_end};
 ghost use Rattle.convert_core.specs.FaultText.{refusal_text};
 ghost use Rattle.convert_core.specs.Formats.{HaveFault, SayRecords, first_lines};
@@ -12,9 +10,9 @@ ghost use Rattle.poker_cli.specs.Told.{answer_told};
 use crate::answer::{Answer, answer_to_fault, done_with};
 use card_set::{Memory, TryWrite, try_write};
 use convert_core::{
-    Format, Notation, PlaysFault, Refusal, VerdictVisitor, judge_all, read_records,
+    Format, HandPlace, JudgedPlay, Notation, PlaysFault, Refusal, SoundRecords, VerdictVisitor,
+    judge_all, read_records,
 };
-use hand_records::{Play, Records};
 use std::alloc::Global;
 
 // The lines of the hands so far, and how many of these hands are legal. Each hand begins on the
@@ -42,17 +40,17 @@ impl VerdictVisitor for VerdictLines {
         false
     }
 
-    fn take(&mut self, _: Global, place: usize, _: &Play) -> Result<(), Memory> {
-        let number = place + 1;
-        let line = line_at(&self.lines, place);
+    fn take(&mut self, _: Global, place: HandPlace, _: &JudgedPlay<'_>) -> Result<(), Memory> {
+        let number = place.index + 1;
+        let line = line_at(&self.lines, place.index);
         push_legal(&mut self.text, number, line)?;
         self.legal += 1;
         Ok(())
     }
 
-    fn pass(&mut self, _: Global, place: usize, why: &Refusal) -> Result<(), Memory> {
-        let number = place + 1;
-        let line = line_at(&self.lines, place);
+    fn pass(&mut self, _: Global, place: HandPlace, why: &Refusal) -> Result<(), Memory> {
+        let number = place.index + 1;
+        let line = line_at(&self.lines, place.index);
         push_refused(&mut self.text, number, line, why)?;
         Ok(())
     }
@@ -71,9 +69,7 @@ fn line_at(lines: &Vec<u64>, place: usize) -> Option<u64>
 /// # Errors
 ///
 /// Out of memory.
-pub fn judge_text(alloc: Global, lines: Vec<u64>, records: Records) -> Result<String, Memory>
-    requires sound { All IsSoundRecord records }
-    requires few { length records ≤ MOST_HANDS }
+pub fn judge_text(alloc: Global, lines: Vec<u64>, records: SoundRecords) -> Result<String, Memory>
     ensures { IfOk result (λ text. IsJudged lines.items records (string_bytes text)) }
 {
     let hands = records.len();

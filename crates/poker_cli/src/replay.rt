@@ -1,9 +1,7 @@
 //! Answers `replay`: the hands step by step.
-ghost use Rattle.std.specs.Prelude.{◌≡◌, ◌≤◌, All, length, IfErr, IfOk, string_bytes};
+ghost use Rattle.std.specs.Prelude.{◌≡◌, IfErr, IfOk, string_bytes};
 ghost use Rattle.convert_core.specs.Formats.{HaveFault, SayRecords};
 ghost use Rattle.convert_core.specs.Judged.{IsPlaysFaultOf};
-ghost use Rattle.first_fault.specs.declared.limits.TheConstants.{MOST_HANDS};
-ghost use Rattle.hand_records.specs.SoundRecord.{IsSoundRecord};
 ghost use Rattle.poker_cli.specs.AnswerParts.{IsAnswerTo, done};
 ghost use Rattle.poker_cli.specs.Texts.{IsTextOf};
 ghost use Rattle.poker_cli.specs.Told.{answer_told};
@@ -14,8 +12,7 @@ ghost use Rattle.printed_hands.specs.Replay.{replay_said};
 use crate::answer::{Answer, answer_to_fault, answer_with_text};
 use crate::hand_visitor::{HandVisitor, take_plays};
 use card_set::Memory;
-use convert_core::{Format, PlaysFault, read_records};
-use hand_records::{Play, Records};
+use convert_core::{Format, HandPlace, JudgedPlay, PlaysFault, SoundRecords, read_records};
 use printed_hands::push_replay_lines;
 use std::alloc::Global;
 
@@ -28,9 +25,14 @@ struct ReplayLines {
 impl HandVisitor for ReplayLines {
     ghost TookPlays = { λ _ it plays. string_bytes it.text ≡ each_hand replay_lines 1 plays };
 
-    fn take_play(&mut self, alloc: Global, place: usize, play: &Play) -> Result<(), Memory> {
-        let number = place as u64 + 1;
-        push_replay_lines(alloc, &mut self.text, number, play)
+    fn take_play(
+        &mut self,
+        alloc: Global,
+        place: HandPlace,
+        judged: &JudgedPlay<'_>,
+    ) -> Result<(), Memory> {
+        let number = place.index as u64 + 1;
+        push_replay_lines(alloc, &mut self.text, number, judged.play())
     }
 }
 
@@ -47,9 +49,7 @@ pub fn answer_with_replay(alloc: Global, from: &Format, bytes: &[u8]) -> Result<
 }
 
 // The lines of each of these hands.
-fn replay_text(alloc: Global, records: Records) -> Result<String, PlaysFault>
-    requires sound { All IsSoundRecord records }
-    requires few { length records ≤ MOST_HANDS }
+fn replay_text(alloc: Global, records: SoundRecords) -> Result<String, PlaysFault>
     ensures said { IfOk result (λ text. IsTextOf replay_said records (string_bytes text)) }
     ensures refused { IfErr result (IsPlaysFaultOf records) }
 {

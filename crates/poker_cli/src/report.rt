@@ -1,9 +1,7 @@
 //! Answers `report`: takes each hand, and keeps a tally per name and the sums per game.
-ghost use Rattle.std.specs.Prelude.{◌≡◌, ◌≤◌, All, length, IfErr, IfOk, string_bytes};
+ghost use Rattle.std.specs.Prelude.{◌≡◌, IfErr, IfOk, string_bytes};
 ghost use Rattle.convert_core.specs.Formats.{HaveFault, SayRecords};
 ghost use Rattle.convert_core.specs.Judged.{IsPlaysFaultOf};
-ghost use Rattle.first_fault.specs.declared.limits.TheConstants.{MOST_HANDS};
-ghost use Rattle.hand_records.specs.SoundRecord.{IsSoundRecord};
 ghost use Rattle.poker_cli.specs.AnswerParts.{IsAnswerTo, done};
 ghost use Rattle.poker_cli.specs.Texts.{IsTextOf};
 ghost use Rattle.poker_cli.specs.Told.{answer_told};
@@ -13,16 +11,20 @@ ghost use Rattle.printed_report.specs.Report.{report_said};
 use crate::answer::{Answer, answer_to_fault, answer_with_text};
 use crate::hand_visitor::{HandVisitor, take_plays};
 use card_set::Memory;
-use convert_core::{Format, PlaysFault, read_records};
-use hand_records::{Play, Records};
+use convert_core::{Format, HandPlace, JudgedPlay, PlaysFault, SoundRecords, read_records};
 use printed_report::OpenReport;
 use std::alloc::Global;
 
 impl HandVisitor for OpenReport {
     ghost TookPlays = { λ _ it plays. IsReportSoFar it plays };
 
-    fn take_play(&mut self, alloc: Global, _: usize, play: &Play) -> Result<(), Memory> {
-        self.add_play(alloc, play)
+    fn take_play(
+        &mut self,
+        alloc: Global,
+        _: HandPlace,
+        judged: &JudgedPlay<'_>,
+    ) -> Result<(), Memory> {
+        self.add_play(alloc, judged.play())
     }
 }
 
@@ -39,9 +41,7 @@ pub fn answer_with_report(alloc: Global, from: &Format, bytes: &[u8]) -> Result<
 }
 
 // The text of the report on these hands.
-fn report_of(alloc: Global, records: Records) -> Result<String, PlaysFault>
-    requires sound { All IsSoundRecord records }
-    requires few { length records ≤ MOST_HANDS }
+fn report_of(alloc: Global, records: SoundRecords) -> Result<String, PlaysFault>
     ensures said { IfOk result (λ text. IsTextOf report_said records (string_bytes text)) }
     ensures refused { IfErr result (IsPlaysFaultOf records) }
 {

@@ -1,9 +1,7 @@
 //! Answers `session`: takes each hand, and keeps a row per name and the steps.
-ghost use Rattle.std.specs.Prelude.{◌≡◌, ◌≤◌, All, length, IfErr, IfOk, string_bytes};
+ghost use Rattle.std.specs.Prelude.{◌≡◌, IfErr, IfOk, string_bytes};
 ghost use Rattle.convert_core.specs.Formats.{HaveFault, SayRecords};
 ghost use Rattle.convert_core.specs.Judged.{IsPlaysFaultOf};
-ghost use Rattle.first_fault.specs.declared.limits.TheConstants.{MOST_HANDS};
-ghost use Rattle.hand_records.specs.SoundRecord.{IsSoundRecord};
 ghost use Rattle.hand_session.specs.SoFar.{IsSessionSoFar};
 ghost use Rattle.poker_cli.specs.AnswerParts.{IsAnswerTo, done};
 ghost use Rattle.poker_cli.specs.Texts.{IsTextOf};
@@ -14,16 +12,20 @@ ghost use Rattle.hand_session.specs.Sessions.{session_said};
 use crate::answer::{Answer, answer_to_fault, answer_with_text};
 use crate::hand_visitor::{HandVisitor, take_plays};
 use card_set::Memory;
-use convert_core::{Format, PlaysFault, read_records};
-use hand_records::{Play, Records};
+use convert_core::{Format, HandPlace, JudgedPlay, PlaysFault, SoundRecords, read_records};
 use hand_session::{OpenSession, session_text};
 use std::alloc::Global;
 
 impl HandVisitor for OpenSession {
     ghost TookPlays = { λ _ it plays. IsSessionSoFar it plays };
 
-    fn take_play(&mut self, alloc: Global, _: usize, play: &Play) -> Result<(), Memory> {
-        self.add_play(alloc, play)
+    fn take_play(
+        &mut self,
+        alloc: Global,
+        _: HandPlace,
+        judged: &JudgedPlay<'_>,
+    ) -> Result<(), Memory> {
+        self.add_play(alloc, judged.play())
     }
 }
 
@@ -41,9 +43,7 @@ pub fn answer_with_session(alloc: Global, from: &Format, bytes: &[u8]) -> Result
 }
 
 // The text of the session of these hands.
-fn session_of(alloc: Global, records: Records) -> Result<String, PlaysFault>
-    requires sound { All IsSoundRecord records }
-    requires few { length records ≤ MOST_HANDS }
+fn session_of(alloc: Global, records: SoundRecords) -> Result<String, PlaysFault>
     ensures said { IfOk result (λ text.
         IsTextOf (λ plays. session_printed (session_said plays)) records (string_bytes text)) }
     ensures refused { IfErr result (IsPlaysFaultOf records) }

@@ -1,12 +1,9 @@
 //! Answers `views`: prints what a seat saw of the hands of a log, if the game has the seat and the
 //! lines are within the limit of bytes.
-ghost use Rattle.std.specs.Prelude.{◌≡◌, ◌<◌, ◌≤◌, ◌+◌, ◌++◌, [], true, false, All, List, length, IfErr, IfOk, OnOk};
+ghost use Rattle.std.specs.Prelude.{◌≡◌, ◌<◌, ◌≤◌, ◌+◌, ◌++◌, [], true, false, List, length, IfErr, IfOk, OnOk};
 ghost use Rattle.acpc_view.specs.View.{views_text};
 ghost use Rattle.convert_core.specs.Formats.{HaveFault, SayRecords};
 ghost use Rattle.convert_core.specs.Judged.{IsPlaysFaultOf};
-ghost use Rattle.first_fault.specs.declared.limits.TheConstants.{MOST_HANDS};
-ghost use Rattle.hand_canon.specs.Sound.{IsSound};
-ghost use Rattle.hand_records.specs.SoundRecord.{IsSoundRecord};
 ghost use Rattle.hand_records.specs.declared.trace.Play.{Play as AnyPlay};
 ghost use Rattle.poker_cli.specs.AnswerParts.{IsAnswerTo, done as done_said};
 ghost use Rattle.poker_cli.specs.Views.{AreMessages, AreSeen, AreViews, AreViewsOf, most_view_bytes, no_seat as no_seat_said};
@@ -20,8 +17,8 @@ use acpc_game::Game;
 use acpc_view::{views, views_len};
 use card_set::{Memory, TryExtend, try_format};
 use chip_ledger::Seat;
-use convert_core::{Format, PlaysFault, plays, read_records};
-use hand_records::{Play, Records};
+use convert_core::{Format, HandPlace, JudgedPlay, PlaysFault, SoundRecords, plays, read_records};
+use hand_records::Play;
 use std::alloc::Global;
 
 // The most bytes of views.
@@ -42,7 +39,12 @@ impl HandVisitor for SeenLines {
     ghost TookPlays = { λ start it plays. (it.game ≡ start.game) × (it.seat ≡ start.seat)
         × (AreSeen it.game it.seat it.kept it.lines.items plays) };
 
-    fn take_play(&mut self, alloc: Global, place: usize, play: &Play) -> Result<(), Memory> {
+    fn take_play(
+        &mut self,
+        alloc: Global,
+        place: HandPlace,
+        play: &JudgedPlay<'_>,
+    ) -> Result<(), Memory> {
         if !self.kept {
             return Ok(());
         }
@@ -114,9 +116,12 @@ fn answer_with_views(
 }
 
 // The answer with what a seat saw of these hands.
-fn views_of(alloc: Global, game: &Game, seat: Seat, records: Records) -> Result<Answer, PlaysFault>
-    requires sound { All IsSoundRecord records }
-    requires few { length records ≤ MOST_HANDS }
+fn views_of(
+    alloc: Global,
+    game: &Game,
+    seat: Seat,
+    records: SoundRecords,
+) -> Result<Answer, PlaysFault>
     ensures answer { IfOk result (λ answer. AreViewsOf game.now seat records (answer_told answer)) }
     ensures refused { IfErr result (IsPlaysFaultOf records) }
 {
@@ -161,16 +166,21 @@ fn answer_with_seen(alloc: Global, seen: SeenLines) -> Result<Answer, Memory>
 
 // Whether the lines of one more hand fit within the limit after these. They are counted before any
 // is made.
-fn has_room(lines: &Vec<u8>, game: &Game, seat: Seat, place: usize, play: &Play) -> bool
-    requires within { length lines.now.items ≤ most_view_bytes }
-    requires few { place < MOST_HANDS }
-    requires sound { IsSound play.now }
+fn has_room(
+    lines: &Vec<u8>,
+    game: &Game,
+    seat: Seat,
+    place: HandPlace,
+    play: &JudgedPlay<'_>,
+) -> bool
+    requires { length lines.now.items ≤ most_view_bytes }
     ensures fits { result ≡ true → length lines.now.items
-        + length (views_text game.now.no_limit seat.number place play.now) ≤ most_view_bytes }
+        + length (views_text game.now.no_limit seat.number place.index play.now)
+        ≤ most_view_bytes }
     ensures over { result ≡ false → most_view_bytes < length lines.now.items
-        + length (views_text game.now.no_limit seat.number place play.now) }
+        + length (views_text game.now.no_limit seat.number place.index play.now) }
 {
-    let len = views_len(game, play, place as u32, seat);
+    let len = views_len(game, play.play(), place.index as u32, seat);
     len <= (MOST_VIEW_BYTES - lines.len()) as u64
 }
 
@@ -180,15 +190,13 @@ fn push_views(
     lines: &mut Vec<u8>,
     game: &Game,
     seat: Seat,
-    place: usize,
-    play: &Play,
+    place: HandPlace,
+    play: &JudgedPlay<'_>,
 ) -> Result<(), Memory>
-    requires few { place < MOST_HANDS }
-    requires sound { IsSound play.now }
     ensures { OnOk result (lines.new.items ≡ lines.old.items
-        ++ views_text game.now.no_limit seat.number place play.now) }
+        ++ views_text game.now.no_limit seat.number place.index play.now) }
 {
-    let seen = views(alloc, game, play, place as u32, seat)?;
+    let seen = views(alloc, game, play.play(), place.index as u32, seat)?;
     lines.try_extend_from_slice(&seen)?;
     Ok(())
 }

@@ -8,12 +8,12 @@ use Rattle.convert_core.specs.Verdicts.{legal_plays}
 use Rattle.convert_core.specs.Lines.{IsWritten}
 use Rattle.convert_core.proofs.lines.write_records.Goals as goal
 
-pub judge_all-requires-clause-begun : goal.judge_all-requires-clause-begun
-judge_all-requires-clause-begun g c = (
+pub judge_all-requires : goal.judge_all-requires
+judge_all-requires g c = (
   refl,
   refl,
   none_written (g.N.Notation.meaning c.args.to.now) c.args.keep _
-      c.requires.lined ((g.met.N.Notation.lawful c.args.to.now).no_lines c.requires.lined) (search rules),
+      c.requires ((g.met.N.Notation.lawful c.args.to.now).no_lines c.requires) (search rules),
 )
 
 pub returns-in-Err-Refused : goal.returns-in-Err-Refused
@@ -38,7 +38,7 @@ returns-in-None g c =
       read = record { records = c.args.records; say = refl; are = are };
       spelled = written.first ∙ c.in-None.is;
       spell = written.spell c.in-None.is;
-      back = kept_sound c.args.records (legal_plays taken.verdicts) c.requires.sound are;
+      back = kept_sound c.args.records (legal_plays taken.verdicts) c.judge_all.ensures.sound are;
     }
 
 pub returns-in-Some-Unspelled : goal.returns-in-Some-Unspelled

@@ -13,18 +13,18 @@ take_hand-requires-clause-begun g c =
     let taken = c.loop-hand.invariant.way.taken in
     (c.args.visitor.now, record { verdicts = taken.verdicts; took = taken.took; counted = taken.counted })
 
-pub take_hand-requires-clause-few : goal.take_hand-requires-clause-few
-take_hand-requires-clause-few g c =
+pub invariant_of-place : goal.invariant_of-place
+invariant_of-place g c =
     let left = into_iter_items c.next.new.self in
-    has_room g.T.VerdictVisitor.CONTINUES g.T.VerdictVisitor.KEEPS (g.T.VerdictVisitor.Took c.args.visitor.now c.loop-hand.visitor) c.args.records left c.in-Some.hand c.loop-hand.place _ c.loop-hand.kept.items
-    (subst (λ (rest : List Record). AreOnTheWay g.T.VerdictVisitor.CONTINUES g.T.VerdictVisitor.KEEPS (g.T.VerdictVisitor.Took c.args.visitor.now c.loop-hand.visitor) c.args.records rest c.loop-hand.place c.loop-hand.kept.items) c.in-Some.ensures.steps.0 c.loop-hand.invariant.way)
-    c.requires.few
+    has_room g.T.VerdictVisitor.CONTINUES g.T.VerdictVisitor.KEEPS (g.T.VerdictVisitor.Took c.args.visitor.now c.loop-hand.visitor) c.args.records left c.in-Some.hand c.loop-hand.index _ c.loop-hand.kept.items
+    (subst (λ (rest : List Record). AreOnTheWay g.T.VerdictVisitor.CONTINUES g.T.VerdictVisitor.KEEPS (g.T.VerdictVisitor.Took c.args.visitor.now c.loop-hand.visitor) c.args.records rest c.loop-hand.index c.loop-hand.kept.items) c.in-Some.ensures.steps.0 c.loop-hand.invariant.way)
+    c.into_vec-hands.ensures.few
 
 pub returns-in-Err-clause-refused : goal.returns-in-Err-clause-refused
 returns-in-Err-clause-refused g c =
     let left = into_iter_items c.next.new.self in
-    refused_on g.T.VerdictVisitor.CONTINUES g.T.VerdictVisitor.KEEPS (g.T.VerdictVisitor.Took c.args.visitor.now c.loop-hand.visitor) c.args.records left c.in-Some.hand c.loop-hand.place c.loop-hand.kept.items c.in-Err.fault
-    (subst (λ (rest : List Record). AreOnTheWay g.T.VerdictVisitor.CONTINUES g.T.VerdictVisitor.KEEPS (g.T.VerdictVisitor.Took c.args.visitor.now c.loop-hand.visitor) c.args.records rest c.loop-hand.place c.loop-hand.kept.items) c.in-Some.ensures.steps.0 c.loop-hand.invariant.way)
+    refused_on g.T.VerdictVisitor.CONTINUES g.T.VerdictVisitor.KEEPS (g.T.VerdictVisitor.Took c.args.visitor.now c.loop-hand.visitor) c.args.records left c.in-Some.hand c.loop-hand.index c.loop-hand.kept.items c.in-Err.fault
+    (subst (λ (rest : List Record). AreOnTheWay g.T.VerdictVisitor.CONTINUES g.T.VerdictVisitor.KEEPS (g.T.VerdictVisitor.Took c.args.visitor.now c.loop-hand.visitor) c.args.records rest c.loop-hand.index c.loop-hand.kept.items) c.in-Some.ensures.steps.0 c.loop-hand.invariant.way)
     c.in-Err.ensures.continues c.in-Err.ensures.refused
 
 pub loop-hand-preserved : goal.loop-hand-preserved
@@ -34,8 +34,8 @@ loop-hand-preserved g c =
     record {
       can_next = tt;
       is_finite = tt;
-      way = one_on g.T.VerdictVisitor.CONTINUES g.T.VerdictVisitor.KEEPS (g.T.VerdictVisitor.Took c.args.visitor.now c.loop-hand.visitor) (g.T.VerdictVisitor.Took c.args.visitor.now c.take_hand.new.visitor) c.args.records left c.in-Some.hand c.loop-hand.place c.loop-hand.kept.items c.take_hand.new.kept.items
-          (subst (λ (rest : List Record). AreOnTheWay g.T.VerdictVisitor.CONTINUES g.T.VerdictVisitor.KEEPS (g.T.VerdictVisitor.Took c.args.visitor.now c.loop-hand.visitor) c.args.records rest c.loop-hand.place c.loop-hand.kept.items) next c.loop-hand.invariant.way)
+      way = one_on g.T.VerdictVisitor.CONTINUES g.T.VerdictVisitor.KEEPS (g.T.VerdictVisitor.Took c.args.visitor.now c.loop-hand.visitor) (g.T.VerdictVisitor.Took c.args.visitor.now c.take_hand.new.visitor) c.args.records left c.in-Some.hand c.loop-hand.index c.loop-hand.kept.items c.take_hand.new.kept.items
+          (subst (λ (rest : List Record). AreOnTheWay g.T.VerdictVisitor.CONTINUES g.T.VerdictVisitor.KEEPS (g.T.VerdictVisitor.Took c.args.visitor.now c.loop-hand.visitor) c.args.records rest c.loop-hand.index c.loop-hand.kept.items) next c.loop-hand.invariant.way)
           (c.in-Ok.ensures.taken c.args.visitor.now);
       counted = omega (arith, c.loop-hand.invariant.counted, ap length next);
       sound = All-rest IsSoundRecord c.in-Some.hand left (into_iter_items c.loop-hand.hand-iterator) next c.loop-hand.invariant.sound;
@@ -44,5 +44,5 @@ loop-hand-preserved g c =
 pub returns-clause-taken : goal.returns-clause-taken
 returns-clause-taken g c =
     let left = into_iter_items c.loop-hand.hand-iterator in
-    at_end g.T.VerdictVisitor.CONTINUES g.T.VerdictVisitor.KEEPS (g.T.VerdictVisitor.Took c.args.visitor.now c.loop-hand.visitor) c.args.records left c.loop-hand.place c.loop-hand.kept.items
+    at_end g.T.VerdictVisitor.CONTINUES g.T.VerdictVisitor.KEEPS (g.T.VerdictVisitor.Took c.args.visitor.now c.loop-hand.visitor) c.args.records left c.loop-hand.index c.loop-hand.kept.items
     c.loop-hand.invariant.way (nil_from_length left (sym c.loop-hand.hand-iterator.rest.ok.0 ∙ c.in-None.ensures.steps.0))

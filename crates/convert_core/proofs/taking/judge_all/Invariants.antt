@@ -10,7 +10,7 @@ invariant-loop-hand g l =
     record {
       can_next : (goal.iterator-loop-hand g).can_next l.hand-iterator;
       is_finite : (goal.iterator-loop-hand g).is_finite l.hand-iterator;
-      way : AreOnTheWay g.T.VerdictVisitor.CONTINUES g.T.VerdictVisitor.KEEPS (g.T.VerdictVisitor.Took l.initial.visitor l.visitor) l.fn.records (into_iter_items l.hand-iterator) l.place l.kept.items;
-      counted : l.place + length (into_iter_items l.hand-iterator) ≡ length l.fn.records;
+      way : AreOnTheWay g.T.VerdictVisitor.CONTINUES g.T.VerdictVisitor.KEEPS (g.T.VerdictVisitor.Took l.initial.visitor l.visitor) l.fn.records (into_iter_items l.hand-iterator) l.index l.kept.items;
+      counted : l.index + length (into_iter_items l.hand-iterator) ≡ length l.fn.records;
       sound : All IsSoundRecord (into_iter_items l.hand-iterator);
     }

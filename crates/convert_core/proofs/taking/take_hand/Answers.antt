@@ -9,8 +9,8 @@ use Rattle.hand_records.specs.declared.trace.Play.{Play}
 use Rattle.convert_core.proofs.Taken.{last_is, now_taken}
 use Rattle.convert_core.proofs.taking.take_hand.Goals as goal
 
-pub take-requires-clause-sound : goal.take-requires-clause-sound
-take-requires-clause-sound g c =
+pub new-play-requires-clause-sound : goal.new-play-requires-clause-sound
+new-play-requires-clause-sound g c =
     let before = c.drop_taken.new.kept.items in
     let more : IsOneMorePlay before c.args.hand c.replay_and_check.new.plays.items = c.in-Ok.ensures.pushed in
     let same : c.index.result.now ≡ more.play = last_is before c.replay_and_check.new.plays.items more.play c.index.result.now c.len-behind.result more.behind (c.len-behind.ensures ∙ c.drop_taken.new.kept.ok.0) c.index.ensures in
@@ -22,8 +22,9 @@ returns-in_ok-take-in-Ok-clause-taken g c = λ start hands taken.
     let old = c.args.kept.now.items in
     let more : IsOneMorePlay before c.args.hand c.replay_and_check.new.plays.items = c.in-Ok.ensures.pushed in
     let same : c.index.result.now ≡ more.play = last_is before c.replay_and_check.new.plays.items more.play c.index.result.now c.len-behind.result more.behind (c.len-behind.ensures ∙ c.drop_taken.new.kept.ok.0) c.index.ensures in
-    now_taken g.T.VerdictVisitor.CONTINUES g.T.VerdictVisitor.KEEPS (g.T.VerdictVisitor.Took start c.args.visitor.now) (g.T.VerdictVisitor.Took start c.take.new.self) hands c.args.place old c.replay_and_check.new.plays.items c.index.result.now c.args.hand taken
-    (ap (λ (p : Play). p.hand) same ∙ more.same) (subst IsJudged (sym same) more.judged)
-    (λ keep. more.behind ∙ ap (λ (ps : List Play). ps ++ more.play ∷ []) (c.drop_taken.ensures.stay keep) ∙ ap (λ (p : Play). old ++ p ∷ []) (sym same))
+    let play_is : c.new-play.result ≡ more.play = c.new-play.ensures ∙ same in
+    now_taken g.T.VerdictVisitor.CONTINUES g.T.VerdictVisitor.KEEPS (g.T.VerdictVisitor.Took start c.args.visitor.now) (g.T.VerdictVisitor.Took start c.take.new.self) hands c.args.place.index old c.replay_and_check.new.plays.items c.new-play.result c.args.hand taken
+    (ap (λ (p : Play). p.hand) play_is ∙ more.same) (subst IsJudged (sym play_is) more.judged)
+    (λ keep. more.behind ∙ ap (λ (ps : List Play). ps ++ more.play ∷ []) (c.drop_taken.ensures.stay keep) ∙ ap (λ (p : Play). old ++ p ∷ []) (sym play_is))
     (λ drops. let empty = c.drop_taken.ensures.gone drops in omega (arith, ap (λ (ps : List Play). length ps) more.behind, ap (λ (ps : List Play). length (ps ++ more.play ∷ [])) empty))
     (c.in_ok-take-in-Ok.ensures start taken.verdicts (sym taken.counted) taken.all_legal taken.took)

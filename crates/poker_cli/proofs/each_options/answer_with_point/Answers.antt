@@ -1,10 +1,7 @@
 -- The options after these events are the output, or there is no such hand, or no such event.
 use Rattle.std.proofs.Common.{◌≤◌, ◌<◌, length, ap, subst, sym, ◌∙◌, arith}
 use Rattle.std.proofs.lemmas.List.{length-map}
-use Rattle.std.proofs.lemmas.List.Elements.{All-get_or}
-use Rattle.std.proofs.lemmas.Option.{get_or_from_slice_get, slice_get_within}
 use Rattle.std.proofs.lemmas.Result.{IfOk-weaker}
-use Rattle.hand_records.specs.SoundRecord.{IsSoundRecord}
 use Rattle.play_event.specs.Said.{said_of}
 use Rattle.poker_cli.specs.AnswerParts.{done, no_hand}
 use Rattle.poker_cli.specs.Each as each
@@ -15,35 +12,26 @@ use Rattle.poker_cli.proofs.each_options.answer_with_point.Goals as goal
 pub returns-then-count-place : goal.returns-then-count-place
 returns-then-count-place c =
     let records = c.args.records.now in
-    let beyond : length records ≤ c.saturating_sub-place.result = omega (arith, c.if-count-place.true, c.len-count.ensures) in
+    let beyond : length records ≤ c.saturating_sub-place.result = omega (arith, c.if-count-place.true, c.len-count.ensures.count) in
     IfOk-weaker c.no_hand.result _ _
-    (λ answer told. subst (IsPoint c.args.hand c.args.events records) (sym (told ∙ ap (no_hand c.args.hand) c.len-count.ensures))
+    (λ answer told. subst (IsPoint c.args.hand c.args.events records) (sym (told ∙ ap (no_hand c.args.hand) c.len-count.ensures.count))
     (each.NoHandThere (not_numbered records c.args.hand c.saturating_sub-place.result c.saturating_sub-place.ensures beyond)))
     c.no_hand.ensures
 
 pub returns-then-part-events : goal.returns-then-part-events
 returns-then-part-events c =
     let records = c.args.records.now in
-    let hand = c.get-record.result.now in
-    let here = numbered records c.args.hand c.saturating_sub-place.result hand c.saturating_sub-place.ensures c.get-record.ensures in
+    let hand = c.get-sound.result.record.now in
+    let here = numbered records c.args.hand c.saturating_sub-place.result hand c.saturating_sub-place.ensures c.get-sound.ensures in
     let past : c.in_ok-part.part.events < c.args.events = omega (arith, c.if-part-events.true) in
     IfOk-weaker c.no_event.result _ _
     (λ answer told. subst (IsPoint c.args.hand c.args.events records) (sym told)
     (each.PastLegal hand here c.in_ok-part.part.events c.in_ok-part.ensures.beginning past))
     c.no_event.ensures
 
-pub options_at-options-requires-clause-valid : goal.options_at-options-requires-clause-valid
-options_at-options-requires-clause-valid c =
-    let records = c.args.records.now in
-    let place = c.saturating_sub-place.result in
-    let hand = c.get-record.result.now in
-    let here = c.get-record.ensures in
-    (subst IsSoundRecord (get_or_from_slice_get records place hand hand here)
-    (All-get_or IsSoundRecord records place hand (slice_get_within records place hand here) c.requires.sound)).valid
-
 pub options_at-options-requires-clause-there : goal.options_at-options-requires-clause-there
 options_at-options-requires-clause-there c =
-    omega (arith, c.if-part-events.false, c.in_ok-part.ensures.beginning.within, length-map c.get-record.result.now.script said_of)
+    omega (arith, c.if-part-events.false, c.in_ok-part.ensures.beginning.within, length-map c.get-sound.result.record.now.script said_of)
 
 pub options_at-options-requires-clause-legal_before : goal.options_at-options-requires-clause-legal_before
 options_at-options-requires-clause-legal_before c = λ index below.
@@ -52,8 +40,8 @@ options_at-options-requires-clause-legal_before c = λ index below.
 pub returns : goal.returns
 returns c =
     let records = c.args.records.now in
-    let hand = c.get-record.result.now in
-    let here = numbered records c.args.hand c.saturating_sub-place.result hand c.saturating_sub-place.ensures c.get-record.ensures in
+    let hand = c.get-sound.result.record.now in
+    let here = numbered records c.args.hand c.saturating_sub-place.result hand c.saturating_sub-place.ensures c.get-sound.ensures in
     let within : c.args.events ≤ c.in_ok-part.part.events = omega (arith, c.if-part-events.false) in
     subst (IsPoint c.args.hand c.args.events records) (sym (c.done.ensures ∙ ap done c.in_ok-text.ensures))
     (each.AtPoint hand here c.in_ok-part.part.events c.in_ok-part.ensures.beginning within c.options_at-options.result c.options_at-options.ensures.legal)

@@ -10,15 +10,15 @@ use Rattle.poker_cli.proofs.each_options.answer_with_points.Goals as goal
 pub returns-then-count-place : goal.returns-then-count-place
 returns-then-count-place c =
     let records = c.args.records.now in
-    let beyond : length records ≤ c.saturating_sub-place.result = omega (arith, c.if-count-place.true, c.len-count.ensures) in
+    let beyond : length records ≤ c.saturating_sub-place.result = omega (arith, c.if-count-place.true, c.len-count.ensures.count) in
     IfOk-weaker c.no_hand.result _ _
-    (λ answer told. subst (IsEveryPoint c.args.hand records) (sym (told ∙ ap (no_hand c.args.hand) c.len-count.ensures))
+    (λ answer told. subst (IsEveryPoint c.args.hand records) (sym (told ∙ ap (no_hand c.args.hand) c.len-count.ensures.count))
     (each.NoSuchHand (not_numbered records c.args.hand c.saturating_sub-place.result c.saturating_sub-place.ensures beyond)))
     c.no_hand.ensures
 
 pub returns : goal.returns
 returns c =
     let records = c.args.records.now in
-    let here = numbered records c.args.hand c.saturating_sub-place.result c.get-record.result.now c.saturating_sub-place.ensures c.get-record.ensures in
+    let here = numbered records c.args.hand c.saturating_sub-place.result c.get-record.result.record.now c.saturating_sub-place.ensures c.get-record.ensures in
     subst (IsEveryPoint c.args.hand records) (sym c.done_with.ensures)
-    (each.AtPoints c.get-record.result.now here (string_bytes c.in_ok-text.text) c.in_ok-text.ensures)
+    (each.AtPoints c.get-record.result.record.now here (string_bytes c.in_ok-text.text) c.in_ok-text.ensures)

@@ -6,14 +6,14 @@ use Rattle.poker_cli.specs.Each.{refusal_line}
 use Rattle.poker_cli.proofs.each_options.text_of_points.Goals as goal
 
 pub push_every_point-requires-clause-there : goal.push_every_point-requires-clause-there
-push_every_point-requires-clause-there c = omega (arith, c.in_ok-part.ensures.beginning.within, length-map c.args.hand.now.script said_of)
+push_every_point-requires-clause-there c = omega (arith, c.in_ok-part.ensures.beginning.within, length-map c.args.hand.now.record.now.script said_of)
 
 pub push_every_point-requires-clause-legal_before : goal.push_every_point-requires-clause-legal_before
 push_every_point-requires-clause-legal_before c = c.in_ok-part.ensures.beginning.legal
 
 pub returns : goal.returns
 returns c =
-    let hand = c.args.hand.now in
+    let hand = c.args.hand.now.record.now in
     let texts = c.in_ok-push_every_point.ensures in
     let line = refusal_line c.args.number hand c.in_ok-why.why in
     record {

@@ -6,7 +6,7 @@ use Rattle.poker_cli.proofs.each_replay.push_hand.Goals as goal
 
 pub returns : goal.returns
 returns c =
-    let hand = c.args.hand.now in
+    let hand = c.args.hand.now.record.now in
     let own = c.in_ok-push_own_lines.ensures in
     let line = refusal_line c.args.number hand c.in_ok-why.why in
     on_ok_weaker c.push_refusal_line.result

@@ -11,7 +11,7 @@ pub push_begun_lines-requires-clause-begun : goal.push_begun_lines-requires-clau
 push_begun_lines-requires-clause-begun c =
     let part = c.in_ok-part.ensures in
     record {
-      there = omega (arith, part.beginning.within, length-map c.args.hand.now.script said_of);
+      there = omega (arith, part.beginning.within, length-map c.args.hand.now.record.now.script said_of);
       legal = part.legal;
       are = part.are;
     }
@@ -21,8 +21,8 @@ returns c =
     let part = c.in_ok-part.ensures in
     on_ok_weaker c.push_begun_lines.result
     (λ more. record {
-      added = begun_lines c.args.number c.args.hand.now c.in_ok-part.part.events;
-      are = each.Begun c.args._fault.now c.requires.fault c.in_ok-part.part.events part.beginning;
+      added = begun_lines c.args.number c.args.hand.now.record.now c.in_ok-part.part.events;
+      are = each.Begun c.args._fault.now c.requires c.in_ok-part.part.events part.beginning;
       said = more;
     })
     c.push_begun_lines.ensures

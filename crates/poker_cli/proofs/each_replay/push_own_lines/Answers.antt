@@ -10,10 +10,10 @@ use Rattle.poker_cli.proofs.each_replay.push_own_lines.Goals as goal
 
 pub returns-in-Ok : goal.returns-in-Ok
 returns-in-Ok c =
-    let outcome = subst (λ (one : Result Trace ReplayFault). IsOutcomeOf c.args.hand.now one) c.in-Ok.is c.requires.outcome in
+    let outcome = subst (λ (one : Result Trace ReplayFault). IsOutcomeOf c.args.hand.now.record.now one) c.in-Ok.is c.requires in
     on_ok_weaker c.push_whole_lines.result
     (λ more. record {
-      added = replay_lines c.args.number (record { hand = c.args.hand.now; trace = c.in-Ok.trace });
+      added = replay_lines c.args.number (record { hand = c.args.hand.now.record.now; trace = c.in-Ok.trace });
       are = each.Whole c.in-Ok.trace outcome.traced;
       said = more;
     })

@@ -11,10 +11,10 @@ loop-place-init c = none_replayed (string_bytes c.new-text.result) c.new-text.en
 
 pub loop-place-preserved : goal.loop-place-preserved
 loop-place-preserved c =
-    one_more c.args.records.now c.loop-place.place c.get-hand.result.now (string_bytes c.loop-place.text) (string_bytes c.push_hand.new.text)
+    one_more c.args.records.now c.loop-place.place c.get-hand.result.record.now (string_bytes c.loop-place.text) (string_bytes c.push_hand.new.text)
     c.get-hand.ensures c.loop-place.invariant c.in_ok-push_hand.ensures
 
 pub returns : goal.returns
 returns c =
     subst (λ (hands : List Record). AreReplayedAlone 1 hands (string_bytes c.loop-place.text))
-    (take_all c.loop-place.place c.args.records.now (omega (arith, c.loop-place-test.false, c.len-count.ensures))) c.loop-place.invariant
+    (take_all c.loop-place.place c.args.records.now (omega (arith, c.loop-place-test.false, c.len-count.ensures.count))) c.loop-place.invariant

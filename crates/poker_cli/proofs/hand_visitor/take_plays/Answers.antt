@@ -10,9 +10,9 @@ no_plays : [] ≡ legal_plays []
 unfolding legal_plays
 no_plays = refl
 
-pub judge_all-requires-clause-begun : goal.judge_all-requires-clause-begun
-judge_all-requires-clause-begun g c =
-    subst (λ (plays : List Play). g.T.HandVisitor.TookPlays c.args.visitor c.args.visitor plays) no_plays c.requires.begun
+pub judge_all-requires : goal.judge_all-requires
+judge_all-requires g c =
+    subst (λ (plays : List Play). g.T.HandVisitor.TookPlays c.args.visitor c.args.visitor plays) no_plays c.requires
 
 pub returns-in-Ok-clause-taken : goal.returns-in-Ok-clause-taken
 returns-in-Ok-clause-taken g c =

@@ -4,8 +4,8 @@ use Rattle.printed_hands.specs.Steps.{replay_lines}
 use Rattle.poker_cli.proofs.PrintedLines.{none_printed, replay_is}
 use Rattle.poker_cli.proofs.replay.replay_text.Goals as goal
 
-pub take_plays-requires-clause-begun : goal.take_plays-requires-clause-begun
-take_plays-requires-clause-begun c = none_printed replay_lines (string_bytes c.new.result) c.new.ensures.bytes
+pub take_plays-requires : goal.take_plays-requires
+take_plays-requires c = none_printed replay_lines (string_bytes c.new.result) c.new.ensures.bytes
 
 pub returns-in-Ok-clause-said : goal.returns-in-Ok-clause-said
 returns-in-Ok-clause-said c = replay_is c.args.records (string_bytes c.in-Ok.lines.text) c.in-Ok.ensures.taken

@@ -8,8 +8,8 @@ use Rattle.poker_cli.specs.Told.{answer_told}
 use Rattle.poker_cli.proofs.SeenViews.{none_seen}
 use Rattle.poker_cli.proofs.views.views_of.Goals as goal
 
-pub take_plays-requires-clause-begun : goal.take_plays-requires-clause-begun
-take_plays-requires-clause-begun c = (refl, refl, none_seen c.args.game.now c.args.seat c.has_seat.result _ c.has_seat.ensures c.new.ensures.items)
+pub take_plays-requires : goal.take_plays-requires
+take_plays-requires c = (refl, refl, none_seen c.args.game.now c.args.seat c.has_seat.result _ c.has_seat.ensures c.new.ensures.items)
 
 pub returns-in-Ok-answer_with_seen-clause-answer : goal.returns-in-Ok-answer_with_seen-clause-answer
 returns-in-Ok-answer_with_seen-clause-answer c =

@@ -6,10 +6,10 @@ use Rattle.hand_records.specs.declared.trace.Play.{Play}
 use Rattle.poker_cli.proofs.JudgedLines.{legal_few}
 use Rattle.poker_cli.proofs.hand_visitor.LegalPlaysVerdictVisitor.take.Goals as goal
 
-pub take_play-requires-clause-taken : goal.take_play-requires-clause-taken
-take_play-requires-clause-taken g c =
-    let taken = c.requires.taken.1 in (
-      c.requires.taken.0.visitor,
+pub take_play-requires : goal.take_play-requires
+take_play-requires g c =
+    let taken = c.requires.1 in (
+      c.requires.0.visitor,
       record {
         plays = legal_plays taken.verdicts;
         took = taken.took;

@@ -1,0 +1,17 @@
+-- No reader needs this file: it is a proof. That a record is sound has one proof at most, which the
+-- checker needs where a type keeps that fact.
+use Rattle.std.specs.Prelude.{ℕ, Bool, true, false}
+use Rattle.std.specs.Coded.{le_prop}
+use Rattle.std.proofs.Props.{props}
+use Rattle.play_event.specs.ValidSetup.{IsSizeWhere}
+use Rattle.hand_records.specs.SoundRecord.{IsSoundRecord}
+use Rattle.hand_records.specs.declared.record.Record.{Record}
+
+-- a bet size is allowed in one way
+IsSizeWhere-prop : (used : Bool) (chips : ℕ) → IsProp (IsSizeWhere used chips)
+IsSizeWhere-prop true chips = hlevel props
+IsSizeWhere-prop false chips = hlevel props
+
+-- a record is sound in one way
+pub IsSoundRecord-prop : (hand : Record) → IsProp (IsSoundRecord hand)
+IsSoundRecord-prop hand = hlevel (IsSizeWhere-prop, props)
