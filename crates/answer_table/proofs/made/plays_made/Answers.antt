@@ -15,16 +15,16 @@ all_sound [] all = All-nil IsSoundRecord
 all_sound (hand ∷ hands) all =
     All-cons IsSoundRecord hand hands (All-head IsSoundHand hand hands all).sound (all_sound hands (All-tail IsSoundHand hand hands all))
 
-pub plays_of-requires-clause-sound : goal.plays_of-requires-clause-sound
-plays_of-requires-clause-sound c = all_sound c.in-Ok.hands c.in-Ok.ensures.sound
+pub new-requires-clause-sound : goal.new-requires-clause-sound
+new-requires-clause-sound c = all_sound c.in-Ok.hands c.in-Ok.ensures.sound
 
-pub plays_of-requires-clause-few : goal.plays_of-requires-clause-few
-plays_of-requires-clause-few c = subst (λ (n : ℕ). n ≤ MOST_HANDS) (sym c.in-Ok.ensures.made.counted) c.requires.few
+pub new-requires-clause-few : goal.new-requires-clause-few
+new-requires-clause-few c = subst (λ (n : ℕ). n ≤ MOST_HANDS) (sym c.in-Ok.ensures.made.counted) c.requires.few
 
 pub returns-in-Ok-clause-few : goal.returns-in-Ok-clause-few
 returns-in-Ok-clause-few c =
     IfOk-weaker c.plays_of.result _ _
     (λ plays are.
     subst (λ (n : ℕ). n ≤ MOST_HANDS)
-    (sym (sym (length-map plays.items (λ (play : Play). play.hand)) ∙ ap length are.same ∙ c.in-Ok.ensures.made.counted)) c.requires.few)
+    (sym (sym (length-map plays.items (λ (play : Play). play.hand)) ∙ ap length (are.same ∙ c.new.ensures) ∙ c.in-Ok.ensures.made.counted)) c.requires.few)
     c.plays_of.ensures.plays
