@@ -7,8 +7,8 @@ use Rattle.hand_records.specs.SaidNotes.{SaidNotes}
 abbrev pub IsSaidThere : {A : Type 0} → (here there : Option A) → Type 0
 IsSaidThere here there = IfSome here (λ note. there ≡ Some note)
 
--- names of the same number of seats, or texts of the same notes, where each that is said here is said
--- there as well
+-- names of the same number of seats, or texts of the same notes, where each that is said here is
+-- said there as well
 abbrev pub AreSaidThere : (here there : List (Option (List ℕ))) → Type 0
 AreSaidThere [] [] = Unit {0}
 AreSaidThere [] (other ∷ there) = ⊥

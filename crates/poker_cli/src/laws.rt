@@ -114,7 +114,8 @@ pub fn law_of_legal_inputs()
         → RefusesNothing status ⊎ ((status ≡ statuses.NoSuch) × (IsThere question records → ⊥)) }
     ensures absent { (request : Request) (question : EachQuestion) (reader : Format)
         → (files : Files) (bytes : List ℕ) (records : List Record) (out diag : Sinks)
-        → (status : Status) → AsksOfHands files request (commands.Each question) reader bytes records
+        → (status : Status)
+        → AsksOfHands files request (commands.Each question) reader bytes records
         → (IsThere question records → ⊥)
         → Ends request files bytes out diag status → FindsNone status }
     ensures convert { (request : Request) (reader target : Format) (keep : Keep) (files : Files)
