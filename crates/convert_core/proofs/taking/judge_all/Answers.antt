@@ -17,9 +17,9 @@ take_hand-requires-clause-begun g c =
 pub invariant_of-place : goal.invariant_of-place
 invariant_of-place g c =
     let left = into_iter_items c.next.new.self in
-    has_room g.T.VerdictVisitor.CONTINUES g.T.VerdictVisitor.KEEPS (g.T.VerdictVisitor.Took c.args.visitor.now c.loop-hand.visitor) c.args.records left c.in-Some.hand c.loop-hand.index _ c.loop-hand.kept.items
+    record { within = has_room g.T.VerdictVisitor.CONTINUES g.T.VerdictVisitor.KEEPS (g.T.VerdictVisitor.Took c.args.visitor.now c.loop-hand.visitor) c.args.records left c.in-Some.hand c.loop-hand.index _ c.loop-hand.kept.items
     (subst (λ (rest : List Record). AreOnTheWay g.T.VerdictVisitor.CONTINUES g.T.VerdictVisitor.KEEPS (g.T.VerdictVisitor.Took c.args.visitor.now c.loop-hand.visitor) c.args.records rest c.loop-hand.index c.loop-hand.kept.items) c.in-Some.ensures.steps.0 c.loop-hand.invariant.way)
-    (subst (λ (hands : List Record). length hands ≤ MOST_HANDS) c.into_vec-hands.ensures.same c.into_vec-hands.ensures.few)
+    (subst (λ (hands : List Record). length hands ≤ MOST_HANDS) c.into_vec-hands.ensures.same c.into_vec-hands.ensures.few) }
 
 pub returns-in-Err-clause-refused : goal.returns-in-Err-clause-refused
 returns-in-Err-clause-refused g c =
